@@ -1,0 +1,195 @@
+-- The laws of names.
+use Rattle.std.proofs.Common.{◌≡◌, ◌≢◌, ℕ, zero, suc, ◌+◌, ◌-◌, ◌*◌, ◌/◌, ◌%◌, ◌<◌, ◌≤◌, Bool, true, false, ◌&&◌, ◌||◌, ◌==◌, nat_le, nat_eq, if◌then◌else◌, List, [], ◌∷◌, ◌++◌, length, reverse, codes, Option, Some, None, Result, Ok, Err, ◌⊎◌, inl, inr, div-add-mod', refl, sym, ap, ◌∙◌, subst, arith, append_assoc, length-append}
+use Rattle.std.specs.Prelude.{map}
+use Rattle.std.specs.List.{flat_map, AllByRecursion}
+use Rattle.std.specs.declared.cmp.Ordering.{Ordering}
+use Rattle.std.specs.declared.cmp.Ordering.TheVariants.{Less, Equal, Greater}
+use Rattle.std.specs.Ordering.{nat_cmp, is_eq, on}
+use Rattle.std.specs.Cmp.{IsTotalOrder, on_total}
+use Rattle.std.specs.Cmp.Lexicographic.{pointwise, pointwise_decides, bytes_decides, slice_cmp, lists_ties, texts_ties, lists_total}
+use Rattle.std.proofs.lemmas.Cmp.{nat_cmp_total}
+use Rattle.std.proofs.lemmas.List.{reverse-reverse, append-nil, length-map}
+use Rattle.std.proofs.lemmas.List.Concat.{flat_map-append}
+use Rattle.std.proofs.lemmas.Bool.Decides.{nat_tests}
+use Rattle.zone_name.specs.Name.{IsFoldedOctet, IsLabel, IsName, folded_octet, folded_label, folded, wire, BeginsWithName}
+use Rattle.std.proofs.lemmas.Bool.{false≢true}
+use Rattle.zone_name.specs.Reading.{reading, under}
+use Rattle.zone_name.specs.declared.fault.NameFault.{NameFault}
+use Rattle.zone_name.proofs.Only.{decided-only, root-only, origin_by}
+use Rattle.zone_name.specs.Order.{label_cmp, name_cmp}
+use Rattle.zone_name.specs.Spelling.{Written, plain, escaped, decimal, text_of, octet_of, IsWritten, IsWrittenLabel, AreWrittenLabels, written_text, written_octets, dotted, named, Writes, root, at_origin, absolute, relative, Spells, is_digit}
+use Rattle.zone_name.specs.Text.{is_special, is_printed, decimal_escape, octet_text, label_text, name_text}
+
+-- names that tie are equal
+pub name_cmp-exact : (a b : List (List ℕ)) → name_cmp a b ≡ Equal → a ≡ b
+name_cmp-exact a b e =
+    let ties = lists_ties (slice_cmp nat_cmp) texts_ties (reverse a) (reverse b) in
+    let same : pointwise (pointwise nat_eq) (reverse a) (reverse b) ≡ true = ties ∙ ap is_eq e in
+    sym (reverse-reverse a) ∙ ap reverse ((pointwise_decides bytes_decides (reverse a) (reverse b)).0 same) ∙ reverse-reverse b
+
+pub name_cmp-total : IsTotalOrder name_cmp
+name_cmp-total = on_total reverse (lists_total (lists_total nat_cmp_total))
+
+-- ---- what is printed spells the name
+-- an octet as it is printed
+written_by : (special printed : Bool) → ℕ → Written
+written_by true printed c = escaped c
+written_by false true c = plain c
+written_by false false c = decimal (48 + c / 100) (48 + c / 10 % 10) (48 + c % 10)
+
+printed_octet : ℕ → Written
+printed_octet c = written_by (is_special c) (is_printed c) c
+
+printed_text : (special printed : Bool) (c : ℕ) → text_of (written_by special printed c) ≡ (if special then 92 ∷ c ∷ [] else (if printed then c ∷ [] else decimal_escape c))
+unfolding written_by
+printed_text true printed c = refl
+printed_text false true c = refl
+printed_text false false c = refl
+
+text_of-printed : (c : ℕ) → text_of (printed_octet c) ≡ octet_text c
+unfolding printed_octet
+text_of-printed c = printed_text (is_special c) (is_printed c) c
+
+decimal_value : (c : ℕ) → octet_of (decimal (48 + c / 100) (48 + c / 10 % 10) (48 + c % 10)) ≡ c
+decimal_value c = omega (arith, div-add-mod' c 100, div-add-mod' c 10, div-add-mod' (c / 10) 10)
+
+value_by : (special printed : Bool) (c : ℕ) → octet_of (written_by special printed c) ≡ c
+unfolding written_by
+value_by true printed c = refl
+value_by false true c = refl
+value_by false false c = decimal_value c
+
+octet_of-printed : (c : ℕ) → octet_of (printed_octet c) ≡ c
+unfolding printed_octet
+octet_of-printed c = value_by (is_special c) (is_printed c) c
+
+digit_test : (d : ℕ) → d < 10 → is_digit (48 + d) ≡ true
+digit_test d h = grind (arith, nat_tests)
+
+or_false : (a b : Bool) → (a || b) ≡ false → (a ≡ false) × (b ≡ false)
+or_false true b e = absurd (false≢true (sym e))
+or_false false b e = (refl, e)
+
+or_true : (a b : Bool) → (a || b) ≡ true → (a ≡ true) ⊎ (b ≡ true)
+or_true true b e = inl refl
+or_true false b e = inr e
+
+eq_test : (m n : ℕ) → (m == n) ≡ true → m ≡ n
+eq_test m n e = grind (arith, nat_tests)
+
+ne_test : (m n : ℕ) → (m == n) ≡ false → m ≢ n
+ne_test m n e = grind (arith, nat_tests)
+
+-- no special octet is a digit or ends a line
+abbrev Escapes : ℕ → Type 0
+Escapes c = (is_digit c ≡ false) × (c ≢ 10) × (c ≢ 13)
+
+escapes_at : (c n : ℕ) → Escapes n → (c == n) ≡ true → Escapes c
+escapes_at c n at e = let P : ℕ → Type 0 = λ t. Escapes t in subst P (sym (eq_test c n e)) at
+
+either : (a b : Bool) (P : Type 0) → (a ≡ true → P) → (b ≡ true → P) → (a || b) ≡ true → P
+either true b P f g e = f refl
+either false b P f g e = g e
+
+special_escapes : (c : ℕ) → is_special c ≡ true → Escapes c
+special_escapes c =
+    either (c == 34 || c == 36 || c == 40 || c == 41 || c == 46 || c == 59 || c == 64) (c == 92) (Escapes c)
+    (either (c == 34 || c == 36 || c == 40 || c == 41 || c == 46 || c == 59) (c == 64) (Escapes c)
+    (either (c == 34 || c == 36 || c == 40 || c == 41 || c == 46) (c == 59) (Escapes c)
+    (either (c == 34 || c == 36 || c == 40 || c == 41) (c == 46) (Escapes c)
+    (either (c == 34 || c == 36 || c == 40) (c == 41) (Escapes c)
+    (either (c == 34 || c == 36) (c == 40) (Escapes c)
+    (either (c == 34) (c == 36) (Escapes c)
+    (escapes_at c 34 (refl, omega arith, omega arith))
+    (escapes_at c 36 (refl, omega arith, omega arith)))
+    (escapes_at c 40 (refl, omega arith, omega arith)))
+    (escapes_at c 41 (refl, omega arith, omega arith)))
+    (escapes_at c 46 (refl, omega arith, omega arith)))
+    (escapes_at c 59 (refl, omega arith, omega arith)))
+    (escapes_at c 64 (refl, omega arith, omega arith)))
+    (escapes_at c 92 (refl, omega arith, omega arith))
+
+plain_octets : (c : ℕ) → is_special c ≡ false → (c ≢ 46) × (c ≢ 92)
+plain_octets c e =
+    let last = or_false (c == 34 || c == 36 || c == 40 || c == 41 || c == 46 || c == 59 || c == 64) (c == 92) e in
+    let one = or_false (c == 34 || c == 36 || c == 40 || c == 41 || c == 46 || c == 59) (c == 64) last.0 in
+    let two = or_false (c == 34 || c == 36 || c == 40 || c == 41 || c == 46) (c == 59) one.0 in
+    let three = or_false (c == 34 || c == 36 || c == 40 || c == 41) (c == 46) two.0 in
+    (ne_test c 46 three.1, ne_test c 92 last.1)
+
+written_is : (special printed : Bool) (c : ℕ) → c < 256 → is_special c ≡ special → IsWritten (written_by special printed c)
+unfolding written_by
+written_is true printed c h e = special_escapes c e
+written_is false true c h e = plain_octets c e
+written_is false false c h e =
+    (digit_test (c / 100) (omega (arith, div-add-mod' c 100)), digit_test (c / 10 % 10) (omega (arith, div-add-mod' (c / 10) 10)), digit_test (c % 10) (omega (arith, div-add-mod' c 10)), omega (arith, decimal_value c))
+
+printed_is : (c : ℕ) → c < 256 → IsWritten (printed_octet c)
+unfolding printed_octet
+printed_is c h = written_is (is_special c) (is_printed c) c h refl
+
+printed_label : List ℕ → List Written
+printed_label label = map printed_octet label
+
+label_each : (label : List ℕ) → AllByRecursion IsFoldedOctet label → AllByRecursion IsWritten (map printed_octet label)
+label_each [] each = tt
+label_each (c ∷ label) each = (printed_is c each.0.octet, label_each label each.1)
+
+label_written : (label : List ℕ) → IsLabel label → IsWrittenLabel (map printed_octet label)
+label_written label is = record { some = omega (arith, is.some, length-map label printed_octet); each = label_each label is.each }
+
+label_spelling : (label : List ℕ) → written_text (map printed_octet label) ≡ flat_map octet_text label
+label_spelling [] = refl
+label_spelling (c ∷ label) = ap (λ t. t ++ written_text (map printed_octet label)) (text_of-printed c) ∙ ap (λ t. octet_text c ++ t) (label_spelling label)
+
+label_back : (label : List ℕ) → AllByRecursion IsFoldedOctet label → folded_label (written_octets (map printed_octet label)) ≡ label
+label_back [] each = refl
+label_back (c ∷ label) each =
+    ap (λ t. folded_octet t ∷ folded_label (written_octets (map printed_octet label))) (octet_of-printed c)
+    ∙ ap (λ t. t ∷ folded_label (written_octets (map printed_octet label))) each.0.lower ∙ ap (λ t. c ∷ t) (label_back label each.1)
+
+name_each : (labels : List (List ℕ)) → AllByRecursion IsLabel labels → AllByRecursion IsWrittenLabel (map (map printed_octet) labels)
+name_each [] each = tt
+name_each (label ∷ labels) each = (label_written label each.0, name_each labels each.1)
+
+name_spelling : (labels : List (List ℕ)) → dotted (map (map printed_octet) labels) ≡ flat_map label_text labels
+name_spelling [] = refl
+name_spelling (label ∷ labels) =
+    ap (λ t. t ++ 46 ∷ [] ++ dotted (map (map printed_octet) labels)) (label_spelling label) ∙ ap (λ t. label_text label ++ t) (name_spelling labels)
+
+name_back : (labels : List (List ℕ)) → AllByRecursion IsLabel labels → named (map (map printed_octet) labels) ≡ labels
+name_back [] each = refl
+name_back (label ∷ labels) each = ap (λ t. t ∷ named (map (map printed_octet) labels)) (label_back label each.0.each) ∙ ap (λ t. label ∷ t) (name_back labels each.1)
+
+printed_by : (origin : Option (List (List ℕ))) (labels : List (List ℕ)) → IsName labels → Writes origin (name_text labels) labels
+printed_by origin [] name = root refl refl
+printed_by origin (label ∷ labels) name =
+    absolute (map (map printed_octet) (label ∷ labels)) (record { some = omega arith; each = name_each (label ∷ labels) name.each }) (sym (name_spelling (label ∷ labels))) (sym (name_back (label ∷ labels) name.each))
+
+pub name_text-spelled : (origin : Option (List (List ℕ))) (labels : List (List ℕ)) → IsName labels → Spells origin (name_text labels) labels
+name_text-spelled origin labels name = record { written = printed_by origin labels name; name = name }
+
+-- ---- a text spells one name
+abbrev same_result : Result (List (List ℕ)) NameFault → Result (List (List ℕ)) NameFault → Type 0
+same_result r s = r ≡ s
+
+once_by : (origin : Option (List (List ℕ))) (text : List ℕ) (a b : List (List ℕ)) (is_dot is_at : Bool) → pointwise nat_eq text (codes ".") ≡ is_dot → pointwise nat_eq text (codes "@") ≡ is_at → Spells origin text a → Spells origin text b → a ≡ b
+once_by origin text a b true is_at e f one two =
+    let dot = (bytes_decides text (codes ".")).0 e in
+    sym (root-only origin text [] a dot refl one) ∙ root-only origin text [] b dot refl two
+once_by origin text a b false true e f one two =
+    let at = (bytes_decides text (codes "@")).0 f in
+    some_same a b (sym (origin_by origin text a at one.written one.name) ∙ origin_by origin text b at two.written two.name)
+  where
+    some_same : (x y : List (List ℕ)) → Some x ≡ Some y → x ≡ y
+    some_same x y e = cc
+once_by origin text a b false false e f one two =
+    let no_dot : text ≢ codes "." = λ h. false≢true (sym e ∙ (bytes_decides text (codes ".")).1 h) in
+    let no_at : text ≢ codes "@" = λ h. false≢true (sym f ∙ (bytes_decides text (codes "@")).1 h) in
+    ok_same a b (sym (decided-only origin text (under origin (reading text)) no_dot no_at refl a one) ∙ decided-only origin text (under origin (reading text)) no_dot no_at refl b two)
+  where
+    ok_same : (x y : List (List ℕ)) → same_result (Ok x) (Ok y) → x ≡ y
+    ok_same x y e = cc
+
+pub Spells-once : (origin : Option (List (List ℕ))) (text : List ℕ) (a b : List (List ℕ)) → Spells origin text a → Spells origin text b → a ≡ b
+Spells-once origin text a b one two = once_by origin text a b (pointwise nat_eq text (codes ".")) (pointwise nat_eq text (codes "@")) refl refl one two

@@ -1,0 +1,9 @@
+pub mod Octets
+pub mod Comparing
+pub mod Pushing
+pub mod Printing
+pub mod Places
+pub mod Steps
+pub mod Spelled
+pub mod Only
+pub mod Lawful

@@ -1,0 +1,155 @@
+-- The octets of names: what `labels_of` finds in what `wire` writes.
+use Rattle.std.proofs.Common.{◌≡◌, ℕ, zero, suc, ◌+◌, ◌-◌, ◌<◌, ◌≤◌, List, [], ◌∷◌, ◌++◌, length, take, drop, refl, sym, ap, ◌∙◌, subst, arith, rules, append_assoc, length-append, zero-add, length-drop}
+use Rattle.std.specs.List.{flat_map, AllByRecursion}
+use Rattle.std.proofs.lemmas.List.{take_at, drop_at, append-nil, take-append-drop}
+use Rattle.std.proofs.lemmas.List.Concat.{flat_map-append, flat_map-cons}
+use Rattle.zone_name.specs.Name.{IsLabel, IsName, frame, wire, labels_by, labels_of, BeginsWithName, HoldsName}
+
+-- one label cut off the front
+labels_by-cut : (k m : ℕ) (text label more : List ℕ) → text ≡ label ++ more → length label ≡ suc k → labels_by (suc m) (suc k ∷ text) ≡ label ∷ labels_by m more
+labels_by-cut k m text label more e count = rw (e, take_at label more (suc k) count, drop_at label more (suc k) count) refl
+
+-- the labels in frames, and then those in what follows
+pub labels_by-frames : (labels : List (List ℕ)) (rest : List ℕ) (m n : ℕ) → m ≡ length labels + n → AllByRecursion IsLabel labels → labels_by m (flat_map frame labels ++ rest) ≡ labels ++ labels_by n rest
+labels_by-frames [] rest m n fuel each = let e : m ≡ n = omega arith in ap (λ t. labels_by t rest) e
+labels_by-frames ([] ∷ labels) rest m n fuel each = absurd (omega (arith, each.0.some))
+labels_by-frames ((c ∷ label) ∷ labels) rest zero n fuel each = absurd (omega arith)
+labels_by-frames ((c ∷ label) ∷ labels) rest (suc m) n fuel each =
+    let more = flat_map frame labels ++ rest in
+    let left : m ≡ length labels + n = omega arith in
+    labels_by-cut (length label) m (c ∷ label ++ flat_map frame labels ++ rest) (c ∷ label) more (ap (λ t. c ∷ t) (append_assoc label (flat_map frame labels) rest)) refl ∙ ap (λ t. (c ∷ label) ∷ t) (labels_by-frames labels rest m n left each.1)
+
+-- frames are no fewer octets than labels
+pub length-frames : (labels : List (List ℕ)) → length labels ≤ length (flat_map frame labels)
+length-frames [] = omega arith
+length-frames (label ∷ labels) = omega (arith, length-append label (flat_map frame labels), length-frames labels)
+
+-- the fuel of `labels_of` is enough for the labels in frames
+pub labels_of-frames : (labels : List (List ℕ)) (rest : List ℕ) → AllByRecursion IsLabel labels → (n : ℕ) × (labels_of (flat_map frame labels ++ rest) ≡ labels ++ labels_by n rest)
+unfolding labels_of
+labels_of-frames labels rest each =
+    let n = length (flat_map frame labels ++ rest) - length labels in
+    let fuel : length (flat_map frame labels ++ rest) ≡ length labels + n = omega (arith, length-frames labels, length-append (flat_map frame labels) rest) in
+    (n, labels_by-frames labels rest (length (flat_map frame labels ++ rest)) n fuel each)
+
+-- no label is behind the root
+pub labels_by-root : (n : ℕ) (rest : List ℕ) → labels_by n (0 ∷ rest) ≡ []
+labels_by-root zero rest = refl
+labels_by-root (suc n) rest = refl
+
+-- no label is in no octets
+pub labels_by-nil : (n : ℕ) → labels_by n [] ≡ []
+labels_by-nil zero = refl
+labels_by-nil (suc n) = refl
+
+-- `labels_of` gives back the labels that `wire` writes, whatever follows
+pub labels_of-wire_append : (labels : List (List ℕ)) (rest : List ℕ) → AllByRecursion IsLabel labels → labels_of (wire labels ++ rest) ≡ labels
+labels_of-wire_append labels rest each =
+    let found = labels_of-frames labels (0 ∷ rest) each in
+    rw (append_assoc (flat_map frame labels) (0 ∷ []) rest, found.1, labels_by-root found.0 rest) (append-nil labels)
+
+pub labels_of-wire : (labels : List (List ℕ)) → AllByRecursion IsLabel labels → labels_of (wire labels) ≡ labels
+labels_of-wire labels each =
+    let found = labels_of-frames labels (0 ∷ []) each in
+    rw (found.1, labels_by-root found.0 []) (append-nil labels)
+
+-- frames with no root behind them
+pub labels_of-open : (labels : List (List ℕ)) → AllByRecursion IsLabel labels → labels_of (flat_map frame labels) ≡ labels
+labels_of-open labels each =
+    let found = labels_of-frames labels [] each in
+    (ap labels_of (sym (append-nil (flat_map frame labels)))) ∙ found.1 ∙ ap (λ t. labels ++ t) (labels_by-nil found.0) ∙ append-nil labels
+
+-- the octets of a name are a name
+pub HoldsName-wire : (labels : List (List ℕ)) → IsName labels → HoldsName (wire labels)
+HoldsName-wire labels name =
+    let back = labels_of-wire labels name.each in
+    record { whole = ap wire back; name = subst IsName (sym back) name }
+
+-- the octets of a name begin with it, whatever follows
+pub BeginsWithName-wire_append : (labels : List (List ℕ)) (rest : List ℕ) → IsName labels → BeginsWithName (wire labels ++ rest)
+BeginsWithName-wire_append labels rest name =
+    let back = labels_of-wire_append labels rest name.each in
+    record { name = subst IsName (sym back) name; front = rw back (take_at (wire labels) rest (length (wire labels)) refl) }
+
+-- octets that hold a name begin with one
+pub BeginsWithName-from_holds : (octets : List ℕ) → HoldsName octets → BeginsWithName octets
+BeginsWithName-from_holds octets holds =
+    subst BeginsWithName (append-nil (wire (labels_of octets)) ∙ holds.whole) (BeginsWithName-wire_append (labels_of octets) [] holds.name)
+
+-- octets that begin with a name, taken apart at their first octet
+pub record NextLabel (n : ℕ) (more : List ℕ) (labels : List (List ℕ)) : Type 0 where
+  pub fits : n ≤ length more
+  pub short : n ≤ 63
+  pub cut : labels ≡ take n more ∷ labels_of (drop n more)
+  pub rest : BeginsWithName (drop n more)
+
+-- a label that is left out leaves a name
+pub IsName-tail : (label : List ℕ) (labels : List (List ℕ)) → IsName (label ∷ labels) → IsName labels
+IsName-tail label labels name = record {
+  each = name.each.1;
+  short = omega (arith, name.short, length-append (label ++ flat_map frame labels) (0 ∷ []), length-append label (flat_map frame labels), length-append (flat_map frame labels) (0 ∷ []));
+}
+
+next_in : (labels : List (List ℕ)) (rest : List ℕ) (n : ℕ) (more : List ℕ) → IsName labels → 0 < n → n ∷ more ≡ wire labels ++ rest → NextLabel n more labels
+next_in [] rest n more name positive is = absurd (let e : n ≡ 0 = cc in omega arith)
+next_in (label ∷ labels) rest n more name positive is =
+    let left = wire labels ++ rest in
+    let shape : wire (label ∷ labels) ++ rest ≡ length label ∷ (label ++ left) =
+    ap (λ t. length label ∷ t) (ap (λ t. t ++ rest) (append_assoc label (flat_map frame labels) (0 ∷ [])) ∙ append_assoc label (wire labels) rest) in
+    let counts : n ≡ length label = cc (is ∙ shape) in
+    let text : more ≡ label ++ left = cc (is ∙ shape) in
+    let front : take n more ≡ label = rw text (take_at label left n (sym counts)) in
+    let after : drop n more ≡ left = rw text (drop_at label left n (sym counts)) in
+    let name' = IsName-tail label labels name in
+    record {
+      fits = rw text (omega (arith, counts, length-append label left));
+      short = omega (arith, counts, name.each.0.short);
+      cut = rw (front, after, labels_of-wire_append labels rest name'.each) refl;
+      rest = subst BeginsWithName (sym after) (BeginsWithName-wire_append labels rest name');
+    }
+
+-- octets that begin with a name, as the name's octets and the rest
+pub octets_split : (octets : List ℕ) → BeginsWithName octets → wire (labels_of octets) ++ drop (length (wire (labels_of octets))) octets ≡ octets
+octets_split octets begins = ap (λ t. t ++ drop (length (wire (labels_of octets))) octets) (sym begins.front) ∙ take-append-drop (length (wire (labels_of octets))) octets
+
+pub next_label : (n : ℕ) (more : List ℕ) → BeginsWithName (n ∷ more) → 0 < n → NextLabel n more (labels_of (n ∷ more))
+next_label n more begins positive = next_in (labels_of (n ∷ more)) (drop (length (wire (labels_of (n ∷ more)))) (n ∷ more)) n more begins.name positive (sym (octets_split (n ∷ more) begins))
+
+-- at the root no label is left
+pub root_label : (n : ℕ) (more : List ℕ) → n ≡ 0 → labels_of (n ∷ more) ≡ []
+unfolding labels_of
+root_label n more e = rw e (labels_by-root (length (0 ∷ more)) more)
+
+-- octets that begin with a name are some
+wire-some : (labels : List (List ℕ)) (rest : List ℕ) → 0 < length (wire labels ++ rest)
+wire-some labels rest = omega (arith, length-append (wire labels) rest, length-append (flat_map frame labels) (0 ∷ []))
+
+pub BeginsWithName-some : (octets : List ℕ) → BeginsWithName octets → 0 < length octets
+BeginsWithName-some octets begins = subst (λ t. 0 < length t) (octets_split octets begins) (wire-some (labels_of octets) (drop (length (wire (labels_of octets))) octets))
+
+-- the root's octets, as they are pushed
+pub HoldsName-root : (octets : List ℕ) → octets ≡ [] ++ 0 ∷ [] → HoldsName octets
+HoldsName-root octets e = subst HoldsName (sym e) (HoldsName-wire [] (record { each = tt; short = omega arith }))
+
+pub labels_of-root : (octets : List ℕ) → octets ≡ [] ++ 0 ∷ [] → labels_of octets ≡ []
+labels_of-root octets e = ap labels_of e ∙ labels_of-wire [] tt
+
+-- the front that is cut out at the length of the name is the name
+pub HoldsName-front : (octets : List ℕ) (len : ℕ) → BeginsWithName octets → len ≡ length (wire (labels_of octets)) → HoldsName (take len octets)
+HoldsName-front octets len begins e = subst HoldsName (sym (ap (λ n. take n octets) e ∙ begins.front)) (HoldsName-wire (labels_of octets) begins.name)
+
+pub labels_of-front : (octets : List ℕ) (len : ℕ) → BeginsWithName octets → len ≡ length (wire (labels_of octets)) → labels_of (take len octets) ≡ labels_of octets
+labels_of-front octets len begins e = ap labels_of (ap (λ n. take n octets) e ∙ begins.front) ∙ labels_of-wire (labels_of octets) begins.name.each
+
+-- what was counted is the whole once nothing is left
+pub counted : (len whole : ℕ) (left : List (List ℕ)) → len + length (flat_map frame left) ≡ whole → left ≡ [] → len ≡ whole
+counted len whole left e nothing = let h : len + length (flat_map frame []) ≡ whole = subst (λ t. len + length (flat_map frame t) ≡ whole) nothing e in omega arith
+
+-- each label takes two octets or more
+length-frames_twice : (labels : List (List ℕ)) → AllByRecursion IsLabel labels → length labels + length labels ≤ length (flat_map frame labels)
+length-frames_twice [] each = omega arith
+length-frames_twice (label ∷ labels) each = omega (arith, each.0.some, length-append label (flat_map frame labels), length-frames_twice labels each.1)
+
+-- a name has at most 127 labels
+pub length-labels : (labels : List (List ℕ)) → IsName labels → length labels ≤ 127
+length-labels labels name = omega (arith, name.short, length-frames_twice labels name.each, length-append (flat_map frame labels) (0 ∷ []))

@@ -1,0 +1,135 @@
+-- A label that is put behind others.
+use Rattle.std.proofs.Common.{◌≡◌, ℕ, zero, suc, ◌+◌, ◌<◌, ◌≤◌, ◌&&◌, Bool, true, false, Result, Ok, Err, List, [], ◌∷◌, ◌++◌, length, take, get_or, nat_le, if◌then◌else◌, refl, sym, ap, ◌∙◌, subst, arith, append_assoc, length-append}
+use Rattle.std.specs.Prelude.{map}
+use Rattle.std.specs.List.{flat_map, AllByRecursion}
+use Rattle.std.proofs.lemmas.List.{length-map, append-nil, take_all}
+use Rattle.std.proofs.lemmas.List.Concat.{flat_map-append}
+use Rattle.std.proofs.lemmas.Bool.Decides.{nat_tests}
+use Rattle.zone_name.specs.Name.{IsLabel, IsName, IsFoldedOctet, folded_octet, folded_label, frame, wire, labels_of, HoldsName, HoldsLabels}
+use Rattle.zone_name.specs.Reading.{sized}
+use Rattle.zone_name.specs.declared.fault.NameFault.{NameFault}
+use Rattle.zone_name.specs.declared.fault.NameFault.TheVariants.{NameTooLong}
+use Rattle.zone_name.proofs.Octets.{labels_of-open, labels_of-wire, HoldsName-wire}
+
+-- each of the octets, by its place
+pub AllByRecursion-from_places : (P : ℕ → Type 0) (octets : List ℕ) → ((k : ℕ) → k < length octets → P (get_or octets k 0)) → AllByRecursion P octets
+AllByRecursion-from_places P [] each = tt
+AllByRecursion-from_places P (c ∷ octets) each = (each 0 (omega arith), AllByRecursion-from_places P octets (λ k h. each (suc k) (omega arith)))
+
+-- what holds of the parts holds of the whole
+pub AllByRecursion-append : {X : Type 0} (P : X → Type 0) (xs ys : List X) → AllByRecursion P xs → AllByRecursion P ys → AllByRecursion P (xs ++ ys)
+AllByRecursion-append P [] ys left right = right
+AllByRecursion-append P (x ∷ xs) ys left right = (left.0, AllByRecursion-append P xs ys left.1 right)
+
+-- folding a folded octet changes nothing
+pub folded_octet-twice : (c : ℕ) → folded_octet (folded_octet c) ≡ folded_octet c
+folded_octet-twice c = grind (arith, nat_tests)
+
+pub folded_octet-short : (c : ℕ) → c < 256 → folded_octet c < 256
+folded_octet-short c h = grind (arith, nat_tests)
+
+pub IsFoldedOctet-folded : (c : ℕ) → c < 256 → IsFoldedOctet (folded_octet c)
+IsFoldedOctet-folded c h = record { octet = folded_octet-short c h; lower = folded_octet-twice c }
+
+folded_each : (label : List ℕ) → AllByRecursion (λ c. c < 256) label → AllByRecursion IsFoldedOctet (folded_label label)
+folded_each [] each = tt
+folded_each (c ∷ label) each = (IsFoldedOctet-folded c each.0, folded_each label each.1)
+
+-- a label in lower case is one
+pub IsLabel-folded : (label : List ℕ) → 0 < length label → length label ≤ 63 → AllByRecursion (λ c. c < 256) label → IsLabel (folded_label label)
+IsLabel-folded label some short each = record {
+  some = omega (arith, length-map label folded_octet);
+  short = omega (arith, length-map label folded_octet);
+  each = folded_each label each;
+}
+
+-- frames, with one more behind them
+frames_push : (labels : List (List ℕ)) (label : List ℕ) → flat_map frame (labels ++ label ∷ []) ≡ flat_map frame labels ++ frame label
+frames_push labels label = flat_map-append frame labels (label ∷ []) ∙ ap (λ t. flat_map frame labels ++ t) (append-nil (frame label))
+
+-- labels with one more behind them, where there is room
+IsName-push : (labels : List (List ℕ)) (label : List ℕ) → IsName labels → IsLabel label → length (flat_map frame labels) + length label + 2 ≤ 255 → IsName (labels ++ label ∷ [])
+IsName-push labels label name is room = record {
+  each = AllByRecursion-append IsLabel labels (label ∷ []) name.each (is, tt);
+  short = omega (arith, length-append (flat_map frame (labels ++ label ∷ [])) (0 ∷ []), ap length (frames_push labels label), length-append (flat_map frame labels) (frame label));
+}
+
+pub record Pushed (octets label new : List ℕ) : Type 0 where
+  pub holds : HoldsLabels new
+  pub gives : labels_of new ≡ labels_of octets ++ label ∷ []
+
+-- the octets of one more label behind those that are held
+pub push_frame : (octets label new : List ℕ) → HoldsLabels octets → IsLabel label → length octets + length label + 2 ≤ 255 → new ≡ octets ++ frame label → Pushed octets label new
+push_frame octets label new holds is room e =
+    let name = IsName-push (labels_of octets) label holds.name is (rw holds.whole room) in
+    let text : flat_map frame (labels_of octets ++ label ∷ []) ≡ new = frames_push (labels_of octets) label ∙ ap (λ t. t ++ frame label) holds.whole ∙ sym e in
+    let gives : labels_of new ≡ labels_of octets ++ label ∷ [] = ap labels_of (sym text) ∙ labels_of-open (labels_of octets ++ label ∷ []) name.each in
+    record { holds = record { whole = ap (flat_map frame) gives ∙ text; name = subst IsName (sym gives) name }; gives = gives }
+
+-- no labels
+pub HoldsLabels-nil : (octets : List ℕ) → octets ≡ [] → HoldsLabels octets
+HoldsLabels-nil octets e =
+    let none : HoldsLabels [] = record { whole = ap (flat_map frame) (labels_of-open [] tt); name = subst IsName (sym (labels_of-open [] tt)) (record { each = tt; short = omega arith }) } in
+    subst HoldsLabels (sym e) none
+
+pub labels_of-none : (octets : List ℕ) → octets ≡ [] → labels_of octets ≡ []
+labels_of-none octets e = ap labels_of e ∙ labels_of-open [] tt
+
+-- the root's octet makes a name of them
+pub HoldsName-finish : (octets new : List ℕ) → HoldsLabels octets → new ≡ octets ++ 0 ∷ [] → HoldsName new
+HoldsName-finish octets new holds e =
+    subst HoldsName (ap (λ t. t ++ 0 ∷ []) holds.whole ∙ sym e) (HoldsName-wire (labels_of octets) holds.name)
+
+pub labels_of-finish : (octets new : List ℕ) → HoldsLabels octets → new ≡ octets ++ 0 ∷ [] → labels_of new ≡ labels_of octets
+labels_of-finish octets new holds e =
+    ap labels_of (e ∙ ap (λ t. t ++ 0 ∷ []) (sym holds.whole)) ∙ labels_of-wire (labels_of octets) holds.name.each
+
+-- a length and the octets after it, as they are pushed
+pub pushed_octets : (octets label pushed new : List ℕ) (n : ℕ) → pushed ≡ octets ++ length label ∷ [] → new ≡ pushed ++ map folded_octet (take n label) → length label ≤ n → new ≡ octets ++ frame (folded_label label)
+pushed_octets octets label pushed new n first after all =
+    after ∙ ap (λ t. t ++ map folded_octet (take n label)) first ∙ ap (λ t. octets ++ length label ∷ [] ++ map folded_octet t) (take_all n label all)
+    ∙ append_assoc octets (length label ∷ []) (map folded_octet label) ∙ ap (λ k. octets ++ (k ∷ map folded_octet label)) (sym (length-map label folded_octet))
+
+-- a longer list of labels takes more octets
+pub length-wire_append : (labels more : List (List ℕ)) → length (wire (labels ++ more)) + 1 ≡ length (wire labels) + length (wire more)
+length-wire_append labels more =
+    omega (arith, length-append (flat_map frame (labels ++ more)) (0 ∷ []), length-append (flat_map frame labels) (0 ∷ []), length-append (flat_map frame more) (0 ∷ []), ap length (flat_map-append frame labels more), length-append (flat_map frame labels) (flat_map frame more))
+
+-- the labels of two names, one behind the other
+pub record Joined (left right : List (List ℕ)) (new : List ℕ) : Type 0 where
+  pub holds : HoldsName new
+  pub gives : labels_of new ≡ left ++ right
+
+pub joined : (octets others new : List ℕ) (left right : List (List ℕ)) → HoldsLabels octets → labels_of octets ≡ left → IsName right → others ≡ wire right → new ≡ octets ++ others → length octets + length others ≤ 255 → Joined left right new
+joined octets others new left right holds is name text e room =
+    let shape : wire (left ++ right) ≡ new =
+    ap (λ t. t ++ 0 ∷ []) (flat_map-append frame left right) ∙ append_assoc (flat_map frame left) (flat_map frame right) (0 ∷ [])
+    ∙ ap (λ t. flat_map frame t ++ wire right) (sym is) ∙ ap (λ t. t ++ wire right) holds.whole ∙ ap (λ t. octets ++ t) (sym text) ∙ sym e in
+    let each : AllByRecursion IsLabel left = subst (AllByRecursion IsLabel) is holds.name.each in
+    let both : IsName (left ++ right) = record {
+      each = AllByRecursion-append IsLabel left right each name.each;
+      short = omega (arith, ap length shape, ap length e, length-append octets others);
+    } in
+    record { holds = subst HoldsName shape (HoldsName-wire (left ++ right) both); gives = ap labels_of (sym shape) ∙ labels_of-wire (left ++ right) both.each }
+
+-- where there is no room, the labels are too long for a name
+pub joined-long : (octets others : List ℕ) (left right : List (List ℕ)) → HoldsLabels octets → labels_of octets ≡ left → others ≡ wire right → 255 < length octets + length others → sized (left ++ right) ≡ Err NameTooLong
+joined-long octets others left right holds is text full =
+    let size : length (wire left) ≡ length octets + 1 = omega (arith, length-append (flat_map frame left) (0 ∷ []), ap (λ t. length (flat_map frame t)) is, ap length holds.whole) in
+    let long : 255 < length (wire (left ++ right)) = omega (arith, length-wire_append left right, ap length text) in
+    ap (λ (b : Bool). if b then Ok (left ++ right) else Err NameTooLong) (not_le (length (wire (left ++ right))) 255 long)
+  where
+    not_le : (m n : ℕ) → n < m → nat_le m n ≡ false
+    not_le m n h = grind (arith, nat_tests)
+
+-- a name's labels have its size
+pub sized-name : (labels : List (List ℕ)) → length (wire labels) ≤ 255 → sized labels ≡ Ok labels
+sized-name labels short = ap (λ (b : Bool). if b then Ok labels else Err NameTooLong) (is_le (length (wire labels)) 255 short)
+  where
+    is_le : (m n : ℕ) → m ≤ n → nat_le m n ≡ true
+    is_le m n h = grind (arith, nat_tests)
+
+pub sized-joined : (left right : List (List ℕ)) (new : List ℕ) (name : List (List ℕ)) → Joined left right new → name ≡ labels_of new → sized (left ++ right) ≡ Ok name
+sized-joined left right new name both is =
+    let named : IsName (left ++ right) = subst IsName both.gives both.holds.name in
+    sized-name (left ++ right) named.short ∙ ap (λ t. Ok t) (sym both.gives ∙ sym is)

@@ -1,0 +1,142 @@
+-- What the walk over a text finds is what the text spells: from the left, as far as it has come.
+use Rattle.std.proofs.Common.{◌≡◌, ◌≢◌, ℕ, zero, suc, ◌+◌, ◌<◌, ◌≤◌, Bool, true, false, nat_le, if◌then◌else◌, List, [], ◌∷◌, ◌++◌, length, codes, Result, Ok, Err, refl, sym, ap, ◌∙◌, subst, inl, inr, arith, append_assoc, length-append}
+use Rattle.std.specs.Prelude.{map}
+use Rattle.std.specs.List.{flat_map, AllByRecursion}
+use Rattle.std.proofs.lemmas.List.{append-nil, map_push, length-map}
+use Rattle.std.proofs.lemmas.List.Concat.{flat_map-append}
+use Rattle.std.proofs.lemmas.Bool.Decides.{nat_tests}
+use Rattle.zone_name.specs.Name.{folded_label}
+use Rattle.zone_name.specs.Spelling.{Written, text_of, octet_of, IsWritten, IsWrittenLabel, AreWrittenLabels, written_text, written_octets, dotted, parted, named, Reaches, EndsLabel, FaultAt, empty_label, long_label, bad_escape}
+use Rattle.zone_name.specs.declared.fault.NameFault.{NameFault}
+use Rattle.zone_name.specs.declared.fault.NameFault.TheVariants.{EmptyLabel, LabelTooLong, BadEscape}
+use Rattle.zone_name.specs.Reading.{Place, at_end, at_dot, at_octet, at_fault, place_of, Step, done, failed, goes, step_at, read, reading}
+use Rattle.zone_name.proofs.Places.{IsPlace, place_is, Shrinks, place_shrinks}
+use Rattle.zone_name.proofs.Steps.{after_step, read_step}
+use Rattle.zone_name.proofs.Pushing.{AllByRecursion-append}
+
+-- labels of at most 63 octets
+abbrev pub AreShort : List (List Written) → Type 0
+AreShort written = AllByRecursion (λ label. length label ≤ 63) written
+
+-- the written labels that a walk found
+pub record Finds (spelling : List (List Written) → List ℕ) (text : List ℕ) (labels : List (List ℕ)) : Type 0 where
+  pub written : List (List Written)
+  pub are : AreWrittenLabels written
+  pub short : AreShort written
+  pub text_is : text ≡ spelling written
+  pub labels_are : labels ≡ named written
+
+-- what an answer says of the text
+abbrev pub Says : List ℕ → Result (List (List ℕ) × Bool) NameFault → Type 0
+Says text (Ok (labels, true)) = Finds dotted text labels
+Says text (Ok (labels, false)) = Finds parted text labels
+Says text (Err fault) = FaultAt text fault
+
+-- ---- one label or one octet more
+dotted_push : (before : List (List Written)) (label : List Written) → dotted (before ++ label ∷ []) ≡ dotted before ++ (written_text label ++ 46 ∷ [])
+dotted_push before label =
+    let f = λ (l : List Written). written_text l ++ 46 ∷ [] in
+    flat_map-append f before (label ∷ []) ∙ ap (λ t. dotted before ++ t) (append-nil (written_text label ++ 46 ∷ []))
+
+named_push : (before : List (List Written)) (label : List Written) → named (before ++ label ∷ []) ≡ named before ++ folded_label (written_octets label) ∷ []
+named_push before label = ap (map folded_label) (map_push written_octets before label) ∙ map_push folded_label (map written_octets before) (written_octets label)
+
+text_push : (label : List Written) (w : Written) → written_text (label ++ w ∷ []) ≡ written_text label ++ text_of w
+text_push label w = flat_map-append text_of label (w ∷ []) ∙ ap (λ t. written_text label ++ t) (append-nil (text_of w))
+
+join_more : (a b c : List ℕ) → a ++ (46 ∷ (b ++ c)) ≡ ((a ++ 46 ∷ []) ++ b) ++ c
+join_more a b c = sym (append_assoc (a ++ 46 ∷ []) b c ∙ append_assoc a (46 ∷ []) (b ++ c))
+
+parted_push : (before : List (List Written)) (label : List Written) → parted (before ++ label ∷ []) ≡ dotted before ++ written_text label
+parted_push [] label = refl
+parted_push (l ∷ []) label = join_more (written_text l) [] (written_text label)
+parted_push (l ∷ m ∷ ls) label = ap (λ t. written_text l ++ (46 ∷ t)) (parted_push (m ∷ ls) label) ∙ join_more (written_text l) (dotted (m ∷ ls)) (written_text label)
+
+regroup : (a b more : List ℕ) → a ++ b ++ 46 ∷ more ≡ a ++ (b ++ 46 ∷ []) ++ [] ++ more
+regroup a b more = sym (ap (λ t. t ++ more) (append-nil (a ++ (b ++ 46 ∷ [])) ∙ sym (append_assoc a b (46 ∷ []))) ∙ append_assoc (a ++ b) (46 ∷ []) more)
+
+reaches_label : (text : List ℕ) (before : List (List Written)) (w : Written) (label : List Written) (rest more : List ℕ) → Reaches text before (w ∷ label) rest → rest ≡ 46 ∷ more → Reaches text (before ++ (w ∷ label) ∷ []) [] more
+reaches_label text before w label rest more r e = record {
+  labels = AllByRecursion-append IsWrittenLabel before ((w ∷ label) ∷ []) r.labels (record { some = omega arith; each = r.octets }, tt);
+  short = AllByRecursion-append (λ l. length l ≤ 63) before ((w ∷ label) ∷ []) r.short (r.room, tt);
+  octets = tt;
+  room = omega arith;
+  parts = r.parts ∙ ap (λ t. dotted before ++ written_text (w ∷ label) ++ t) e ∙ regroup (dotted before) (written_text (w ∷ label)) more ∙ ap (λ t. t ++ [] ++ more) (sym (dotted_push before (w ∷ label)));
+}
+
+reaches_octet : (text : List ℕ) (before : List (List Written)) (label : List Written) (w : Written) (rest more : List ℕ) → Reaches text before label rest → IsWritten w → rest ≡ text_of w ++ more → length label < 63 → Reaches text before (label ++ w ∷ []) more
+reaches_octet text before label w rest more r is e room = record {
+  labels = r.labels;
+  short = r.short;
+  octets = AllByRecursion-append IsWritten label (w ∷ []) r.octets (is, tt);
+  room = omega (arith, length-append label (w ∷ []));
+  parts = r.parts ∙ ap (λ t. dotted before ++ written_text label ++ t) e ∙ sym (append_assoc (dotted before ++ written_text label) (text_of w) more) ∙ ap (λ t. t ++ more) (append_assoc (dotted before) (written_text label) (text_of w) ∙ ap (λ t. dotted before ++ t) (sym (text_push label w)));
+}
+
+-- ---- the ends
+absolute_end : (text : List ℕ) (before : List (List Written)) (rest : List ℕ) → 0 < length text → Reaches text before [] rest → rest ≡ [] → Finds dotted text (named before)
+absolute_end text [] rest some r e = absurd (omega (arith, ap length (r.parts ∙ e)))
+absolute_end text (l ∷ ls) rest some r e = record {
+  written = l ∷ ls;
+  are = record { some = omega arith; each = r.labels };
+  short = r.short;
+  text_is = r.parts ∙ ap (λ t. dotted (l ∷ ls) ++ [] ++ t) e ∙ append-nil (dotted (l ∷ ls) ++ []) ∙ append-nil (dotted (l ∷ ls));
+  labels_are = refl;
+}
+
+relative_end : (text : List ℕ) (before : List (List Written)) (w : Written) (label : List Written) (rest : List ℕ) → Reaches text before (w ∷ label) rest → rest ≡ [] → Finds parted text (named before ++ folded_label (written_octets (w ∷ label)) ∷ [])
+relative_end text before w label rest r e = record {
+  written = before ++ (w ∷ label) ∷ [];
+  are = record { some = omega (arith, length-append before ((w ∷ label) ∷ [])); each = AllByRecursion-append IsWrittenLabel before ((w ∷ label) ∷ []) r.labels (record { some = omega arith; each = r.octets }, tt) };
+  short = AllByRecursion-append (λ l. length l ≤ 63) before ((w ∷ label) ∷ []) r.short (r.room, tt);
+  text_is = r.parts ∙ ap (λ t. dotted before ++ written_text (w ∷ label) ++ t) e ∙ append-nil (dotted before ++ written_text (w ∷ label)) ∙ sym (parted_push before (w ∷ label));
+  labels_are = sym (named_push before (w ∷ label));
+}
+
+-- ---- one step
+abbrev Later : ℕ → List ℕ → Type 0
+Later n text = (before : List (List Written)) (label : List Written) (rest : List ℕ) → Reaches text before label rest → length rest < n → Says text (read n (named before) (written_octets label) rest)
+
+full_label : (n : ℕ) (text : List ℕ) (before : List (List Written)) (label : List Written) (rest more : List ℕ) (c : ℕ) → Later n text → Reaches text before label rest → length more < length rest → length rest < suc n → (w : Written) → IsWritten w → octet_of w ≡ c → rest ≡ text_of w ++ more → (full : Bool) → nat_le 63 (length (written_octets label)) ≡ full → Says text (after_step n (if full then failed LabelTooLong else goes (named before) (written_octets label ++ c ∷ []) more))
+full_label n text before label rest more c later r shorter enough w is oc e true test =
+    let P : List ℕ → Type 0 = λ t. Reaches text before label t in
+    long_label before label w more (subst P e r) (exact (length label) (length (written_octets label)) (length-map label octet_of) r.room test) is
+  where
+    exact : (m k : ℕ) → k ≡ m → m ≤ 63 → nat_le 63 k ≡ true → m ≡ 63
+    exact m k same room full = grind (arith, nat_tests)
+full_label n text before label rest more c later r shorter enough w is oc e false test =
+    let open_is : written_octets (label ++ w ∷ []) ≡ written_octets label ++ c ∷ [] = map_push octet_of label w ∙ ap (λ t. written_octets label ++ t ∷ []) oc in
+    subst (λ t. Says text (read n (named before) t more)) open_is
+    (later before (label ++ w ∷ []) more (reaches_octet text before label w rest more r is e (below (length label) (length (written_octets label)) (length-map label octet_of) test)) (omega arith))
+  where
+    below : (m k : ℕ) → k ≡ m → nat_le 63 k ≡ false → m < 63
+    below m k same full = grind (arith, nat_tests)
+
+step_says : (n : ℕ) (text : List ℕ) (before : List (List Written)) (label : List Written) (rest : List ℕ) (place : Place) → text ≢ codes "." → 0 < length text → Later n text → Reaches text before label rest → length rest < suc n → IsPlace rest place → Shrinks rest place → Says text (after_step n (step_at (named before) (written_octets label) place))
+step_says n text before [] rest at_end other some later r enough is shorter = absolute_end text before rest some r is
+step_says n text before (w ∷ label) rest at_end other some later r enough is shorter = relative_end text before w label rest r is
+step_says n text before [] rest (at_dot more) other some later r enough is shorter = empty_label before rest r (inr (more, is)) (λ h. absurd (dot_some more (sym is ∙ h))) other
+  where
+    dot_some : (more : List ℕ) → 46 ∷ more ≡ [] → ⊥
+    dot_some more e = cc
+step_says n text before (w ∷ label) rest (at_dot more) other some later r enough is shorter =
+    subst (λ t. Says text (read n t [] more)) (named_push before (w ∷ label)) (later (before ++ (w ∷ label) ∷ []) [] more (reaches_label text before w label rest more r is) (omega arith))
+step_says n text before [] rest (at_octet c more) other some later r enough is shorter = full_label n text before [] rest more c later r shorter enough is.0 is.1 is.2 is.3 (nat_le 63 (length (written_octets []))) refl
+step_says n text before (w ∷ label) rest (at_octet c more) other some later r enough is shorter = full_label n text before (w ∷ label) rest more c later r shorter enough is.0 is.1 is.2 is.3 (nat_le 63 (length (written_octets (w ∷ label)))) refl
+step_says n text before [] rest at_fault other some later r enough is shorter = bad_escape before [] rest r is
+step_says n text before (w ∷ label) rest at_fault other some later r enough is shorter = bad_escape before (w ∷ label) rest r is
+
+walk_says : (n : ℕ) (text : List ℕ) → text ≢ codes "." → 0 < length text → Later n text
+walk_says zero text other some before label rest r enough = absurd (omega arith)
+walk_says (suc n) text other some before label rest r enough =
+    let steps : Says text (after_step n (step_at (named before) (written_octets label) (place_of rest))) = step_says n text before label rest (place_of rest) other some (walk_says n text other some) r enough (place_is rest) (place_shrinks rest) in
+    subst (Says text) (sym (read_step n (named before) (written_octets label) rest (place_of rest) refl)) steps
+
+reaches_start : (text : List ℕ) → Reaches text [] [] text
+reaches_start text = record { labels = tt; short = tt; octets = tt; room = omega arith; parts = refl }
+
+-- what is read is so
+pub reading-says : (text : List ℕ) → text ≢ codes "." → Says text (reading text)
+unfolding reading
+reading-says [] other = empty_label [] [] (reaches_start []) (inl refl) (λ h. refl) other
+reading-says (c ∷ text) other = walk_says (suc (length (c ∷ text))) (c ∷ text) other (omega arith) [] [] (c ∷ text) (reaches_start (c ∷ text)) (omega arith)

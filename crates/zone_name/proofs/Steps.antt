@@ -1,0 +1,73 @@
+-- The walk over a text: what was read so far, and what it leads to.
+use Rattle.std.proofs.Common.{◌≡◌, ◌≢◌, ℕ, zero, suc, ◌+◌, ◌<◌, ◌≤◌, Bool, true, false, nat_le, if◌then◌else◌, List, [], ◌∷◌, ◌++◌, length, Result, Ok, Err, refl, sym, ap, ◌∙◌, subst, arith, length-append}
+use Rattle.std.proofs.lemmas.Bool.Decides.{nat_tests}
+use Rattle.zone_name.specs.Name.{folded_label, wire}
+use Rattle.zone_name.specs.declared.fault.NameFault.{NameFault}
+use Rattle.zone_name.specs.declared.fault.NameFault.TheVariants.{EmptyLabel, LabelTooLong, BadEscape}
+use Rattle.zone_name.specs.Reading.{Place, at_end, at_dot, at_octet, at_fault, place_of, Step, done, failed, goes, step_at, read, reading, Collects}
+use Rattle.zone_name.specs.Seen.{Closes}
+use Rattle.zone_name.specs.declared.reading.Spelled.{Spelled}
+use Rattle.zone_name.proofs.Places.{place_shrinks, Shrinks}
+
+-- the labels that were closed lead to what the whole text leads to
+pub record Reads (text : List ℕ) (held : List (List ℕ)) (is_too_long : Bool) (open_label rest : List ℕ) : Type 0 where
+  pub labels : List (List ℕ)
+  pub collects : Collects held is_too_long labels
+  pub fuel : ℕ
+  pub enough : length rest < fuel
+  pub leads : read fuel labels open_label rest ≡ reading text
+
+pub Reads-start : (text open_label : List ℕ) (held : List (List ℕ)) → 0 < length text → held ≡ [] → open_label ≡ [] → Reads text held false open_label text
+unfolding reading
+Reads-start [] open_label held some none closed = absurd (omega arith)
+Reads-start (c ∷ text) open_label held some none closed = record {
+  labels = [];
+  collects = none;
+  fuel = suc (length (c ∷ text));
+  enough = omega arith;
+  leads = ap (λ t. read (suc (length (c ∷ text))) [] t (c ∷ text)) closed;
+}
+
+-- one step of the reading
+abbrev pub after_step : ℕ → Step → Result (List (List ℕ) × Bool) NameFault
+after_step n (done found whole) = Ok (found, whole)
+after_step n (failed fault) = Err fault
+after_step n (goes more open_next left) = read n more open_next left
+
+pub read_step : (n : ℕ) (labels : List (List ℕ)) (open_label rest : List ℕ) (place : Place) → place_of rest ≡ place → read (suc n) labels open_label rest ≡ after_step n (step_at labels open_label place)
+read_step n labels open_label rest place e = by (step_at labels open_label (place_of rest)) refl ∙ ap (λ p. after_step n (step_at labels open_label p)) e
+  where
+    by : (s : Step) → step_at labels open_label (place_of rest) ≡ s → read (suc n) labels open_label rest ≡ after_step n (step_at labels open_label (place_of rest))
+    by s h = refl
+
+-- the octets behind a place are fewer
+pub shrinks_at : (rest : List ℕ) (place : Place) → place_of rest ≡ place → Shrinks rest place
+shrinks_at rest place e = subst (Shrinks rest) e (place_shrinks rest)
+
+le_test : (m n : ℕ) → m < n → nat_le n m ≡ false
+le_test m n h = grind (arith, nat_tests)
+
+full_test : (m n : ℕ) → n ≤ m → nat_le n m ≡ true
+full_test m n h = grind (arith, nat_tests)
+
+-- no text spells no label
+pub reading-nil : (text : List ℕ) → length text ≡ 0 → reading text ≡ Err EmptyLabel
+unfolding reading
+reading-nil [] e = refl
+reading-nil (c ∷ text) e = absurd (omega arith)
+
+ends_by : (fuel : ℕ) (text : List ℕ) (labels : List (List ℕ)) (open_label rest : List ℕ) → length rest < fuel → read fuel labels open_label rest ≡ reading text → at_end ≡ place_of rest → reading text ≡ after_step zero (step_at labels open_label at_end)
+ends_by zero text labels open_label rest enough leads e = absurd (omega arith)
+ends_by (suc n) text labels [] rest enough leads e = sym leads ∙ read_step n labels [] rest at_end (sym e)
+ends_by (suc n) text labels (c ∷ open_label) rest enough leads e = sym leads ∙ read_step n labels (c ∷ open_label) rest at_end (sym e)
+
+-- at the end of the text, behind a dot
+pub Reads-absolute : (text : List ℕ) (held : List (List ℕ)) (is_too_long : Bool) (open_label rest : List ℕ) → Reads text held is_too_long open_label rest → at_end ≡ place_of rest → open_label ≡ [] → (labels : List (List ℕ)) × (reading text ≡ Ok (labels, true)) × Collects held is_too_long labels
+Reads-absolute text held is_too_long open_label rest reads e closed =
+    (reads.labels, ends_by reads.fuel text reads.labels open_label rest reads.enough reads.leads e ∙ ap (λ t. after_step zero (step_at reads.labels t at_end)) closed, reads.collects)
+
+-- at the end of the text, in a label
+pub Reads-relative : (text : List ℕ) (before after : Spelled) (open_label rest : List ℕ) (result : Result (Unit {0}) NameFault) → Reads text before.labels before.is_too_long open_label rest → at_end ≡ place_of rest → 0 < length open_label → Closes before open_label result after → (labels : List (List ℕ)) × (reading text ≡ Ok (labels, false)) × Collects after.labels after.is_too_long labels
+Reads-relative text before after [] rest result reads e some closes = absurd (omega arith)
+Reads-relative text before after (c ∷ open_label) rest result reads e some closes =
+    (reads.labels ++ folded_label (c ∷ open_label) ∷ [], ends_by reads.fuel text reads.labels (c ∷ open_label) rest reads.enough reads.leads e, closes.2 reads.labels reads.collects)

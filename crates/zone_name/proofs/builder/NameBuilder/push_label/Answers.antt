@@ -1,0 +1,21 @@
+use Rattle.std.proofs.Common.{ℕ, ◌≡◌, ◌<◌, ◌≤◌, ◌+◌, ◌++◌, ◌∷◌, [], length, ◌∙◌, ap, sym, arith, rules, append_assoc, get_or}
+use Rattle.std.specs.Prelude.{map}
+use Rattle.std.proofs.lemmas.List.{take_all, length-map}
+use Rattle.std.proofs.lemmas.Grind.{common_steps}
+use Rattle.zone_name.specs.Name.{folded_label, folded_octet, frame, IsLabel}
+use Rattle.zone_name.proofs.Pushing.{push_frame, pushed_octets, Pushed, IsLabel-folded, AllByRecursion-from_places}
+use Rattle.zone_name.proofs.builder.NameBuilder.push_label.Goals as goal
+
+pushed : (c : goal.After-loop-octet) → Pushed c.self.inside.octets.items (folded_label c.args.label.now) c.loop-octet.self-inside.octets.items
+pushed c =
+    let label = c.args.label.now in
+    let is : IsLabel (folded_label label) = IsLabel-folded label (omega arith) (omega arith) (AllByRecursion-from_places (λ x. x < 256) label (λ k h. let f = c.type_inv.label k in omega arith)) in
+    let room : length c.self.inside.octets.items + length (folded_label label) + 2 ≤ 255 = omega (arith, length-map label folded_octet) in
+    let same : c.loop-octet.self-inside.octets.items ≡ c.self.inside.octets.items ++ frame (folded_label label) = pushed_octets c.self.inside.octets.items label c.push.new.self.items c.loop-octet.self-inside.octets.items c.loop-octet.octet-index c.push.ensures.items c.loop-octet.invariant c.loop-octet-test.false in
+    push_frame _ _ _ c.self.invariant is room same
+
+pub invariant_of-self : goal.invariant_of-self
+invariant_of-self c = (pushed c).holds
+
+pub returns-clause-ok : goal.returns-clause-ok
+returns-clause-ok c = (pushed c).gives ∙ ap (λ t. t ++ folded_label c.args.label.now ∷ []) c.self.view_is

@@ -1,0 +1,16 @@
+use Rattle.std.proofs.Common.{◌≡◌, ◌≤◌, ◌+◌, length, subst, ap, sym, ◌∙◌, arith}
+use Rattle.zone_name.specs.Name.{labels_of}
+use Rattle.zone_name.proofs.Octets.{length-labels}
+use Rattle.zone_name.proofs.labels.Labels.len.Goals as goal
+
+pub overflow_add-len : goal.overflow_add-len
+overflow_add-len c =
+    let short = length-labels (labels_of c.self.inside.octets.now) c.self.invariant.name in
+    let e : length (labels_of c.self.inside.octets.now) ≡ length c.args.self.now = ap length c.self.view_is in
+    omega arith
+
+pub returns-clause-short : goal.returns-clause-short
+returns-clause-short c =
+    let short = length-labels (labels_of c.self.inside.octets.now) c.self.invariant.name in
+    let e : length (labels_of c.self.inside.octets.now) ≡ length c.args.self.now = ap length c.self.view_is in
+    omega arith

@@ -1,0 +1,9 @@
+use Rattle.std.proofs.Common.{◌≡◌, length, true}
+use Rattle.zone_name.proofs.Steps.{Reads}
+use Rattle.zone_name.proofs.reading.read_labels.Given as goal
+
+abbrev pub invariant-loop-open : goal.invariant-loop-open
+invariant-loop-open l = (l.spelled.is_absolute ≡ true) × Reads l.text l.spelled.labels l.spelled.is_too_long l.open.items l.rest
+
+abbrev pub decreases-loop-open : goal.decreases-loop-open
+decreases-loop-open l = length l.rest

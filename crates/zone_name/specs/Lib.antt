@@ -1,0 +1,6 @@
+pub mod Name
+pub mod Order
+pub mod Spelling
+pub mod Text
+pub mod Reading
+pub mod Seen

@@ -1,0 +1,106 @@
+ghost use Rattle.std.specs.Prelude.{◌≡◌, ◌<◌, ◌≤◌, ◌↔◌, ◌++◌, ◌∷◌, [], List, ℕ, length, OnOk, OnErr, IfErr, Err, map, ◌⊎◌};
+ghost use Rattle.zone_name.specs.Name.{folded_label, folded_octet, wire};
+ghost use Rattle.zone_name.specs.Reading.{sized};
+ghost use Rattle.zone_name.specs.Spelling.{IsLabelFault};
+ghost use Rattle.zone_name.specs.declared.fault.NameFault.TheVariants.{EmptyLabel, LabelTooLong, NameTooLong};
+
+use crate::fault::NameFault;
+use crate::name::Name;
+use arrayvec::ArrayVec;
+use std::marker::Model;
+
+/// A name that is made label by label. Contracts see the labels that were pushed.
+#[derive(Debug, Drop)]
+pub struct NameBuilder {
+    /// Each label behind its length, without the root's octet.
+    octets: ArrayVec<u8, 255>,
+}
+
+impl Model for NameBuilder {
+    ghost use Rattle.std.specs.Prelude.{List, ℕ};
+    ghost use Rattle.zone_name.specs.Name.{labels_of, HoldsLabels};
+
+    ghost Value = { List (List ℕ) };
+
+    ghost view = { λ b. labels_of b.octets.items };
+
+    ghost invariant = { λ b. HoldsLabels b.octets.items };
+}
+
+impl NameBuilder {
+    /// A builder of the root: no label yet.
+    pub fn new() -> NameBuilder
+        ensures { result ≡ [] }
+    {
+        NameBuilder {
+            octets: ArrayVec::new(),
+        }
+    }
+
+    /// Puts a label, with its letters in lower case (RFC 4343 3), behind those that were pushed before.
+    ///
+    /// # Errors
+    ///
+    /// `EmptyLabel` for no octets, `LabelTooLong` for more than 63, and `NameTooLong` where the name would
+    /// take more than 255 octets. The builder then has what it had.
+    pub fn push_label(&mut self, label: &[u8]) -> Result<(), NameFault>
+        ensures ok { OnOk result (self.new ≡ self.old ++ folded_label label.now ∷ []) }
+        ensures empty { (result ≡ Err EmptyLabel) ↔ (length label.now ≡ 0) }
+        ensures long { (result ≡ Err LabelTooLong) ↔ (63 < length label.now) }
+        ensures too_long { (result ≡ Err NameTooLong) ↔ ((0 < length label.now) × (length label.now ≤ 63) × (255 < length (wire (self.old ++ label.now ∷ [])))) }
+        ensures err { OnErr result (self.new ≡ self.old) }
+        ensures only { IfErr result IsLabelFault }
+    {
+        let len = label.len();
+        if len == 0 {
+            return Err(NameFault::EmptyLabel);
+        }
+        if len > 63 {
+            return Err(NameFault::LabelTooLong);
+        }
+        if self.octets.remaining_capacity() < len + 2 {
+            return Err(NameFault::NameTooLong);
+        }
+        self.octets.push(len as u8);
+        for octet in label {
+            self.octets.push(folded(*octet));
+        }
+        Ok(())
+    }
+
+    /// The name of the labels that were pushed.
+    pub fn finish(self) -> Name
+        ensures { result ≡ self }
+    {
+        let mut octets = self.octets;
+        octets.push(0);
+        Name::of_octets(octets)
+    }
+
+    /// The name of the labels that were pushed, with those of another name behind them.
+    ///
+    /// # Errors
+    ///
+    /// `NameTooLong` where they take more than 255 octets.
+    pub(crate) fn finish_under(self, above: &Name) -> Result<Name, NameFault>
+        ensures { result ≡ sized (self ++ above.now) }
+    {
+        above.known();
+        let mut octets = self.octets;
+        match octets.try_extend_from_slice(above.wire()) {
+            Ok(()) => Ok(Name::of_octets(octets)),
+            Err(_) => Err(NameFault::NameTooLong),
+        }
+    }
+}
+
+/// The octet, a letter in lower case (RFC 4343 3).
+fn folded(octet: u8) -> u8
+    ensures { result ≡ folded_octet octet }
+{
+    if octet >= b'A' && octet <= b'Z' {
+        octet + 32
+    } else {
+        octet
+    }
+}

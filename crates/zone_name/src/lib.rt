@@ -1,0 +1,18 @@
+//! Domain names: read from text, compared, ordered, taken apart and printed (RFC 1035, RFC 4034, RFC 4343).
+#![tactic(auto)]
+
+mod builder;
+mod fault;
+mod labels;
+pub mod laws;
+mod name;
+mod order;
+mod reading;
+#[cfg(test)]
+mod tests;
+mod text;
+
+pub use builder::NameBuilder;
+pub use fault::NameFault;
+pub use labels::Labels;
+pub use name::Name;

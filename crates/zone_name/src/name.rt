@@ -1,0 +1,139 @@
+ghost use Rattle.std.specs.Prelude.{◌≡◌, ◌+◌, ◌-◌, ◌*◌, ◌<◌, ◌≤◌, ◌↔◌, ℕ, List, [], ◌∷◌, ◌++◌, length, IsTrue, IfOk, IfErr, IfSome, OnOk, OnErr, Option, Some, None, Ok, Err, option_copied};
+ghost use Rattle.zone_name.specs.Name.{wire, labels_of, IsName, HoldsName, IsWithin, BeginsWithName};
+ghost use Rattle.zone_name.specs.Spelling.{Spells, FirstFault};
+
+use crate::fault::NameFault;
+use crate::labels::Labels;
+use crate::reading::{Form, form_of, named};
+use arrayvec::ArrayVec;
+use std::marker::Model;
+
+/// A domain name: its uncompressed octets (RFC 1035 3.1) in lower case. Contracts see its labels.
+#[derive(Debug, Drop)]
+pub struct Name {
+    octets: ArrayVec<u8, 255>,
+}
+
+impl Model for Name {
+    ghost use Rattle.std.specs.Prelude.{List, ℕ};
+    ghost use Rattle.zone_name.specs.Name.{labels_of, HoldsName};
+
+    ghost Value = { List (List ℕ) };
+
+    ghost view = { λ n. labels_of n.octets.items };
+
+    ghost invariant = { λ n. HoldsName n.octets.items };
+}
+
+impl Name {
+    /// The name that the text spells under the origin (RFC 1035 5.1). An absolute text needs no origin.
+    ///
+    /// # Errors
+    ///
+    /// The first of: the leftmost `EmptyLabel`, `LabelTooLong` or `BadEscape`; then `RelativeName`; then
+    /// `NameTooLong`.
+    pub fn from_text(text: &[u8], origin: Option<&Name>) -> Result<Name, NameFault>
+        ensures found { IfOk result (λ name. Spells (option_copied origin.entry) text.now name) }
+        ensures only { (name : List (List ℕ)) → Spells (option_copied origin.entry) text.now name → result ≡ Ok name }
+        ensures fault { IfErr result (FirstFault (option_copied origin.entry) text.now) }
+    {
+        known_origin(origin);
+        match form_of(text) {
+            Form::Root => Ok(Name::root()),
+            Form::Origin => match origin {
+                Some(origin) => Ok(origin.copy()),
+                None => Err(NameFault::RelativeName),
+            },
+            Form::Labels => named(text, origin),
+        }
+    }
+
+    /// The root of all names: no label (RFC 1035 3.1).
+    pub fn root() -> Name
+        ensures { result ≡ [] }
+    {
+        let mut octets = ArrayVec::new();
+        octets.push(0);
+        Name { octets }
+    }
+
+    /// The uncompressed octets in lower case, at most 255 (RFC 1035 3.1).
+    pub fn wire(&self) -> &[u8]
+        ensures octets { result.now ≡ wire self.now }
+        ensures short { length result.now ≤ 255 }
+        ensures back { labels_of result.now ≡ self.now }
+    {
+        self.octets.as_slice()
+    }
+
+    /// An equal name.
+    pub fn copy(&self) -> Name
+        ensures { result ≡ self.now }
+    {
+        Name::holding(self.octets.as_slice())
+    }
+
+    /// What holds of every name.
+    pub fn known(&self)
+        ensures name { IsName self.now }
+        ensures octets { labels_of (wire self.now) ≡ self.now }
+    {
+        let _ = &self.octets;
+    }
+
+    /// Whether the name lies at or below the apex: the apex's labels end the name's.
+    pub fn is_within(&self, apex: &Name) -> bool
+        ensures { IsTrue result ↔ IsWithin self.now apex.now }
+    {
+        let (len, apex_len) = (self.labels().len(), apex.labels().len());
+        apex_len <= len && self.labels().past(len - apex_len).is_same(apex.labels())
+    }
+
+    /// The labels, from the leftmost.
+    pub fn labels(&self) -> Labels<'_>
+        ensures { result ≡ self.now }
+    {
+        Labels {
+            octets: self.octets.as_slice(),
+        }
+    }
+
+    /// The name of these octets.
+    fn holding(octets: &[u8]) -> Name
+        requires { HoldsName octets.now }
+        ensures { result ≡ labels_of octets.now }
+    {
+        let mut held = ArrayVec::new();
+        let _ = held.try_extend_from_slice(octets);
+        Name { octets: held }
+    }
+
+    /// The name of these octets.
+    pub(crate) fn of_octets(octets: ArrayVec<u8, 255>) -> Name
+        requires { HoldsName octets.items }
+        ensures { result ≡ labels_of octets.items }
+    {
+        Name { octets }
+    }
+
+    /// The name at the front of uncompressed octets that were judged before.
+    pub fn from_front(octets: &[u8]) -> Name
+        requires { BeginsWithName octets.now }
+        ensures { result ≡ labels_of octets.now }
+    {
+        let mut len = 1;
+        for label in (Labels { octets }) {
+            len += label.len() + 1;
+        }
+        Name::holding(&octets[..len])
+    }
+}
+
+/// What holds of an origin.
+fn known_origin(origin: Option<&Name>)
+    ensures { IfSome (option_copied origin.entry) IsName }
+{
+    if let Some(name) = origin {
+        name.known();
+    }
+}

@@ -1,0 +1,205 @@
+ghost use Rattle.std.specs.Prelude.{◌≡◌, ℕ, ◌+◌, ◌<◌, ◌≤◌, List, [], ◌∷◌, ◌++◌, length, true, IfOk, IfErr, IfSome, Option, Some, None, Ok, Err, option_copied};
+ghost use Rattle.zone_name.specs.Name.{folded_label, IsName};
+ghost use Rattle.zone_name.specs.Spelling.{is_digit};
+ghost use Rattle.zone_name.specs.Reading.{Collects, digits_place, escape_place, place_of, reading, under};
+ghost use Rattle.zone_name.specs.Seen.{seen, Closes, HasForm};
+
+use crate::builder::NameBuilder;
+use crate::fault::NameFault;
+use crate::name::Name;
+use arrayvec::ArrayVec;
+
+/// How a name's text is read (RFC 1035 5.1).
+#[derive(Drop)]
+pub(crate) enum Form {
+    /// A dot alone, which is the root.
+    Root,
+    /// An `@` alone, which is the origin.
+    Origin,
+    /// Labels parted by dots.
+    Labels,
+}
+
+/// How the text is read.
+pub(crate) fn form_of(text: &[u8]) -> Form
+    ensures { HasForm text.now result }
+{
+    match text {
+        b"." => Form::Root,
+        b"@" => Form::Origin,
+        _ => Form::Labels,
+    }
+}
+
+/// What stands at the place of a label's next octet, and what is behind it.
+#[derive(Drop)]
+enum Next<'t> {
+    /// The text ends.
+    End,
+    /// A dot.
+    Dot(&'t [u8]),
+    /// An octet, by itself or by an escape.
+    Octet(u8, &'t [u8]),
+    /// A backslash that begins no escape.
+    BadEscape,
+}
+
+/// The labels that a text spells.
+#[derive(Drop)]
+struct Spelled {
+    labels: NameBuilder,
+    /// The labels take more octets than a name has, and `labels` says nothing.
+    is_too_long: bool,
+    /// The text ends with a dot that parts labels.
+    is_absolute: bool,
+}
+
+impl Spelled {
+    /// Puts a label behind the others, however long they are together.
+    fn close(&mut self, label: &[u8]) -> Result<(), NameFault>
+        requires { length label.now ≤ 63 }
+        ensures { Closes self.old label.now result self.new }
+    {
+        match self.labels.push_label(label) {
+            Err(NameFault::NameTooLong) => {
+                self.is_too_long = true;
+                Ok(())
+            }
+            pushed => pushed,
+        }
+    }
+
+    /// The name of the labels, with the origin's behind them where the text is relative.
+    fn under(self, origin: Option<&Name>) -> Result<Name, NameFault>
+        ensures { (labels : List (List ℕ)) → Collects self.labels self.is_too_long labels → result ≡ under (option_copied origin.entry) (Ok (labels, self.is_absolute)) }
+    {
+        if self.is_absolute {
+            if self.is_too_long {
+                return Err(NameFault::NameTooLong);
+            }
+            let name = self.labels.finish();
+            name.known();
+            return Ok(name);
+        }
+        let Some(above) = origin else {
+            return Err(NameFault::RelativeName);
+        };
+        if self.is_too_long {
+            return Err(NameFault::NameTooLong);
+        }
+        self.labels.finish_under(above)
+    }
+}
+
+/// The name of a text that is neither `.` nor `@` (RFC 1035 5.1).
+pub(crate) fn named(text: &[u8], origin: Option<&Name>) -> Result<Name, NameFault>
+    ensures value { result ≡ under (option_copied origin.entry) (reading text.now) }
+    ensures name { IfOk result IsName }
+{
+    let name = read_labels(text)?.under(origin)?;
+    name.known();
+    Ok(name)
+}
+
+/// The labels of a text that is neither `.` nor `@` (RFC 1035 5.1).
+fn read_labels(text: &[u8]) -> Result<Spelled, NameFault>
+    ensures labels { IfOk result (λ s. (labels : List (List ℕ)) × (reading text.now ≡ Ok (labels, s.is_absolute)) × Collects s.labels s.is_too_long labels) }
+    ensures fault { IfErr result (λ fault. reading text.now ≡ Err fault) }
+{
+    if text.is_empty() {
+        return Err(NameFault::EmptyLabel);
+    }
+    let mut spelled = Spelled {
+        labels: NameBuilder::new(),
+        is_too_long: false,
+        is_absolute: true,
+    };
+    let mut open: ArrayVec<u8, 63> = ArrayVec::new();
+    let mut rest = text;
+    loop {
+        match next_at(rest) {
+            Next::End => {
+                if !open.is_empty() {
+                    spelled.close(open.as_slice())?;
+                    spelled.is_absolute = false;
+                }
+                return Ok(spelled);
+            }
+            Next::Dot(after) => {
+                spelled.close(open.as_slice())?;
+                open.clear();
+                rest = after;
+            }
+            Next::Octet(octet, after) => {
+                if open.is_full() {
+                    return Err(NameFault::LabelTooLong);
+                }
+                open.push(octet);
+                rest = after;
+            }
+            Next::BadEscape => return Err(NameFault::BadEscape),
+        }
+    }
+}
+
+/// What stands at the front of the rest of a text.
+fn next_at(rest: &[u8]) -> Next<'_>
+    ensures { seen result ≡ place_of rest.now }
+{
+    let Some((first, after)) = rest.split_first() else {
+        return Next::End;
+    };
+    if *first == b'.' {
+        Next::Dot(after)
+    } else if *first == b'\\' {
+        escape_at(after)
+    } else {
+        Next::Octet(*first, after)
+    }
+}
+
+/// What an escape stands for, behind its backslash (RFC 1035 5.1).
+fn escape_at(after: &[u8]) -> Next<'_>
+    ensures { seen result ≡ escape_place after.now }
+{
+    let Some((first, rest)) = after.split_first() else {
+        return Next::BadEscape;
+    };
+    if is_decimal_digit(*first) {
+        digits_at(*first, rest)
+    } else if *first == b'\n' || *first == b'\r' {
+        Next::BadEscape
+    } else {
+        Next::Octet(*first, rest)
+    }
+}
+
+/// The octet of three digits, of which the first was read.
+fn digits_at(first: u8, after: &[u8]) -> Next<'_>
+    requires { is_digit first ≡ true }
+    ensures { seen result ≡ digits_place first after.now }
+{
+    match after {
+        [second, third, rest @ ..] => {
+            if !is_decimal_digit(*second) || !is_decimal_digit(*third) {
+                return Next::BadEscape;
+            }
+            let value = 100 * (first - b'0') as u16
+                + 10 * (*second - b'0') as u16
+                + (*third - b'0') as u16;
+            if value <= 255 {
+                Next::Octet(value as u8, rest)
+            } else {
+                Next::BadEscape
+            }
+        }
+        _ => Next::BadEscape,
+    }
+}
+
+/// Whether the octet is a digit.
+fn is_decimal_digit(octet: u8) -> bool
+    ensures { result ≡ is_digit octet }
+{
+    octet >= b'0' && octet <= b'9'
+}

@@ -1,0 +1,36 @@
+-- Decimal digits read one after the other, under a cap.
+use Rattle.std.proofs.Common.{◌≡◌, ℕ, zero, suc, ◌+◌, ◌-◌, ◌*◌, ◌<◌, ◌≤◌, min, Bool, true, false, List, [], ◌∷◌, ◌++◌, length, get_or, take, drop, refl, sym, ap, ◌∙◌, subst, arith}
+use Rattle.std.specs.Prelude.{fold}
+use Rattle.std.specs.List.{AllByRecursion}
+use Rattle.std.proofs.lemmas.List.{take_more, take_all}
+use Rattle.zone_name.specs.Spelling.{is_digit}
+use Rattle.zone_rdata.specs.Number.{decimal_value, IsDecimal}
+
+-- digits so far, and their number under the cap
+pub record ReadsDigits (cap : ℕ) (text : List ℕ) (n : ℕ) : Type 0 where
+  pub each : AllByRecursion (λ c. is_digit c ≡ true) text
+  pub value : n ≡ min cap (decimal_value text)
+
+value_push : (digits : List ℕ) (c start : ℕ) → fold (λ n d. n * 10 + (d - 48)) start (digits ++ c ∷ []) ≡ fold (λ n d. n * 10 + (d - 48)) start digits * 10 + (c - 48)
+value_push [] c start = refl
+value_push (d ∷ digits) c start = value_push digits c (start * 10 + (d - 48))
+
+digits_push : (digits : List ℕ) (c : ℕ) → AllByRecursion (λ c. is_digit c ≡ true) digits → is_digit c ≡ true → AllByRecursion (λ c. is_digit c ≡ true) (digits ++ c ∷ [])
+digits_push [] c each h = (h, tt)
+digits_push (d ∷ digits) c each h = (each.0, digits_push digits c each.1 h)
+
+pub digits_more : (cap : ℕ) (text : List ℕ) (i n c : ℕ) → i < length text → c ≡ get_or text i 0 → ReadsDigits cap (take i text) n → is_digit c ≡ true → ReadsDigits cap (take (i + 1) text) (min cap (n * 10 + (c - 48)))
+digits_more cap text i n c lt at reads digit =
+    let more : take (i + 1) text ≡ take i text ++ c ∷ [] = take_more text i 0 lt ∙ ap (λ x. take i text ++ x ∷ []) (sym at) in
+    let value = value_push (take i text) c 0 in
+    let sum : min cap (n * 10 + (c - 48)) ≡ min cap (decimal_value (take i text ++ c ∷ [])) = rw value (let e = reads.value in omega arith) in
+    subst (λ t. ReadsDigits cap t (min cap (n * 10 + (c - 48)))) (sym more) (record { each = digits_push (take i text) c reads.each digit; value = sum })
+
+-- an octet that is no digit stands in no number
+digit_at : (text : List ℕ) (i : ℕ) → i < length text → AllByRecursion (λ c. is_digit c ≡ true) text → is_digit (get_or text i 0) ≡ true
+digit_at [] i lt each = absurd (omega arith)
+digit_at (c ∷ text) zero lt each = each.0
+digit_at (c ∷ text) (suc i) lt each = digit_at text i (omega arith) each.1
+
+pub no_decimal : (text : List ℕ) (i n : ℕ) → i < length text → is_digit (get_or text i 0) ≡ false → IsDecimal text n → ⊥
+no_decimal text i n lt test dec = let yes = digit_at text i lt dec.digits in cc (sym yes ∙ test)

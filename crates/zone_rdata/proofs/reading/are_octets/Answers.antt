@@ -1,0 +1,6 @@
+use Rattle.std.proofs.Common.{arith}
+use Rattle.zone_rdata.proofs.Fields.{bytes_each}
+use Rattle.zone_rdata.proofs.reading.are_octets.Goals as goal
+
+pub returns : goal.returns
+returns c = bytes_each c.args.octets.now (λ i. omega (arith, c.type_inv.octets i))

@@ -1,0 +1,11 @@
+pub mod Fault
+pub mod Field
+pub mod Layout
+pub mod Number
+pub mod Words
+pub mod Record
+pub mod Order
+pub mod Spelling
+pub mod Reading
+pub mod Text
+pub mod Source

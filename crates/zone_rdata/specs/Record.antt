@@ -1,0 +1,34 @@
+-- Resource records (RFC 1035 3.2.1) as contracts see them.
+use Rattle.std.specs.Prelude.{ℕ, ◌≤◌, List}
+use Rattle.zone_name.specs.Name.{IsName}
+use Rattle.zone_rdata.specs.Words.{IsClass, IsKind}
+use Rattle.zone_rdata.specs.Layout.{IsData}
+
+-- class, type and canonical octets of record data: in one class and type, equal octets are equal values
+pub record Data : Type 0 where
+  pub class : ℕ
+  pub kind : ℕ
+  pub octets : List ℕ
+
+-- data that records can have
+pub record IsRdata (d : Data) : Type 0 where
+  pub class : IsClass d.class
+  pub kind : IsKind d.kind
+  pub octets : IsData d.class d.kind d.octets
+
+-- a record: owner, class, type, TTL in seconds and the canonical octets of its data
+pub record Record : Type 0 where
+  pub owner : List (List ℕ)
+  pub class : ℕ
+  pub kind : ℕ
+  pub ttl : ℕ
+  pub octets : List ℕ
+
+abbrev pub data_of : Record → Data
+data_of r = record { class = r.class; kind = r.kind; octets = r.octets }
+
+-- a record that can stand in a zone (RFC 2181 8: a TTL has 31 bits)
+pub record IsRecord (r : Record) : Type 0 where
+  pub owner : IsName r.owner
+  pub ttl : r.ttl ≤ 2147483647
+  pub rdata : IsRdata (data_of r)

@@ -1,0 +1,34 @@
+-- A source of records: what it still has to give.
+use Rattle.std.specs.Prelude.{ℕ, Bool, true, false, List, [], ◌∷◌, Option, Some, None, Result, Ok, Err}
+use Rattle.zone_rdata.specs.declared.fault.Fault.{Fault}
+use Rattle.zone_rdata.specs.declared.fault.Place.{Place}
+use Rattle.zone_rdata.specs.declared.fault.Stop.{Stop}
+use Rattle.zone_rdata.specs.declared.fault.Stop.TheVariants.{Refused, Memory}
+use Rattle.zone_rdata.specs.declared.record.Placed.{Placed}
+
+-- whether it failed, the records still to come in order, and the fault after them, if one is decided
+pub record Feed : Type 0 where
+  pub failed : Bool
+  pub records : List Placed
+  pub ending : Option (Fault × Place)
+
+-- the answer where no record is left
+abbrev pub ending_answer : Option (Fault × Place) → Result (Option Placed) Stop
+ending_answer None = Ok None
+ending_answer (Some e) = Err (Refused e.0 e.1)
+
+abbrev pub first_answer : List Placed → Option (Fault × Place) → Result (Option Placed) Stop
+first_answer [] ending = ending_answer ending
+first_answer (r ∷ records) ending = Ok (Some r)
+
+-- the next answer: want of memory where it failed, else the first record, else the fault
+abbrev pub answer_of : Feed → Result (Option Placed) Stop
+answer_of feed = elim feed.failed [ true ↦ Err Memory | false ↦ first_answer feed.records feed.ending ]
+
+abbrev pub others : List Placed → List Placed
+others [] = []
+others (r ∷ records) = records
+
+-- what is left after an answer
+abbrev pub after : Feed → Feed
+after feed = elim feed.failed [ true ↦ feed | false ↦ record feed { records = others feed.records } ]

@@ -1,0 +1,6 @@
+/// An item of a master file's entry: its raw octets, without the quotes of a quoted one (RFC 1035 5.1).
+#[derive(Clone, Copy, Debug)]
+pub enum Item<'e> {
+    Bare(&'e [u8]),
+    Quoted(&'e [u8]),
+}

@@ -1,0 +1,28 @@
+//! Record data: classes, types, layouts, the records themselves, and why an input is refused (RFC 1035 3, RFC 3597).
+#![tactic(auto)]
+
+mod class;
+mod fault;
+mod item;
+mod kind;
+mod layout;
+mod number;
+mod order;
+mod printing;
+mod rdata;
+mod reading;
+mod record;
+mod source;
+mod word;
+
+pub use class::Class;
+pub use fault::{Failing, Fault, Place, Stop};
+pub use item::Item;
+pub use kind::Kind;
+pub use layout::{Field, Layout, layout_of};
+pub use rdata::Rdata;
+pub use record::{Placed, Rr};
+pub use source::{Reading, RrSource};
+
+#[cfg(test)]
+mod tests;

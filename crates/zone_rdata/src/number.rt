@@ -1,0 +1,23 @@
+ghost use Rattle.std.specs.Prelude.{◌≡◌, ℕ, min, IfSome, IfNone};
+ghost use Rattle.zone_rdata.specs.Number.{IsDecimal};
+
+/// What a number is cut off at: one over the greatest number of 32 bits.
+pub(crate) const CAP: u64 = 4294967296;
+
+/// The number that one or more decimal digits stand for, at most `CAP`. `None`: the text is none.
+pub(crate) fn decimal_of(text: &[u8]) -> Option<u64>
+    ensures found { IfSome result (λ n. (m : ℕ) × (IsDecimal text.now m × (n ≡ min CAP m))) }
+    ensures none { IfNone result ((m : ℕ) → IsDecimal text.now m → ⊥) }
+{
+    if text.is_empty() {
+        return None;
+    }
+    let mut number = 0;
+    for octet in text {
+        if !octet.is_ascii_digit() {
+            return None;
+        }
+        number = CAP.min(number * 10 + u64::from(*octet - b'0'));
+    }
+    Some(number)
+}

@@ -1,0 +1,115 @@
+ghost use Rattle.std.specs.Prelude.{◌≡◌, ◌++◌, ◌+◌, ◌*◌, ◌≤◌, ℕ, List, length, map, IfOk, IfErr, OnOk, OnErr};
+ghost use Rattle.zone_rdata.specs.Record.{Data, IsRdata};
+ghost use Rattle.zone_rdata.specs.Spelling.{States, raw};
+ghost use Rattle.zone_rdata.specs.Text.{data_text};
+
+use crate::class::Class;
+use crate::fault::{Failing, Fault};
+use crate::item::Item;
+use crate::kind::Kind;
+use crate::layout::layout_of;
+use crate::printing::{data_len, push_data};
+use crate::reading::{are_octets, is_generic, octets_of_items};
+use std::alloc::{AllocError, Global};
+use std::marker::Model;
+use zone_name::Name;
+
+/// The data of a record: class, type and canonical octets (RFC 1035 3.2.1). Contracts see these three.
+#[derive(Debug, Drop)]
+pub struct Rdata {
+    class: Class,
+    kind: Kind,
+    octets: Vec<u8>,
+}
+
+impl Model for Rdata {
+    ghost use Rattle.zone_rdata.specs.Record.{Data, IsRdata};
+
+    ghost Value = { Data };
+
+    ghost view = { λ d. record { class = d.class; kind = d.kind; octets = d.octets.items } };
+
+    ghost invariant = { λ d. IsRdata (record { class = d.class; kind = d.kind; octets = d.octets.items }) };
+}
+
+impl Rdata {
+    /// The data that the items state under the origin (RFC 1035 5.1).
+    ///
+    /// # Errors
+    ///
+    /// The first fault of the items from the left, and want of memory.
+    pub fn from_items(
+        alloc: Global,
+        class: Class,
+        kind: Kind,
+        items: &[Item],
+        origin: &Name,
+    ) -> Result<Rdata, Failing>
+        ensures class { IfOk result (λ d. d.class ≡ class) }
+        ensures kind { IfOk result (λ d. d.kind ≡ kind) }
+        ensures found { IfOk result (λ d. States origin.now class kind (map raw items.now) d.octets) }
+    {
+        let Some(layout) = layout_of(class, kind) else {
+            return Err(Failing::Fault(Fault::NotYet));
+        };
+        if is_generic(items) {
+            return Err(Failing::Fault(Fault::NotYet));
+        }
+        let octets = octets_of_items(alloc, layout, items, origin)?;
+        class.known();
+        kind.known();
+        are_octets(&octets);
+        Ok(Rdata {
+            class,
+            kind,
+            octets,
+        })
+    }
+
+    pub fn class(&self) -> Class
+        ensures { result ≡ self.now.class }
+    {
+        self.class
+    }
+
+    pub fn kind(&self) -> Kind
+        ensures { result ≡ self.now.kind }
+    {
+        self.kind
+    }
+
+    /// The canonical octets, at most 65,535: names uncompressed and in lower case.
+    pub fn octets(&self) -> &[u8]
+        ensures { result.now ≡ self.now.octets }
+    {
+        self.octets.as_slice()
+    }
+
+    /// What holds of all data.
+    pub fn known(&self)
+        ensures { IsRdata self.now }
+    {
+        let _ = &self.octets;
+    }
+
+    /// The octets of the canonical text.
+    pub fn text_len(&self) -> usize
+        ensures value { result ≡ length (data_text self.now) }
+        ensures short { result ≤ 1000000 }
+    {
+        data_len(layout_of(self.class, self.kind), &self.octets)
+    }
+
+    /// Appends the canonical text. Where memory is refused, `out` holds what it held.
+    pub fn push_text(&self, out: &mut Vec<u8>) -> Result<(), AllocError>
+        ensures ok { OnOk result (out.new.items ≡ out.old.items ++ data_text self.now) }
+        ensures err { OnErr result (out.new.items ≡ out.old.items) }
+    {
+        let before = out.len();
+        let pushed = push_data(layout_of(self.class, self.kind), &self.octets, out);
+        if pushed.is_err() {
+            out.truncate(before);
+        }
+        pushed
+    }
+}

@@ -1,0 +1,103 @@
+ghost use Rattle.std.specs.Prelude.{◌≡◌, ◌<◌, ◌≤◌, ◌↔◌, IfOk, IfErr, IsOk, Err};
+ghost use Rattle.zone_rdata.specs.Record.{Record, IsRecord, data_of};
+
+use crate::class::Class;
+use crate::fault::{Fault, Place};
+use crate::kind::Kind;
+use crate::rdata::Rdata;
+use std::marker::Model;
+use zone_name::Name;
+
+/// A resource record (RFC 1035 3.2.1) with a TTL of 31 bits (RFC 2181 8).
+#[derive(Debug, Drop)]
+pub struct Rr {
+    owner: Name,
+    ttl: u32,
+    rdata: Rdata,
+}
+
+impl Model for Rr {
+    ghost use Rattle.std.specs.Prelude.{◌≤◌};
+    ghost use Rattle.zone_rdata.specs.Record.{Record};
+
+    ghost Value = { Record };
+
+    ghost view = { λ r. record { owner = r.owner; class = r.rdata.class; kind = r.rdata.kind; ttl = r.ttl; octets = r.rdata.octets } };
+
+    ghost invariant = { λ r. r.ttl ≤ 2147483647 };
+}
+
+/// A record and where it was stated.
+#[derive(Debug, Drop)]
+pub struct Placed {
+    pub rr: Rr,
+    pub place: Place,
+}
+
+impl Rr {
+    /// The record of an owner, a TTL in seconds and data.
+    ///
+    /// # Errors
+    ///
+    /// `BadTtl` where the TTL is over 2147483647.
+    pub fn new(owner: Name, ttl: u32, rdata: Rdata) -> Result<Rr, Fault>
+        ensures ok { IsOk result ↔ (ttl ≤ 2147483647) }
+        ensures value { IfOk result (λ r. r ≡ record { owner = owner; class = rdata.class; kind = rdata.kind; ttl = ttl; octets = rdata.octets }) }
+        ensures err { IfErr result (λ e. e ≡ Fault.BadTtl) }
+    {
+        if ttl > 2147483647 {
+            return Err(Fault::BadTtl);
+        }
+        Ok(Rr { owner, ttl, rdata })
+    }
+
+    pub fn owner(&self) -> &Name
+        ensures { result.now ≡ self.now.owner }
+    {
+        &self.owner
+    }
+
+    pub fn class(&self) -> Class
+        ensures { result ≡ self.now.class }
+    {
+        self.rdata.class()
+    }
+
+    pub fn kind(&self) -> Kind
+        ensures { result ≡ self.now.kind }
+    {
+        self.rdata.kind()
+    }
+
+    /// The TTL in seconds, at most 2147483647.
+    pub fn ttl(&self) -> u32
+        ensures value { result ≡ self.now.ttl }
+        ensures short { result ≤ 2147483647 }
+    {
+        self.ttl
+    }
+
+    pub fn rdata(&self) -> &Rdata
+        ensures { result.now ≡ data_of self.now }
+    {
+        &self.rdata
+    }
+
+    /// What holds of every record.
+    pub fn known(&self)
+        ensures { IsRecord self.now }
+    {
+        self.owner.known();
+        self.rdata.known();
+    }
+
+    /// The owner, the TTL in seconds and the data.
+    pub fn into_parts(self) -> (Name, u32, Rdata)
+        ensures owner { result.0 ≡ self.owner }
+        ensures ttl { result.1 ≡ self.ttl }
+        ensures rdata { result.2 ≡ data_of self }
+    {
+        let Rr { owner, ttl, rdata } = self;
+        (owner, ttl, rdata)
+    }
+}

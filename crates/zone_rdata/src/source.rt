@@ -1,0 +1,42 @@
+ghost use Rattle.std.specs.Prelude.{◌≡◌, false};
+ghost use Rattle.zone_rdata.specs.Source.{Feed, answer_of, after};
+
+use crate::fault::{Fault, Place, Stop};
+use crate::record::Placed;
+use std::collections::VecDeque;
+
+/// A source of records in order, and the fault after them.
+pub trait RrSource {
+    /// Whether it failed, the records still to come, and the fault after them, if one is decided.
+    ghost feed: { Self → Feed };
+
+    /// The next record. With none left the fault, and the same again from then on; `None` where no fault is decided.
+    ///
+    /// # Errors
+    ///
+    /// `Memory` where the source has failed, and `Refused` with the fault.
+    fn next(&mut self) -> Result<Option<Placed>, Stop>
+        ensures answer { result ≡ answer_of (feed self.old) }
+        ensures left { feed self.new ≡ after (feed self.old) };
+}
+
+/// The records of a whole input up to its first fault, and that fault.
+#[derive(Debug, Drop)]
+pub struct Reading {
+    pub placed: VecDeque<Placed>,
+    pub ending: Option<(Fault, Place)>,
+}
+
+impl RrSource for Reading {
+    ghost feed = { λ r. record { failed = false; records = r.placed.items; ending = r.ending } };
+
+    fn next(&mut self) -> Result<Option<Placed>, Stop> {
+        if let Some(placed) = self.placed.pop_front() {
+            return Ok(Some(placed));
+        }
+        match &self.ending {
+            None => Ok(None),
+            Some((fault, place)) => Err(Stop::Refused(fault.copy(), *place)),
+        }
+    }
+}

@@ -1,0 +1,167 @@
+use super::*;
+use std::alloc::Global;
+use std::collections::VecDeque;
+use std::test::Fail;
+use zone_name::{Name, NameFault};
+
+fn name_of(text: &[u8]) -> Result<Name, NameFault> {
+    Name::from_text(text, None)
+}
+
+fn class_of(word: &[u8]) -> Result<Class, &'static str> {
+    Class::from_word(word).ok_or("no class")
+}
+
+fn kind_of(word: &[u8]) -> Result<Kind, &'static str> {
+    Kind::from_word(word).ok_or("no type")
+}
+
+fn items_of(text: &'static [u8]) -> [Item<'static>; 1] {
+    [Item::Bare(text)]
+}
+
+#[test]
+fn words(rt: HostRuntime) -> Result<(), Fail> {
+    let class = class_of(b"In")?;
+    assert_eq!(rt; class.number(), 1);
+    let mut out = Vec::new(rt.alloc());
+    class.push_word(&mut out)?;
+    out.extend_from_slice(b" ")?;
+    kind_of(b"sOa")?.push_word(class, &mut out)?;
+    out.extend_from_slice(b" ")?;
+    kind_of(b"ns")?.push_word(class, &mut out)?;
+    assert_eq!(rt; out.as_slice(), b"IN SOA NS".as_slice());
+    assert!(rt; kind_of(b"SOA")?.is_soa());
+    assert_eq!(rt; kind_of(b"SOA")?.number(), 6);
+    Ok(())
+}
+
+#[test]
+fn layouts(rt: HostRuntime) -> Result<(), Fail> {
+    let layout = layout_of(class_of(b"IN")?, kind_of(b"SOA")?).ok_or("no layout")?;
+    assert_eq!(rt; layout.field(1), Some(Field::Name));
+    assert_eq!(rt; layout.field(2), Some(Field::Serial));
+    assert_eq!(rt; layout.field(6), Some(Field::Time));
+    assert_eq!(rt; layout.field(7), None);
+    Ok(())
+}
+
+#[test]
+fn soa(rt: HostRuntime) -> Result<(), Fail> {
+    let class = class_of(b"IN")?;
+    let kind = kind_of(b"SOA")?;
+    let origin = name_of(b"example.")?;
+    let items = [
+        Item::Bare(b"Ns1"),
+        Item::Bare(b"host.master."),
+        Item::Bare(b"0002024"),
+        Item::Bare(b"7200"),
+        Item::Bare(b"3600"),
+        Item::Bare(b"1209600"),
+        Item::Bare(b"4294967295"),
+    ];
+    let rdata = match Rdata::from_items(rt.alloc(), class, kind, &items, &origin) {
+        Ok(rdata) => rdata,
+        Err(_) => return Err(Fail::from("refused")),
+    };
+    let mut out = Vec::new(rt.alloc());
+    rdata.push_text(&mut out)?;
+    let text = b"ns1.example. host.master. 2024 7200 3600 1209600 4294967295";
+    assert_eq!(rt; out.as_slice(), text.as_slice());
+    assert_eq!(rt; rdata.text_len(), text.len());
+    assert_eq!(rt; rdata.octets().len(), 46);
+    assert!(rt; rdata.kind().is_soa());
+    assert_eq!(rt; rdata.class().number(), 1);
+    Ok(())
+}
+
+#[test]
+fn refused(rt: HostRuntime) -> Result<(), Fail> {
+    let class = class_of(b"IN")?;
+    let ns = kind_of(b"NS")?;
+    let soa = kind_of(b"SOA")?;
+    let origin = name_of(b"example.")?;
+    let refuse = |kind: Kind, items: &[Item]| -> Option<Failing> {
+        Rdata::from_items(rt.alloc(), class, kind, items, &origin).err()
+    };
+    assert!(rt; matches!(refuse(ns, &[]), Some(Failing::Fault(Fault::BadRdata))));
+    assert!(rt;
+        matches!(
+            refuse(ns, &[Item::Quoted(b"a")]),
+            Some(Failing::Fault(Fault::BadRdata))
+        )
+    );
+    assert!(rt;
+        matches!(
+            refuse(ns, &[Item::Bare(b"a..b")]),
+            Some(Failing::Fault(Fault::EmptyLabel))
+        )
+    );
+    assert!(rt;
+        matches!(
+            refuse(ns, &[Item::Bare(b"\\#")]),
+            Some(Failing::Fault(Fault::NotYet))
+        )
+    );
+    let over = [
+        Item::Bare(b"a"),
+        Item::Bare(b"b"),
+        Item::Bare(b"4294967296"),
+    ];
+    assert!(rt; matches!(refuse(soa, &over), Some(Failing::Fault(Fault::BadNumber))));
+    Ok(())
+}
+
+fn ns_of(alloc: Global, target: &'static [u8]) -> Result<Rdata, &'static str> {
+    let class = class_of(b"IN")?;
+    let kind = kind_of(b"NS")?;
+    let origin = Name::root();
+    Rdata::from_items(alloc, class, kind, &items_of(target), &origin).map_err(|_| "refused")
+}
+
+#[test]
+fn records(rt: HostRuntime) -> Result<(), Fail> {
+    let rr = Rr::new(name_of(b"example.")?, 2147483647, ns_of(rt.alloc(), b"b.")?).map_err(
+        |_| "refused",
+    )?;
+    assert_eq!(rt; rr.ttl(), 2147483647);
+    assert_eq!(rt; rr.class().number(), 1);
+    assert_eq!(rt; rr.kind().number(), 2);
+    assert_eq!(rt; rr.owner().wire().len(), 9);
+    assert!(rt; ns_of(rt.alloc(), b"A.")? < ns_of(rt.alloc(), b"b.")?);
+    assert!(rt; *rr.rdata() == ns_of(rt.alloc(), b"B.")?);
+    let over = Rr::new(name_of(b"example.")?, 2147483648, ns_of(rt.alloc(), b"b.")?);
+    assert!(rt; matches!(over, Err(Fault::BadTtl)));
+    let (owner, ttl, rdata) = rr.into_parts();
+    assert_eq!(rt; owner.wire().len() + ttl as usize, 2147483656);
+    assert_eq!(rt; rdata.octets(), b"\x01b\x00".as_slice());
+    Ok(())
+}
+
+#[test]
+fn reading(rt: HostRuntime) -> Result<(), Fail> {
+    let rr = Rr::new(name_of(b"example.")?, 1, ns_of(rt.alloc(), b"b.")?).map_err(|_| "refused")?;
+    let mut placed = VecDeque::new(rt.alloc());
+    placed.push_back(Placed {
+        rr,
+        place: Place::Line(3),
+    })?;
+    let mut reading = Reading {
+        placed,
+        ending: Some((Fault::BadTtl, Place::Line(4))),
+    };
+    assert!(rt; matches!(reading.next(), Ok(Some(_))));
+    assert!(rt;
+        matches!(
+            reading.next(),
+            Err(Stop::Refused(Fault::BadTtl, Place::Line(4)))
+        )
+    );
+    assert!(rt;
+        matches!(
+            reading.next(),
+            Err(Stop::Refused(Fault::BadTtl, Place::Line(4)))
+        )
+    );
+    Ok(())
+}
