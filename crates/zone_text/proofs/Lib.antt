@@ -1,0 +1,5 @@
+pub mod Units
+pub mod Cut
+pub mod Parts
+pub mod Stated
+pub mod Whole

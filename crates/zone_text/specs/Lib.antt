@@ -1,0 +1,4 @@
+pub mod Pieces
+pub mod Entries
+pub mod File
+pub mod Lines

@@ -1,0 +1,105 @@
+-- Master files as far as they are read: lines of bare items parted by blanks, a record each (RFC 1035 5.1).
+use Rattle.std.specs.Prelude.{◌≡◌, ◌≢◌, ℕ, ◌+◌, List, [], ◌∷◌, ◌++◌, true, false, count_by, ◌==◌, Some, None, IfSome, ⊤}
+use Rattle.std.specs.List.{flat_map, AllByRecursion}
+use Rattle.zone_name.specs.Spelling.{Written, text_of, Spells}
+use Rattle.zone_rdata.specs.Number.{IsDecimal}
+use Rattle.zone_rdata.specs.Record.{Record, IsRecord}
+use Rattle.zone_rdata.specs.Spelling.{RawItem, States}
+use Rattle.zone_rdata.specs.Spelling as raw
+use Rattle.zone_rdata.specs.Words.{IsClassWord, IsKindWord}
+use Rattle.zone_rdata.specs.declared.source.Reading.{Reading}
+use Rattle.zone_rdata.specs.declared.fault.Place.TheVariants.{Line}
+use Rattle.zone_text.specs.Pieces.{Piece, blank, bare, line_feed, text, written_text, is_blank, IsBareUnit, IsPiece, AllFollow}
+use Rattle.zone_text.specs.Entries.{Entry, entry_of, item_of}
+use Rattle.zone_text.specs.File.{FileStates, Parts, StatesRecord}
+
+-- the text is a line, its line feed and what follows it
+pub record IsLineThen (octets line rest : List ℕ) : Type 0 where
+  pub whole : octets ≡ line ++ 10 ∷ rest
+  pub first : count_by (λ c. c == 10) line ≡ 0
+
+-- the text begins with neither a blank nor `$`
+abbrev pub StatesOwner : List ℕ → Type 0
+StatesOwner [] = ⊥
+StatesOwner (c ∷ octets) = (is_blank c ≡ false) × (c ≢ 36)
+
+-- where a bare item ends: at a blank or at the end of the line
+abbrev pub EndsItem : List ℕ → Type 0
+EndsItem [] = ⊤
+EndsItem (c ∷ rest) = is_blank c ≡ true
+
+-- the text begins with one written octet of a bare item
+pub record BeginsWithUnit (octets rest : List ℕ) : Type 0 where
+  pub unit : Written
+  pub each : IsBareUnit unit
+  pub whole : octets ≡ text_of unit ++ rest
+
+-- the text behind a backslash goes on as an escape
+pub record BeginsWithEscape (octets rest : List ℕ) : Type 0 where
+  pub unit : Written
+  pub each : IsBareUnit unit
+  pub whole : 92 ∷ octets ≡ text_of unit ++ rest
+
+-- the text begins with the written octets of a bare item
+pub record BeginsWithUnits (octets rest : List ℕ) : Type 0 where
+  pub units : List Written
+  pub each : AllByRecursion IsBareUnit units
+  pub whole : octets ≡ written_text units ++ rest
+
+-- the text is a bare item and what follows it
+pub record IsItemThen (octets item rest : List ℕ) : Type 0 where
+  pub units : List Written
+  pub each : AllByRecursion IsBareUnit units
+  pub written : item ≡ written_text units
+  pub whole : octets ≡ item ++ rest
+  pub ends : EndsItem rest
+
+-- a piece of such a line: a blank or a bare item
+abbrev pub IsPlain : Piece → Type 0
+IsPlain (blank c) = is_blank c ≡ true
+IsPlain (bare units) = IsPiece (bare units)
+IsPlain p = ⊥
+
+-- the pieces of a line without its line feed
+pub record AreLine (pieces : List Piece) : Type 0 where
+  pub each : AllByRecursion IsPlain pieces
+  pub follow : AllFollow pieces
+
+-- the line, without its line feed, holds these items
+pub record HoldsItems (octets : List ℕ) (raws : List RawItem) : Type 0 where
+  pub pieces : List Piece
+  pub line : AreLine pieces
+  pub whole : octets ≡ text pieces
+  pub items : raws ≡ flat_map item_of pieces
+
+-- the items state the record: owner, TTL, class, type and data
+pub record ItemsState (origin : List (List ℕ)) (raws : List RawItem) (r : Record) : Type 0 where
+  pub parts : Parts
+  pub items : raws ≡ raw.bare parts.owner ∷ raw.bare parts.ttl ∷ raw.bare parts.class ∷ raw.bare parts.kind ∷ parts.rdata
+  pub owner : Spells (Some origin) parts.owner r.owner
+  pub ttl : IsDecimal parts.ttl r.ttl
+  pub class : IsClassWord parts.class r.class
+  pub kind : IsKindWord parts.kind r.kind
+  pub rdata : States origin r.class r.kind parts.rdata r.octets
+  pub fits : IsRecord r
+
+-- the pieces of a line and its line feed
+abbrev pub ended : List Piece → List Piece
+ended pieces = pieces ++ line_feed ∷ []
+
+-- the line, without its line feed, states the record, whichever its number and whatever stands before it
+pub record LineStates (origin : List (List ℕ)) (octets : List ℕ) (r : Record) : Type 0 where
+  pub pieces : List Piece
+  pub line : AreLine pieces
+  pub whole : octets ≡ text pieces
+  pub states : (n : ℕ) (before : List Entry) → StatesRecord origin before (entry_of n (ended pieces)) r
+
+-- What was read is a front of the text that states the records, the whole text if nothing was refused. A refusal
+-- stands at the line on which the rest begins.
+pub record ReadsFront (origin : List (List ℕ)) (octets : List ℕ) (reading : Reading) : Type 0 where
+  pub front : List ℕ
+  pub rest : List ℕ
+  pub whole : octets ≡ front ++ rest
+  pub records : FileStates origin front reading.placed.items
+  pub all : reading.ending ≡ None → rest ≡ []
+  pub place : IfSome reading.ending (λ e. e.1 ≡ Line (1 + count_by (λ c. c == 10) front))

@@ -1,0 +1,12 @@
+//! Master files (RFC 1035 5): from text to records and the first fault.
+#![tactic(auto)]
+
+mod entry;
+mod line;
+mod reader;
+mod ttl;
+
+pub use reader::read_file;
+
+#[cfg(test)]
+mod tests;
