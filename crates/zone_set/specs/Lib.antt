@@ -1,0 +1,6 @@
+pub mod Order
+pub mod Zone
+pub mod Builder
+pub mod Key
+pub mod Held
+pub mod View

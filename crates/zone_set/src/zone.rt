@@ -1,0 +1,63 @@
+ghost use Rattle.std.specs.Prelude.{◌≡◌, ◌-◌, ◌^◌, length, min};
+ghost use Rattle.zone_set.specs.Zone.{IsZone};
+
+use crate::held::HeldRecords;
+use crate::records::Records;
+use std::marker::Model;
+use zone_name::Name;
+use zone_rdata::Class;
+
+/// A zone: apex, class and records in canonical order (RFC 1035 5.2).
+#[derive(Drop)]
+pub struct Zone {
+    pub(crate) apex: Name,
+    pub(crate) class: Class,
+    pub(crate) held: HeldRecords,
+}
+
+impl Model for Zone {
+    ghost use Rattle.zone_set.specs.Zone.{Zone, IsZone};
+
+    ghost Value = { Zone };
+
+    ghost view = { λ z. record { apex = z.apex; class = z.class; records = z.held } };
+
+    ghost invariant = { λ z. IsZone (record { apex = z.apex; class = z.class; records = z.held }) };
+}
+
+impl Zone {
+    /// The owner of the SOA.
+    pub fn apex(&self) -> &Name
+        ensures { result.now ≡ self.now.apex }
+    {
+        &self.apex
+    }
+
+    /// The class of all records.
+    pub fn class(&self) -> Class
+        ensures { result ≡ self.now.class }
+    {
+        self.class
+    }
+
+    /// How many records there are, or 2^64 - 1 where there are more.
+    pub fn len(&self) -> u64
+        ensures { result ≡ min (length self.now.records) (2 ^ 64 - 1) }
+    {
+        self.held.len()
+    }
+
+    /// What holds of every zone.
+    pub fn known(&self)
+        ensures { IsZone self.now }
+    {
+        let _ = &self.apex;
+    }
+
+    /// The records in canonical order.
+    pub fn records(&self) -> Records<'_>
+        ensures { result ≡ self.now.records }
+    {
+        self.held.iter()
+    }
+}
