@@ -1,0 +1,8 @@
+-- The piece and the lines to come are what the writer still has to take.
+use Rattle.std.proofs.Common.{◌++◌}
+use Rattle.zone_print.specs.Canonical.{canon, lines}
+use Rattle.zone_print.proofs.Front.{Left}
+use Rattle.zone_print.proofs.print.write_lines.Given as goal
+
+abbrev pub invariant-loop-rr : goal.invariant-loop-rr
+invariant-loop-rr g l = Left (g.W.Write.contents l.initial.writer) (g.W.Write.contents l.writer) (canon l.zone) (l.piece.items ++ lines l.rr-iterator)

@@ -1,0 +1,11 @@
+//! The canonical text of a zone (RFC 1035 5, RFC 4034 6).
+#![tactic(auto)]
+
+mod line;
+mod print;
+mod write;
+
+pub use print::{canon_len, push_zone, write_zone};
+
+#[cfg(test)]
+mod tests;

@@ -1,0 +1,129 @@
+ghost use Rattle.std.specs.Prelude.{◌≡◌, ◌+◌, ◌≤◌, length, min, IfOk, IfErr, OnOk, OnErr};
+ghost use Rattle.std.specs.Io.KnownBytes.{Appends};
+ghost use Rattle.zone_print.specs.Canonical.{canon, text_limit};
+ghost use Rattle.zone_print.specs.Writing.{StopsMidway, StopsPush, StopsWrite};
+
+use crate::line::{line_len, push_line};
+use crate::write::write_octets;
+use std::alloc::Global;
+use std::io::Write;
+use zone_rdata::{Fault, Place, Stop};
+use zone_set::Zone;
+
+/// How long a canonical text may be, in octets.
+const TEXT_LIMIT: u64 = 1_073_741_824;
+
+/// How many octets are gathered before they are written.
+const PIECE_LEN: usize = 65_536;
+
+/// The length of the canonical text in octets, or 1,073,741,825 where it is longer than 1,073,741,824. Takes no memory.
+pub fn canon_len(zone: &Zone) -> u64
+    ensures { result ≡ min (length (canon zone.now)) (text_limit + 1) }
+{
+    len_within(zone, TEXT_LIMIT)
+}
+
+/// The canonical text of the zone.
+///
+/// # Errors
+///
+/// `ZoneTooLarge` at the input as a whole where the text has more than 1,073,741,824 octets; `Memory`.
+pub fn push_zone(alloc: Global, zone: &Zone) -> Result<Vec<u8>, Stop>
+    ensures text { IfOk result (λ text. text.items ≡ canon zone.now) }
+    ensures short { OnOk result (length (canon zone.now) ≤ text_limit) }
+    ensures stopped { IfErr result (StopsPush text_limit (canon zone.now)) }
+{
+    push_within(alloc, zone, TEXT_LIMIT)
+}
+
+/// Writes the canonical text of the zone. It doesn't flush the writer.
+///
+/// # Errors
+///
+/// `ZoneTooLarge` at the input as a whole where the text has more than 1,073,741,824 octets, before the first octet;
+/// `Write` where the writer answered an error or took nothing of a nonempty piece; `Memory`. After the last two a
+/// front of the text was written.
+pub fn write_zone<W: Write>(alloc: Global, zone: &Zone, writer: &mut W) -> Result<(), Stop>
+    ensures text { OnOk result (Appends (W.contents writer.old) (W.contents writer.new) (canon zone.now)) }
+    ensures short { OnOk result (length (canon zone.now) ≤ text_limit) }
+    ensures stopped { IfErr result (StopsWrite text_limit (canon zone.now) (W.contents writer.old) (W.contents writer.new)) }
+{
+    write_within(alloc, zone, writer, TEXT_LIMIT)
+}
+
+/// The length of the canonical text, or one more than the limit where it is longer.
+pub(crate) fn len_within(zone: &Zone, limit: u64) -> u64
+    requires { limit ≤ text_limit }
+    ensures { result ≡ min (length (canon zone.now)) (limit + 1) }
+{
+    let mut len = 0;
+    for rr in zone.records() {
+        len += line_len(&rr);
+        if len > limit {
+            return limit + 1;
+        }
+    }
+    len
+}
+
+/// `push_zone` under a limit.
+pub(crate) fn push_within(alloc: Global, zone: &Zone, limit: u64) -> Result<Vec<u8>, Stop>
+    requires { limit ≤ text_limit }
+    ensures text { IfOk result (λ text. text.items ≡ canon zone.now) }
+    ensures short { OnOk result (length (canon zone.now) ≤ limit) }
+    ensures stopped { IfErr result (StopsPush limit (canon zone.now)) }
+{
+    let text_len = len_within(zone, limit);
+    if text_len > limit {
+        return Err(Stop::Refused(Fault::ZoneTooLarge, Place::Whole));
+    }
+    let Ok(mut text) = Vec::with_capacity(alloc, text_len as usize) else {
+        return Err(Stop::Memory);
+    };
+    for rr in zone.records() {
+        let Ok(()) = push_line(&mut text, &rr) else {
+            return Err(Stop::Memory);
+        };
+    }
+    Ok(text)
+}
+
+/// `write_zone` under a limit.
+pub(crate) fn write_within<W: Write>(
+    alloc: Global,
+    zone: &Zone,
+    writer: &mut W,
+    limit: u64,
+) -> Result<(), Stop>
+    requires { limit ≤ text_limit }
+    ensures text { OnOk result (Appends (W.contents writer.old) (W.contents writer.new) (canon zone.now)) }
+    ensures short { OnOk result (length (canon zone.now) ≤ limit) }
+    ensures stopped { IfErr result (StopsWrite limit (canon zone.now) (W.contents writer.old) (W.contents writer.new)) }
+{
+    if len_within(zone, limit) > limit {
+        return Err(Stop::Refused(Fault::ZoneTooLarge, Place::Whole));
+    }
+    write_lines(alloc, zone, writer)
+}
+
+/// Writes the line of each record, in pieces of some 64 KiB.
+///
+/// # Errors
+///
+/// `Write` and `Memory`. A front of the text was written.
+fn write_lines<W: Write>(alloc: Global, zone: &Zone, writer: &mut W) -> Result<(), Stop>
+    ensures text { OnOk result (Appends (W.contents writer.old) (W.contents writer.new) (canon zone.now)) }
+    ensures stopped { IfErr result (StopsMidway (canon zone.now) (W.contents writer.old) (W.contents writer.new)) }
+{
+    let mut piece = Vec::new(alloc);
+    for rr in zone.records() {
+        let Ok(()) = push_line(&mut piece, &rr) else {
+            return Err(Stop::Memory);
+        };
+        if piece.len() >= PIECE_LEN {
+            write_octets(writer, piece.as_slice())?;
+            piece.clear();
+        }
+    }
+    write_octets(writer, piece.as_slice())
+}
