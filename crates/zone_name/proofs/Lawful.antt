@@ -1,23 +1,21 @@
 -- The laws of names.
-use Rattle.std.proofs.Common.{◌≡◌, ◌≢◌, ℕ, zero, suc, ◌+◌, ◌-◌, ◌*◌, ◌/◌, ◌%◌, ◌<◌, ◌≤◌, Bool, true, false, ◌&&◌, ◌||◌, ◌==◌, nat_le, nat_eq, if◌then◌else◌, List, [], ◌∷◌, ◌++◌, length, reverse, codes, Option, Some, None, Result, Ok, Err, ◌⊎◌, inl, inr, div-add-mod', refl, sym, ap, ◌∙◌, subst, arith, append_assoc, length-append}
+use Rattle.std.proofs.Common.{◌≡◌, ◌≢◌, ℕ, ◌+◌, ◌/◌, ◌%◌, ◌<◌, Bool, true, false, ◌||◌, ◌==◌, nat_eq, if◌then◌else◌, List, [], ◌∷◌, ◌++◌, reverse, codes, Option, Some, Result, Ok, ◌⊎◌, inl, inr, div-add-mod', refl, sym, ap, ◌∙◌, subst, arith}
 use Rattle.std.specs.Prelude.{map}
 use Rattle.std.specs.List.{flat_map, AllByRecursion}
-use Rattle.std.specs.declared.cmp.Ordering.{Ordering}
-use Rattle.std.specs.declared.cmp.Ordering.TheVariants.{Less, Equal, Greater}
-use Rattle.std.specs.Ordering.{nat_cmp, is_eq, on}
+use Rattle.std.specs.declared.cmp.Ordering.TheVariants.{Equal}
+use Rattle.std.specs.Ordering.{nat_cmp, is_eq}
 use Rattle.std.specs.Cmp.{IsTotalOrder, on_total}
 use Rattle.std.specs.Cmp.Lexicographic.{pointwise, pointwise_decides, bytes_decides, slice_cmp, lists_ties, texts_ties, lists_total}
 use Rattle.std.proofs.lemmas.Cmp.{nat_cmp_total}
-use Rattle.std.proofs.lemmas.List.{reverse-reverse, append-nil, length-map}
-use Rattle.std.proofs.lemmas.List.Concat.{flat_map-append}
+use Rattle.std.proofs.lemmas.List.{reverse-reverse, length-map}
 use Rattle.std.proofs.lemmas.Bool.Decides.{nat_tests}
-use Rattle.zone_name.specs.Name.{IsFoldedOctet, IsLabel, IsName, folded_octet, folded_label, folded, wire, BeginsWithName}
+use Rattle.zone_name.specs.Name.{IsFoldedOctet, IsLabel, IsName, folded_octet, folded_label}
 use Rattle.std.proofs.lemmas.Bool.{false≢true}
 use Rattle.zone_name.specs.Reading.{reading, under}
 use Rattle.zone_name.specs.declared.fault.NameFault.{NameFault}
 use Rattle.zone_name.proofs.Only.{decided-only, root-only, origin_by}
-use Rattle.zone_name.specs.Order.{label_cmp, name_cmp}
-use Rattle.zone_name.specs.Spelling.{Written, plain, escaped, decimal, text_of, octet_of, IsWritten, IsWrittenLabel, AreWrittenLabels, written_text, written_octets, dotted, named, Writes, root, at_origin, absolute, relative, Spells, is_digit}
+use Rattle.zone_name.specs.Order.{name_cmp}
+use Rattle.zone_name.specs.Spelling.{Written, plain, escaped, decimal, text_of, octet_of, IsWritten, IsWrittenLabel, written_text, written_octets, dotted, named, Writes, root, absolute, Spells, is_digit}
 use Rattle.zone_name.specs.Text.{is_special, is_printed, decimal_escape, octet_text, label_text, name_text}
 
 -- names that tie are equal

@@ -1,18 +1,17 @@
 -- What a text spells is what the walk over it finds.
 use Rattle.std.proofs.Common.{◌≡◌, ◌≢◌, ℕ, zero, suc, ◌+◌, ◌<◌, ◌≤◌, Bool, true, false, nat_eq, nat_le, if◌then◌else◌, List, [], ◌∷◌, ◌++◌, length, codes, Result, Ok, Err, Option, Some, None, IfOk, IfErr, IfSome, refl, sym, ap, ◌∙◌, subst, arith, append_assoc, length-append}
-use Rattle.std.specs.Prelude.{map}
-use Rattle.std.specs.List.{flat_map, AllByRecursion}
+use Rattle.std.specs.List.{AllByRecursion}
 use Rattle.std.proofs.lemmas.List.{append-nil, length-map}
 use Rattle.std.proofs.lemmas.Bool.{false≢true}
 use Rattle.std.proofs.lemmas.Bool.Decides.{nat_tests}
 use Rattle.zone_name.specs.Name.{folded_label, folded_octet, wire, IsLabel, IsName}
 use Rattle.zone_name.specs.Spelling.{Written, plain, text_of, octet_of, IsWritten, IsWrittenLabel, AreWrittenLabels, written_text, written_octets, dotted, parted, named, Writes, root, at_origin, absolute, relative, Spells, IsRelative, FirstFault, within, unfounded, long_name}
 use Rattle.zone_name.specs.declared.fault.NameFault.{NameFault}
-use Rattle.zone_name.specs.declared.fault.NameFault.TheVariants.{EmptyLabel, LabelTooLong, NameTooLong, BadEscape, RelativeName}
-use Rattle.zone_name.specs.Reading.{Place, at_end, at_dot, at_octet, at_fault, place_of, step_at, goes, failed, read, reading, sized, under}
+use Rattle.zone_name.specs.declared.fault.NameFault.TheVariants.{EmptyLabel, LabelTooLong, NameTooLong, RelativeName}
+use Rattle.zone_name.specs.Reading.{at_dot, at_octet, goes, failed, read, reading, sized, under}
 use Rattle.zone_name.proofs.Places.{place-written, text_of-some}
 use Rattle.zone_name.proofs.Steps.{after_step, read_step}
-use Rattle.zone_name.proofs.Spelled.{AreShort, Finds, Says, reading-says}
+use Rattle.zone_name.proofs.Spelled.{AreShort, Says, reading-says}
 use Rattle.zone_name.proofs.Pushing.{AllByRecursion-append, sized-name}
 
 le_test : (m n : ℕ) → m < n → nat_le n m ≡ false

@@ -1,9 +1,9 @@
 -- What stands at a place of a text, in the words of its spelling.
-use Rattle.std.proofs.Common.{◌≡◌, ◌≢◌, ℕ, zero, suc, ◌+◌, ◌-◌, ◌*◌, ◌<◌, ◌≤◌, Bool, true, false, ◌&&◌, ◌||◌, ◌==◌, nat_le, if◌then◌else◌, List, [], ◌∷◌, ◌++◌, length, refl, sym, ap, ◌∙◌, subst, arith, length-append}
+use Rattle.std.proofs.Common.{◌≡◌, ◌≢◌, ℕ, ◌<◌, ◌≤◌, Bool, true, false, ◌&&◌, ◌||◌, ◌==◌, nat_le, if◌then◌else◌, List, [], ◌∷◌, ◌++◌, length, refl, sym, ap, ◌∙◌, subst, arith, length-append}
 use Rattle.std.proofs.lemmas.Bool.Decides.{nat_tests}
 use Rattle.std.proofs.lemmas.Bool.{false≢true}
 use Rattle.zone_name.specs.Spelling.{Written, plain, escaped, decimal, text_of, octet_of, IsWritten, IsBadEscape, is_digit}
-use Rattle.zone_name.specs.Reading.{Place, at_end, at_dot, at_octet, at_fault, decimal_place, digits_place, escape_place, place_of}
+use Rattle.zone_name.specs.Reading.{Place, at_end, at_dot, at_octet, at_fault, digits_place, escape_place, place_of}
 
 -- what a place says of the text there
 abbrev pub IsPlace : List ℕ → Place → Type 0

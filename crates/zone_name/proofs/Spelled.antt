@@ -1,15 +1,15 @@
 -- What the walk over a text finds is what the text spells: from the left, as far as it has come.
-use Rattle.std.proofs.Common.{◌≡◌, ◌≢◌, ℕ, zero, suc, ◌+◌, ◌<◌, ◌≤◌, Bool, true, false, nat_le, if◌then◌else◌, List, [], ◌∷◌, ◌++◌, length, codes, Result, Ok, Err, refl, sym, ap, ◌∙◌, subst, inl, inr, arith, append_assoc, length-append}
+use Rattle.std.proofs.Common.{◌≡◌, ◌≢◌, ℕ, zero, suc, ◌<◌, ◌≤◌, Bool, true, false, nat_le, if◌then◌else◌, List, [], ◌∷◌, ◌++◌, length, codes, Result, Ok, Err, refl, sym, ap, ◌∙◌, subst, inl, inr, arith, append_assoc, length-append}
 use Rattle.std.specs.Prelude.{map}
-use Rattle.std.specs.List.{flat_map, AllByRecursion}
+use Rattle.std.specs.List.{AllByRecursion}
 use Rattle.std.proofs.lemmas.List.{append-nil, map_push, length-map}
 use Rattle.std.proofs.lemmas.List.Concat.{flat_map-append}
 use Rattle.std.proofs.lemmas.Bool.Decides.{nat_tests}
 use Rattle.zone_name.specs.Name.{folded_label}
-use Rattle.zone_name.specs.Spelling.{Written, text_of, octet_of, IsWritten, IsWrittenLabel, AreWrittenLabels, written_text, written_octets, dotted, parted, named, Reaches, EndsLabel, FaultAt, empty_label, long_label, bad_escape}
+use Rattle.zone_name.specs.Spelling.{Written, text_of, octet_of, IsWritten, IsWrittenLabel, AreWrittenLabels, written_text, written_octets, dotted, parted, named, Reaches, FaultAt, empty_label, long_label, bad_escape}
 use Rattle.zone_name.specs.declared.fault.NameFault.{NameFault}
-use Rattle.zone_name.specs.declared.fault.NameFault.TheVariants.{EmptyLabel, LabelTooLong, BadEscape}
-use Rattle.zone_name.specs.Reading.{Place, at_end, at_dot, at_octet, at_fault, place_of, Step, done, failed, goes, step_at, read, reading}
+use Rattle.zone_name.specs.declared.fault.NameFault.TheVariants.{LabelTooLong}
+use Rattle.zone_name.specs.Reading.{Place, at_end, at_dot, at_octet, at_fault, place_of, failed, goes, step_at, read, reading}
 use Rattle.zone_name.proofs.Places.{IsPlace, place_is, Shrinks, place_shrinks}
 use Rattle.zone_name.proofs.Steps.{after_step, read_step}
 use Rattle.zone_name.proofs.Pushing.{AllByRecursion-append}

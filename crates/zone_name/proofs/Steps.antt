@@ -1,10 +1,10 @@
 -- The walk over a text: what was read so far, and what it leads to.
-use Rattle.std.proofs.Common.{◌≡◌, ◌≢◌, ℕ, zero, suc, ◌+◌, ◌<◌, ◌≤◌, Bool, true, false, nat_le, if◌then◌else◌, List, [], ◌∷◌, ◌++◌, length, Result, Ok, Err, refl, sym, ap, ◌∙◌, subst, arith, length-append}
+use Rattle.std.proofs.Common.{◌≡◌, ℕ, zero, suc, ◌<◌, ◌≤◌, Bool, true, false, nat_le, List, [], ◌∷◌, ◌++◌, length, Result, Ok, Err, refl, sym, ap, ◌∙◌, subst, arith}
 use Rattle.std.proofs.lemmas.Bool.Decides.{nat_tests}
-use Rattle.zone_name.specs.Name.{folded_label, wire}
+use Rattle.zone_name.specs.Name.{folded_label}
 use Rattle.zone_name.specs.declared.fault.NameFault.{NameFault}
-use Rattle.zone_name.specs.declared.fault.NameFault.TheVariants.{EmptyLabel, LabelTooLong, BadEscape}
-use Rattle.zone_name.specs.Reading.{Place, at_end, at_dot, at_octet, at_fault, place_of, Step, done, failed, goes, step_at, read, reading, Collects}
+use Rattle.zone_name.specs.declared.fault.NameFault.TheVariants.{EmptyLabel}
+use Rattle.zone_name.specs.Reading.{Place, at_end, place_of, Step, done, failed, goes, step_at, read, reading, Collects}
 use Rattle.zone_name.specs.Seen.{Closes}
 use Rattle.zone_name.specs.declared.reading.Spelled.{Spelled}
 use Rattle.zone_name.proofs.Places.{place_shrinks, Shrinks}

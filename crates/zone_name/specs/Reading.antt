@@ -1,7 +1,7 @@
 -- How a name's text is read from the left: what stands at a place, and what that makes of the labels so far.
 use Rattle.std.specs.Prelude.{◌≡◌, ℕ, zero, suc, ◌<◌, List, [], ◌∷◌, ◌++◌, length, Bool, true, false, ◌==◌, ◌&&◌, ◌||◌, nat_le, if◌then◌else◌, Option, Some, None, Result, Ok, Err}
 use Rattle.zone_name.specs.Name.{folded_label, wire}
-use Rattle.zone_name.specs.Spelling.{Written, decimal, octet_of, is_digit}
+use Rattle.zone_name.specs.Spelling.{decimal, octet_of, is_digit}
 use Rattle.zone_name.specs.declared.fault.NameFault.{NameFault}
 use Rattle.zone_name.specs.declared.fault.NameFault.TheVariants.{EmptyLabel, LabelTooLong, NameTooLong, BadEscape, RelativeName}
 

@@ -1,5 +1,5 @@
 -- What the code saw at a place of a text, and what closing a label does.
-use Rattle.std.specs.Prelude.{◌≡◌, ◌≢◌, codes, ℕ, zero, suc, List, [], ◌∷◌, ◌++◌, Result, Ok, Err}
+use Rattle.std.specs.Prelude.{◌≡◌, ◌≢◌, codes, ℕ, List, [], ◌∷◌, ◌++◌, Result, Ok, Err}
 use Rattle.zone_name.specs.Name.{folded_label}
 use Rattle.zone_name.specs.Reading.{Place, at_end, at_dot, at_octet, at_fault, Collects}
 use Rattle.zone_name.specs.declared.fault.NameFault.{NameFault}

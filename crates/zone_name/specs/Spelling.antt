@@ -1,5 +1,5 @@
 -- The texts that spell a name, and the first fault of a text that spells none (RFC 1035 5.1).
-use Rattle.std.specs.Prelude.{◌≡◌, ◌≢◌, ℕ, ◌+◌, ◌-◌, ◌*◌, ◌<◌, ◌≤◌, List, [], ◌∷◌, ◌++◌, length, map, codes, Option, Some, None, IsSome, nat_le, ◌&&◌, Bool, true, false, ◌⊎◌}
+use Rattle.std.specs.Prelude.{◌≡◌, ◌≢◌, ℕ, ◌+◌, ◌-◌, ◌*◌, ◌<◌, ◌≤◌, List, [], ◌∷◌, ◌++◌, length, map, codes, Option, Some, None, nat_le, ◌&&◌, Bool, true, false, ◌⊎◌}
 use Rattle.std.specs.List.{flat_map, AllByRecursion, join_with_byte}
 use Rattle.zone_name.specs.Name.{folded, wire, IsName}
 use Rattle.zone_name.specs.declared.fault.NameFault.{NameFault}

@@ -1,4 +1,4 @@
-use Rattle.std.proofs.Common.{◌≡◌, ◌<◌, [], length, ◌∙◌, arith, ap, sym, subst, refl, nat_eq}
+use Rattle.std.proofs.Common.{◌≡◌, ◌<◌, length, arith, subst, refl}
 use Rattle.zone_name.specs.Seen.{Closes}
 use Rattle.std.proofs.lemmas.Bool.Decides.{nat_tests}
 use Rattle.std.proofs.lemmas.List.{nil_from_length}

@@ -1,5 +1,5 @@
-use Rattle.std.proofs.Common.{◌≡◌, ◌≤◌, ◌+◌, length, sym, refl, arith}
-use Rattle.zone_name.proofs.Pushing.{joined, Joined, sized-joined, joined-long}
+use Rattle.std.proofs.Common.{◌≤◌, ◌+◌, length, sym, refl}
+use Rattle.zone_name.proofs.Pushing.{joined, Joined, sized-joined}
 use Rattle.zone_name.proofs.builder.NameBuilder.finish_under.Goals as goal
 
 both : (c : goal.In-Ok) → Joined c.args.self c.args.above.now c.try_extend_from_slice.new.self.items

@@ -1,7 +1,5 @@
-use Rattle.std.proofs.Common.{ℕ, ◌≡◌, ◌<◌, ◌≤◌, ◌+◌, ◌++◌, ◌∷◌, [], length, ◌∙◌, ap, sym, arith, rules, append_assoc, get_or}
-use Rattle.std.specs.Prelude.{map}
-use Rattle.std.proofs.lemmas.List.{take_all, length-map}
-use Rattle.std.proofs.lemmas.Grind.{common_steps}
+use Rattle.std.proofs.Common.{◌≡◌, ◌<◌, ◌≤◌, ◌+◌, ◌++◌, ◌∷◌, [], length, ◌∙◌, ap, arith}
+use Rattle.std.proofs.lemmas.List.{length-map}
 use Rattle.zone_name.specs.Name.{folded_label, folded_octet, frame, IsLabel}
 use Rattle.zone_name.proofs.Pushing.{push_frame, pushed_octets, Pushed, IsLabel-folded, AllByRecursion-from_places}
 use Rattle.zone_name.proofs.builder.NameBuilder.push_label.Goals as goal

@@ -1,7 +1,6 @@
-use Rattle.std.proofs.Common.{◌≡◌, ◌<◌, ◌∷◌, ap, ◌∙◌, sym, subst, arith, refl, rules}
-use Rattle.std.proofs.lemmas.Grind.{common_steps}
+use Rattle.std.proofs.Common.{◌<◌, ap, ◌∙◌, sym, subst, arith, rules}
 use Rattle.zone_name.specs.Name.{BeginsWithName, labels_of}
-use Rattle.zone_name.proofs.Octets.{next_label, root_label, NextLabel}
+use Rattle.zone_name.proofs.Octets.{next_label, root_label}
 use Rattle.zone_name.proofs.labels.LabelsIterator.next.Goals as goal
 
 pub returns-then-len-eq0-clause-steps : goal.returns-then-len-eq0-clause-steps

@@ -1,4 +1,4 @@
-use Rattle.std.proofs.Common.{◌≡◌, None, Some, Ok, ap, option_copied}
+use Rattle.std.proofs.Common.{Ok, ap, option_copied}
 use Rattle.zone_name.specs.Spelling.{unfounded}
 use Rattle.zone_name.proofs.Only.{decided-found, decided-only, decided-fault, root-only, origin-only, no_origin-only, at-relative}
 use Rattle.zone_name.proofs.name.Name.from_text.Goals as goal

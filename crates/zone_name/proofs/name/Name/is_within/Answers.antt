@@ -1,4 +1,4 @@
-use Rattle.std.proofs.Common.{◌≡◌, ◌↔◌, IsTrue, ap, ◌∙◌, sym, length, drop}
+use Rattle.std.proofs.Common.{ap, ◌∙◌, sym, length, drop}
 use Rattle.zone_name.proofs.Comparing.{within_decided}
 use Rattle.zone_name.proofs.name.Name.is_within.Goals as goal
 

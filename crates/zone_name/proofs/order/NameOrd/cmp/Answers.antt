@@ -1,4 +1,4 @@
-use Rattle.std.proofs.Common.{◌≡◌, ap, ◌∙◌, sym, length, drop, ◌-◌}
+use Rattle.std.proofs.Common.{ap, ◌∙◌, length}
 use Rattle.zone_name.proofs.Comparing.{name_cmp-more, name_cmp-start}
 use Rattle.zone_name.proofs.order.NameOrd.cmp.Goals as goal
 

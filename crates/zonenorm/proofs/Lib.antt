@@ -1,0 +1,4 @@
+pub mod Known
+pub mod Added
+pub mod Stopped
+pub mod Asked

@@ -1,0 +1,10 @@
+use Rattle.std.proofs.Common.{◌≡◌, ℕ, List, refl, None}
+use Rattle.zone_name.specs.Spelling.{Spells}
+use Rattle.zonenorm.proofs.order.order_with.Goals as goal
+
+pub returns-in-Ok-clause-ordered : goal.returns-in-Ok-clause-ordered
+returns-in-Ok-clause-ordered c = rw (← c.as_bytes.ensures.value) c.in-Ok.ensures.found
+
+pub returns-in-Err-clause-refused : goal.returns-in-Err-clause-refused
+returns-in-Err-clause-refused c =
+    (refl, λ name s. let h = c.in-Err.ensures.only name (rw c.as_bytes.ensures.value s) in cc)

@@ -1,0 +1,51 @@
+-- What normalising an input answers and leaves.
+use Rattle.std.specs.Prelude.{◌≡◌, ℕ, ◌-◌, ◌^◌, List, length, min, Option, ◌⊎◌}
+use Rattle.std.specs.Io.KnownBytes.{Appends, Keeps}
+use Rattle.zone_rdata.specs.declared.fault.Stop.{Stop}
+use Rattle.zone_rdata.specs.declared.fault.Stop.TheVariants.{Refused, Read, Write, Memory}
+use Rattle.zone_rdata.specs.declared.record.Placed.{Placed}
+use Rattle.zone_text.specs.File.{FileStates}
+use Rattle.zone_set.specs.Zone.{Zone, IsZone, SameRecords}
+use Rattle.zone_print.specs.Canonical.{canon}
+use Rattle.zone_print.specs.Denotes.{Denotes, records_of}
+use Rattle.zone_print.specs.Writing.{AppendsFront}
+
+-- The octets denote a zone under the origin, its canonical text and nothing else was written, and the answer is the
+-- number of its records.
+pub record Normalises (origin : List (List ℕ)) (octets : List ℕ) (old new : Option (List ℕ)) (count : ℕ) : Type 0 where
+  pub zone : Zone
+  pub denotes : Denotes origin octets zone
+  pub written : Appends old new (canon zone)
+  pub counted : count ≡ min (length zone.records) (2 ^ 64 - 1)
+
+-- the octets denote a zone under the origin, and this is its canonical text
+pub record NormalisesTo (origin : List (List ℕ)) (octets text : List ℕ) : Type 0 where
+  pub zone : Zone
+  pub denotes : Denotes origin octets zone
+  pub canonical : text ≡ canon zone
+
+-- a refused input writes nothing, nor does one that can't be read
+abbrev pub WritesNothing : Stop → Option (List ℕ) → Option (List ℕ) → Type 0
+WritesNothing (Refused fault place) old new = Keeps old new
+WritesNothing Read old new = Keeps old new
+WritesNothing Write old new = Unit {0}
+WritesNothing Memory old new = Unit {0}
+
+-- the stops of a call that has no reader and no writer
+abbrev pub IsOfBytes : Stop → Type 0
+IsOfBytes (Refused fault place) = Unit {0}
+IsOfBytes Read = ⊥
+IsOfBytes Write = ⊥
+IsOfBytes Memory = Unit {0}
+
+-- the records that the octets state under the origin are those of the zone, as a set, whatever the length of its text
+pub record StatesZone (origin : List (List ℕ)) (octets : List ℕ) (z : Zone) : Type 0 where
+  pub placed : List Placed
+  pub states : FileStates origin octets placed
+  pub same : SameRecords z.records (records_of placed)
+  pub zone : IsZone z
+
+-- nothing was written, or a front of the canonical text of the zone that the octets state
+abbrev pub WritesFront : List (List ℕ) → List ℕ → Option (List ℕ) → Option (List ℕ) → Type 0
+WritesFront origin octets old new =
+    Keeps old new ⊎ ((z : Zone) × StatesZone origin octets z × AppendsFront old new (canon z))

@@ -1,0 +1,74 @@
+-- What a command line asks for, and what a run of it leaves.
+use Rattle.std.specs.Prelude.{◌≡◌, ℕ, List, codes, Option, Some, None, ◌⊎◌, true, false}
+use Rattle.clap.specs.Words.{App, Row, Rule, Shape, Text, new_rule, new_app, with_rule, with_subcommand, subcommand_of, first_of, takes}
+use Rattle.zone_name.specs.Spelling.{Spells}
+use Rattle.zone_rdata.specs.declared.fault.Stop.{Stop}
+use Rattle.zone_rdata.specs.declared.fault.Stop.TheVariants.{Refused, Read, Write, Memory}
+use Rattle.zonenorm.specs.Normalise.{Normalises}
+use Rattle.zonenorm.specs.declared.order.Order.{Order}
+use Rattle.zonenorm.specs.declared.order.Order.TheVariants.{Normalise}
+use Rattle.zonenorm.specs.declared.order.LineFault.{LineFault}
+use Rattle.zonenorm.specs.declared.order.LineFault.TheVariants as line_faults
+
+-- the command `normalise`, with one required word
+abbrev pub normalise_app : App
+normalise_app = with_rule (new_app (codes "normalise")) (record (new_rule (codes "ORIGIN")) { required = true })
+
+-- the program without its name, as `clap` sees it
+abbrev pub bare_app : App
+bare_app = let app = new_app (codes "zonenorm") in record app { top = record app.top { no_binary_name = true } }
+
+-- the program with its commands
+abbrev pub program_app : App
+program_app = with_subcommand bare_app normalise_app.top
+
+-- what `clap` found is this command with this text for its origin
+pub record AsksFor (command : Text) (found : Option (Text × List Row)) (text : Text) : Type 0 where
+  pub rows : List Row
+  pub entered : found ≡ Some (command, rows)
+  pub origin : first_of (codes "ORIGIN") rows ≡ Some text
+
+-- The words give the order: by `clap` they name its command with a text for its origin, and the text spells the
+-- origin as an absolute name.
+abbrev pub Orders : List Text → Order → Type 0
+Orders words (Normalise origin) =
+    (text : Text) × AsksFor (codes "normalise") (subcommand_of program_app words) text × Spells None text origin
+
+-- Why the words give no order. A bad origin is a text in its place that spells no absolute name.
+abbrev pub IsLineFault : List Text → LineFault → Type 0
+IsLineFault words line_faults.BadOrigin =
+    (text : Text) × AsksFor (codes "normalise") (subcommand_of program_app words) text
+    × ((name : List (List ℕ)) → Spells None text name → ⊥)
+IsLineFault words (line_faults.Clap told) = Unit {0}
+IsLineFault words line_faults.Memory = Unit {0}
+
+-- a fault that `clap` or want of memory makes
+abbrev pub IsClapFault : LineFault → Type 0
+IsClapFault line_faults.BadOrigin = ⊥
+IsClapFault (line_faults.Clap told) = Unit {0}
+IsClapFault line_faults.Memory = Unit {0}
+
+-- the exit status of a command line that gives no order
+abbrev pub line_status : LineFault → ℕ
+line_status line_faults.BadOrigin = 2
+line_status (line_faults.Clap told) = 2
+line_status line_faults.Memory = 4
+
+-- the origin of the input that is to be normalised
+abbrev pub order_origin : Order → List (List ℕ)
+order_origin (Normalise origin) = origin
+
+-- the exit status of a run that stopped: 3 where the input is refused, else 4
+abbrev pub status_of : Stop → ℕ
+status_of (Refused fault place) = 3
+status_of Read = 4
+status_of Write = 4
+status_of Memory = 4
+
+-- the exit statuses of a run: accepted, refused, failed
+abbrev pub IsStatus : ℕ → Type 0
+IsStatus status = (status ≡ 0) ⊎ ((status ≡ 3) ⊎ (status ≡ 4))
+
+-- some number of records goes with what was written
+abbrev pub WritesZone : List (List ℕ) → List ℕ → Option (List ℕ) → Option (List ℕ) → Type 0
+WritesZone origin octets old new = (count : ℕ) × Normalises origin octets old new count

@@ -1,0 +1,113 @@
+use std::alloc::{AllocError, Global};
+use zone_name::Name;
+use zone_rdata::{Fault, Place, Stop};
+
+/// The line that tells a user why a run stopped, without its line feed.
+///
+/// # Errors
+///
+/// Want of memory.
+pub fn explain_line(alloc: Global, stop: &Stop) -> Result<String, AllocError> {
+    match stop {
+        Stop::Refused(fault, place) => refusal_line(alloc, fault, *place),
+        Stop::Read => String::from_str(alloc, "read failed"),
+        Stop::Write => String::from_str(alloc, "write failed"),
+        Stop::Memory => String::from_str(alloc, "out of memory"),
+    }
+}
+
+/// Number, name and argument of the fault, its place, and what is wrong.
+fn refusal_line(alloc: Global, fault: &Fault, place: Place) -> Result<String, AllocError> {
+    let Entry { number, name, text } = entry_of(fault);
+    let mut line = format!(in alloc; "F{number} {name}")?;
+    match fault {
+        Fault::ErrorCode(code) => write!(line, " {code}")?,
+        Fault::OutOfZone(owner) => push_owner(alloc, &mut line, owner)?,
+        _ => {}
+    }
+    match place {
+        Place::Line(number) => write!(line, " at line {number}")?,
+        Place::Message(number, offset) => write!(line, " at message {number} offset {offset}")?,
+        Place::Whole => line.push_str(" in the input")?,
+    }
+    write!(line, ": {text}")?;
+    Ok(line)
+}
+
+/// A space and the canonical spelling of the name, which is ASCII.
+fn push_owner(alloc: Global, line: &mut String, owner: &Name) -> Result<(), AllocError> {
+    let mut spelling = Vec::new(alloc);
+    owner.push_text(&mut spelling)?;
+    line.push(' ')?;
+    for octet in &spelling {
+        line.push(char::from(*octet))?;
+    }
+    Ok(())
+}
+
+/// A fault's row in the table of faults.
+struct Entry {
+    number: u8,
+    name: &'static str,
+    text: &'static str,
+}
+
+fn entry_of(fault: &Fault) -> Entry {
+    let (number, name, text) = match fault {
+        Fault::NotYet => (0, "NotYet", "this form isn't read yet"),
+        Fault::EmptyLabel => (1, "EmptyLabel", "a label is empty"),
+        Fault::LabelTooLong => (2, "LabelTooLong", "a label has more than 63 octets"),
+        Fault::NameTooLong => (3, "NameTooLong", "a name has more than 255 octets"),
+        Fault::BadEscape => (4, "BadEscape", "a backslash escape is malformed"),
+        Fault::RelativeName => (5, "RelativeName", "a relative name has no origin"),
+        Fault::BadClass => (6, "BadClass", "the class can't hold zone data"),
+        Fault::UnknownType => (7, "UnknownType", "the type word is missing or unknown"),
+        Fault::MetaType => (8, "MetaType", "the type can't hold zone data"),
+        Fault::BadRdata => (9, "BadRdata", "the data doesn't fit its type"),
+        Fault::BadGeneric => (10, "BadGeneric", "the generic data is malformed"),
+        Fault::StringTooLong => (
+            11,
+            "StringTooLong",
+            "a character-string has more than 255 octets",
+        ),
+        Fault::RdataTooLong => (12, "RdataTooLong", "the data has more than 65535 octets"),
+        Fault::BadNumber => (13, "BadNumber", "a number is malformed or out of range"),
+        Fault::UnclosedQuote => (14, "UnclosedQuote", "a quoted string isn't closed"),
+        Fault::UnbalancedParenthesis => (15, "UnbalancedParenthesis", "parentheses don't balance"),
+        Fault::IncludeDirective => (16, "IncludeDirective", "$INCLUDE isn't read"),
+        Fault::UnknownDirective => (17, "UnknownDirective", "the directive is unknown"),
+        Fault::BadDirective => (18, "BadDirective", "the directive needs one plain item"),
+        Fault::NoOwner => (19, "NoOwner", "the record has no owner"),
+        Fault::NoTtl => (20, "NoTtl", "the record has no TTL"),
+        Fault::BadTtl => (21, "BadTtl", "the TTL is malformed or out of range"),
+        Fault::ShortFrame => (22, "ShortFrame", "the stream ends inside a frame"),
+        Fault::ShortMessage => (23, "ShortMessage", "the message ends too early"),
+        Fault::NotAResponse => (24, "NotAResponse", "the message isn't an answer to a query"),
+        Fault::Truncated => (25, "Truncated", "the message is marked as truncated"),
+        Fault::ErrorCode(_) => (26, "ErrorCode", "the message carries an error code"),
+        Fault::BadCounts => (27, "BadCounts", "the section counts don't fit a transfer"),
+        Fault::IdMismatch => (28, "IdMismatch", "the message ID differs"),
+        Fault::BadQuestion => (29, "BadQuestion", "question and zone don't agree"),
+        Fault::ReservedLabel => (30, "ReservedLabel", "a label has a reserved form"),
+        Fault::BadPointer => (31, "BadPointer", "a compression pointer has a bad target"),
+        Fault::TooManyPointers => (32, "TooManyPointers", "a name has more than 128 pointers"),
+        Fault::CompressibleType => (
+            33,
+            "CompressibleType",
+            "the type may hold pointers and isn't read",
+        ),
+        Fault::TrailingOctets => (34, "TrailingOctets", "octets follow the last record"),
+        Fault::NoOpeningSoa => (35, "NoOpeningSoa", "the transfer doesn't begin with an SOA"),
+        Fault::SoaMismatch => (36, "SoaMismatch", "a later SOA differs from the opening one"),
+        Fault::AfterClosing => (37, "AfterClosing", "a record follows the closing SOA"),
+        Fault::NoClosingSoa => (38, "NoClosingSoa", "the transfer has no closing SOA"),
+        Fault::ClassMismatch => (39, "ClassMismatch", "the class differs from the zone's"),
+        Fault::MultipleSoa => (40, "MultipleSoa", "the zone has two SOA records"),
+        Fault::DifferingTtl => (41, "DifferingTtl", "the TTL differs from that of its record set"),
+        Fault::NoSoa => (42, "NoSoa", "the zone has no SOA record"),
+        Fault::OutOfZone(_) => (43, "OutOfZone", "an owner lies outside the zone"),
+        Fault::ZoneTooLarge => (44, "ZoneTooLarge", "the canonical text is too long"),
+        Fault::InputTooLong => (45, "InputTooLong", "the input is too long"),
+    };
+    Entry { number, name, text }
+}
