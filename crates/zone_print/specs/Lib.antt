@@ -1,3 +1,4 @@
 pub mod Canonical
 pub mod Denotes
 pub mod Writing
+pub mod Laws

@@ -1,6 +1,7 @@
 //! The canonical text of a zone (RFC 1035 5, RFC 4034 6).
 #![tactic(auto)]
 
+pub mod laws;
 mod line;
 mod print;
 mod write;

@@ -1,13 +1,13 @@
 -- Octets of the values of a layout hold those values.
 use Rattle.std.proofs.Common.{◌≡◌, ℕ, zero, suc, ◌+◌, ◌*◌, ◌^◌, ◌<◌, ◌≤◌, List, [], ◌∷◌, ◌++◌, length, get_or, take, drop, refl, sym, ap, ◌∙◌, subst, arith, append_assoc, length-append, Bool, true, false, cond, Option, Some, None, ◌==◌}
-use Rattle.std.specs.Int.{w32, to_be_bytes, from_be_bytes}
+use Rattle.std.specs.Int.{w16, w32, to_be_bytes, from_be_bytes}
 use Rattle.std.specs.List.{flat_map, AllByRecursion}
 use Rattle.std.proofs.lemmas.List.{take_at, drop_at, append-nil}
-use Rattle.std.proofs.lemmas.Nat.{from_be_bytes-to_be_bytes_4}
+use Rattle.std.proofs.lemmas.Nat.{from_be_bytes-to_be_bytes_2, from_be_bytes-to_be_bytes_4}
 use Rattle.zone_name.specs.Name.{IsName, wire, labels_of}
 use Rattle.zone_rdata.specs.declared.layout.Field.{Field}
 use Rattle.zone_rdata.specs.declared.layout.Field.TheVariants as fields
-use Rattle.zone_rdata.specs.Field.{FieldValue, name, long, field_octets, octets_of, Holds, HoldEach, field_at, values_of}
+use Rattle.zone_rdata.specs.Field.{FieldValue, name, long, two_octets, field_octets, octets_of, Holds, HoldEach, field_at, values_of}
 use Rattle.zone_rdata.specs.Layout.{AreLaidOut, layout, IsData}
 use Rattle.zone_rdata.specs.Reading.{AreSpelt}
 use Rattle.zone_rdata.specs.Spelling.{RawItem, bare, quoted, SpellsField, SpellEach, IsGeneric, States, in_words}
@@ -16,14 +16,16 @@ use Rattle.zone_rdata.proofs.Names.{name_back}
 number_back : (n : ℕ) (rest : List ℕ) → n < 2 ^ 32 → from_be_bytes w32 (take 4 (to_be_bytes w32 n ++ rest)) ≡ n
 number_back n rest short = ap (from_be_bytes w32) (take_at (to_be_bytes w32 n) rest 4 refl) ∙ from_be_bytes-to_be_bytes_4 n short
 
+two_octets_back : (n : ℕ) (rest : List ℕ) → n < 2 ^ 16 → from_be_bytes w16 (take 2 (to_be_bytes w16 n ++ rest)) ≡ n
+two_octets_back n rest short = ap (from_be_bytes w16) (take_at (to_be_bytes w16 n) rest 2 refl) ∙ from_be_bytes-to_be_bytes_2 n short
+
 -- the field at the front of its octets is the value that was written
 field_back : (f : Field) (v : FieldValue) (rest : List ℕ) → Holds f v → field_at f (field_octets v ++ rest) ≡ v
 field_back fields.Name (name labels) rest h = ap name (name_back labels rest h.each)
-field_back fields.Name (long n) rest h = absurd h
-field_back fields.Serial (name labels) rest h = absurd h
 field_back fields.Serial (long n) rest h = ap long (number_back n rest h)
-field_back fields.Time (name labels) rest h = absurd h
 field_back fields.Time (long n) rest h = ap long (number_back n rest h)
+field_back fields.U16 (two_octets n) rest h = ap two_octets (two_octets_back n rest h)
+field_back f v rest h = absurd h
 
 pub values_back : (row : List Field) (values : List FieldValue) (rest : List ℕ) → HoldEach row values → values_of row (octets_of values ++ rest) ≡ values
 values_back [] [] rest h = refl
@@ -42,11 +44,10 @@ laid_out row values h =
 
 field_short : (f : Field) (v : FieldValue) → Holds f v → length (field_octets v) ≤ 255
 field_short fields.Name (name labels) h = h.short
-field_short fields.Name (long n) h = absurd h
-field_short fields.Serial (name labels) h = absurd h
 field_short fields.Serial (long n) h = omega arith
-field_short fields.Time (name labels) h = absurd h
 field_short fields.Time (long n) h = omega arith
+field_short fields.U16 (two_octets n) h = omega arith
+field_short f v h = absurd h
 
 -- a field has at most 255 octets
 pub fields_short : (row : List Field) (values : List FieldValue) → HoldEach row values → length (octets_of values) ≤ 255 * length row
@@ -62,13 +63,11 @@ bytes_each (c ∷ octets) h = (h 0, bytes_each octets (λ i. h (suc i)))
 
 -- what an item spells for a field, the field can hold
 spelt_holds : (origin : List (List ℕ)) (f : Field) (item : RawItem) (v : FieldValue) → SpellsField origin f item v → Holds f v
-spelt_holds origin f (quoted text) v h = absurd h
 spelt_holds origin fields.Name (bare text) (name labels) h = h.name
-spelt_holds origin fields.Name (bare text) (long n) h = absurd h
-spelt_holds origin fields.Serial (bare text) (name labels) h = absurd h
 spelt_holds origin fields.Serial (bare text) (long n) h = h.1
-spelt_holds origin fields.Time (bare text) (name labels) h = absurd h
 spelt_holds origin fields.Time (bare text) (long n) h = h.1
+spelt_holds origin fields.U16 (bare text) (two_octets n) h = h.1
+spelt_holds origin f item v h = absurd h
 
 pub spelt_hold : (origin : List (List ℕ)) (row : List Field) (items : List RawItem) (values : List FieldValue) → SpellEach origin row items values → HoldEach row values
 spelt_hold origin [] [] [] h = tt
@@ -89,7 +88,11 @@ some_short a b h e = let is : a ≡ b = cc in subst (λ l. length l ≤ 7) is h
 pub layout_short : (class kind : ℕ) (row : List Field) → layout class kind ≡ Some row → length row ≤ 7
 layout_short class kind row e =
     row_short (kind == 2) _ _ row e (some_short _ row (omega arith)) (λ e.
-    row_short (kind == 6) _ _ row e (some_short _ row (omega arith)) (λ e. absurd cc))
+    row_short (kind == 5) _ _ row e (some_short _ row (omega arith)) (λ e.
+    row_short (kind == 6) _ _ row e (some_short _ row (omega arith)) (λ e.
+    row_short (kind == 12) _ _ row e (some_short _ row (omega arith)) (λ e.
+    row_short (kind == 15) _ _ row e (some_short _ row (omega arith)) (λ e.
+    row_short (kind == 33) _ _ row e (some_short _ row (omega arith)) (λ e. absurd cc))))))
 
 -- the octets that items spell are data of the class and type
 pub spelt_data : (origin : List (List ℕ)) (class kind : ℕ) (row : List Field) (items : List RawItem) (octets : List ℕ) → layout class kind ≡ Some row → AreSpelt origin row items octets → AllByRecursion (λ c. c < 256) octets → IsData class kind octets

@@ -9,10 +9,10 @@ use Rattle.zone_rdata.specs.declared.item.Item.TheVariants.{Bare}
 use Rattle.std.proofs.lemmas.List.{drop_more, drop_all, append-nil}
 use Rattle.std.proofs.lemmas.List.Concat.{flat_map-append}
 use Rattle.zone_rdata.specs.declared.layout.Field.{Field}
-use Rattle.zone_rdata.specs.Field.{FieldValue, long, field_octets, octets_of}
+use Rattle.zone_rdata.specs.Field.{FieldValue, long, two_octets, field_octets, octets_of}
 use Rattle.zone_rdata.specs.declared.layout.Field.TheVariants as fields
 use Rattle.zone_rdata.specs.declared.item.Item.{Item}
-use Rattle.zone_rdata.specs.Reading.{AppendsField, AppendsDecimal, AreSpelt}
+use Rattle.zone_rdata.specs.Reading.{AppendsField, AppendsDecimal, AppendsTime, AppendsTwoOctets, AreSpelt}
 use Rattle.zone_rdata.specs.Spelling.{RawItem, bare, raw, generic_mark, IsGeneric, SpellsField, SpellEach}
 
 -- the octets are those of values such that whatever the rest spells goes on from them
@@ -48,16 +48,18 @@ read_all origin fields items at rest octets past none read =
     let ends : SpellEach origin (drop at fields) rest [] = subst (λ fs. SpellEach origin fs rest []) (sym nothing) (subst (λ r. SpellEach origin [] r []) (sym none) tt) in
     record { values = read.values; spelt = subst (λ vs. SpellEach origin fields items vs) (append-nil read.values) (read.leads [] ends); written = read.written }
 
--- the octets of a number, whichever field of 32 bits it is for
-pub number_appended : (origin : List (List ℕ)) (field : Field) (text old new : List ℕ) → (field ≡ fields.Serial) ⊎ (field ≡ fields.Time) → AppendsDecimal text old new → AppendsField origin field (bare text) old new
-number_appended origin field text old new which grows = record {
-  value = long grows.number;
-  spelt = elim which [ inl is ↦ subst (λ f. SpellsField origin f (bare text) (long grows.number)) (sym is) (grows.digits, grows.short) | inr is ↦ subst (λ f. SpellsField origin f (bare text) (long grows.number)) (sym is) (grows.digits, grows.short) ];
-  written = grows.written;
-}
+-- the octets of a number are those of its field
+on_appended : (origin : List (List ℕ)) (field f : Field) (item : Item) (text : Bor (List ℕ)) (old new : List ℕ) (r : Result (Unit {0}) Failing) → item ≡ Bare text → field ≡ f → OnOk r (AppendsField origin f (bare text.now) old new) → OnOk r (AppendsField origin field (raw item) old new)
+on_appended origin field f item text old new r is which done = on_ok_weaker r (λ h. subst (λ i. AppendsField origin field (raw i) old new) (sym is) (subst (λ g. AppendsField origin g (bare text.now) old new) (sym which) h)) done
 
-pub on_number_appended : (origin : List (List ℕ)) (field : Field) (item : Item) (text : Bor (List ℕ)) (old new : List ℕ) (r : Result (Unit {0}) Failing) → item ≡ Bare text → (field ≡ fields.Serial) ⊎ (field ≡ fields.Time) → OnOk r (AppendsDecimal text.now old new) → OnOk r (AppendsField origin field (raw item) old new)
-on_number_appended origin field item text old new r is which done = on_ok_weaker r (λ h. subst (λ i. AppendsField origin field (raw i) old new) (sym is) (number_appended origin field text.now old new which h)) done
+pub on_serial : (origin : List (List ℕ)) (field : Field) (item : Item) (text : Bor (List ℕ)) (old new : List ℕ) (r : Result (Unit {0}) Failing) → item ≡ Bare text → field ≡ fields.Serial → OnOk r (AppendsDecimal text.now old new) → OnOk r (AppendsField origin field (raw item) old new)
+on_serial origin field item text old new r is which done = on_appended origin field fields.Serial item text old new r is which (on_ok_weaker r (λ h. record { value = long h.number; spelt = (h.digits, h.short); written = h.written }) done)
+
+pub on_time : (origin : List (List ℕ)) (field : Field) (item : Item) (text : Bor (List ℕ)) (old new : List ℕ) (r : Result (Unit {0}) Failing) → item ≡ Bare text → field ≡ fields.Time → OnOk r (AppendsTime text.now old new) → OnOk r (AppendsField origin field (raw item) old new)
+on_time origin field item text old new r is which done = on_appended origin field fields.Time item text old new r is which (on_ok_weaker r (λ h. record { value = long h.number; spelt = (h.time, h.short); written = h.written }) done)
+
+pub on_two_octets : (origin : List (List ℕ)) (field : Field) (item : Item) (text : Bor (List ℕ)) (old new : List ℕ) (r : Result (Unit {0}) Failing) → item ≡ Bare text → field ≡ fields.U16 → OnOk r (AppendsTwoOctets text.now old new) → OnOk r (AppendsField origin field (raw item) old new)
+on_two_octets origin field item text old new r is which done = on_appended origin field fields.U16 item text old new r is which (on_ok_weaker r (λ h. record { value = two_octets h.number; spelt = (h.digits, h.short); written = h.written }) done)
 
 -- a first item that is bare is the mark exactly where its text is
 pub generic_first : (items : List Item) (first : Item) (text : Bor (List ℕ)) (mark : List ℕ) (r : Bool) → 0 < length items → first ≡ get_or items 0 first → first ≡ Bare text → mark ≡ 92 ∷ 35 ∷ [] → r ≡ bytes_eq text.now mark → IsTrue r ↔ IsGeneric (map raw items)

@@ -2,8 +2,10 @@ pub mod Fault
 pub mod Field
 pub mod Layout
 pub mod Number
+pub mod Time
 pub mod Words
 pub mod Record
+pub mod Minimum
 pub mod Order
 pub mod Spelling
 pub mod Reading

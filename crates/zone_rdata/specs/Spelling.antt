@@ -4,10 +4,10 @@ use Rattle.zone_name.specs.Spelling.{Spells}
 use Rattle.zone_rdata.specs.declared.item.Item.{Item}
 use Rattle.zone_rdata.specs.declared.item.Item.TheVariants.{Bare, Quoted}
 use Rattle.zone_rdata.specs.declared.layout.Field.{Field}
-use Rattle.zone_rdata.specs.declared.layout.Field.TheVariants.{Name, Serial, Time}
-use Rattle.zone_rdata.specs.Field.{FieldValue, name, long, octets_of}
+use Rattle.zone_rdata.specs.declared.layout.Field.TheVariants.{Name, Serial, Time, U16}
+use Rattle.zone_rdata.specs.Field.{FieldValue, name, long, two_octets, octets_of}
 use Rattle.zone_rdata.specs.Layout.{layout}
-use Rattle.zone_rdata.specs.Number.{IsDecimal}
+use Rattle.zone_rdata.specs.Number.{IsDecimal, IsTime}
 
 -- an item as it stands in the file, without the quotes of a quoted one
 pub data RawItem : Type 0 where
@@ -18,15 +18,13 @@ abbrev pub raw : Item → RawItem
 raw (Bare text) = bare text.now
 raw (Quoted text) = quoted text.now
 
--- the item spells the value of a field: a name under the origin, or a decimal number of 32 bits
+-- the item spells the value of a field: a name under the origin, a decimal number, or a time
 abbrev pub SpellsField : List (List ℕ) → Field → RawItem → FieldValue → Type 0
-SpellsField origin field (quoted text) value = ⊥
 SpellsField origin Name (bare text) (name labels) = Spells (Some origin) text labels
-SpellsField origin Name (bare text) (long n) = ⊥
-SpellsField origin Serial (bare text) (name labels) = ⊥
 SpellsField origin Serial (bare text) (long n) = IsDecimal text n × (n < 2 ^ 32)
-SpellsField origin Time (bare text) (name labels) = ⊥
-SpellsField origin Time (bare text) (long n) = IsDecimal text n × (n < 2 ^ 32)
+SpellsField origin Time (bare text) (long n) = IsTime text n × (n < 2 ^ 32)
+SpellsField origin U16 (bare text) (two_octets n) = IsDecimal text n × (n < 2 ^ 16)
+SpellsField origin field item value = ⊥
 
 -- one item for each field, in order
 abbrev pub SpellEach : List (List ℕ) → List Field → List RawItem → List FieldValue → Type 0

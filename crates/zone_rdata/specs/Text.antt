@@ -4,7 +4,7 @@ use Rattle.std.specs.List.{join_with_byte}
 use Rattle.hex.specs.Hex.{encode_lower}
 use Rattle.zone_name.specs.Text.{name_text}
 use Rattle.zone_rdata.specs.declared.layout.Field.{Field}
-use Rattle.zone_rdata.specs.Field.{FieldValue, name, long, Holds, field_octets, field_at, values_of}
+use Rattle.zone_rdata.specs.Field.{FieldValue, name, long, two_octets, Holds, field_octets, field_at, values_of}
 use Rattle.zone_rdata.specs.Layout.{layout}
 use Rattle.zone_rdata.specs.Record.{Data}
 
@@ -12,6 +12,7 @@ use Rattle.zone_rdata.specs.Record.{Data}
 abbrev pub field_text : FieldValue → List ℕ
 field_text (name labels) = name_text labels
 field_text (long n) = decimal n
+field_text (two_octets n) = decimal n
 
 -- the generic form before its digits
 abbrev pub generic_head : List ℕ → List ℕ

@@ -1,7 +1,9 @@
-ghost use Rattle.std.specs.Prelude.{◌≡◌, ◌≤◌, length, ◌↔◌, ◌++◌, ℕ, IfSome, IfNone, IfOk, OnOk, OnErr, Option, Some, None};
-ghost use Rattle.zone_rdata.specs.Words.{IsClass, IsClassWord, class_text};
+ghost use Rattle.std.specs.Prelude.{◌≡◌, ◌≤◌, length, ◌↔◌, ◌++◌, ◌<◌, ℕ, IfSome, IfNone, IfOk, IfErr, OnOk, OnErr, Option, Some, None, min};
+ghost use Rattle.zone_rdata.specs.Words.{IsClass, IsClassWord, IsMnemonic, class_mnemonic, class_text};
 
-use crate::word::{is_word, numbered_len, push_numbered};
+use crate::fault::Fault;
+use crate::printing::decimal_len;
+use crate::word::{is_word, numbered, push_numbered};
 use std::alloc::AllocError;
 use std::marker::Model;
 
@@ -24,16 +26,64 @@ impl Model for Class {
     ghost inverse = { λ n. record { number = n } };
 }
 
+/// The number of a class's mnemonic.
+fn number_of_mnemonic(word: &[u8]) -> Option<u16>
+    ensures found { IfSome result (IsMnemonic class_mnemonic word.now) }
+    ensures none { IfNone result ((n : ℕ) → IsMnemonic class_mnemonic word.now n → ⊥) }
+{
+    if is_word(word, b"IN") {
+        Some(1)
+    } else if is_word(word, b"CS") {
+        Some(2)
+    } else if is_word(word, b"CH") {
+        Some(3)
+    } else if is_word(word, b"HS") {
+        Some(4)
+    } else {
+        None
+    }
+}
+
+/// The number that a class's word stands for, at most `CAP`. `None`: it is no such word.
+fn number_of_word(word: &[u8]) -> Option<u64>
+    ensures found { IfSome result (λ n. (m : ℕ) × (IsClassWord word.now m × (n ≡ min 4294967296 m))) }
+    ensures none { IfNone result ((n : ℕ) → IsClassWord word.now n → ⊥) }
+{
+    match number_of_mnemonic(word) {
+        Some(number) => Some(u64::from(number)),
+        None => numbered(b"CLASS", word),
+    }
+}
+
 impl Class {
-    /// The class of a word in any case. `None`: no word of a class that is read so far.
-    pub fn from_word(word: &[u8]) -> Option<Class>
-        ensures found { IfSome result (IsClassWord word.now) }
-        ensures none { IfNone result ((n : ℕ) → IsClassWord word.now n → ⊥) }
+    /// The class of a number.
+    ///
+    /// # Errors
+    ///
+    /// `BadClass` where no zone data can have it: 0, 254, 255 and from 65536 on.
+    pub fn from_number(number: u64) -> Result<Class, Fault>
+        ensures ok { IfOk result (λ class. class ≡ number) }
+        ensures err { IfErr result (λ fault. (fault ≡ Fault.BadClass) × (IsClass number → ⊥)) }
     {
-        if is_word(word, b"in") {
-            Some(Class { number: 1 })
-        } else {
-            None
+        match u16::try_from(number) {
+            Ok(0 | 254 | 255) | Err(_) => Err(Fault::BadClass),
+            Ok(number) => Ok(Class { number }),
+        }
+    }
+
+    /// The class of a word in any case: IN, CS, CH, HS or CLASS with a number. `None`: it is no such word.
+    ///
+    /// # Errors
+    ///
+    /// `BadClass` where no zone data can have the class.
+    pub fn from_word(word: &[u8]) -> Result<Option<Class>, Fault>
+        ensures found { IfOk result (λ class. IfSome class (IsClassWord word.now)) }
+        ensures none { IfOk result (λ class. IfNone class ((n : ℕ) → IsClassWord word.now n → ⊥)) }
+        ensures err { IfErr result (λ fault. (fault ≡ Fault.BadClass) × ((n : ℕ) × (IsClassWord word.now n × (IsClass n → ⊥)))) }
+    {
+        match number_of_word(word) {
+            Some(number) => Ok(Some(Class::from_number(number)?)),
+            None => Ok(None),
         }
     }
 
@@ -55,12 +105,11 @@ impl Class {
     /// The octets of the word that is printed.
     pub fn word_len(self) -> usize
         ensures value { result ≡ length (class_text self) }
-        ensures short { result ≤ 16 }
+        ensures short { result ≤ 45 }
     {
-        if self.number == 1 {
-            b"IN".len()
-        } else {
-            numbered_len(b"CLASS", self.number)
+        match self.number {
+            1..=4 => 2,
+            number => 5 + decimal_len(u64::from(number)),
         }
     }
 
@@ -69,10 +118,12 @@ impl Class {
         ensures ok { OnOk result (out.new.items ≡ out.old.items ++ class_text self) }
         ensures err { OnErr result (out.new.items ≡ out.old.items) }
     {
-        if self.number == 1 {
-            out.extend_from_slice(b"IN")
-        } else {
-            push_numbered(b"CLASS", self.number, out)
+        match self.number {
+            1 => out.extend_from_slice(b"IN"),
+            2 => out.extend_from_slice(b"CS"),
+            3 => out.extend_from_slice(b"CH"),
+            4 => out.extend_from_slice(b"HS"),
+            number => push_numbered(b"CLASS", number, out),
         }
     }
 }

@@ -1,8 +1,11 @@
-ghost use Rattle.std.specs.Prelude.{◌≡◌, ◌≤◌, length, ◌↔◌, ◌++◌, ℕ, IsTrue, IfSome, IfNone, IfOk, OnOk, OnErr, Option, Some, None};
-ghost use Rattle.zone_rdata.specs.Words.{IsKind, IsKindWord, kind_text};
+ghost use Rattle.std.specs.Prelude.{length, ◌≡◌, ◌↔◌, ◌++◌, ◌<◌, ℕ, IsTrue, IfSome, IfNone, IfOk, IfErr, OnOk, OnErr, Option, Some, None, option_copied, ◌≤◌, min};
+ghost use Rattle.zone_rdata.specs.Words.{IsKind, IsKindWord, IsMnemonic, kind_mnemonic, kind_text, is_meta, IsWordFault};
 
 use crate::class::Class;
-use crate::word::{is_word, numbered_len, push_numbered};
+use crate::fault::Fault;
+use crate::layout::layout_of;
+use crate::printing::decimal_len;
+use crate::word::{is_word, numbered, push_numbered};
 use std::alloc::AllocError;
 use std::marker::Model;
 
@@ -25,18 +28,84 @@ impl Model for Kind {
     ghost inverse = { λ n. record { number = n } };
 }
 
+/// The numbers of the types that have a mnemonic.
+static KNOWN: [u16; 10] = [1, 2, 5, 6, 12, 15, 16, 28, 33, 35];
+
+/// The mnemonic of a type.
+fn mnemonic(number: u16) -> Option<&'static [u8]>
+    ensures { option_copied result ≡ kind_mnemonic number }
+{
+    match number {
+        1 => Some(b"A"),
+        2 => Some(b"NS"),
+        5 => Some(b"CNAME"),
+        6 => Some(b"SOA"),
+        12 => Some(b"PTR"),
+        15 => Some(b"MX"),
+        16 => Some(b"TXT"),
+        28 => Some(b"AAAA"),
+        33 => Some(b"SRV"),
+        35 => Some(b"NAPTR"),
+        _ => None,
+    }
+}
+
+/// The number of a type's mnemonic.
+fn number_of_mnemonic(word: &[u8]) -> Option<u16>
+    ensures found { IfSome result (IsMnemonic kind_mnemonic word.now) }
+    ensures none { IfNone result ((n : ℕ) → IsMnemonic kind_mnemonic word.now n → ⊥) }
+{
+    for number in &KNOWN {
+        if let Some(name) = mnemonic(*number)
+            && is_word(word, name)
+        {
+            return Some(*number);
+        }
+    }
+    None
+}
+
+/// The number that a type's word stands for, at most `CAP`. `None`: it is no such word.
+fn number_of_word(word: &[u8]) -> Option<u64>
+    ensures found { IfSome result (λ n. (m : ℕ) × (IsKindWord word.now m × (n ≡ min 4294967296 m))) }
+    ensures none { IfNone result ((n : ℕ) → IsKindWord word.now n → ⊥) }
+{
+    match number_of_mnemonic(word) {
+        Some(number) => Some(u64::from(number)),
+        None => numbered(b"TYPE", word),
+    }
+}
+
 impl Kind {
-    /// The type of a word in any case. `None`: no word of a type that is read so far.
-    pub fn from_word(word: &[u8]) -> Option<Kind>
-        ensures found { IfSome result (IsKindWord word.now) }
-        ensures none { IfNone result ((n : ℕ) → IsKindWord word.now n → ⊥) }
+    /// The type of a number.
+    ///
+    /// # Errors
+    ///
+    /// `UnknownType` from 65536 on, and `MetaType` where no record can have it: 0, 41 and 128 to 255.
+    pub fn from_number(number: u64) -> Result<Kind, Fault>
+        ensures ok { IfOk result (λ kind. kind ≡ number) }
+        ensures err { IfErr result (λ fault. (number < 65536 → fault ≡ Fault.MetaType) × (65536 ≤ number → fault ≡ Fault.UnknownType) × (IsKind number → ⊥)) }
     {
-        if is_word(word, b"ns") {
-            Some(Kind { number: 2 })
-        } else if is_word(word, b"soa") {
-            Some(Kind { number: 6 })
-        } else {
-            None
+        match u16::try_from(number) {
+            Ok(0 | 41 | 128..=255) => Err(Fault::MetaType),
+            Ok(number) => Ok(Kind { number }),
+            Err(_) => Err(Fault::UnknownType),
+        }
+    }
+
+    /// The type of a word in any case: a mnemonic, or TYPE with a number.
+    ///
+    /// # Errors
+    ///
+    /// `UnknownType` where it is no such word or the number is over 65535, and `MetaType` where no record can have
+    /// the type.
+    pub fn from_word(word: &[u8]) -> Result<Kind, Fault>
+        ensures found { IfOk result (IsKindWord word.now) }
+        ensures err { IfErr result (IsWordFault word.now) }
+    {
+        match number_of_word(word) {
+            Some(number) => Kind::from_number(number),
+            None => Err(Fault::UnknownType),
         }
     }
 
@@ -65,12 +134,12 @@ impl Kind {
     /// The octets of the word that is printed in the class.
     pub fn word_len(self, class: Class) -> usize
         ensures value { result ≡ length (kind_text class self) }
-        ensures short { result ≤ 16 }
+        ensures short { result ≤ 45 }
     {
-        match self.number {
-            2 => b"NS".len(),
-            6 => b"SOA".len(),
-            number => numbered_len(b"TYPE", number),
+        let named = layout_of(class, self).and_then(|_| mnemonic(self.number));
+        match named {
+            Some(word) => word.len(),
+            None => 4 + decimal_len(u64::from(self.number)),
         }
     }
 
@@ -79,10 +148,10 @@ impl Kind {
         ensures ok { OnOk result (out.new.items ≡ out.old.items ++ kind_text class self) }
         ensures err { OnErr result (out.new.items ≡ out.old.items) }
     {
-        match self.number {
-            2 => out.extend_from_slice(b"NS"),
-            6 => out.extend_from_slice(b"SOA"),
-            number => push_numbered(b"TYPE", number, out),
+        let named = layout_of(class, self).and_then(|_| mnemonic(self.number));
+        match named {
+            Some(word) => out.extend_from_slice(word),
+            None => push_numbered(b"TYPE", self.number, out),
         }
     }
 }

@@ -11,8 +11,10 @@ pub enum Field {
     Name,
     /// A number of 32 bits, written in digits.
     Serial,
-    /// A number of seconds of 32 bits.
+    /// A number of seconds of 32 bits, written in digits or as a time.
     Time,
+    /// A number of 16 bits, written in digits.
+    U16,
 }
 
 /// The fields of one type's data, in order.
@@ -21,7 +23,7 @@ pub struct Layout {
     fields: &'static [Field],
 }
 
-static NS: [Field; 1] = [Field::Name];
+static NAME: [Field; 1] = [Field::Name];
 
 static SOA: [Field; 7] = [
     Field::Name,
@@ -33,14 +35,20 @@ static SOA: [Field; 7] = [
     Field::Time,
 ];
 
+static MX: [Field; 2] = [Field::U16, Field::Name];
+
+static SRV: [Field; 4] = [Field::U16, Field::U16, Field::U16, Field::Name];
+
 /// The layout of a type's data in a class. `None`: the data is opaque.
 pub fn layout_of(class: Class, kind: Kind) -> Option<Layout>
     ensures { option_map fields_of result ≡ layout class kind }
 {
     let _ = class;
     match kind.number() {
-        2 => Some(Layout { fields: &NS }),
+        2 | 5 | 12 => Some(Layout { fields: &NAME }),
         6 => Some(Layout { fields: &SOA }),
+        15 => Some(Layout { fields: &MX }),
+        33 => Some(Layout { fields: &SRV }),
         _ => None,
     }
 }

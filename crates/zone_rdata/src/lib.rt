@@ -6,6 +6,7 @@ mod fault;
 mod item;
 mod kind;
 mod layout;
+mod minimum;
 mod number;
 mod order;
 mod printing;
@@ -13,6 +14,7 @@ mod rdata;
 mod reading;
 mod record;
 mod source;
+mod time;
 mod word;
 
 pub use class::Class;
@@ -23,6 +25,7 @@ pub use layout::{Field, Layout, layout_of};
 pub use rdata::Rdata;
 pub use record::{Placed, Rr};
 pub use source::{Reading, RrSource};
+pub use time::seconds_of;
 
 #[cfg(test)]
 mod tests;

@@ -1,5 +1,5 @@
 ghost use Rattle.std.specs.Prelude.{◌≡◌, ◌++◌, [], ◌≤◌, length, take, drop, IfOk, OnOk, OnErr, option_map, decimal, MatchOption, IfSome, Some};
-ghost use Rattle.std.specs.Int.{w32, from_be_bytes};
+ghost use Rattle.std.specs.Int.{w16, w32, from_be_bytes};
 ghost use Rattle.zone_name.specs.Name.{wire, labels_of, BeginsWithName};
 ghost use Rattle.zone_rdata.specs.Field.{field_at};
 ghost use Rattle.zone_rdata.specs.Layout.{AreLaidOut, fields_of};
@@ -13,7 +13,7 @@ use std::alloc::AllocError;
 use zone_name::Name;
 
 /// The name at the front of octets, and the octets after it.
-fn split_name(octets: &[u8]) -> (Name, &[u8])
+pub(crate) fn split_name(octets: &[u8]) -> (Name, &[u8])
     requires { BeginsWithName octets.now }
     ensures name { result.0 ≡ labels_of octets.now }
     ensures rest { result.1.now ≡ drop (length (wire (labels_of octets.now))) octets.now }
@@ -24,13 +24,24 @@ fn split_name(octets: &[u8]) -> (Name, &[u8])
 }
 
 /// The number of 32 bits at the front of octets, and the octets after it.
-fn split_long(octets: &[u8]) -> (u32, &[u8])
+pub(crate) fn split_long(octets: &[u8]) -> (u32, &[u8])
     requires { 4 ≤ length octets.now }
     ensures number { result.0 ≡ from_be_bytes w32 (take 4 octets.now) }
     ensures rest { result.1.now ≡ drop 4 octets.now }
 {
     let (front, rest) = octets.split_at(4);
     let number = u32::from_be_bytes([front[0], front[1], front[2], front[3]]);
+    (number, rest)
+}
+
+/// The number of 16 bits at the front of octets, and the octets after it.
+pub(crate) fn split_short(octets: &[u8]) -> (u16, &[u8])
+    requires { 2 ≤ length octets.now }
+    ensures number { result.0 ≡ from_be_bytes w16 (take 2 octets.now) }
+    ensures rest { result.1.now ≡ drop 2 octets.now }
+{
+    let (front, rest) = octets.split_at(2);
+    let number = u16::from_be_bytes([front[0], front[1]]);
     (number, rest)
 }
 
@@ -59,6 +70,11 @@ fn push_field<'o>(field: Field, octets: &'o [u8], out: &mut Vec<u8>) -> Result<&
         Field::Serial | Field::Time => {
             let (number, rest) = split_long(octets);
             push_decimal(number, out)?;
+            Ok(rest)
+        }
+        Field::U16 => {
+            let (number, rest) = split_short(octets);
+            push_decimal(u32::from(number), out)?;
             Ok(rest)
         }
     }
@@ -142,7 +158,7 @@ pub(crate) fn push_data(
 }
 
 /// The octets of a number in decimal.
-fn decimal_len(number: u64) -> usize
+pub(crate) fn decimal_len(number: u64) -> usize
     ensures value { result ≡ length (decimal number) }
     ensures short { result ≤ 40 }
 {
@@ -164,6 +180,10 @@ fn field_len(field: Field, octets: &[u8]) -> (usize, &[u8])
         }
         Field::Serial | Field::Time => {
             let (number, rest) = split_long(octets);
+            (decimal_len(u64::from(number)), rest)
+        }
+        Field::U16 => {
+            let (number, rest) = split_short(octets);
             (decimal_len(u64::from(number)), rest)
         }
     }

@@ -1,4 +1,5 @@
 ghost use Rattle.std.specs.Prelude.{◌≡◌, ◌++◌, ◌+◌, ◌*◌, ◌≤◌, ℕ, List, length, map, IfOk, IfErr, OnOk, OnErr};
+ghost use Rattle.zone_rdata.specs.Minimum.{minimum};
 ghost use Rattle.zone_rdata.specs.Record.{Data, IsRdata};
 ghost use Rattle.zone_rdata.specs.Spelling.{States, raw};
 ghost use Rattle.zone_rdata.specs.Text.{data_text};
@@ -8,6 +9,7 @@ use crate::fault::{Failing, Fault};
 use crate::item::Item;
 use crate::kind::Kind;
 use crate::layout::layout_of;
+use crate::minimum::last_number_of;
 use crate::printing::{data_len, push_data};
 use crate::reading::{are_octets, is_generic, octets_of_items};
 use std::alloc::{AllocError, Global};
@@ -90,6 +92,16 @@ impl Rdata {
         ensures { IsRdata self.now }
     {
         let _ = &self.octets;
+    }
+
+    /// The MINIMUM of an SOA, in seconds (RFC 1035 3.3.13). `None`: the data is of another type.
+    pub fn soa_minimum(&self) -> Option<u32>
+        ensures { result ≡ minimum self.now }
+    {
+        match layout_of(self.class, self.kind) {
+            Some(layout) if self.kind.is_soa() => last_number_of(layout, &self.octets),
+            _ => None,
+        }
     }
 
     /// The octets of the canonical text.

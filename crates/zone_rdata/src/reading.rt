@@ -1,23 +1,44 @@
 ghost use Rattle.std.specs.Prelude.{◌≡◌, ◌↔◌, ◌++◌, IsTrue, ◌<◌, ◌^◌, List, map, IfOk, OnOk};
 ghost use Rattle.std.specs.List.{AllByRecursion};
 ghost use Rattle.zone_rdata.specs.Layout.{fields_of};
-ghost use Rattle.zone_rdata.specs.Number.{IsDecimal};
-ghost use Rattle.zone_rdata.specs.Reading.{AppendsDecimal, AppendsField, AreSpelt};
+ghost use Rattle.zone_rdata.specs.Number.{IsDecimal, IsTime};
+ghost use Rattle.zone_rdata.specs.Reading.{AppendsDecimal, AppendsTime, AppendsTwoOctets, AppendsField, AreSpelt};
 ghost use Rattle.zone_rdata.specs.Spelling.{bare, raw, IsGeneric};
 
 use crate::fault::{Failing, Fault};
 use crate::item::Item;
 use crate::layout::{Field, Layout};
 use crate::number::decimal_of;
+use crate::time::seconds_of;
 use std::alloc::Global;
 use zone_name::Name;
 
 /// The number of 32 bits that decimal digits stand for.
-fn number_of(text: &[u8]) -> Result<u32, Fault>
+fn long_of(text: &[u8]) -> Result<u32, Fault>
     ensures { IfOk result (λ n. IsDecimal text.now n) }
 {
     match decimal_of(text) {
         Some(number) if number <= u64::from(u32::MAX) => Ok(number as u32),
+        _ => Err(Fault::BadNumber),
+    }
+}
+
+/// The number of 32 bits that a time stands for.
+fn time_of(text: &[u8]) -> Result<u32, Fault>
+    ensures { IfOk result (λ n. IsTime text.now n × (n < 2 ^ 32)) }
+{
+    match seconds_of(text) {
+        Some(number) if number <= u64::from(u32::MAX) => Ok(number as u32),
+        _ => Err(Fault::BadNumber),
+    }
+}
+
+/// The number of 16 bits that decimal digits stand for.
+fn short_of(text: &[u8]) -> Result<u16, Fault>
+    ensures { IfOk result (λ n. IsDecimal text.now n) }
+{
+    match decimal_of(text) {
+        Some(number) if number <= u64::from(u16::MAX) => Ok(number as u16),
         _ => Err(Fault::BadNumber),
     }
 }
@@ -30,10 +51,26 @@ fn push_name(text: &[u8], origin: &Name, octets: &mut Vec<u8>) -> Result<(), Fai
     Ok(())
 }
 
-fn push_long(text: &[u8], octets: &mut Vec<u8>) -> Result<(), Failing>
+fn push_serial(text: &[u8], octets: &mut Vec<u8>) -> Result<(), Failing>
     ensures { OnOk result (AppendsDecimal text.now octets.old.items octets.new.items) }
 {
-    let number = number_of(text)?;
+    let number = long_of(text)?;
+    octets.extend_from_slice(&number.to_be_bytes())?;
+    Ok(())
+}
+
+fn push_time(text: &[u8], octets: &mut Vec<u8>) -> Result<(), Failing>
+    ensures { OnOk result (AppendsTime text.now octets.old.items octets.new.items) }
+{
+    let number = time_of(text)?;
+    octets.extend_from_slice(&number.to_be_bytes())?;
+    Ok(())
+}
+
+fn push_short(text: &[u8], octets: &mut Vec<u8>) -> Result<(), Failing>
+    ensures { OnOk result (AppendsTwoOctets text.now octets.old.items octets.new.items) }
+{
+    let number = short_of(text)?;
     octets.extend_from_slice(&number.to_be_bytes())?;
     Ok(())
 }
@@ -46,7 +83,9 @@ fn push_field(field: Field, item: Item, origin: &Name, octets: &mut Vec<u8>) -> 
         Item::Quoted(_) => Err(Failing::Fault(Fault::BadRdata)),
         Item::Bare(text) => match field {
             Field::Name => push_name(text, origin, octets),
-            Field::Serial | Field::Time => push_long(text, octets),
+            Field::Serial => push_serial(text, octets),
+            Field::Time => push_time(text, octets),
+            Field::U16 => push_short(text, octets),
         },
     }
 }

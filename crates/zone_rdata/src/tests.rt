@@ -9,11 +9,14 @@ fn name_of(text: &[u8]) -> Result<Name, NameFault> {
 }
 
 fn class_of(word: &[u8]) -> Result<Class, &'static str> {
-    Class::from_word(word).ok_or("no class")
+    match Class::from_word(word) {
+        Ok(Some(class)) => Ok(class),
+        _ => Err("no class"),
+    }
 }
 
 fn kind_of(word: &[u8]) -> Result<Kind, &'static str> {
-    Kind::from_word(word).ok_or("no type")
+    Kind::from_word(word).map_err(|_| "no type")
 }
 
 fn items_of(text: &'static [u8]) -> [Item<'static>; 1] {
@@ -37,6 +40,28 @@ fn words(rt: HostRuntime) -> Result<(), Fail> {
 }
 
 #[test]
+fn numbers(rt: HostRuntime) -> Result<(), Fail> {
+    let class = class_of(b"class0032")?;
+    let mut out = Vec::new(rt.alloc());
+    class.push_word(&mut out)?;
+    out.extend_from_slice(b" ")?;
+    kind_of(b"type65535")?.push_word(class, &mut out)?;
+    assert_eq!(rt; out.as_slice(), b"CLASS32 TYPE65535".as_slice());
+    assert!(rt; matches!(Class::from_word(b"CLASS"), Ok(None)));
+    assert!(rt; matches!(Class::from_word(b"CLASS254"), Err(Fault::BadClass)));
+    assert!(rt; matches!(Class::from_word(b"CLASS65537"), Err(Fault::BadClass)));
+    assert!(rt; matches!(Kind::from_word(b"CAA"), Err(Fault::UnknownType)));
+    assert!(rt; matches!(Kind::from_word(b"TYPE65536"), Err(Fault::UnknownType)));
+    assert!(rt; matches!(Kind::from_number(41), Err(Fault::MetaType)));
+    assert_eq!(rt; seconds_of(b"1h30M"), Some(5400));
+    assert_eq!(rt; seconds_of(b"0000h1w"), Some(604800));
+    assert_eq!(rt; seconds_of(b"1h30"), None);
+    assert_eq!(rt; seconds_of(b""), None);
+    assert_eq!(rt; seconds_of(b"99999999999999999999w"), Some(4294967296));
+    Ok(())
+}
+
+#[test]
 fn layouts(rt: HostRuntime) -> Result<(), Fail> {
     let layout = layout_of(class_of(b"IN")?, kind_of(b"SOA")?).ok_or("no layout")?;
     assert_eq!(rt; layout.field(1), Some(Field::Name));
@@ -55,7 +80,7 @@ fn soa(rt: HostRuntime) -> Result<(), Fail> {
         Item::Bare(b"Ns1"),
         Item::Bare(b"host.master."),
         Item::Bare(b"0002024"),
-        Item::Bare(b"7200"),
+        Item::Bare(b"2h"),
         Item::Bare(b"3600"),
         Item::Bare(b"1209600"),
         Item::Bare(b"4294967295"),
@@ -71,6 +96,7 @@ fn soa(rt: HostRuntime) -> Result<(), Fail> {
     assert_eq!(rt; rdata.text_len(), text.len());
     assert_eq!(rt; rdata.octets().len(), 46);
     assert!(rt; rdata.kind().is_soa());
+    assert_eq!(rt; rdata.soa_minimum(), Some(4294967295));
     assert_eq!(rt; rdata.class().number(), 1);
     Ok(())
 }

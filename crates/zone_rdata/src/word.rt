@@ -1,6 +1,8 @@
-ghost use Rattle.std.specs.Prelude.{◌≡◌, ◌+◌, ◌≤◌, length, ◌↔◌, ◌++◌, IsTrue, OnOk, OnErr, decimal};
+ghost use Rattle.std.specs.Prelude.{◌≡◌, ◌↔◌, ◌++◌, ◌≤◌, ℕ, length, min, IsTrue, IfSome, IfNone, OnOk, OnErr, decimal};
 ghost use Rattle.zone_name.specs.Name.{folded_label};
+ghost use Rattle.zone_rdata.specs.Words.{IsNumbered};
 
+use crate::number::decimal_of;
 use itoa::Buffer;
 use std::alloc::AllocError;
 
@@ -9,6 +11,21 @@ pub(crate) fn is_word(word: &[u8], wanted: &[u8]) -> bool
     ensures { IsTrue result ↔ (folded_label word.now ≡ folded_label wanted.now) }
 {
     word.eq_ignore_ascii_case(wanted)
+}
+
+/// The number in decimal right behind a name in any case, at most `CAP`. `None`: the word is none.
+pub(crate) fn numbered(name: &[u8], word: &[u8]) -> Option<u64>
+    ensures found { IfSome result (λ n. (m : ℕ) × (IsNumbered name.now word.now m × (n ≡ min 4294967296 m))) }
+    ensures none { IfNone result ((m : ℕ) → IsNumbered name.now word.now m → ⊥) }
+{
+    if word.len() < name.len() {
+        return None;
+    }
+    let (front, digits) = word.split_at(name.len());
+    if !is_word(front, name) {
+        return None;
+    }
+    decimal_of(digits)
 }
 
 /// Appends a word and a number in decimal. Where memory is refused, `out` holds what it held.
@@ -24,14 +41,4 @@ pub(crate) fn push_numbered(word: &[u8], number: u16, out: &mut Vec<u8>) -> Resu
         out.truncate(before);
     }
     pushed
-}
-
-/// The octets of a word and a number in decimal.
-pub(crate) fn numbered_len(word: &[u8], number: u16) -> usize
-    requires { length word.now ≤ 11 }
-    ensures value { result ≡ length (word.now ++ decimal number) }
-    ensures short { result ≤ 16 }
-{
-    let mut buffer = Buffer::new();
-    word.len() + buffer.format(number).len()
 }

@@ -1,5 +1,5 @@
 -- Entries that ascend by key hold records that ascend in canonical order.
-use Rattle.std.proofs.Common.{◌≡◌, ℕ, Bool, true, false, not, ◌==◌, if◌then◌else◌, List, [], ◌∷◌, map, take, Option, Some, None, Ordering, Less, Equal, Greater, nat_cmp, refl, sym, ap, ap₂, ◌∙◌, inl, inr}
+use Rattle.std.proofs.Common.{◌≡◌, ℕ, Bool, true, false, not, ◌==◌, if◌then◌else◌, List, [], ◌∷◌, map, take, Ordering, Less, Equal, Greater, nat_cmp, refl, sym, ap, ap₂, ◌∙◌, inl, inr}
 use Rattle.std.proofs.lemmas.Cmp.{nat_cmp_total, tied_itself}
 use Rattle.std.proofs.lemmas.Map.Keys.{sorted_head, sorted_tail}
 use Rattle.std.proofs.lemmas.Map.Lookups.{exact_unsigned}
@@ -10,7 +10,7 @@ use Rattle.std.specs.Map.{keys_of}
 use Rattle.std.specs.Option.{option_cmp}
 use Rattle.std.specs.Ordering.{bool_cmp, ordering_then}
 use Rattle.zone_name.specs.Order.{name_cmp}
-use Rattle.zone_rdata.specs.Record.{Data, Record, data_of}
+use Rattle.zone_rdata.specs.Record.{Record, data_of}
 use Rattle.zone_set.proofs.KeyOrder.{key_cmp}
 use Rattle.zone_set.specs.Key.{first_octet, second_octet, covered_octets, key_of, entry_record, IsKeyed}
 use Rattle.zone_set.specs.Order.{canonical_cmp, Ascends}
@@ -81,12 +81,14 @@ canonical_from_keys r s same =
 
 each_after : (e : RecordKey × ℕ) → IsKeyed e → (es : List (RecordKey × ℕ)) → AllByRecursion IsKeyed es → AllByRecursion (λ k. key_cmp e.0 k ≡ Less) (keys_of es) → ((s : Record) → Has (map entry_record es) s → (entry_record e).class ≡ s.class) → AllByRecursion (λ s. canonical_cmp (entry_record e) s ≡ Less) (map entry_record es)
 each_after e keyed [] others each same = tt
-each_after e keyed (x ∷ es) others each same =
-    (sym (canonical_from_keys (entry_record e) (entry_record x) (same (entry_record x) (inl refl))) ∙ ap₂ key_cmp (sym keyed) (sym others.0) ∙ each.0,
-        each_after e keyed es others.1 each.1 (λ s has. same s (inr has)))
+each_after e keyed (x ∷ es) others each same = (
+  sym (canonical_from_keys (entry_record e) (entry_record x) (same (entry_record x) (inl refl))) ∙ ap₂ key_cmp (sym keyed) (sym others.0) ∙ each.0,
+  each_after e keyed es others.1 each.1 (λ s has. same s (inr has)),
+)
 
 pub Ascends-from_sorted : (es : List (RecordKey × ℕ)) → AllByRecursion IsKeyed es → IsStrictlySortedBy key_cmp (keys_of es) → ((r s : Record) → Has (map entry_record es) r → Has (map entry_record es) s → r.class ≡ s.class) → Ascends (map entry_record es)
 Ascends-from_sorted [] keyed ordered same = tt
-Ascends-from_sorted (e ∷ es) keyed ordered same =
-    (each_after e keyed.0 es keyed.1 (sorted_head key_cmp e.0 (keys_of es) ordered) (λ s has. same (entry_record e) s (inl refl) (inr has)),
-        Ascends-from_sorted es keyed.1 (sorted_tail key_cmp e.0 (keys_of es) ordered) (λ r s has_r has_s. same r s (inr has_r) (inr has_s)))
+Ascends-from_sorted (e ∷ es) keyed ordered same = (
+  each_after e keyed.0 es keyed.1 (sorted_head key_cmp e.0 (keys_of es) ordered) (λ s has. same (entry_record e) s (inl refl) (inr has)),
+  Ascends-from_sorted es keyed.1 (sorted_tail key_cmp e.0 (keys_of es) ordered) (λ r s has_r has_s. same r s (inr has_r) (inr has_s)),
+)

@@ -1,5 +1,5 @@
 -- The entries of the map of records, and the first one at or after a key.
-use Rattle.std.proofs.Common.{◌≡◌, ◌≢◌, ℕ, Bool, true, false, cond, ◌&&◌, List, [], ◌∷◌, map, filter, Option, Some, None, Less, is_le, refl, sym, ap, ◌∙◌, subst, inl, inr, ⊎_elim}
+use Rattle.std.proofs.Common.{◌≡◌, ◌≢◌, ℕ, Bool, true, false, cond, ◌&&◌, List, [], ◌∷◌, map, filter, Some, None, Less, is_le, refl, sym, ap, ◌∙◌, subst, inl, inr, ⊎_elim}
 use Rattle.std.proofs.lemmas.Map.Keys.{sorted_head, sorted_tail}
 use Rattle.std.specs.BTreeMap.Range.{entries_between}
 use Rattle.std.specs.List.{AllByRecursion}
@@ -36,19 +36,19 @@ pub front_of_set : (least : RecordKey) → least.rdata ≡ None → (es : List (
 front_of_set least none [] s keyed ordered has same = absurd has
 front_of_set least none (e ∷ es) s keyed ordered has same = by (is_le (key_cmp least e.0)) refl (λ more. front_of_set least none es s keyed.1 (sorted_tail key_cmp e.0 (keys_of es) ordered) more same)
   where
-    first_so : (b : Bool) → is_le (key_cmp least e.0) ≡ b → entries_between key_cmp (Included least) Unbounded (e ∷ es) ≡ cond (b && true) (e ∷ entries_between key_cmp (Included least) Unbounded es) (entries_between key_cmp (Included least) Unbounded es)
-    first_so b from = ap (λ t. cond (t && true) (e ∷ entries_between key_cmp (Included least) Unbounded es) (entries_between key_cmp (Included least) Unbounded es)) from
+    first_is : (b : Bool) → is_le (key_cmp least e.0) ≡ b → entries_between key_cmp (Included least) Unbounded (e ∷ es) ≡ cond (b && true) (e ∷ entries_between key_cmp (Included least) Unbounded es) (entries_between key_cmp (Included least) Unbounded es)
+    first_is b from = ap (λ t. cond (t && true) (e ∷ entries_between key_cmp (Included least) Unbounded es) (entries_between key_cmp (Included least) Unbounded es)) from
 
     by : (b : Bool) → is_le (key_cmp least e.0) ≡ b → (Has (map entry_record es) s → FrontOf least es) → FrontOf least (e ∷ es)
     by true from later =
-        front e (entries_between key_cmp (Included least) Unbounded es) (first_so true from)
-            (⊎_elim (λ is. sym same ∙ ap (λ r. set_key r.owner (data_of r)) is ∙ sym (ap (λ k. k.set) keyed.0))
-            (λ more. between_set least e.0 (key_of s) (sym same) from (key_holds (λ k. key_cmp e.0 k ≡ Less) es s keyed.1 (sorted_head key_cmp e.0 (keys_of es) ordered) more)) has)
+        front e (entries_between key_cmp (Included least) Unbounded es) (first_is true from)
+        (⊎_elim (λ is. sym same ∙ ap (λ r. set_key r.owner (data_of r)) is ∙ sym (ap (λ k. k.set) keyed.0))
+        (λ more. between_set least e.0 (key_of s) (sym same) from (key_holds (λ k. key_cmp e.0 k ≡ Less) es s keyed.1 (sorted_head key_cmp e.0 (keys_of es) ordered) more)) has)
     by false from later =
         ⊎_elim (λ is. let before : key_cmp least e.0 ≡ Less = least_goes_first least e.0 (data_of s) none (ap (λ k. k.rdata) keyed.0 ∙ ap (λ r. Some (data_of r)) (sym is)) (sym same ∙ ap (λ r. set_key r.owner (data_of r)) is ∙ sym (ap (λ k. k.set) keyed.0)) in
-                let yes : is_le (key_cmp least e.0) ≡ true = ap is_le before in
-                let no : true ≡ false = sym yes ∙ from in cc)
-        (λ more. elim (later more) [ front f rest is of ↦ front f rest (first_so false from ∙ is) of ]) has
+        let yes : is_le (key_cmp least e.0) ≡ true = ap is_le before in
+        let no : true ≡ false = sym yes ∙ from in cc)
+        (λ more. elim (later more) [ front f rest is of ↦ front f rest (first_is false from ∙ is) of ]) has
 
 -- no record of the set is held where nothing stands from there on, or first a key of another set
 pub none_at_end : (least : RecordKey) → least.rdata ≡ None → (es : List (RecordKey × ℕ)) → AllByRecursion IsKeyed es → IsStrictlySortedBy key_cmp (keys_of es) → entries_between key_cmp (Included least) Unbounded es ≡ [] → HasNoneOf (map entry_record es) least.set

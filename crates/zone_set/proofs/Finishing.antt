@@ -1,6 +1,5 @@
 -- From the records held to a zone, or to the least owner outside.
-use Rattle.std.proofs.Common.{◌≡◌, ◌≢◌, ◌⊎◌, ℕ, Bool, true, false, ◌==◌, if◌then◌else◌, List, [], ◌∷◌, ◌++◌, Ordering, Less, Equal, Greater, nat_cmp, refl, sym, ap, ap₂, ◌∙◌, subst, inl, inr, ⊎_elim, eqb-true, eq-eqb, ne_eqb}
-use Rattle.std.proofs.lemmas.Bool.{cases_eq}
+use Rattle.std.proofs.Common.{◌≡◌, ◌≢◌, ◌⊎◌, ℕ, Bool, true, false, ◌==◌, if◌then◌else◌, List, [], ◌∷◌, ◌++◌, Ordering, Less, Equal, Greater, nat_cmp, refl, sym, ap, ◌∙◌, subst, inl, inr, ⊎_elim, ne_eqb}
 use Rattle.std.specs.List.{AllByRecursion}
 use Rattle.std.specs.Ordering.{ordering_then}
 use Rattle.zone_name.specs.Name.{IsWithin}
@@ -14,7 +13,7 @@ use Rattle.zone_set.proofs.Sets.{each_Has, each_from_Has, soa_first}
 use Rattle.zone_set.specs.Builder.{HasNoSoa, IsLeastOutside, StopsFinish, no_soa, outside}
 use Rattle.zone_set.specs.Held.{IsFirstOutside}
 use Rattle.zone_set.specs.Order.{canonical_cmp, Ascends}
-use Rattle.zone_set.specs.Zone.{Has, AreCompatible, Zone, IsZone}
+use Rattle.zone_set.specs.Zone.{Has, AreCompatible, IsZone}
 
 -- the first owner outside is that of the first record, or of the first of the others
 pub IsFirstOutside-here : (apex : List (List ℕ)) (r : Record) (others : List Record) → (IsWithin r.owner apex → ⊥) → IsFirstOutside (r ∷ others) apex r.owner
@@ -22,14 +21,14 @@ IsFirstOutside-here apex r others out = record { before = []; first = r; others 
 
 pub IsFirstOutside-later : (apex owner : List (List ℕ)) (r : Record) (others : List Record) → IsWithin r.owner apex → IsFirstOutside others apex owner → IsFirstOutside (r ∷ others) apex owner
 IsFirstOutside-later apex owner r others within found = record {
-    before = r ∷ found.before;
-    first = found.first;
-    others = found.others;
-    parts = ap (λ (rs : List Record). r ∷ rs) found.parts;
-    inside = (within, found.inside);
-    named = found.named;
-    outside = found.outside;
-  }
+  before = r ∷ found.before;
+  first = found.first;
+  others = found.others;
+  parts = ap (λ (rs : List Record). r ∷ rs) found.parts;
+  inside = (within, found.inside);
+  named = found.named;
+  outside = found.outside;
+}
 
 pub no_soa_of_none : HasNoSoa []
 no_soa_of_none r has soa = has
@@ -43,11 +42,11 @@ IsWithin-itself apex = ([], refl)
 
 pub IsZone-from_first : (first : Record) (others : List Record) → AreCompatible (first ∷ others) → first.kind ≡ 6 → AllByRecursion (λ r. IsWithin r.owner first.owner) others → IsZone (record { apex = first.owner; class = first.class; records = first ∷ others })
 IsZone-from_first first others compatible soa within = record {
-    compatible = compatible;
-    class = each_from_Has (λ r. r.class ≡ first.class) (first ∷ others) (λ r has. compatible.one_class r first has (inl refl));
-    soa = (first, inl refl, soa, refl);
-    within = (IsWithin-itself first.owner, within);
-  }
+  compatible = compatible;
+  class = each_from_Has (λ r. r.class ≡ first.class) (first ∷ others) (λ r has. compatible.one_class r first has (inl refl));
+  soa = (first, inl refl, soa, refl);
+  within = (IsWithin-itself first.owner, within);
+}
 
 -- the records of a list in two parts
 Has-parts : (before : List Record) (f : Record) (after : List Record) (r : Record) → Has (before ++ f ∷ after) r → Has before r ⊎ ((r ≡ f) ⊎ Has after r)
@@ -74,12 +73,12 @@ by_owner false false Greater p no_b no_c less other = cc
 -- the first owner outside, behind the SOA, is the least
 pub IsLeastOutside-from_first : (soa : Record) (others : List Record) (owner : List (List ℕ)) → AreCompatible (soa ∷ others) → soa.kind ≡ 6 → IsFirstOutside others soa.owner owner → IsLeastOutside (soa ∷ others) owner
 IsLeastOutside-from_first soa others owner compatible is_soa found = record {
-    soa = soa;
-    held_soa = (inl refl, is_soa);
-    held_owner = (found.first, inr has_first, found.named);
-    outside = found.outside;
-    least = least;
-  }
+  soa = soa;
+  held_soa = (inl refl, is_soa);
+  held_owner = (found.first, inr has_first, found.named);
+  outside = found.outside;
+  least = least;
+}
   where
     has_first : Has others found.first
     has_first = subst (λ rs. Has rs found.first) (sym found.parts) (Has-middle found.before found.first found.others)
@@ -107,8 +106,8 @@ IsLeastOutside-from_first soa others owner compatible is_soa found = record {
     least r has out other =
         ⊎_elim (λ same. absurd (out (subst (λ s. IsWithin s.owner soa.owner) (sym same) (IsWithin-itself soa.owner))))
         (λ more. ⊎_elim (λ before. absurd (out (each_Has (λ s. IsWithin s.owner soa.owner) found.before r found.inside before)))
-            (⊎_elim (λ same. absurd (other (ap (λ s. s.owner) same ∙ found.named))) (λ later. after r later out other))
-            (Has-parts found.before found.first found.others r (subst (λ rs. Has rs r) found.parts more))) has
+        (⊎_elim (λ same. absurd (other (ap (λ s. s.owner) same ∙ found.named))) (λ later. after r later out other))
+        (Has-parts found.before found.first found.others r (subst (λ rs. Has rs r) found.parts more))) has
 
 -- the records held, of which the first and the others are known
 module _ (held : List Record) (first : Record) (others : List Record) (compatible : AreCompatible held) (parts : held ≡ first ∷ others) where

@@ -5,17 +5,18 @@ use Rattle.std.specs.List.{AllByRecursion}
 use Rattle.std.specs.List.Sorted.{IsStrictlySortedBy}
 use Rattle.std.specs.Map.{keys_of}
 use Rattle.std.specs.Ordering.{match_ordering}
-use Rattle.zone_rdata.specs.Record.{Record, data_of, IsRecord}
+use Rattle.zone_rdata.specs.Record.{Record, IsRecord}
 use Rattle.zone_set.proofs.Canonical.{Ascends-from_sorted}
 use Rattle.zone_set.proofs.KeyOrder.{key_cmp, exact_keys}
 use Rattle.zone_set.proofs.Sets.{each_Has, each_from_Has, set_from_key, accepted_class, accepted_ttl, accepted_soa}
 use Rattle.zone_set.specs.Builder.{Accepts, Adds}
 use Rattle.zone_set.specs.Held.{HoldsRecords}
-use Rattle.zone_set.specs.Key.{set_key, key_of, entry_record, IsKeyed}
+use Rattle.zone_set.specs.Key.{key_of, entry_record, IsKeyed}
 use Rattle.zone_set.specs.Order.{Ascends}
 use Rattle.zone_set.specs.Zone.{Has, InOneSet, AreCompatible}
 use Rattle.zone_set.specs.declared.key.RecordKey.{RecordKey}
 
+-- a key and its TTL that go in
 module _ (k : RecordKey) (v : ℕ) (keyed : IsKeyed (k, v)) where
   IsKeyed-insert : (es : List (RecordKey × ℕ)) → AllByRecursion IsKeyed es → AllByRecursion IsKeyed (insert_entry key_cmp es k v)
   IsKeyed-insert [] others = (keyed, tt)
@@ -26,13 +27,7 @@ module _ (k : RecordKey) (v : ℕ) (keyed : IsKeyed (k, v)) where
       by Equal is later = (subst (λ q. IsKeyed (q, v)) (exact_keys k e.0 is) keyed, others.1)
       by Greater is later = (others.0, later)
 
-  -- r is the record that goes in; the entries hold none of its key with another TTL
-  Agrees : List (RecordKey × ℕ) → Type 0
-  Agrees es = (s : Record) → Has (map entry_record es) s → key_of s ≡ k → s.ttl ≡ v
-
-  IsWith : List (RecordKey × ℕ) → List (RecordKey × ℕ) → Record → Type 0
-  IsWith es new s = Has (map entry_record new) s ↔ ((s ≡ entry_record (k, v)) ⊎ Has (map entry_record es) s)
-
+  -- the records after an insertion, where a record under that key has that TTL
   with_insert : (es : List (RecordKey × ℕ)) → AllByRecursion IsKeyed es → ((s : Record) → Has (map entry_record es) s → key_of s ≡ k → s.ttl ≡ v) → (s : Record) → Has (map entry_record (insert_entry key_cmp es k v)) s ↔ ((s ≡ entry_record (k, v)) ⊎ Has (map entry_record es) s)
   with_insert [] others agrees s = (λ h. h, λ h. h)
   with_insert (e ∷ es) others agrees s = by (key_cmp k e.0) refl (with_insert es others.1 (λ t has. agrees t (inr has)) s)
@@ -46,9 +41,10 @@ module _ (k : RecordKey) (v : ℕ) (keyed : IsKeyed (k, v)) where
           let new : entry_record (e.0, v) ≡ entry_record (k, v) = ap (λ (q : RecordKey). entry_record (q, v)) (sym key) in
           let old : entry_record e ≡ entry_record (e.0, v) = ap (λ (n : ℕ). entry_record (e.0, n)) ttl in
           (⊎_elim (λ h. inl (h ∙ new)) (λ more. inr (inr more)), ⊎_elim (λ h. inl (h ∙ sym new)) (⊎_elim (λ h. inl (h ∙ old)) (λ more. inr more)))
-      by Greater is later =
-          (⊎_elim (λ h. inr (inl h)) (λ more. ⊎_elim (λ h. inl h) (λ h. inr (inr h)) (later.0 more)),
-              ⊎_elim (λ h. inr (later.1 (inl h))) (⊎_elim (λ h. inl h) (λ h. inr (later.1 (inr h)))))
+      by Greater is later = (
+        ⊎_elim (λ h. inr (inl h)) (λ more. ⊎_elim (λ h. inl h) (λ h. inr (inr h)) (later.0 more)),
+        ⊎_elim (λ h. inr (later.1 (inl h))) (⊎_elim (λ h. inl h) (λ h. inr (later.1 (inr h)))),
+      )
 
 -- what holds of a record and those held, both ways round, holds of those held and it
 module _ (old new : List Record) (r : Record) (same : (s : Record) → Has new s → (s ≡ r) ⊎ Has old s) where

@@ -28,7 +28,7 @@ names_total = on_total (reverse {A = List ℕ}) (lists_total nat_list_cmp_total)
 pub sets_total : IsTotalOrder set_cmp
 sets_total =
     then_total (on_total (λ k. k.later) bool_cmp_total) (then_total (on_total (λ k. k.owner) names_total) (then_total (on_total (λ k. k.kind) nat_cmp_total)
-        (then_total (on_total (λ k. k.covers_high) (options_total nat_cmp_total)) (on_total (λ k. k.covers_low) (options_total nat_cmp_total)))))
+    (then_total (on_total (λ k. k.covers_high) (options_total nat_cmp_total)) (on_total (λ k. k.covers_low) (options_total nat_cmp_total)))))
 
 exact_bool : CmpEqualImpliesEq bool_cmp
 exact_bool false false h = refl
@@ -155,7 +155,7 @@ alike_sets a b h =
 alike_tests : (a b : SetKey) → a ≡ b → set_eq a b ≡ true
 alike_tests a b e =
     both_yes _ _ ((Decides-bool a.later b.later).1 (ap (λ k. k.later) e)) (both_yes _ _ ((Decides-owner a.owner b.owner).1 (ap (λ k. k.owner) e))
-        (both_yes _ _ ((Decides-number a.kind b.kind).1 (ap (λ k. k.kind) e)) (both_yes _ _ ((Decides-option a.covers_high b.covers_high).1 (ap (λ k. k.covers_high) e)) ((Decides-option a.covers_low b.covers_low).1 (ap (λ k. k.covers_low) e)))))
+    (both_yes _ _ ((Decides-number a.kind b.kind).1 (ap (λ k. k.kind) e)) (both_yes _ _ ((Decides-option a.covers_high b.covers_high).1 (ap (λ k. k.covers_high) e)) ((Decides-option a.covers_low b.covers_low).1 (ap (λ k. k.covers_low) e)))))
 
 pub Decides-sets : (a b : SetKey) → Decides (set_eq a b) (a ≡ b)
 Decides-sets a b = (alike_sets a b, alike_tests a b)

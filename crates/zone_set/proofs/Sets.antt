@@ -3,15 +3,15 @@ use Rattle.std.proofs.Common.{◌≡◌, ◌≢◌, ◌⊎◌, ℕ, Bool, true, 
 use Rattle.std.proofs.lemmas.Bool.{cases_eq}
 use Rattle.std.specs.Cmp.Lexicographic.{bytes_decides}
 use Rattle.std.specs.List.{AllByRecursion}
-use Rattle.zone_rdata.specs.Record.{Data, Record, data_of, IsRecord}
+use Rattle.zone_rdata.specs.Record.{Data, Record, data_of}
 use Rattle.zone_rdata.specs.declared.fault.Fault.TheVariants.{ClassMismatch, MultipleSoa, DifferingTtl}
 use Rattle.zone_set.specs.Order.{canonical_cmp, Ascends}
 use Rattle.std.specs.Ordering.{ordering_then}
 use Rattle.zone_set.proofs.KeyOrder.{Decides-owner}
-use Rattle.zone_set.specs.Builder.{OtherClass, OtherSoa, OtherTtl, Accepts, IsRefusedFor, class as by_class, soa as by_soa, ttl as by_ttl}
+use Rattle.zone_set.specs.Builder.{OtherClass, OtherSoa, Accepts, IsRefusedFor, class as by_class, soa as by_soa, ttl as by_ttl}
 use Rattle.zone_set.specs.Held.{AreTwoSoas, HasNoneOf, HasOneOf}
-use Rattle.zone_set.specs.Key.{with_data, first_octet, second_octet, covered_octets, set_key}
-use Rattle.zone_set.specs.Zone.{Has, covered, InOneSet, AreCompatible}
+use Rattle.zone_set.specs.Key.{with_data, first_octet, second_octet, set_key}
+use Rattle.zone_set.specs.Zone.{Has, InOneSet, AreCompatible}
 
 -- what holds of each record, and of each that is held
 pub each_Has : (P : Record → Type 0) (records : List Record) (r : Record) → AllByRecursion P records → Has records r → P r
@@ -73,27 +73,28 @@ joined_covered false octets = refl
 -- records of one set have one key of sets
 pub key_from_set : (r s : Record) → InOneSet r s → set_key r.owner (data_of r) ≡ set_key s.owner (data_of s)
 key_from_set r s one = λ i. record {
-    later = not_six (one.kind i);
-    owner = one.owner i;
-    kind = one.kind i;
-    covers_high = first_octet (one.covers i);
-    covers_low = second_octet (one.covers i);
-  }
+  later = not_six (one.kind i);
+  owner = one.owner i;
+  kind = one.kind i;
+  covers_high = first_octet (one.covers i);
+  covers_low = second_octet (one.covers i);
+}
   where
     not_six : ℕ → Bool
     not_six k = elim (k == 6) [ true ↦ false | false ↦ true ]
 
 pub set_from_key : (r s : Record) → set_key r.owner (data_of r) ≡ set_key s.owner (data_of s) → InOneSet r s
 set_from_key r s same = record {
-    owner = ap (λ k. k.owner) same;
-    kind = ap (λ k. k.kind) same;
-    covers = sym (joined_covered (r.kind == 46) r.octets) ∙ ap₂ joined (ap (λ k. k.covers_high) same) (ap (λ k. k.covers_low) same) ∙ joined_covered (s.kind == 46) s.octets;
-  }
+  owner = ap (λ k. k.owner) same;
+  kind = ap (λ k. k.kind) same;
+  covers = sym (joined_covered (r.kind == 46) r.octets) ∙ ap₂ joined (ap (λ k. k.covers_high) same) (ap (λ k. k.covers_low) same) ∙ joined_covered (s.kind == 46) s.octets;
+}
 
 -- records with one owner, type and data are of one set
 pub one_set : (r s : Record) → r.owner ≡ s.owner → r.kind ≡ s.kind → r.octets ≡ s.octets → InOneSet r s
 one_set r s owner kind octets = record { owner = owner; kind = kind; covers = λ i. if kind i == 46 then take 2 (octets i) else [] }
 
+-- a record that may stand with those held
 module _ (held : List Record) (r : Record) (fits : Accepts held r) where
   pub accepted_class : (s : Record) → Has held s → s.class ≡ r.class
   accepted_class s has = stable_number _ _ (λ other. fits.one_class (s, has, other))
@@ -143,17 +144,17 @@ module _ (first : Record) (others : List Record) (compatible : AreCompatible (fi
 
   pub accepted_new_set : first.class ≡ r.class → (AreTwoSoas first r → ⊥) → HasNoneOf (first ∷ others) (set_key r.owner (data_of r)) → Accepts (first ∷ others) r
   accepted_new_set same one none = record {
-      one_class = one_class same;
-      one_soa = one_soa one;
-      one_ttl = λ (s, has, set, other). none s has (key_from_set s r set);
-    }
+    one_class = one_class same;
+    one_soa = one_soa one;
+    one_ttl = λ (s, has, set, other). none s has (key_from_set s r set);
+  }
 
   pub accepted_old_set : first.class ≡ r.class → (AreTwoSoas first r → ⊥) → (ttl : ℕ) → HasOneOf (first ∷ others) (set_key r.owner (data_of r)) ttl → ttl ≡ r.ttl → Accepts (first ∷ others) r
   accepted_old_set same one held (t, has_t, set_t, is) agrees = record {
-      one_class = one_class same;
-      one_soa = one_soa one;
-      one_ttl = λ (s, has, set, other). other (compatible.one_ttl s t has has_t (set_from_key s t (key_from_set s r set ∙ sym set_t)) ∙ is ∙ agrees);
-    }
+    one_class = one_class same;
+    one_soa = one_soa one;
+    one_ttl = λ (s, has, set, other). other (compatible.one_ttl s t has has_t (set_from_key s t (key_from_set s r set ∙ sym set_t)) ∙ is ∙ agrees);
+  }
 
 pub accepted_first : (r : Record) → Accepts [] r
 accepted_first r = record { one_class = λ (s, has, other). has; one_soa = λ (soa_r, s, has, soa_s, other). has; one_ttl = λ (s, has, one, other). has }

@@ -1,5 +1,5 @@
 -- Records taken from a source, one after another.
-use Rattle.std.proofs.Common.{◌≡◌, ◌⊎◌, ℕ, Bool, true, false, List, [], ◌∷◌, ◌++◌, Option, Some, None, Result, Ok, Err, refl, ap, sym, ◌∙◌, subst, inl, inr, ⊎_elim, append_assoc, append-nil}
+use Rattle.std.proofs.Common.{◌≡◌, Bool, true, false, List, [], ◌∷◌, ◌++◌, Option, Some, None, Ok, Err, refl, ap, sym, ◌∙◌, subst, append_assoc, append-nil}
 use Rattle.zone_rdata.specs.Record.{Record}
 use Rattle.zone_rdata.specs.Source.{Feed, answer_of, after, others}
 use Rattle.zone_rdata.specs.declared.fault.Fault.{Fault}
@@ -7,7 +7,7 @@ use Rattle.zone_rdata.specs.declared.fault.Place.{Place}
 use Rattle.zone_rdata.specs.declared.fault.Stop.{Stop}
 use Rattle.zone_rdata.specs.declared.fault.Stop.TheVariants.{Refused, Memory}
 use Rattle.zone_rdata.specs.declared.record.Placed.{Placed}
-use Rattle.zone_set.specs.Builder.{Accepts, Adds, AddsEach, TakesAll, StopsAdd, StopsTaking, IsRefusedFor, fault, memory, refused as by_fault, ending as by_ending}
+use Rattle.zone_set.specs.Builder.{Accepts, Adds, AddsEach, StopsAdd, StopsTaking, fault, memory, refused as by_fault, ending as by_ending}
 
 -- one more at the end
 pub AddsEach-push : (old mid : List Record) (taken : List Placed) (p : Placed) (new : List Record) → AddsEach old taken mid → Accepts mid p.rr → Adds mid p.rr new → AddsEach old (taken ++ p ∷ []) new
@@ -25,13 +25,6 @@ first_parts true records ending p is = cc
 first_parts false [] None p is = cc
 first_parts false [] (Some e) p is = cc
 first_parts false (q ∷ records) ending p is = let same : q ≡ p = cc in (refl, ap (λ (x : Placed). x ∷ records) same)
-
--- an answer with none: nothing was left
-none_parts : (failed : Bool) (records : List Placed) (ending : Option (Fault × Place)) → answer_of (record { failed = failed; records = records; ending = ending }) ≡ Ok None → (failed ≡ false) × (records ≡ []) × (ending ≡ None)
-none_parts true records ending is = cc
-none_parts false [] None is = (refl, refl, refl)
-none_parts false [] (Some e) is = cc
-none_parts false (q ∷ records) ending is = cc
 
 -- an answer with a fault: the source failed, or the fault at its end
 pub data Stopped (feed : Feed) : Stop → Type 0 where
@@ -55,6 +48,7 @@ pub record HasTaken (old : List Record) (start : Feed) (now : List Record) (left
 pub HasTaken-start : (old : List Record) (start : Feed) → HasTaken old start old start
 HasTaken-start old start = record { taken = []; parts = refl; failed = refl; ending = refl; each = refl }
 
+-- one more answer of the source
 module _ (old : List Record) (start : Feed) (now : List Record) (left : Feed) (had : HasTaken old start now left) where
   pub HasTaken-more : (p : Placed) (new : List Record) (next : Feed) → answer_of left ≡ Ok (Some p) → next ≡ after left → Accepts now p.rr → Adds now p.rr new → HasTaken old start new next
   HasTaken-more p new next answer is fits adds =
@@ -71,23 +65,18 @@ module _ (old : List Record) (start : Feed) (now : List Record) (left : Feed) (h
   whole : left.records ≡ [] → start.records ≡ had.taken
   whole none = had.parts ∙ ap (λ rs. had.taken ++ rs) none ∙ append-nil had.taken
 
-  pub TakesAll-at_end : answer_of left ≡ Ok None → TakesAll old start now
-  TakesAll-at_end answer =
-      let end = none_parts left.failed left.records left.ending answer in
-      record { works = sym had.failed ∙ end.0; whole = sym had.ending ∙ end.2; taken = subst (λ rs. AddsEach old rs now) (sym (whole end.1)) had.each }
-
   pub StopsTaking-at_end : (stop : Stop) → answer_of left ≡ Err stop → StopsTaking old start now stop
   StopsTaking-at_end stop answer = by stop (stop_parts left.failed left.records left.ending stop answer)
     where
       by : (s : Stop) → Stopped left s → StopsTaking old start now s
-      by s at_failure = memory
+      by s at_failure = memory had.taken left.records had.parts had.each
       by s (at_end e works none is) = by_ending e (sym had.failed ∙ works) (sym had.ending ∙ is) (subst (λ rs. AddsEach old rs now) (sym (whole none)) had.each)
 
   pub StopsTaking-refused : (p : Placed) (stop : Stop) (new : List Record) → answer_of left ≡ Ok (Some p) → StopsAdd now p stop → new ≡ now → StopsTaking old start new stop
   StopsTaking-refused p stop new answer why same = subst (λ held. StopsTaking old start held stop) (sym same) (by stop why)
     where
       by : (s : Stop) → StopsAdd now p s → StopsTaking old start now s
-      by s memory = memory
+      by s memory = memory had.taken left.records had.parts had.each
       by s (fault f is) =
           let first = first_parts left.failed left.records left.ending p answer in
           by_fault had.taken (others left.records) p f (sym had.failed ∙ first.0) (had.parts ∙ ap (λ rs. had.taken ++ rs) first.1) had.each is

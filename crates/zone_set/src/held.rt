@@ -35,6 +35,7 @@ impl Model for HeldRecords {
 }
 
 impl HeldRecords {
+    /// No record.
     pub(crate) fn new(alloc: Global) -> HeldRecords
         ensures { result ≡ [] }
     {

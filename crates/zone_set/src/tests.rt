@@ -54,22 +54,37 @@ fn refused_record_comes_back(rt: HostRuntime) -> Result<(), Fail> {
         return Err(Fail::from("taken"));
     };
     assert!(rt; matches!(stop, Stop::Refused(Fault::DifferingTtl, Place::Line(3))));
-    assert_eq!(rt; back.rr.ttl(), 60);
-    assert!(rt; *back.rr.rdata() == data_of(rt.alloc(), 2, &[Item::Bare(b"m.x.")])?);
+    let (owner, ttl, rdata) = back.rr.into_parts();
+    assert!(rt; owner == Name::from_text(b"x.", None)?);
+    assert_eq!(rt; ttl, 60);
+    assert!(rt; rdata == data_of(rt.alloc(), 2, &[Item::Bare(b"m.x.")])?);
     builder.known();
+    assert_eq!(rt; builder.finish()?.len(), 2);
+    Ok(())
+}
+
+#[test]
+fn records_of_a_zone(rt: HostRuntime) -> Result<(), Fail> {
+    let mut builder = ZoneBuilder::new(rt.alloc());
+    builder.add(ns(rt.alloc(), b"x.", 3600, b"n.x.", 2)?)?;
+    builder.add(soa(rt.alloc())?)?;
     let zone = builder.finish()?;
     zone.known();
     assert!(rt; *zone.apex() == Name::from_text(b"x.", None)?);
     assert_eq!(rt; zone.class().number(), 1);
     assert_eq!(rt; zone.len(), 2);
     let mut records = zone.records();
-    let first = records.next().ok_or("no record")?;
+    let Some(first) = records.next() else {
+        return Err(Fail::from("no record"));
+    };
     assert_eq!(rt; first.kind.number(), 6);
     assert_eq!(rt; first.ttl, 3600);
-    let second = records.next().ok_or("one record")?;
+    let Some(second) = records.next() else {
+        return Err(Fail::from("one record"));
+    };
     assert_eq!(rt; second.kind.number(), 2);
     assert_eq!(rt; second.ttl, 3600);
-    assert!(rt; *second.rdata == data_of(rt.alloc(), 2, &[Item::Bare(b"n.x.")])?);
+    assert_eq!(rt; second.rdata.octets(), b"\x01n\x01x\x00".as_slice());
     assert!(rt; records.next().is_none());
     Ok(())
 }

@@ -3,3 +3,4 @@ pub mod Cut
 pub mod Parts
 pub mod Stated
 pub mod Whole
+pub mod Seconds

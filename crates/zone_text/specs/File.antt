@@ -1,7 +1,7 @@
 -- The records that a master file states (RFC 1035 5.1).
 use Rattle.std.specs.Prelude.{◌≡◌, ◌≢◌, ℕ, ◌≤◌, List, [], ◌∷◌, ◌++◌, Option, Some, None, IfSome, true, false, ⊤}
 use Rattle.zone_name.specs.Spelling.{Spells}
-use Rattle.zone_rdata.specs.Number.{IsDecimal}
+use Rattle.zone_rdata.specs.Number.{IsTime}
 use Rattle.zone_rdata.specs.Words.{IsClassWord, IsKindWord}
 use Rattle.zone_rdata.specs.Record.{Record, IsRecord}
 use Rattle.zone_rdata.specs.Spelling.{RawItem, bare, States}
@@ -25,7 +25,7 @@ pub record StatesRecord (origin : List (List ℕ)) (before : List Entry) (entry 
   pub items : entry.items ≡ bare parts.owner ∷ bare parts.ttl ∷ bare parts.class ∷ bare parts.kind ∷ parts.rdata
   pub begins : IfSome entry.first (λ c. (is_blank c ≡ false) × (c ≢ 36))
   pub owner : Spells (Some origin) parts.owner r.owner
-  pub ttl : IsDecimal parts.ttl r.ttl
+  pub ttl : IsTime parts.ttl r.ttl
   pub class : IsClassWord parts.class r.class
   pub kind : IsKindWord parts.kind r.kind
   pub rdata : States origin r.class r.kind parts.rdata r.octets

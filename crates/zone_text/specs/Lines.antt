@@ -2,7 +2,7 @@
 use Rattle.std.specs.Prelude.{◌≡◌, ◌≢◌, ℕ, ◌+◌, List, [], ◌∷◌, ◌++◌, true, false, count_by, ◌==◌, Some, None, IfSome, ⊤}
 use Rattle.std.specs.List.{flat_map, AllByRecursion}
 use Rattle.zone_name.specs.Spelling.{Written, text_of, Spells}
-use Rattle.zone_rdata.specs.Number.{IsDecimal}
+use Rattle.zone_rdata.specs.Number.{IsTime}
 use Rattle.zone_rdata.specs.Record.{Record, IsRecord}
 use Rattle.zone_rdata.specs.Spelling.{RawItem, States}
 use Rattle.zone_rdata.specs.Spelling as raw
@@ -77,7 +77,7 @@ pub record ItemsState (origin : List (List ℕ)) (raws : List RawItem) (r : Reco
   pub parts : Parts
   pub items : raws ≡ raw.bare parts.owner ∷ raw.bare parts.ttl ∷ raw.bare parts.class ∷ raw.bare parts.kind ∷ parts.rdata
   pub owner : Spells (Some origin) parts.owner r.owner
-  pub ttl : IsDecimal parts.ttl r.ttl
+  pub ttl : IsTime parts.ttl r.ttl
   pub class : IsClassWord parts.class r.class
   pub kind : IsKindWord parts.kind r.kind
   pub rdata : States origin r.class r.kind parts.rdata r.octets

@@ -27,8 +27,8 @@ fn record_of(alloc: Global, origin: &Name, items: &[Item]) -> Result<Rr, Failing
     };
     let owner = Name::from_text(bare_text(owner)?, Some(origin))?;
     let ttl = ttl_of(bare_text(ttl)?)?;
-    let class = Class::from_word(bare_text(class)?).ok_or(Fault::NotYet)?;
-    let kind = Kind::from_word(bare_text(kind)?).ok_or(Fault::NotYet)?;
+    let class = Class::from_word(bare_text(class)?)?.ok_or(Fault::NotYet)?;
+    let kind = Kind::from_word(bare_text(kind)?)?;
     let rdata = Rdata::from_items(alloc, class, kind, data, origin)?;
     let rr = Rr::new(owner, ttl, rdata)?;
     rr.known();

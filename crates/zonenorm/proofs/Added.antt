@@ -14,12 +14,12 @@ use Rattle.zonenorm.specs.Normalise.{StatesZone}
 -- what is held is what was taken and what was held before
 pub added : (placed : List Placed) (old new : List Record) → AddsEach old placed new → (r : Record) → Has new r ↔ (Has (records_of placed) r ⊎ Has old r)
 added [] old new h r = rw h ((λ t. inr t), (λ s. ⊎_elim (λ b. absurd b) (λ t. t) s))
-
 added (p ∷ placed) old new (next, accepts, adds, rest) r =
     let later = added placed next new rest r in
-    let here = adds.same r in
-    ( (λ t. ⊎_elim (λ s. inl (inr s)) (λ s. ⊎_elim (λ e. inl (inl e)) (λ s. inr s) (here.0 s)) (later.0 t)),
-      (λ t. ⊎_elim (⊎_elim (λ e. later.1 (inr (here.1 (inl e)))) (λ s. later.1 (inl s))) (λ s. later.1 (inr (here.1 (inr s)))) t) )
+    let here = adds.same r in (
+      (λ t. ⊎_elim (λ s. inl (inr s)) (λ s. ⊎_elim (λ e. inl (inl e)) (λ s. inr s) (here.0 s)) (later.0 t)),
+      (λ t. ⊎_elim (⊎_elim (λ e. later.1 (inr (here.1 (inl e)))) (λ s. later.1 (inl s))) (λ s. later.1 (inr (here.1 (inr s)))) t),
+    )
 
 -- a builder that held nothing holds the records that it took
 pub added_all : (placed : List Placed) (new records : List Record) → AddsEach [] placed new → records ≡ new → SameRecords records (records_of placed)

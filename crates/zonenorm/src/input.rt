@@ -58,7 +58,11 @@ fn read_in_pieces<R: Read>(
 /// # Errors
 ///
 /// `Read` where the reader answers an error, and `Memory`.
-fn read_piece<R: Read>(reader: &mut R, piece: &mut [u8], octets: &mut Vec<u8>) -> Result<usize, Stop>
+fn read_piece<R: Read>(
+    reader: &mut R,
+    piece: &mut [u8],
+    octets: &mut Vec<u8>,
+) -> Result<usize, Stop>
     requires { 0 < length piece.old }
     ensures grown { IfOk result (λ n. length octets.new.items ≡ length octets.old.items + n) }
     ensures few { IfOk result (λ n. n ≤ length piece.old) }

@@ -12,9 +12,8 @@ pub use engine::{normalise, normalise_bytes};
 pub use explain::explain_line;
 pub use form::Form;
 pub use order::{LineFault, Order, order_of};
-pub use run::run;
-
 use run::refuse;
+pub use run::run;
 use std::process::ExitCode;
 use std::rt::Env;
 use std::{env, io};

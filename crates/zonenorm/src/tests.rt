@@ -42,7 +42,10 @@ static REFUSED: [(&[u8], &str); 5] = [
         b"x. 60 IN NS n.x.\nx. 61 IN NS m.x.\n",
         "F41 DifferingTtl at line 2: the TTL differs from that of its record set\n",
     ),
-    (b" NS n.x.\n", "F0 NotYet at line 1: this form isn't read yet\n"),
+    (
+        b" NS n.x.\n",
+        "F0 NotYet at line 1: this form isn't read yet\n",
+    ),
     (
         b"$TTL 1h\n@ SOA N h 1 2 3 4 5\n  NS n\n",
         "F0 NotYet at line 1: this form isn't read yet\n",
@@ -128,7 +131,10 @@ fn runs_write_the_text_alone(rt: HostRuntime) -> Result<(), Fail> {
     for (input, text, _) in ACCEPTED {
         let (mut written, mut errors) = (Vec::new(alloc), Vec::new(alloc));
         let mut reader = input;
-        assert_eq!(rt; run(alloc, &order, &mut reader, &mut written, &mut errors), 0);
+        assert_eq!(rt;
+            run(alloc, &order, &mut reader, &mut written, &mut errors),
+            0
+        );
         assert_eq!(rt; written.as_slice(), text);
         assert_eq!(rt; errors.as_slice(), b"".as_slice());
     }
@@ -142,7 +148,10 @@ fn refused_inputs_are_explained(rt: HostRuntime) -> Result<(), Fail> {
     for (input, line) in REFUSED {
         let (mut written, mut errors) = (Vec::new(alloc), Vec::new(alloc));
         let mut reader = input;
-        assert_eq!(rt; run(alloc, &order, &mut reader, &mut written, &mut errors), 3);
+        assert_eq!(rt;
+            run(alloc, &order, &mut reader, &mut written, &mut errors),
+            3
+        );
         assert_eq!(rt; written.as_slice(), b"".as_slice());
         assert_eq!(rt; errors.as_slice(), line.as_bytes());
     }
@@ -168,15 +177,19 @@ fn refused_octets_have_the_same_fault(rt: HostRuntime) -> Result<(), Fail> {
 fn a_failing_reader_is_told(rt: HostRuntime) -> Result<(), Fail> {
     let alloc = rt.alloc();
     let order = Order::Normalise(name(&rt, "x."));
-    let refused: &[u8] = b"x. 60 IN NS n.x.\nx. 61 IN NS m.x.\n";
+    let ten = b"x. 60 IN N".as_slice();
+    let refused = b"x. 60 IN NS n.x.\nx. 61 IN NS m.x.\n".as_slice();
     for (left, error) in [
-        (&refused[..10], io::ErrorKind::Other),
-        (&refused[..10], io::ErrorKind::Interrupted),
+        (ten, io::ErrorKind::Other),
+        (ten, io::ErrorKind::Interrupted),
         (refused, io::ErrorKind::Other),
     ] {
         let (mut written, mut errors) = (Vec::new(alloc), Vec::new(alloc));
         let mut reader = Breaking { left, error };
-        assert_eq!(rt; run(alloc, &order, &mut reader, &mut written, &mut errors), 4);
+        assert_eq!(rt;
+            run(alloc, &order, &mut reader, &mut written, &mut errors),
+            4
+        );
         assert_eq!(rt; written.as_slice(), b"".as_slice());
         assert_eq!(rt; errors.as_slice(), b"read failed\n".as_slice());
     }
@@ -195,7 +208,10 @@ fn a_failing_writer_has_a_front(rt: HostRuntime) -> Result<(), Fail> {
         let mut errors = Vec::new(alloc);
         let mut writer = Narrow::new(alloc, usize::MAX, room, fails);
         let mut reader = input;
-        assert_eq!(rt; run(alloc, &order, &mut reader, &mut writer, &mut errors), 4);
+        assert_eq!(rt;
+            run(alloc, &order, &mut reader, &mut writer, &mut errors),
+            4
+        );
         assert_eq!(rt; writer.taken.as_slice(), front);
         assert_eq!(rt; errors.as_slice(), b"write failed\n".as_slice());
     }
@@ -214,7 +230,10 @@ fn a_refusal_that_cannot_be_told_fails(rt: HostRuntime) -> Result<(), Fail> {
     let mut written = Vec::new(alloc);
     let mut errors = Narrow::new(alloc, usize::MAX, 0, true);
     let mut reader: &[u8] = b"";
-    assert_eq!(rt; run(alloc, &order, &mut reader, &mut written, &mut errors), 4);
+    assert_eq!(rt;
+        run(alloc, &order, &mut reader, &mut written, &mut errors),
+        4
+    );
     assert_eq!(rt; written.as_slice(), b"".as_slice());
     Ok(())
 }
@@ -336,10 +355,7 @@ fn faults_of_entries_are_explained(rt: HostRuntime) -> Result<(), Fail> {
             Fault::NoOwner,
             "F19 NoOwner at line 2: the record has no owner",
         ),
-        (
-            Fault::NoTtl,
-            "F20 NoTtl at line 2: the record has no TTL",
-        ),
+        (Fault::NoTtl, "F20 NoTtl at line 2: the record has no TTL"),
         (
             Fault::BadTtl,
             "F21 BadTtl at line 2: the TTL is malformed or out of range",

@@ -1,4 +1,4 @@
-use Rattle.std.proofs.Common.{◌≡◌, sym, subst}
+use Rattle.std.proofs.Common.{sym, subst}
 use Rattle.std.specs.List.{AllByRecursion}
 use Rattle.zone_name.specs.Name.{IsWithin}
 use Rattle.zone_set.proofs.Finishing.{IsFirstOutside-later}

@@ -1,4 +1,4 @@
-use Rattle.std.proofs.Common.{◌≡◌, ◌≢◌, List, ℕ, inl, inr, ⊎_elim, sym, ◌∙◌}
+use Rattle.std.proofs.Common.{◌≡◌, inl, inr, ⊎_elim, sym, ◌∙◌}
 use Rattle.std.specs.Cmp.Lexicographic.{bytes_decides}
 use Rattle.zone_set.proofs.KeyOrder.{Decides-owner}
 use Rattle.zone_set.proofs.Sets.{differs, agrees, true_from}
@@ -15,6 +15,7 @@ returns-else-ne c =
     let soa : c.args.rdata.now.kind ≡ 6 = cc in
     let first_soa : c.args.first.now.kind ≡ 6 = cc in
     let owner : c.args.first.now.owner.now ≡ c.args.owner.now = agrees _ _ (Decides-owner c.args.first.now.owner.now c.args.owner.now) c.ne.ensures c.if-ne.false in
-    let decides = bytes_decides c.octets.result.now c.octets-else-ne.result.now in
-    (λ other. (soa, first_soa, inr (λ same. differs _ _ decides c.ne-else-ne.ensures other (c.octets.ensures ∙ same ∙ sym c.octets-else-ne.ensures))),
-        λ two. true_from _ _ decides c.ne-else-ne.ensures (λ same. ⊎_elim (λ other. other owner) (λ other. other (sym c.octets.ensures ∙ same ∙ c.octets-else-ne.ensures)) two.2))
+    let decides = bytes_decides c.octets.result.now c.octets-else-ne.result.now in (
+      λ other. (soa, first_soa, inr (λ same. differs _ _ decides c.ne-else-ne.ensures other (c.octets.ensures ∙ same ∙ sym c.octets-else-ne.ensures))),
+      λ two. true_from _ _ decides c.ne-else-ne.ensures (λ same. ⊎_elim (λ other. other owner) (λ other. other (sym c.octets.ensures ∙ same ∙ c.octets-else-ne.ensures)) two.2),
+    )

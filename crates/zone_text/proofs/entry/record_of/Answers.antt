@@ -17,8 +17,8 @@ returns c =
     (four_bare _ _ _ _ _ _ _ _ _ c.in-len4-up.len_at_least c.in_ok-bare_text.ensures c.in_ok-bare_text-2.ensures c.in_ok-bare_text-3.ensures c.in_ok-bare_text-4.ensures)
     c.in_ok-owner.ensures.found
     c.in_ok-ttl.ensures
-    (found_some _ _ _ c.from_word.ensures.found c.in_ok-class.ensures.ok_part)
-    (found_some _ _ _ c.from_word-2.ensures.found c.in_ok-kind.ensures.ok_part)
+    (found_some _ _ _ c.in_ok-from_word.ensures.found c.in_ok-class.ensures.ok_part)
+    c.in_ok-kind.ensures.found
     c.in_ok-rdata.ensures.found
     c.in_ok-rdata.ensures.class
     c.in_ok-rdata.ensures.kind

@@ -1,6 +1,6 @@
-use Rattle.std.proofs.Common.{◌≡◌, ◌∙◌, Some, ap, subst}
+use Rattle.std.proofs.Common.{◌∙◌, ap, subst}
 use Rattle.zone_set.proofs.Sets.{with_parts}
-use Rattle.zone_set.specs.Builder.{StopsAdd, IsRefusedFor, fault, memory}
+use Rattle.zone_set.specs.Builder.{IsRefusedFor, fault, memory}
 use Rattle.zone_set.proofs.builder.ZoneBuilder.add.Goals as goal
 use Rattle.zone_set.proofs.builder.ZoneBuilder.add.Goals.{in-Ok, in-Err+in-Some-rdata}
 
@@ -13,6 +13,6 @@ returns-in-Some-clause-refused c =
 pub returns-clause-refused : goal.returns-clause-refused
 returns-clause-refused c =
     elim c.match-insert.branch [
-      in-Ok w ↦ rw w.result-is tt
-    | in-Err+in-Some-rdata w ↦ rw w.result-is memory
+      | in-Ok w ↦ rw w.result-is tt
+      | in-Err+in-Some-rdata w ↦ rw w.result-is memory
     ]

@@ -1,6 +1,6 @@
-use Rattle.std.proofs.Common.{◌≡◌, sym, ◌∙◌, ap, Ok}
+use Rattle.std.proofs.Common.{sym, ◌∙◌, ap, Ok}
 use Rattle.std.proofs.lemmas.Result.{err_from_is_err_and}
-use Rattle.zone_set.proofs.Taking.{HasTaken-start, HasTaken-more, TakesAll-at_end, StopsTaking-at_end, StopsTaking-refused}
+use Rattle.zone_set.proofs.Taking.{HasTaken-start, HasTaken-more, StopsTaking-at_end, StopsTaking-refused}
 use Rattle.zone_set.proofs.builder.ZoneBuilder.take_all.Goals as goal
 
 pub loop-placed-init : goal.loop-placed-init

@@ -1,4 +1,4 @@
-use Rattle.std.proofs.Common.{◌≡◌, ◌≢◌, true, false, Some, sym, ◌∙◌, ap, subst, refl, ◌∷◌}
+use Rattle.std.proofs.Common.{◌≡◌, true, false, Some, sym, ◌∙◌, subst}
 use Rattle.zone_rdata.specs.Record.{data_of}
 use Rattle.zone_rdata.specs.declared.fault.Fault.TheVariants.{ClassMismatch, MultipleSoa, DifferingTtl}
 use Rattle.zone_set.proofs.KeyOrder.{Decides-number}

@@ -1,0 +1,162 @@
+-- No part of a line has a line feed.
+use Rattle.std.proofs.Common.{◌≡◌, ◌≢◌, ℕ, zero, suc, ◌+◌, ◌/◌, ◌%◌, ◌==◌, ◌≤◌, List, [], ◌∷◌, ◌++◌, map, Bool, true, false, if◌then◌else◌, IsTrue, IsSome, Option, None, Some, refl, sym, ap, ◌∙◌, codes, decimal, nat_lt, eq-eqb, arith}
+use Rattle.std.specs.List.{flat_map, join_with_byte}
+use Rattle.std.specs.Fmt.{digit_glyph, digits, digits_onto}
+use Rattle.zone_name.specs.Text.{is_special, is_printed, decimal_escape, octet_text, label_text, name_text}
+use Rattle.zone_rdata.specs.declared.layout.Field.{Field}
+use Rattle.zone_rdata.specs.Field.{FieldValue, name, long, two_octets, values_of}
+use Rattle.zone_rdata.specs.Layout.{layout}
+use Rattle.zone_rdata.specs.Record.{Record, data_of}
+use Rattle.zone_rdata.specs.Text.{field_text, laid_out_text, data_text}
+use Rattle.zone_rdata.specs.Words.{class_mnemonic, kind_mnemonic, laid_out_mnemonic, word_or_numbered, class_text, kind_text}
+use Rattle.zone_print.specs.Canonical.{line}
+use Rattle.zone_print.specs.Laws.{HasNoFeed, EndsWithItsFeed}
+
+none_append : (xs ys : List ℕ) → HasNoFeed xs → HasNoFeed ys → HasNoFeed (xs ++ ys)
+none_append [] ys p q = q
+none_append (x ∷ xs) ys p q = (p.0, none_append xs ys p.1 q)
+
+none_if : (b : Bool) (xs ys : List ℕ) → (b ≡ true → HasNoFeed xs) → (b ≡ false → HasNoFeed ys) → HasNoFeed (if b then xs else ys)
+none_if true xs ys p q = p refl
+none_if false xs ys p q = q refl
+
+none_flat : {X : Type 0} (f : X → List ℕ) → ((x : X) → HasNoFeed (f x)) → (xs : List X) → HasNoFeed (flat_map f xs)
+none_flat f each [] = tt
+none_flat f each (x ∷ xs) = none_append (f x) (flat_map f xs) (each x) (none_flat f each xs)
+
+high : (c n : ℕ) → c ≡ n → 11 ≤ n → c ≢ 10
+high c n e h f = omega arith
+
+-- ---- numbers
+
+glyph_if : (b : Bool) (x y : ℕ) → x ≢ 10 → y ≢ 10 → (if b then x else y) ≢ 10
+glyph_if true x y p q = p
+glyph_if false x y p q = q
+
+none_glyph : (d : ℕ) → digit_glyph false d ≢ 10
+none_glyph d = glyph_if (nat_lt d 10) (48 + d) (87 + d) (high _ (48 + d) refl (omega arith)) (high _ (87 + d) refl (omega arith))
+
+none_onto : (k n : ℕ) (acc : List ℕ) → HasNoFeed acc → HasNoFeed (digits_onto k 10 false n acc)
+none_onto zero n acc h = h
+none_onto (suc k) n acc h =
+    none_if (n / 10 == 0) (digit_glyph false (n % 10) ∷ acc) (digits_onto k 10 false (n / 10) (digit_glyph false (n % 10) ∷ acc))
+    (λ e. (none_glyph (n % 10), h)) (λ e. none_onto k (n / 10) (digit_glyph false (n % 10) ∷ acc) (none_glyph (n % 10), h))
+
+none_decimal : (n : ℕ) → HasNoFeed (decimal n)
+unfolding digits
+none_decimal n = none_onto 64 n [] tt
+
+-- ---- literals
+
+abbrev has_no_feed : List ℕ → Bool
+has_no_feed [] = true
+has_no_feed (x ∷ xs) = if x == 10 then false else has_no_feed xs
+
+none_here : (x : ℕ) (xs : List ℕ) (b : Bool) → x == 10 ≡ b → (IsTrue (has_no_feed xs) → HasNoFeed xs) → IsTrue (if b then false else has_no_feed xs) → HasNoFeed (x ∷ xs)
+none_here x xs true e rest h = let c : false ≡ true = h in absurd cc
+none_here x xs false e rest h = ((λ f. let c : true ≡ false = sym (eq-eqb x 10 f) ∙ e in cc), rest h)
+
+none_tested : (xs : List ℕ) → IsTrue (has_no_feed xs) → HasNoFeed xs
+none_tested [] h = tt
+none_tested (x ∷ xs) h = none_here x xs (x == 10) refl (none_tested xs) h
+
+-- ---- names
+
+not_in : (f : ℕ → Bool) (c : ℕ) → f c ≡ true → f 10 ≡ false → c ≢ 10
+not_in f c h e g = let clash : true ≡ false = sym h ∙ ap f g ∙ e in cc
+
+none_digits : (x y z : ℕ) → 48 ≤ x → 48 ≤ y → 48 ≤ z → HasNoFeed (92 ∷ x ∷ y ∷ z ∷ [])
+none_digits x y z p q r = (λ e. omega arith, (λ e. omega arith, (λ e. omega arith, (λ e. omega arith, tt))))
+
+none_octet : (c : ℕ) → HasNoFeed (octet_text c)
+none_octet c =
+    none_if (is_special c) (92 ∷ c ∷ []) (if is_printed c then c ∷ [] else decimal_escape c)
+    (λ h. (high 92 92 refl (omega arith), (not_in is_special c h refl, tt)))
+    (λ h. none_if (is_printed c) (c ∷ []) (decimal_escape c)
+    (λ g. (not_in is_printed c g refl, tt))
+    (λ g. none_digits (48 + c / 100) (48 + c / 10 % 10) (48 + c % 10) (omega arith) (omega arith) (omega arith)))
+
+none_label : (label : List ℕ) → HasNoFeed (label_text label)
+none_label label = none_append (flat_map octet_text label) (46 ∷ []) (none_flat octet_text none_octet label) (none_tested (46 ∷ []) refl)
+
+none_name : (labels : List (List ℕ)) → HasNoFeed (name_text labels)
+none_name [] = none_tested (46 ∷ []) refl
+none_name (label ∷ labels) = none_flat label_text none_label (label ∷ labels)
+
+-- ---- words and data
+
+-- a mnemonic, if there is one
+abbrev RowHasNoFeed : Option (List ℕ) → Type 0
+RowHasNoFeed None = Unit {0}
+RowHasNoFeed (Some word) = HasNoFeed word
+
+none_row : (b : Bool) (x y : Option (List ℕ)) → RowHasNoFeed x → RowHasNoFeed y → RowHasNoFeed (if b then x else y)
+none_row true x y p q = p
+none_row false x y p q = q
+
+none_word : (row : Option (List ℕ)) (front : List ℕ) (n : ℕ) → RowHasNoFeed row → HasNoFeed front → HasNoFeed (word_or_numbered row front n)
+none_word None front n p q = none_append front (decimal n) q (none_decimal n)
+none_word (Some word) front n p q = p
+
+none_class_row : (n : ℕ) → RowHasNoFeed (class_mnemonic n)
+none_class_row n =
+    none_row (n == 1) _ _ (none_tested (codes "IN") refl)
+    (none_row (n == 2) _ _ (none_tested (codes "CS") refl)
+    (none_row (n == 3) _ _ (none_tested (codes "CH") refl)
+    (none_row (n == 4) _ _ (none_tested (codes "HS") refl) tt)))
+
+none_class : (n : ℕ) → HasNoFeed (class_text n)
+none_class n = none_word (class_mnemonic n) (codes "CLASS") n (none_class_row n) (none_tested (codes "CLASS") refl)
+
+none_kind_row : (n : ℕ) → RowHasNoFeed (kind_mnemonic n)
+none_kind_row n =
+    none_row (n == 1) _ _ (none_tested (codes "A") refl)
+    (none_row (n == 2) _ _ (none_tested (codes "NS") refl)
+    (none_row (n == 5) _ _ (none_tested (codes "CNAME") refl)
+    (none_row (n == 6) _ _ (none_tested (codes "SOA") refl)
+    (none_row (n == 12) _ _ (none_tested (codes "PTR") refl)
+    (none_row (n == 15) _ _ (none_tested (codes "MX") refl)
+    (none_row (n == 16) _ _ (none_tested (codes "TXT") refl)
+    (none_row (n == 28) _ _ (none_tested (codes "AAAA") refl)
+    (none_row (n == 33) _ _ (none_tested (codes "SRV") refl)
+    (none_row (n == 35) _ _ (none_tested (codes "NAPTR") refl) tt)))))))))
+
+none_laid_out_row : (fields : Option (List Field)) (n : ℕ) → RowHasNoFeed (laid_out_mnemonic fields n)
+none_laid_out_row None n = tt
+none_laid_out_row (Some fields) n = none_kind_row n
+
+none_kind : (class n : ℕ) → HasNoFeed (kind_text class n)
+none_kind class n = none_word (laid_out_mnemonic (layout class n) n) (codes "TYPE") n (none_laid_out_row (layout class n) n) (none_tested (codes "TYPE") refl)
+
+none_field : (v : FieldValue) → HasNoFeed (field_text v)
+none_field (name labels) = none_name labels
+none_field (long n) = none_decimal n
+none_field (two_octets n) = none_decimal n
+
+none_join : (values : List FieldValue) → HasNoFeed (join_with_byte 32 (map field_text values))
+none_join [] = tt
+none_join (v ∷ []) = none_field v
+none_join (v ∷ w ∷ values) = none_append (field_text v) (32 ∷ join_with_byte 32 (map field_text (w ∷ values))) (none_field v) (high 32 32 refl (omega arith), none_join (w ∷ values))
+
+none_laid_out : (fields : Option (List Field)) (octets : List ℕ) → IsSome fields → HasNoFeed (laid_out_text fields octets)
+none_laid_out None octets h = let clash : false ≡ true = h in absurd cc
+none_laid_out (Some fields) octets h = none_join (values_of fields octets)
+
+-- ---- the line
+
+none_spaced : (xs ys : List ℕ) → HasNoFeed xs → HasNoFeed ys → HasNoFeed (xs ++ 32 ∷ ys)
+none_spaced xs ys p q = none_append xs (32 ∷ ys) p (high 32 32 refl (omega arith), q)
+
+none_line : (owner ttl class kind rdata : List ℕ) → HasNoFeed owner → HasNoFeed ttl → HasNoFeed class → HasNoFeed kind → HasNoFeed rdata
+    → HasNoFeed (owner ++ 32 ∷ ttl ++ 32 ∷ class ++ 32 ∷ kind ++ 32 ∷ rdata)
+none_line owner ttl class kind rdata p q r s t =
+    none_spaced (owner ++ 32 ∷ ttl ++ 32 ∷ class ++ 32 ∷ kind) rdata
+    (none_spaced (owner ++ 32 ∷ ttl ++ 32 ∷ class) kind (none_spaced (owner ++ 32 ∷ ttl) class (none_spaced owner ttl p q) r) s) t
+
+pub line_ends_with_feed : (r : Record) → IsSome (layout r.class r.kind) → EndsWithItsFeed (line r)
+line_ends_with_feed r laid_out = record {
+  front = name_text r.owner ++ 32 ∷ decimal r.ttl ++ 32 ∷ class_text r.class ++ 32 ∷ kind_text r.class r.kind ++ 32 ∷ data_text (data_of r);
+  split = refl;
+  others = none_line (name_text r.owner) (decimal r.ttl) (class_text r.class) (kind_text r.class r.kind) (data_text (data_of r))
+      (none_name r.owner) (none_decimal r.ttl) (none_class r.class) (none_kind r.class r.kind) (none_laid_out (layout r.class r.kind) r.octets laid_out);
+}

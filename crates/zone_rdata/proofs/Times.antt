@@ -1,0 +1,174 @@
+-- Times read octet by octet, and that a text has one reading.
+use Rattle.std.proofs.Common.{◌≡◌, ℕ, zero, suc, ◌+◌, ◌-◌, ◌*◌, ◌<◌, ◌≤◌, min, Bool, true, false, List, [], ◌∷◌, ◌++◌, length, Option, Some, None, refl, sym, ap, ◌∙◌, subst, arith, append_assoc, length-append, inl, inr, IsTrue, ◌↔◌, zero-add, take, drop, get_or}
+use Rattle.std.specs.Prelude.{IfNone}
+use Rattle.std.specs.List.{AllByRecursion, flat_map, sum_by}
+use Rattle.std.proofs.lemmas.List.{append-nil, take-append-drop, drop_more, take_all}
+use Rattle.std.proofs.lemmas.List.Concat.{flat_map-append}
+use Rattle.std.proofs.lemmas.Bool.{cases_lt}
+use Rattle.std.proofs.lemmas.Bool.Decides.{nat_tests}
+use Rattle.std.proofs.lemmas.List.Sums.{sum_by-append}
+use Rattle.std.proofs.Math.Nat.{le-mul_of_pos_right, min-eq_left, min-eq_right, mul-le-mul_right}
+use Rattle.zone_rdata.proofs.Decimal.{value_push, digits_push}
+use Rattle.zone_name.specs.Spelling.{is_digit}
+use Rattle.zone_rdata.specs.declared.time.Progress.{Progress}
+use Rattle.zone_rdata.specs.Number.{Group, IsGroup, group_text, group_seconds, decimal_value, unit_seconds, IsDecimal, IsTime, plain, grouped}
+use Rattle.zone_rdata.specs.Time.{Reads}
+
+abbrev pub AreDigits : List ℕ → Type 0
+AreDigits text = AllByRecursion (λ c. is_digit c ≡ true) text
+
+-- digits up to the first octet that is none are one run
+pub run_split : (a b : List ℕ) (c d : ℕ) (r s : List ℕ) → AreDigits a → AreDigits b → is_digit c ≡ false → is_digit d ≡ false → a ++ c ∷ r ≡ b ++ d ∷ s → (a ≡ b) × (c ≡ d) × (r ≡ s)
+run_split [] [] c d r s x y p q e = (refl, cc, cc)
+run_split [] (b ∷ bs) c d r s x y p q e = let h : c ≡ b = cc in absurd (let t = y.0 in let u : is_digit c ≡ is_digit b = ap is_digit h in cc)
+run_split (a ∷ as_) [] c d r s x y p q e = let h : a ≡ d = cc in absurd (let t = x.0 in let u : is_digit a ≡ is_digit d = ap is_digit h in cc)
+run_split (a ∷ as_) (b ∷ bs) c d r s x y p q e =
+    let h : a ≡ b = cc in
+    let t : as_ ++ c ∷ r ≡ bs ++ d ∷ s = cc in
+    let rest = run_split as_ bs c d r s x.1 y.1 p q t in
+    (let k = rest.0 in cc, rest.1, rest.2)
+
+-- an octet that is no digit stands in no digits
+pub no_run : (a : List ℕ) (c : ℕ) (r b : List ℕ) → AreDigits b → is_digit c ≡ false → a ++ c ∷ r ≡ b → ⊥
+no_run [] c r [] each p e = cc
+no_run [] c r (b ∷ bs) each p e = let h : c ≡ b = cc in let t = each.0 in let u : is_digit c ≡ is_digit b = ap is_digit h in cc
+no_run (a ∷ as_) c r [] each p e = cc
+no_run (a ∷ as_) c r (b ∷ bs) each p e = let t : as_ ++ c ∷ r ≡ bs = cc in no_run as_ c r bs each.1 p t
+
+-- a unit is no digit
+pub unit_no_digit : (c u : ℕ) → unit_seconds c ≡ Some u → is_digit c ≡ false
+unit_no_digit c u e = grind (arith, nat_tests)
+
+run_nil : (a : List ℕ) (c : ℕ) (r : List ℕ) → a ++ c ∷ r ≡ [] → ⊥
+run_nil [] c r e = cc
+run_nil (a ∷ as_) c r e = cc
+
+each_push : (groups : List Group) (g : Group) → AllByRecursion IsGroup groups → IsGroup g → AllByRecursion IsGroup (groups ++ g ∷ [])
+each_push [] g each h = (h, tt)
+each_push (x ∷ groups) g each h = (each.0, each_push groups g each.1 h)
+
+-- groups and digits: what a text may be cut into
+groups_run : (groups other : List Group) (a : List ℕ) (c : ℕ) (r : List ℕ) → AllByRecursion IsGroup groups → AllByRecursion IsGroup other → AreDigits a → is_digit c ≡ false → (0 < length a → (u : ℕ) → unit_seconds c ≡ Some u → ⊥) → flat_map group_text groups ++ (a ++ c ∷ r) ≡ flat_map group_text other → ⊥
+groups_run [] [] a c r x y digits p none e = run_nil a c r e
+groups_run [] (h ∷ other) a c r x y digits p none e =
+    let cut = run_split a h.digits c h.letter r (flat_map group_text other) digits y.0.each p (unit_no_digit h.letter h.unit y.0.lasts) (e ∙ append_assoc h.digits (h.letter ∷ []) (flat_map group_text other)) in
+    none (let k = ap length cut.0 in let s = y.0.some in omega arith) h.unit (ap unit_seconds cut.1 ∙ y.0.lasts)
+groups_run (g ∷ groups) [] a c r x y digits p none e = run_nil g.digits g.letter (flat_map group_text groups ++ (a ++ c ∷ r)) (sym (ap (λ t. t ++ (a ++ c ∷ r)) (append_assoc g.digits (g.letter ∷ []) (flat_map group_text groups)) ∙ append_assoc g.digits (g.letter ∷ flat_map group_text groups) (a ++ c ∷ r)) ∙ e)
+groups_run (g ∷ groups) (h ∷ other) a c r x y digits p none e =
+    let left : flat_map group_text (g ∷ groups) ++ (a ++ c ∷ r) ≡ g.digits ++ g.letter ∷ (flat_map group_text groups ++ (a ++ c ∷ r)) = ap (λ t. t ++ (a ++ c ∷ r)) (append_assoc g.digits (g.letter ∷ []) (flat_map group_text groups)) ∙ append_assoc g.digits (g.letter ∷ flat_map group_text groups) (a ++ c ∷ r) in
+    let cut = run_split g.digits h.digits g.letter h.letter (flat_map group_text groups ++ (a ++ c ∷ r)) (flat_map group_text other) x.0.each y.0.each (unit_no_digit g.letter g.unit x.0.lasts) (unit_no_digit h.letter h.unit y.0.lasts) (sym left ∙ e ∙ append_assoc h.digits (h.letter ∷ []) (flat_map group_text other)) in
+    groups_run groups other a c r x.1 y.1 digits p none cut.2
+
+-- groups are not followed by digits
+groups_open : (groups other : List Group) (a : List ℕ) → AllByRecursion IsGroup groups → AllByRecursion IsGroup other → AreDigits a → 0 < length a → flat_map group_text groups ++ a ≡ flat_map group_text other → ⊥
+groups_open [] [] a x y digits some e = let k = ap length e in omega arith
+groups_open [] (h ∷ other) a x y digits some e = no_run h.digits h.letter (flat_map group_text other) a digits (unit_no_digit h.letter h.unit y.0.lasts) (sym (e ∙ append_assoc h.digits (h.letter ∷ []) (flat_map group_text other)))
+groups_open (g ∷ groups) [] a x y digits some e = run_nil g.digits g.letter (flat_map group_text groups ++ a) (sym (ap (λ t. t ++ a) (append_assoc g.digits (g.letter ∷ []) (flat_map group_text groups)) ∙ append_assoc g.digits (g.letter ∷ flat_map group_text groups) a) ∙ e)
+groups_open (g ∷ groups) (h ∷ other) a x y digits some e =
+    let left : flat_map group_text (g ∷ groups) ++ a ≡ g.digits ++ g.letter ∷ (flat_map group_text groups ++ a) = ap (λ t. t ++ a) (append_assoc g.digits (g.letter ∷ []) (flat_map group_text groups)) ∙ append_assoc g.digits (g.letter ∷ flat_map group_text groups) a in
+    let cut = run_split g.digits h.digits g.letter h.letter (flat_map group_text groups ++ a) (flat_map group_text other) x.0.each y.0.each (unit_no_digit g.letter g.unit x.0.lasts) (unit_no_digit h.letter h.unit y.0.lasts) (sym left ∙ e ∙ append_assoc h.digits (h.letter ∷ []) (flat_map group_text other)) in
+    groups_open groups other a x.1 y.1 digits some cut.2
+
+-- an octet that is neither a digit nor a unit behind digits goes on to no time
+pub stops : (text rest : List ℕ) (c n : ℕ) (p : Progress) → is_digit c ≡ false → (0 < length text → IsTrue p.open → (u : ℕ) → unit_seconds c ≡ Some u → ⊥) → Reads text p → IsTime (text ++ c ∷ rest) n → ⊥
+stops text rest c n p no_digit none reads (plain h) = no_run text c rest (text ++ c ∷ rest) h.digits no_digit refl
+stops text rest c n p no_digit none reads (grouped groups some each parts sums) =
+    let cut : flat_map group_text reads.groups ++ (reads.digits ++ c ∷ rest) ≡ flat_map group_text groups = sym (append_assoc (flat_map group_text reads.groups) reads.digits (c ∷ rest)) ∙ ap (λ t. t ++ c ∷ rest) (sym reads.parts) ∙ parts in
+    groups_run reads.groups groups reads.digits c rest reads.each each reads.last no_digit (λ opens u e. none (let k = ap length reads.parts in let l = length-append (flat_map group_text reads.groups) reads.digits in omega arith) (reads.opened.1 opens) u e) cut
+
+-- the digits grow
+pub more_digits : (text : List ℕ) (c : ℕ) (p next : Progress) → is_digit c ≡ true → next.total ≡ p.total → next.grouped ≡ p.grouped → next.number ≡ min 4294967296 (p.number * 10 + (c - 48)) → next.open ≡ true → Reads text p → Reads (text ++ c ∷ []) next
+more_digits text c p next digit total groups number opens reads =
+    let value = value_push reads.digits c 0 in
+    record {
+      groups = reads.groups;
+      digits = reads.digits ++ c ∷ [];
+      parts = ap (λ t. t ++ c ∷ []) reads.parts ∙ append_assoc (flat_map group_text reads.groups) reads.digits (c ∷ []);
+      each = reads.each;
+      last = digits_push reads.digits c reads.last digit;
+      total = total ∙ reads.total;
+      number = rw value (let a = reads.number in omega arith);
+      grouped = (λ h. reads.grouped.0 (sym groups ∙ h), λ h. groups ∙ reads.grouped.1 h);
+      opened = (λ h. let l = length-append reads.digits (c ∷ []) in omega arith, λ h. opens);
+    }
+
+capped_sum : (C T N u : ℕ) → 0 < u → min C (min C T + min C N * u) ≡ min C (T + N * u)
+capped_sum C T N u some = elim (cases_lt C N) [
+  | inl lt ↦
+      let a : min C N ≡ C = min-eq_left (omega arith) in
+      let b : C ≤ C * u = le-mul_of_pos_right C some in
+      let d : C * u ≤ N * u = mul-le-mul_right u (omega arith) in
+      rw a (omega arith)
+  | inr ge ↦ let a : min C N ≡ N = min-eq_right ge in rw a (omega arith)
+]
+
+-- a group closes
+pub more_groups : (text : List ℕ) (c unit : ℕ) (p next : Progress) → unit_seconds c ≡ Some unit → 0 < unit → p.open ≡ true → next.total ≡ min 4294967296 (p.total + p.number * unit) → next.grouped ≡ true → next.number ≡ 0 → next.open ≡ false → Reads text p → Reads (text ++ c ∷ []) next
+more_groups text c unit p next lasts some opens total groups number closed reads =
+    let g : Group = record { digits = reads.digits; letter = c; unit = unit } in
+    let sums = sum_by-append group_seconds reads.groups (g ∷ []) in
+    record {
+      groups = reads.groups ++ g ∷ [];
+      digits = [];
+      parts = ap (λ t. t ++ c ∷ []) reads.parts ∙ append_assoc (flat_map group_text reads.groups) reads.digits (c ∷ []) ∙ sym (append-nil (flat_map group_text (reads.groups ++ g ∷ [])) ∙ flat_map-append group_text reads.groups (g ∷ []) ∙ ap (λ t. flat_map group_text reads.groups ++ t) (append-nil (group_text g)));
+      each = each_push reads.groups g reads.each (record { some = reads.opened.0 opens; each = reads.last; lasts = lasts });
+      last = tt;
+      total = total ∙ rw (reads.total, reads.number) (capped_sum 4294967296 (sum_by group_seconds reads.groups) (decimal_value reads.digits) unit some ∙ ap (min 4294967296) (sym (sums ∙ ap (λ t. sum_by group_seconds reads.groups + t) (zero-add (decimal_value reads.digits * unit)))));
+      number = number;
+      grouped = (λ h. let l = length-append reads.groups (g ∷ []) in omega arith, λ h. groups);
+      opened = (λ h. absurd (cc (sym closed ∙ h)), λ h. absurd (omega arith));
+    }
+
+no_digits : (digits : List ℕ) → (0 < length digits → ⊥) → digits ≡ []
+no_digits [] h = refl
+no_digits (d ∷ digits) h = absurd (h (omega arith))
+
+no_groups : (groups : List Group) → (0 < length groups → ⊥) → groups ≡ []
+no_groups [] h = refl
+no_groups (g ∷ groups) h = absurd (h (omega arith))
+
+first_unit : (groups : List Group) (digits text : List ℕ) → AllByRecursion IsGroup groups → 0 < length groups → AreDigits text → text ≡ flat_map group_text groups ++ digits → ⊥
+first_unit [] digits text each some all e = omega arith
+first_unit (g ∷ groups) digits text each some all e = no_run g.digits g.letter (flat_map group_text groups ++ digits) text all (unit_no_digit g.letter g.unit each.0.lasts) (sym (e ∙ ap (λ t. t ++ digits) (append_assoc g.digits (g.letter ∷ []) (flat_map group_text groups)) ∙ append_assoc g.digits (g.letter ∷ flat_map group_text groups) digits))
+
+nothing : (text : List ℕ) (n : ℕ) → text ≡ [] → IsTime text n → ⊥
+nothing text n e (plain h) = let k = ap length e in let s = h.some in omega arith
+nothing text n e (grouped [] some each parts sums) = omega arith
+nothing text n e (grouped (g ∷ groups) some each parts sums) = run_nil g.digits g.letter (flat_map group_text groups) (sym (append_assoc g.digits (g.letter ∷ []) (flat_map group_text groups)) ∙ sym parts ∙ e)
+
+-- a text is read to its end
+pub ends_grouped : (text : List ℕ) (p : Progress) → p.grouped ≡ true → p.open ≡ false → Reads text p → (m : ℕ) × (IsTime text m × (p.total ≡ min 4294967296 m))
+ends_grouped text p groups closed reads =
+    let none : reads.digits ≡ [] = no_digits reads.digits (λ some. cc (sym closed ∙ reads.opened.1 some)) in
+    (sum_by group_seconds reads.groups, (grouped reads.groups (reads.grouped.0 groups) reads.each (reads.parts ∙ ap (λ t. flat_map group_text reads.groups ++ t) none ∙ append-nil (flat_map group_text reads.groups)) refl, reads.total))
+
+pub ends_plain : (text : List ℕ) (p : Progress) → p.grouped ≡ false → p.open ≡ true → Reads text p → (m : ℕ) × (IsTime text m × (p.number ≡ min 4294967296 m))
+ends_plain text p groups opens reads =
+    let none : reads.groups ≡ [] = no_groups reads.groups (λ some. cc (sym groups ∙ reads.grouped.1 some)) in
+    let whole : text ≡ reads.digits = reads.parts ∙ ap (λ gs. flat_map group_text gs ++ reads.digits) none in
+    (decimal_value reads.digits, (plain (record { some = rw whole (reads.opened.0 opens); digits = rw whole reads.last; value = rw whole refl }), reads.number))
+
+-- groups with digits behind them are no time
+pub ends_both : (text : List ℕ) (n : ℕ) (p : Progress) → p.grouped ≡ true → p.open ≡ true → Reads text p → IsTime text n → ⊥
+ends_both text n p groups opens reads (plain h) = first_unit reads.groups reads.digits text reads.each (reads.grouped.0 groups) h.digits reads.parts
+ends_both text n p groups opens reads (grouped others some each parts sums) = groups_open reads.groups others reads.digits reads.each each reads.last (reads.opened.0 opens) (sym reads.parts ∙ parts)
+
+-- nothing is no time
+pub ends_none : (text : List ℕ) (n : ℕ) (p : Progress) → p.grouped ≡ false → p.open ≡ false → Reads text p → IsTime text n → ⊥
+ends_none text n p groups closed reads time =
+    let none : reads.groups ≡ [] = no_groups reads.groups (λ some. cc (sym groups ∙ reads.grouped.1 some)) in
+    let no_more : reads.digits ≡ [] = no_digits reads.digits (λ some. cc (sym closed ∙ reads.opened.1 some)) in
+    nothing text n (reads.parts ∙ ap (λ gs. flat_map group_text gs ++ reads.digits) none ∙ no_more) time
+
+pub none_any : (o : Option ℕ) (P : Type 0) → P → IfNone o P
+none_any None P p = p
+none_any (Some n) P p = tt
+
+-- an octet at which no time goes on
+pub time_stops : (text : List ℕ) (i d : ℕ) (p : Progress) → i < length text → Reads (take i text) p → ((front rest : List ℕ) (n : ℕ) → Reads front p → IsTime (front ++ get_or text i d ∷ rest) n → ⊥) → (m : ℕ) → IsTime text m → ⊥
+time_stops text i d p lt reads stopped m time =
+    let parts : text ≡ take i text ++ get_or text i d ∷ drop (i + 1) text = sym (take-append-drop i text) ∙ ap (λ t. take i text ++ t) (drop_more text i d lt) in
+    stopped (take i text) (drop (i + 1) text) m reads (subst (λ t. IsTime t m) parts time)
+
+pub read_whole : (text : List ℕ) (i : ℕ) (p : Progress) → length text ≤ i → Reads (take i text) p → Reads text p
+read_whole text i p past reads = subst (λ t. Reads t p) (take_all i text past) reads

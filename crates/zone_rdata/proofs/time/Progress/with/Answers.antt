@@ -1,0 +1,19 @@
+use Rattle.std.proofs.Common.{refl, arith, sym, ◌∙◌, ◌≡◌, false, rules}
+use Rattle.std.proofs.lemmas.Bool.Decides.{nat_tests}
+use Rattle.std.proofs.lemmas.Grind.{common_steps}
+use Rattle.zone_name.specs.Spelling.{is_digit}
+use Rattle.zone_rdata.proofs.Times.{more_groups, stops}
+use Rattle.zone_rdata.proofs.time.Progress.with.Goals as goal
+
+pub returns-in-Some-clause-found : goal.returns-in-Some-clause-found
+returns-in-Some-clause-found c = λ text reads. more_groups text c.args.octet c.in-Some.unit c.args.self _ (sym c.in-Some.ensures.value) c.in-Some.ensures.some.0 c.if-self.true c.min-in-Some.ensures refl refl refl reads
+
+pub returns-in_default-clause-none : goal.returns-in_default-clause-none
+returns-in_default-clause-none c = λ text rest n reads.
+    let other : is_digit c.args.octet ≡ false = first_of (search rules, grind (arith, nat_tests), grind (arith, nat_tests, c.if-is_ascii_digit.ensures.value), grind (arith, common_steps)) in
+    stops text rest c.args.octet n c.args.self other (λ some opens u e. cc (sym c.if-self.false ∙ opens)) reads
+
+pub returns-in_default-2-clause-none : goal.returns-in_default-2-clause-none
+returns-in_default-2-clause-none c = λ text rest n reads.
+    let other : is_digit c.args.octet ≡ false = first_of (search rules, grind (arith, nat_tests), grind (arith, nat_tests, c.if-is_ascii_digit.ensures.value), grind (arith, common_steps)) in
+    stops text rest c.args.octet n c.args.self other (λ some opens u e. let h = c.in_default.ensures.value in cc (h, e)) reads

@@ -1,0 +1,6 @@
+use Rattle.std.proofs.Common.{take}
+use Rattle.zone_rdata.specs.Time.{Reads}
+use Rattle.zone_rdata.proofs.time.seconds_of.Given as goal
+
+abbrev pub invariant-loop-octet : goal.invariant-loop-octet
+invariant-loop-octet l = Reads (take l.octet-index l.text) l.so_far

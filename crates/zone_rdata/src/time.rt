@@ -1,0 +1,89 @@
+ghost use Rattle.std.specs.Prelude.{◌≡◌, ◌++◌, ◌≤◌, ◌<◌, ◌∷◌, [], ℕ, List, min, IfSome, IfNone};
+ghost use Rattle.zone_rdata.specs.Number.{IsTime, unit_seconds};
+
+use crate::number::CAP;
+
+/// The seconds of a unit in any case: w, d, h, m or s.
+fn seconds_of_unit(octet: u8) -> Option<u64>
+    ensures value { result ≡ unit_seconds octet }
+    ensures some { IfSome result (λ n. (0 < n) × (n ≤ 604800)) }
+{
+    match octet {
+        b'w' | b'W' => Some(604800),
+        b'd' | b'D' => Some(86400),
+        b'h' | b'H' => Some(3600),
+        b'm' | b'M' => Some(60),
+        b's' | b'S' => Some(1),
+        _ => None,
+    }
+}
+
+/// What was read of a time: the groups so far, and the digits behind the last of them.
+#[derive(Clone, Copy, Debug)]
+pub(crate) struct Progress {
+    total: u64,
+    grouped: bool,
+    number: u64,
+    open: bool,
+}
+
+impl Progress {
+    ghost use Rattle.zone_rdata.specs.Time.{Reads};
+
+    /// What is read with one more octet. `None`: no time goes on so.
+    fn with(self, octet: u8) -> Option<Progress>
+        requires { (self.total ≤ 4294967296) × (self.number ≤ 4294967296) }
+        ensures found { IfSome result (λ next. (text : List ℕ) → Reads text self → Reads (text ++ octet ∷ []) next) }
+        ensures none { IfNone result ((text rest : List ℕ) (n : ℕ) → Reads text self → IsTime (text ++ octet ∷ rest) n → ⊥) }
+    {
+        if octet.is_ascii_digit() {
+            return Some(Progress {
+                total: self.total,
+                grouped: self.grouped,
+                number: CAP.min(self.number * 10 + u64::from(octet - b'0')),
+                open: true,
+            });
+        }
+        match seconds_of_unit(octet) {
+            Some(unit) if self.open => Some(Progress {
+                total: CAP.min(self.total + self.number * unit),
+                grouped: true,
+                number: 0,
+                open: false,
+            }),
+            _ => None,
+        }
+    }
+
+    /// The time that is read where nothing more comes. `None`: it is none.
+    fn seconds(self) -> Option<u64>
+        ensures found { IfSome result (λ n. (text : List ℕ) → Reads text self → (m : ℕ) × (IsTime text m × (n ≡ min 4294967296 m))) }
+        ensures none { IfNone result ((text : List ℕ) (n : ℕ) → Reads text self → IsTime text n → ⊥) }
+    {
+        if self.grouped {
+            if self.open { None } else { Some(self.total) }
+        } else if self.open {
+            Some(self.number)
+        } else {
+            None
+        }
+    }
+}
+
+/// The seconds that a text states, at most 4294967296: decimal digits, or one or more groups of digits and a unit w,
+/// d, h, m or s, summed. `None`: it is no time.
+pub fn seconds_of(text: &[u8]) -> Option<u64>
+    ensures found { IfSome result (λ n. (m : ℕ) × (IsTime text.now m × (n ≡ min 4294967296 m))) }
+    ensures none { IfNone result ((m : ℕ) → IsTime text.now m → ⊥) }
+{
+    let mut so_far = Progress {
+        total: 0,
+        grouped: false,
+        number: 0,
+        open: false,
+    };
+    for octet in text {
+        so_far = so_far.with(*octet)?;
+    }
+    so_far.seconds()
+}

@@ -1,0 +1,9 @@
+-- A time that is not cut off is itself.
+use Rattle.std.proofs.Common.{◌≡◌, ℕ, List, ◌≤◌, min, subst, arith}
+use Rattle.zone_rdata.specs.Number.{IsTime}
+
+pub time_within : (text : List ℕ) (n : ℕ) → ((m : ℕ) × (IsTime text m × (n ≡ min 4294967296 m))) → n ≤ 2147483647 → IsTime text n
+time_within text n found few =
+    let cut : n ≡ min 4294967296 found.0 = found.1.1 in
+    let same : found.0 ≡ n = omega arith in
+    subst (λ (k : ℕ). IsTime text k) same found.1.0

@@ -1,0 +1,148 @@
+-- A walk that is carried on from place to place: the walk from the start is what was met so far and the walk from here.
+use Rattle.std.proofs.Common.{◌≡◌, ℕ, zero, suc, ◌+◌, ◌-◌, ◌*◌, ◌<◌, ◌≤◌, List, [], ◌∷◌, ◌++◌, length, refl, ap, sym, ◌∙◌, subst, arith, length-append, append_assoc}
+use Rattle.std.specs.Prelude.{Option, Some, None, take, drop}
+use Rattle.std.specs.Option.{unwrap_or}
+use Rattle.std.specs.List.{flat_map}
+use Rattle.std.proofs.lemmas.List.{append-nil, length-take-le, length-drop}
+use Rattle.std.proofs.lemmas.List.Concat.{flat_map-append}
+use Rattle.zone_name.specs.Name.{frame, wire}
+use Rattle.zone_name.specs.Spelling.{IsLabelFault}
+use Rattle.zone_name.specs.declared.fault.NameFault.{NameFault}
+use Rattle.zone_name.specs.declared.fault.NameFault.TheVariants.{EmptyLabel, LabelTooLong, NameTooLong, BadEscape, RelativeName}
+use Rattle.zone_wire.specs.Name.{label_at}
+use Rattle.zone_wire.specs.Walk.{walk, outset, past_label, past_pointer, place_of}
+use Rattle.zone_wire.specs.Reading.{Outcome, named, refused, outcome, behind_label, behind_pointer}
+use Rattle.zone_wire.specs.declared.fault.WireFault.{WireFault}
+use Rattle.zone_wire.specs.declared.fault.WireFault.TheVariants.{ShortMessage}
+use Rattle.zone_wire.specs.declared.place.Spot.{Spot}
+use Rattle.zone_wire.specs.declared.place.Standing.{Standing}
+use Rattle.zone_wire.specs.declared.place.Standing.TheVariants.{Outside, Root, Label, Pointer, Bad}
+use Rattle.zone_wire.proofs.Places.{Shows, IsLabelHere, IsPointerHere, place_shows}
+use Rattle.zone_wire.proofs.Walking.{outcome_by, outcome_at, outcome_step, octets_of, octets_of-label, octets_of-more, wire-octets}
+
+-- what was met so far, and then what the rest leads to
+abbrev pub carried : List (List ℕ) → Option ℕ → ℕ → ℕ → Outcome → Outcome
+carried labels end steps pointers (named found) = named (record { labels = labels ++ found.labels; end = unwrap_or end found.end; steps = steps + found.steps; pointers = pointers + found.pointers })
+carried labels end steps pointers (refused fault places) = refused fault (steps + places)
+
+pub record Carries (message : List ℕ) (offset : ℕ) (spot : Spot) (labels : List (List ℕ)) (end : Option ℕ) (steps : ℕ) : Type 0 where
+  pub few : 2 * steps ≤ spot.octets + 2 * spot.pointers
+  pub pointers : spot.pointers ≤ 128
+  pub short : spot.octets + 1 ≤ 255
+  pub octets : spot.octets ≡ octets_of labels
+  pub left : ℕ
+  pub enough : steps + left ≡ 256
+  pub whole : outcome message (walk message offset) ≡ carried labels end steps spot.pointers (outcome_by left message spot)
+
+carried-none : (o : Outcome) → carried [] None 0 0 o ≡ o
+carried-none (named found) = grind arith
+carried-none (refused fault places) = grind arith
+
+-- the start
+pub carries_start : (message : List ℕ) (offset : ℕ) → Carries message offset (outset offset) [] None 0
+unfolding walk outcome_by
+carries_start message offset = record { few = omega arith; pointers = omega arith; short = omega arith; octets = refl; left = 256; enough = refl; whole = sym (carried-none (outcome message (walk message offset))) }
+
+octets_of-push : (labels : List (List ℕ)) (l : List ℕ) → octets_of (labels ++ l ∷ []) ≡ octets_of labels + 1 + length l
+octets_of-push labels l = ap length (flat_map-append frame labels (l ∷ [])) ∙ length-append (flat_map frame labels) (flat_map frame (l ∷ [])) ∙ omega (arith, octets_of-more l [])
+
+carried-label : (labels : List (List ℕ)) (end : Option ℕ) (steps pointers : ℕ) (l : List ℕ) (o : Outcome) → carried labels end steps pointers (behind_label l o) ≡ carried (labels ++ l ∷ []) end (steps + 1) pointers o
+carried-label labels end steps pointers l (named found) =
+    let front : labels ++ (l ∷ found.labels) ≡ (labels ++ l ∷ []) ++ found.labels = sym (append_assoc labels (l ∷ []) found.labels) in
+    let count : steps + suc found.steps ≡ steps + 1 + found.steps = omega arith in
+    cc
+carried-label labels end steps pointers l (refused fault places) =
+    let count : steps + suc places ≡ steps + 1 + places = omega arith in
+    cc
+
+carried-pointer : (labels : List (List ℕ)) (end : Option ℕ) (steps pointers here : ℕ) (o : Outcome) → carried labels end steps pointers (behind_pointer here o) ≡ carried labels (Some (unwrap_or end here)) (steps + 1) (pointers + 1) o
+carried-pointer labels end steps pointers here (named found) =
+    let count : steps + suc found.steps ≡ steps + 1 + found.steps = omega arith in
+    let leads : pointers + suc found.pointers ≡ pointers + 1 + found.pointers = omega arith in
+    cc
+carried-pointer labels end steps pointers here (refused fault places) =
+    let count : steps + suc places ≡ steps + 1 + places = omega arith in
+    cc
+
+-- what a carried walk leads to whose next place is this
+record Reaches (message : List ℕ) (offset : ℕ) (spot : Spot) (labels : List (List ℕ)) (end : Option ℕ) (steps : ℕ) (standing : Standing) : Type 0 where
+  after : ℕ
+  enough : steps + suc after ≡ 256
+  whole : outcome message (walk message offset) ≡ carried labels end steps spot.pointers (outcome_at message after spot standing)
+
+reaches_by : (message : List ℕ) (offset : ℕ) (spot : Spot) (labels : List (List ℕ)) (end : Option ℕ) (steps : ℕ) (standing : Standing) (left : ℕ) → steps + left ≡ 256 → steps ≤ 255 → outcome message (walk message offset) ≡ carried labels end steps spot.pointers (outcome_by left message spot) → place_of message spot ≡ standing → Reaches message offset spot labels end steps standing
+reaches_by message offset spot labels end steps standing zero enough few whole e = absurd (omega arith)
+reaches_by message offset spot labels end steps standing (suc after) enough few whole e = record { after = after; enough = enough; whole = whole ∙ ap (carried labels end steps spot.pointers) (outcome_step message after spot standing e) }
+
+reaches : {message : List ℕ} {offset : ℕ} {spot : Spot} {labels : List (List ℕ)} {end : Option ℕ} {steps : ℕ} (standing : Standing) → Carries message offset spot labels end steps → place_of message spot ≡ standing → Reaches message offset spot labels end steps standing
+reaches {message} {offset} {spot} {labels} {end} {steps} standing c e = reaches_by message offset spot labels end steps standing c.left c.enough (omega (arith, c.few, c.short, c.pointers)) c.whole e
+
+-- behind a label
+pub carries_label : {message : List ℕ} {offset : ℕ} {spot : Spot} {labels : List (List ℕ)} {end : Option ℕ} {steps : ℕ} (size : ℕ) → Carries message offset spot labels end steps → place_of message spot ≡ Label size → Carries message offset (past_label spot size) (labels ++ label_at message spot.offset size ∷ []) end (steps + 1)
+carries_label {message} {offset} {spot} {labels} {end} {steps} size c e =
+    let r = reaches (Label size) c e in
+    let shows : IsLabelHere message spot size = subst (Shows message spot) e (place_shows message spot) in
+    let l = label_at message spot.offset size in
+    record {
+      few = omega (arith, c.few, shows.some);
+      pointers = c.pointers;
+      short = omega (arith, shows.room);
+      octets = omega (arith, c.octets, octets_of-push labels l, octets_of-label message spot.offset size shows.inside);
+      left = r.after;
+      enough = omega (arith, r.enough);
+      whole = r.whole ∙ carried-label labels end steps spot.pointers l (outcome_by r.after message (past_label spot size));
+    }
+
+-- where a pointer leads
+pub carries_pointer : {message : List ℕ} {offset : ℕ} {spot : Spot} {labels : List (List ℕ)} {end : Option ℕ} {steps : ℕ} (target : ℕ) → Carries message offset spot labels end steps → place_of message spot ≡ Pointer target → Carries message offset (past_pointer spot target) labels (Some (unwrap_or end (spot.offset + 2))) (steps + 1)
+carries_pointer {message} {offset} {spot} {labels} {end} {steps} target c e =
+    let r = reaches (Pointer target) c e in
+    let shows : IsPointerHere message spot target = subst (Shows message spot) e (place_shows message spot) in
+    record {
+      few = omega (arith, c.few);
+      pointers = omega (arith, shows.few);
+      short = c.short;
+      octets = c.octets;
+      left = r.after;
+      enough = omega (arith, r.enough);
+      whole = r.whole ∙ carried-pointer labels end steps spot.pointers (spot.offset + 2) (outcome_by r.after message (past_pointer spot target));
+    }
+
+-- at the root
+pub carries_root : {message : List ℕ} {offset : ℕ} {spot : Spot} {labels : List (List ℕ)} {end : Option ℕ} {steps : ℕ} → Carries message offset spot labels end steps → place_of message spot ≡ Root → outcome message (walk message offset) ≡ named (record { labels = labels; end = unwrap_or end (spot.offset + 1); steps = steps + 1; pointers = spot.pointers })
+carries_root {message} {offset} {spot} {labels} {end} {steps} c e =
+    let r = reaches Root c e in
+    let front : labels ++ [] ≡ labels = append-nil labels in
+    let none : spot.pointers + 0 ≡ spot.pointers = omega arith in
+    cc (r.whole)
+
+-- at a fault
+pub carries_bad : {message : List ℕ} {offset : ℕ} {spot : Spot} {labels : List (List ℕ)} {end : Option ℕ} {steps : ℕ} (fault : WireFault) → Carries message offset spot labels end steps → place_of message spot ≡ Bad fault → outcome message (walk message offset) ≡ refused fault (steps + 1)
+carries_bad fault c e = (reaches (Bad fault) c e).whole
+
+-- outside the message
+pub carries_outside : {message : List ℕ} {offset : ℕ} {spot : Spot} {labels : List (List ℕ)} {end : Option ℕ} {steps : ℕ} → Carries message offset spot labels end steps → place_of message spot ≡ Outside → outcome message (walk message offset) ≡ refused ShortMessage steps
+carries_outside {steps = steps} c e = (reaches Outside c e).whole ∙ ap (refused ShortMessage) (omega arith)
+
+pub root_inside : (message : List ℕ) (spot : Spot) → place_of message spot ≡ Root → spot.offset < length message
+root_inside message spot e = (subst (Shows message spot) e (place_shows message spot)).0
+
+pub label_shows : (message : List ℕ) (spot : Spot) (size : ℕ) → place_of message spot ≡ Label size → IsLabelHere message spot size
+label_shows message spot size e = subst (Shows message spot) e (place_shows message spot)
+
+pub pointer_shows : (message : List ℕ) (spot : Spot) (target : ℕ) → place_of message spot ≡ Pointer target → IsPointerHere message spot target
+pointer_shows message spot target e = subst (Shows message spot) e (place_shows message spot)
+
+-- a label that fits a name is pushed
+pub push_fits : (fault : NameFault) (octets : List ℕ) (labels : List (List ℕ)) → IsLabelFault fault → (fault ≡ EmptyLabel → length octets ≡ 0) → (fault ≡ LabelTooLong → 63 < length octets) → (fault ≡ NameTooLong → 255 < length (wire (labels ++ octets ∷ []))) → 0 < length octets → length octets ≤ 63 → octets_of labels + length octets + 2 ≤ 255 → ⊥
+push_fits EmptyLabel octets labels is empty long too_long some short room = omega (arith, empty refl)
+push_fits LabelTooLong octets labels is empty long too_long some short room = omega (arith, long refl)
+push_fits NameTooLong octets labels is empty long too_long some short room = omega (arith, too_long refl, wire-octets (labels ++ octets ∷ []), octets_of-push labels octets)
+push_fits BadEscape octets labels is empty long too_long some short room = is
+push_fits RelativeName octets labels is empty long too_long some short room = is
+
+-- the octets of a label, as a part of the message
+pub part_length : (message : List ℕ) (offset size : ℕ) → offset + size < length message → length (take (offset + 1 + size - (offset + 1)) (drop (offset + 1) message)) ≡ size
+part_length message offset size h =
+    let n : offset + 1 + size - (offset + 1) ≡ size = omega arith in
+    ap (λ k. length (take k (drop (offset + 1) message))) n ∙ length-take-le size (drop (offset + 1) message) (omega (arith, length-drop (offset + 1) message))

@@ -1,0 +1,157 @@
+-- At most one list of records of a stream.
+use Rattle.std.proofs.Common.{◌≡◌, ℕ, ◌+◌, ◌-◌, ◌/◌, ◌%◌, ◌≤◌, ◌^◌, ◌<◌, List, [], ◌∷◌, ◌++◌, length, refl, ap, sym, ◌∙◌, subst, arith, length-append}
+use Rattle.std.specs.Prelude.{drop, Option, Some, None, MatchOption}
+use Rattle.std.specs.Int.{w16, w32, to_be_bytes, from_be_bytes}
+use Rattle.std.specs.List.{flat_map}
+use Rattle.std.proofs.lemmas.Nat.{from_be_bytes-to_be_bytes_2, from_be_bytes-to_be_bytes_4}
+use Rattle.std.proofs.lemmas.List.{length-take-le, length-drop}
+use Rattle.zone_rdata.specs.Field.{FieldValue, name, long, two_octets, octets_of, Holds, HoldEach}
+use Rattle.zone_rdata.specs.Layout.{layout}
+use Rattle.zone_rdata.specs.Record.{Record}
+use Rattle.zone_rdata.specs.declared.layout.Field.{Field}
+use Rattle.zone_rdata.specs.declared.layout.Field.TheVariants.{Name, Serial, Time, U16}
+use Rattle.zone_rdata.specs.declared.record.Placed.{Placed}
+use Rattle.zone_wire.specs.Message.{RecordAt, Sections, AreRecordsAt, IsMessage}
+use Rattle.zone_wire.specs.Name.{Found}
+use Rattle.zone_wire.specs.Transfer.{part, StandsAt, StandEach, AreFieldsAt, StatesRecord, StateEach, Part, IsPart, AreParts, frame, StreamStates}
+use Rattle.zone_wire.proofs.Messages.{one_message}
+use Rattle.zone_wire.proofs.Walking.{one_name}
+
+-- two lists, each with more behind it, where the first are as long
+pub front_unique : {X : Type 0} (a b c d : List X) → length a ≡ length b → a ++ c ≡ b ++ d → (a ≡ b) × (c ≡ d)
+front_unique [] [] c d len e = (refl, e)
+front_unique [] (y ∷ b) c d len e = absurd (omega (arith, len))
+front_unique (x ∷ a) [] c d len e = absurd (omega (arith, len))
+front_unique (x ∷ a) (y ∷ b) c d len e =
+    let tail : a ++ c ≡ b ++ d = cc in
+    let head : x ≡ y = cc in
+    let shorter : length a ≡ length b = omega (arith, len) in
+    let rest = front_unique a b c d shorter tail in
+    (ap (λ z. z ∷ a) head ∙ ap (λ zs. y ∷ zs) rest.0, rest.1)
+
+-- lists with one more at the end
+pub init_unique : {X : Type 0} (a b : List X) (x y : X) → a ++ x ∷ [] ≡ b ++ y ∷ [] → a ≡ b
+init_unique a b x y e =
+    let len : length a ≡ length b = omega (arith, ap length e, length-append a (x ∷ []), length-append b (y ∷ [])) in
+    (front_unique a b (x ∷ []) (y ∷ []) len e).0
+
+-- a frame at the front of a stream
+frame_unique : (a b c d : List ℕ) → frame a ++ c ≡ frame b ++ d → (a ≡ b) × (c ≡ d)
+frame_unique a b c d e =
+    let high : length a / 256 ≡ length b / 256 = cc in
+    let low : length a % 256 ≡ length b % 256 = cc in
+    let rest : a ++ c ≡ b ++ d = cc in
+    let len : length a ≡ length b = omega arith in
+    front_unique a b c d len rest
+
+placed_same : (p q : Placed) → p.rr ≡ q.rr → p.place ≡ q.place → p ≡ q
+placed_same p q rr place = ap (λ x. record p { rr = x }) rr ∙ ap (λ x. record q { place = x }) place
+
+-- a part of octets that is a text
+part_text : (octets : List ℕ) (start end : ℕ) (text : List ℕ) → start ≤ end → end ≤ length octets → part octets start end ≡ text → end ≡ start + length text
+part_text octets start end text order inside e =
+    let len : length (part octets start end) ≡ end - start = length-take-le (end - start) (drop start octets) (omega (arith, length-drop start octets)) in
+    let same : length (part octets start end) ≡ length text = ap length e in
+    omega arith
+
+same_long : (m n : ℕ) → m < 2 ^ 32 → n < 2 ^ 32 → to_be_bytes w32 m ≡ to_be_bytes w32 n → m ≡ n
+same_long m n small short e = sym (from_be_bytes-to_be_bytes_4 m small) ∙ ap (from_be_bytes w32) e ∙ from_be_bytes-to_be_bytes_4 n short
+
+same_two : (m n : ℕ) → m < 2 ^ 16 → n < 2 ^ 16 → to_be_bytes w16 m ≡ to_be_bytes w16 n → m ≡ n
+same_two m n small short e = sym (from_be_bytes-to_be_bytes_2 m small) ∙ ap (from_be_bytes w16) e ∙ from_be_bytes-to_be_bytes_2 n short
+
+-- a number that stands at an offset, and where it ends
+long_unique : (octets : List ℕ) (start end past m n : ℕ) → m < 2 ^ 32 → n < 2 ^ 32 → end ≤ length octets → past ≤ length octets → (start ≤ end) × (part octets start end ≡ to_be_bytes w32 m) → (start ≤ past) × (part octets start past ≡ to_be_bytes w32 n) → (long m ≡ long n) × (end ≡ past)
+long_unique octets start end past m n small short inside within v w =
+    let same : end ≡ past = part_text octets start end (to_be_bytes w32 m) v.0 inside v.1 ∙ sym (part_text octets start past (to_be_bytes w32 n) w.0 within w.1) in
+    let texts : to_be_bytes w32 m ≡ to_be_bytes w32 n = sym v.1 ∙ ap (part octets start) same ∙ w.1 in
+    (ap long (same_long m n small short texts), same)
+
+two_unique : (octets : List ℕ) (start end past m n : ℕ) → m < 2 ^ 16 → n < 2 ^ 16 → end ≤ length octets → past ≤ length octets → (start ≤ end) × (part octets start end ≡ to_be_bytes w16 m) → (start ≤ past) × (part octets start past ≡ to_be_bytes w16 n) → (two_octets m ≡ two_octets n) × (end ≡ past)
+two_unique octets start end past m n small short inside within v w =
+    let same : end ≡ past = part_text octets start end (to_be_bytes w16 m) v.0 inside v.1 ∙ sym (part_text octets start past (to_be_bytes w16 n) w.0 within w.1) in
+    let texts : to_be_bytes w16 m ≡ to_be_bytes w16 n = sym v.1 ∙ ap (part octets start) same ∙ w.1 in
+    (ap two_octets (same_two m n small short texts), same)
+
+-- the value of a field that stands at an offset, and where it ends
+field_unique : (octets : List ℕ) (start end past : ℕ) (field : Field) (v w : FieldValue) → Holds field v → Holds field w → end ≤ length octets → past ≤ length octets → StandsAt octets start end v → StandsAt octets start past w → (v ≡ w) × (end ≡ past)
+field_unique octets start end past Name (name a) (name b) h k inside within s t =
+    let same : s.0 ≡ t.0 = one_name octets start s.0 t.0 s.1 t.1 in
+    let labels : a ≡ b = sym s.2 ∙ ap (λ (x : Found). x.labels) same ∙ t.2 in
+    let ends : end ≡ past = sym s.3 ∙ ap (λ (x : Found). x.end) same ∙ t.3 in
+    (ap name labels, ends)
+field_unique octets start end past Name (name a) w h k inside within s t = absurd k
+field_unique octets start end past Name v w h k inside within s t = absurd h
+field_unique octets start end past Serial (long m) (long n) h k inside within s t = long_unique octets start end past m n h k inside within s t
+field_unique octets start end past Serial (long m) w h k inside within s t = absurd k
+field_unique octets start end past Serial v w h k inside within s t = absurd h
+field_unique octets start end past Time (long m) (long n) h k inside within s t = long_unique octets start end past m n h k inside within s t
+field_unique octets start end past Time (long m) w h k inside within s t = absurd k
+field_unique octets start end past Time v w h k inside within s t = absurd h
+field_unique octets start end past U16 (two_octets m) (two_octets n) h k inside within s t = two_unique octets start end past m n h k inside within s t
+field_unique octets start end past U16 (two_octets m) w h k inside within s t = absurd k
+field_unique octets start end past U16 v w h k inside within s t = absurd h
+
+values_unique : (octets : List ℕ) (fields : List Field) (vs ws : List FieldValue) (start end : ℕ) → end ≤ length octets → HoldEach fields vs → HoldEach fields ws → StandEach octets start end vs → StandEach octets start end ws → vs ≡ ws
+values_unique octets [] [] [] start end inside h k s t = refl
+values_unique octets [] [] (w ∷ ws) start end inside h k s t = absurd k
+values_unique octets [] (v ∷ vs) ws start end inside h k s t = absurd h
+values_unique octets (f ∷ fields) [] ws start end inside h k s t = absurd h
+values_unique octets (f ∷ fields) (v ∷ vs) [] start end inside h k s t = absurd k
+values_unique octets (f ∷ fields) (v ∷ vs) (w ∷ ws) start end inside h k s t =
+    let one = field_unique octets start s.0 t.0 f v w h.0 k.0 (omega (arith, s.1)) (omega (arith, t.1)) s.2 t.2 in
+    let rest = values_unique octets fields vs ws s.0 end inside h.1 k.1 s.3 (subst (λ (x : ℕ). StandEach octets x end ws) (sym one.1) t.3) in
+    ap (λ x. x ∷ vs) one.0 ∙ ap (λ xs. w ∷ xs) rest
+
+data_unique : (o : Option (List Field)) (octets : List ℕ) (start end : ℕ) (c d : List ℕ) → end ≤ length octets → MatchOption o (c ≡ part octets start end) (λ fields. AreFieldsAt octets start end fields c) → MatchOption o (d ≡ part octets start end) (λ fields. AreFieldsAt octets start end fields d) → c ≡ d
+data_unique None octets start end c d inside x y = x ∙ sym y
+data_unique (Some fields) octets start end c d inside x y = x.whole ∙ ap octets_of (values_unique octets fields x.values y.values start end inside x.held y.held x.stand y.stand) ∙ sym y.whole
+
+same_record : (r t : Record) → r.owner ≡ t.owner → r.class ≡ t.class → r.kind ≡ t.kind → r.ttl ≡ t.ttl → r.octets ≡ t.octets → r ≡ t
+same_record r t owner class kind ttl octets =
+    ap (λ x. record r { owner = x }) owner ∙ ap (λ x. record r { owner = t.owner; class = x }) class ∙ ap (λ x. record r { owner = t.owner; class = t.class; kind = x }) kind ∙ ap (λ x. record t { ttl = x; octets = r.octets }) ttl ∙ ap (λ x. record t { octets = x }) octets
+
+record_unique : (octets : List ℕ) (a : RecordAt) (r t : Record) → a.end ≤ length octets → StatesRecord octets a r → StatesRecord octets a t → r ≡ t
+record_unique octets a r t inside x y =
+    same_record r t (x.owner ∙ sym y.owner) (x.class ∙ sym y.class) (x.kind ∙ sym y.kind) (x.ttl ∙ sym y.ttl) (data_unique (layout a.class a.kind) octets a.start a.end r.octets t.octets inside x.rdata y.rdata)
+
+-- the records that the answers of a message state
+placed_unique : (number : ℕ) (octets : List ℕ) (offset end : ℕ) (answers : List RecordAt) (ps qs : List Placed) → AreRecordsAt octets offset answers end → StateEach number octets answers ps → StateEach number octets answers qs → ps ≡ qs
+placed_unique number octets offset end [] [] [] are s t = refl
+placed_unique number octets offset end [] [] (q ∷ qs) are s t = absurd t
+placed_unique number octets offset end [] (p ∷ ps) qs are s t = absurd s
+placed_unique number octets offset end (a ∷ answers) [] qs are s t = absurd s
+placed_unique number octets offset end (a ∷ answers) (p ∷ ps) [] are s t = absurd t
+placed_unique number octets offset end (a ∷ answers) (p ∷ ps) (q ∷ qs) are s t =
+    let one : p ≡ q = placed_same p q (record_unique octets a p.rr q.rr are.0.inside s.0 t.0) (s.1 ∙ sym t.1) in
+    ap (λ x. x ∷ ps) one ∙ ap (λ xs. q ∷ xs) (placed_unique number octets a.end end answers ps qs are.1 s.2 t.2)
+
+part_unique : (id ie : ℕ) (zone other : Record) (number : ℕ) (p q : Part) → IsPart id zone number p → IsPart ie other number q → p.octets ≡ q.octets → p.placed ≡ q.placed
+part_unique id ie zone other number p q is too e =
+    let sections : p.sections ≡ q.sections = one_message p.octets p.sections q.sections is.message (subst (λ (x : List ℕ). IsMessage x q.sections) (sym e) too.message) in
+    let moved : StateEach number p.octets q.sections.answers q.placed = subst (λ (x : List ℕ). StateEach number x q.sections.answers q.placed) (sym e) too.answers in
+    let states : StateEach number p.octets p.sections.answers q.placed = subst (λ (x : Sections). StateEach number p.octets x.answers q.placed) (sym sections) moved in
+    placed_unique number p.octets is.message.past_questions is.message.past_answers p.sections.answers p.placed q.placed is.message.answers is.answers states
+
+abbrev stream_of : List Part → List ℕ
+stream_of parts = flat_map (λ p. frame p.octets) parts
+
+abbrev all_placed : List Part → List Placed
+all_placed parts = flat_map (λ p. p.placed) parts
+
+parts_unique : (id ie : ℕ) (zone other : Record) (number : ℕ) (ps qs : List Part) → AreParts id zone number ps → AreParts ie other number qs → stream_of ps ≡ stream_of qs → all_placed ps ≡ all_placed qs
+parts_unique id ie zone other number [] [] are too e = refl
+parts_unique id ie zone other number [] (q ∷ qs) are too e = cc
+parts_unique id ie zone other number (p ∷ ps) [] are too e = cc
+parts_unique id ie zone other number (p ∷ ps) (q ∷ qs) are too e =
+    let one = frame_unique p.octets q.octets (stream_of ps) (stream_of qs) e in
+    let here : p.placed ≡ q.placed = part_unique id ie zone other number p q are.0 too.0 one.0 in
+    let rest : all_placed ps ≡ all_placed qs = parts_unique id ie zone other (number + 1) ps qs are.1 too.1 one.1 in
+    ap (λ x. x ++ all_placed ps) here ∙ ap (λ xs. q.placed ++ xs) rest
+
+-- a stream states at most one list of records
+pub one_list : (stream : List ℕ) (placed other : List Placed) → StreamStates stream placed → StreamStates stream other → placed ≡ other
+one_list stream placed other s t =
+    let all : all_placed s.parts ≡ all_placed t.parts = parts_unique s.id t.id s.opening.rr t.opening.rr 1 s.parts t.parts s.each t.each (sym s.framed ∙ t.framed) in
+    let lists : s.opening ∷ (s.others ++ s.closing ∷ []) ≡ t.opening ∷ (t.others ++ t.closing ∷ []) = sym s.answers ∙ all ∙ t.answers in
+    s.stated ∙ init_unique (s.opening ∷ s.others) (t.opening ∷ t.others) s.closing t.closing lists ∙ sym t.stated

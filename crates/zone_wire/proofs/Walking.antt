@@ -1,0 +1,314 @@
+-- The walk and the relation of names agree.
+use Rattle.std.proofs.Common.{◌≡◌, ℕ, zero, suc, ◌+◌, ◌-◌, ◌*◌, ◌<◌, ◌≤◌, List, [], ◌∷◌, length, refl, ap, sym, ◌∙◌, subst, arith, length-append, get_or-drop, lit<, lit≤}
+use Rattle.std.specs.Prelude.{take, drop, map, get_or, Some, None}
+use Rattle.std.specs.List.{flat_map, AllByRecursion}
+use Rattle.std.proofs.lemmas.List.{length-map, length-take-le, length-drop}
+use Rattle.std.proofs.lemmas.Bool.Decides.{nat_tests}
+use Rattle.zone_name.specs.Name.{IsLabel, IsFoldedOctet, folded_octet, frame, wire}
+use Rattle.zone_wire.specs.Name.{At, root, label, pointer, Found, IsNameAt, label_at}
+use Rattle.zone_wire.specs.Walk.{Visit, visit, walk_on, walk_by, walk, ending, outset, past_label, past_pointer, place_of}
+use Rattle.zone_wire.specs.Reading.{Outcome, named, refused, outcome, behind_label, behind_pointer}
+use Rattle.zone_wire.specs.declared.fault.WireFault.TheVariants.{ShortMessage}
+use Rattle.zone_wire.specs.declared.place.Spot.{Spot}
+use Rattle.zone_wire.specs.declared.place.Standing.{Standing}
+use Rattle.zone_wire.specs.declared.place.Standing.TheVariants.{Outside, Root, Label, Pointer, Bad}
+use Rattle.zone_wire.proofs.Places.{Shows, IsLabelHere, IsPointerHere, place_shows, place_root, place_label, place_pointer}
+
+-- what n places from a spot on lead to
+unfoldable pub outcome_by : ℕ → List ℕ → Spot → Outcome
+outcome_by n message spot = outcome message (walk_by n message spot)
+
+-- what a walk leads to whose first place is this
+abbrev pub outcome_at : List ℕ → ℕ → Spot → Standing → Outcome
+outcome_at message n spot Outside = refused ShortMessage 0
+outcome_at message n spot Root = named (record { labels = []; end = spot.offset + 1; steps = 1; pointers = 0 })
+outcome_at message n spot (Label size) = behind_label (label_at message spot.offset size) (outcome_by n message (past_label spot size))
+outcome_at message n spot (Pointer target) = behind_pointer (spot.offset + 2) (outcome_by n message (past_pointer spot target))
+outcome_at message n spot (Bad fault) = refused fault 1
+
+outcome_on : (message : List ℕ) (n : ℕ) (spot : Spot) (standing : Standing) → outcome message (walk_on (walk_by n message) spot standing) ≡ outcome_at message n spot standing
+unfolding outcome outcome_by
+outcome_on message n spot Outside = refl
+outcome_on message n spot Root = refl
+outcome_on message n spot (Label size) = refl
+outcome_on message n spot (Pointer target) = refl
+outcome_on message n spot (Bad fault) = refl
+
+-- one place more
+pub outcome_step : (message : List ℕ) (n : ℕ) (spot : Spot) (standing : Standing) → place_of message spot ≡ standing → outcome_by (suc n) message spot ≡ outcome_at message n spot standing
+unfolding walk_by outcome_by
+outcome_step message n spot standing e = rw e (outcome_on message n spot standing)
+
+-- the octets of labels, each behind its length
+abbrev pub octets_of : List (List ℕ) → ℕ
+octets_of labels = length (flat_map frame labels)
+
+pub octets_of-label : (message : List ℕ) (offset size : ℕ) → offset + size < length message → length (label_at message offset size) ≡ size
+octets_of-label message offset size h = length-map (take size (drop (offset + 1) message)) folded_octet ∙ length-take-le size (drop (offset + 1) message) (omega (arith, length-drop (offset + 1) message))
+
+pub octets_of-more : (l : List ℕ) (labels : List (List ℕ)) → octets_of (l ∷ labels) ≡ length l + 1 + octets_of labels
+octets_of-more l labels = omega (arith, length-append (frame l) (flat_map frame labels))
+
+-- a name of the relation is what its walk finds
+pub at_walks : {message : List ℕ} {offset bound : ℕ} {labels : List (List ℕ)} {end steps pointers : ℕ} → At message offset bound labels end steps pointers → (n before octets : ℕ) → steps ≤ n → before + pointers ≤ 128 → octets + octets_of labels + 1 ≤ 255 → outcome_by n message (record { offset = offset; bound = bound; pointers = before; octets = octets }) ≡ named (record { labels = labels; end = end; steps = steps; pointers = pointers })
+at_walks (root offset bound inside first) zero before octets enough few short = absurd (omega arith)
+at_walks {message} (root offset bound inside first) (suc n) before octets enough few short = outcome_step message n (record { offset = offset; bound = bound; pointers = before; octets = octets }) Root (place_root message (record { offset = offset; bound = bound; pointers = before; octets = octets }) inside first)
+at_walks (label offset bound size labels end steps pointers first some short_label inside rest) zero before octets enough few short = absurd (omega arith)
+at_walks {message} (label offset bound size labels end steps pointers first some short_label inside rest) (suc n) before octets enough few short =
+    let spot : Spot = record { offset = offset; bound = bound; pointers = before; octets = octets } in
+    let this = label_at message offset size in
+    let room : octets + 1 + size + octets_of labels + 1 ≤ 255 = omega (arith, octets_of-more this labels, octets_of-label message offset size inside) in
+    let here : IsLabelHere message spot size = record { first = first; some = some; short = short_label; inside = inside; room = omega arith } in
+    outcome_step message n spot (Label size) (place_label message spot size here) ∙ ap (behind_label this) (at_walks rest n before (octets + 1 + size) (omega arith) few room)
+at_walks (pointer offset bound target labels end steps pointers inside first leads past_header below rest) zero before octets enough few short = absurd (omega arith)
+at_walks {message} (pointer offset bound target labels end steps pointers inside first leads past_header below rest) (suc n) before octets enough few short =
+    let spot : Spot = record { offset = offset; bound = bound; pointers = before; octets = octets } in
+    let here : IsPointerHere message spot target = record { first = first; leads = leads; inside = inside; past_header = past_header; below = below; few = omega arith } in
+    outcome_step message n spot (Pointer target) (place_pointer message spot target here) ∙ ap (behind_pointer (offset + 2)) (at_walks rest n (before + 1) octets (omega arith) (omega arith) short)
+
+-- the steps are the labels, the pointers and the root
+pub at_steps : {message : List ℕ} {offset bound : ℕ} {labels : List (List ℕ)} {end steps pointers : ℕ} → At message offset bound labels end steps pointers → steps ≡ length labels + pointers + 1
+at_steps (root offset bound inside first) = omega arith
+at_steps (label offset bound size labels end steps pointers first some short inside rest) = omega (arith, at_steps rest)
+at_steps (pointer offset bound target labels end steps pointers inside first leads past_header below rest) = omega (arith, at_steps rest)
+
+-- each label takes two octets or more
+pub at_octets : {message : List ℕ} {offset bound : ℕ} {labels : List (List ℕ)} {end steps pointers : ℕ} → At message offset bound labels end steps pointers → 2 * length labels ≤ octets_of labels
+at_octets (root offset bound inside first) = omega arith
+at_octets {message} (label offset bound size labels end steps pointers first some short inside rest) =
+    let this = label_at message offset size in
+    omega (arith, at_octets rest, octets_of-more this labels, octets_of-label message offset size inside)
+at_octets (pointer offset bound target labels end steps pointers inside first leads past_header below rest) = at_octets rest
+
+-- a name ends inside its message
+pub at_ends : {message : List ℕ} {offset bound : ℕ} {labels : List (List ℕ)} {end steps pointers : ℕ} → At message offset bound labels end steps pointers → (offset < end) × (end ≤ length message)
+at_ends (root offset bound inside first) = (omega arith, omega arith)
+at_ends (label offset bound size labels end steps pointers first some short inside rest) = (omega (arith, (at_ends rest).0), (at_ends rest).1)
+at_ends (pointer offset bound target labels end steps pointers inside first leads past_header below rest) = (omega arith, omega arith)
+
+pub wire-octets : (labels : List (List ℕ)) → length (wire labels) ≡ octets_of labels + 1
+wire-octets labels = length-append (flat_map frame labels) (0 ∷ [])
+
+pub record IsBounded (message : List ℕ) (offset : ℕ) (found : Found) : Type 0 where
+  pub labels : length found.labels ≤ 127
+  pub steps : found.steps ≤ 256
+  pub short : octets_of found.labels + 1 ≤ 255
+  pub start : offset < found.end
+  pub end : found.end ≤ length message
+
+pub name_bounds : (message : List ℕ) (offset : ℕ) (found : Found) → IsNameAt message offset found → IsBounded message offset found
+name_bounds message offset found is =
+    let short : octets_of found.labels + 1 ≤ 255 = rw wire-octets at is.name.short in
+    let few : length found.labels ≤ 127 = omega (arith, at_octets is.at) in
+    record { labels = few; steps = omega (arith, at_steps is.at, is.few); short = short; start = (at_ends is.at).0; end = (at_ends is.at).1 }
+
+-- what is a name is found
+pub name_walks : (message : List ℕ) (offset : ℕ) (found : Found) → IsNameAt message offset found → outcome message (walk message offset) ≡ named found
+unfolding walk outcome_by
+name_walks message offset found is = let bounds = name_bounds message offset found is in at_walks is.at 256 0 0 bounds.steps (omega (arith, is.few)) (omega (arith, bounds.short))
+
+pub one_name : (message : List ℕ) (offset : ℕ) (found other : Found) → IsNameAt message offset found → IsNameAt message offset other → found ≡ other
+one_name message offset found other is too =
+    let e = name_walks message offset found is in
+    let k = name_walks message offset other too in
+    cc
+
+-- what a walk finds from a spot on stands there
+pub record Finds (message : List ℕ) (spot : Spot) (found : Found) : Type 0 where
+  pub at : At message spot.offset spot.bound found.labels found.end found.steps found.pointers
+  pub few : spot.pointers + found.pointers ≤ 128
+  pub short : spot.octets + octets_of found.labels + 1 ≤ 255
+
+-- a name of which a label is the first
+record LeadsBehindLabel (front : List ℕ) (rest : Outcome) (found : Found) : Type 0 where
+  others : Found
+  rest_is : rest ≡ named others
+  whole : record others { labels = front ∷ others.labels; steps = suc others.steps } ≡ found
+
+behind_label_leads : (front : List ℕ) (rest : Outcome) (found : Found) → behind_label front rest ≡ named found → LeadsBehindLabel front rest found
+behind_label_leads front (named others) found e = record { others = others; rest_is = refl; whole = cc }
+behind_label_leads front (refused fault steps) found e = cc
+
+-- a name of which a pointer is the first step
+record LeadsBehindPointer (end : ℕ) (rest : Outcome) (found : Found) : Type 0 where
+  others : Found
+  rest_is : rest ≡ named others
+  whole : record others { end = end; steps = suc others.steps; pointers = suc others.pointers } ≡ found
+
+behind_pointer_leads : (end : ℕ) (rest : Outcome) (found : Found) → behind_pointer end rest ≡ named found → LeadsBehindPointer end rest found
+behind_pointer_leads end (named others) found e = record { others = others; rest_is = refl; whole = cc }
+behind_pointer_leads end (refused fault steps) found e = cc
+
+-- where what n places lead to is found
+abbrev pub FindsBy : ℕ → List ℕ → Type 0
+FindsBy n message = (spot : Spot) (found : Found) → spot.octets + 1 ≤ 255 → spot.pointers ≤ 128 → outcome_by n message spot ≡ named found → Finds message spot found
+
+found_at : (message : List ℕ) (n : ℕ) (spot : Spot) (standing : Standing) (found : Found) → Shows message spot standing → spot.octets + 1 ≤ 255 → spot.pointers ≤ 128 → FindsBy n message → outcome_at message n spot standing ≡ named found → Finds message spot found
+found_at message n spot Outside found shows short few finds e = cc
+found_at message n spot Root found shows short few finds e =
+    let same : record { labels = []; end = spot.offset + 1; steps = 1; pointers = 0 } ≡ found = cc in
+    subst (Finds message spot) same (record { at = root spot.offset spot.bound shows.0 shows.1; few = omega arith; short = omega arith })
+found_at message n spot (Label size) found shows short few finds e =
+    let front = label_at message spot.offset size in
+    let leads = behind_label_leads front (outcome_by n message (past_label spot size)) found e in
+    let rest = finds (past_label spot size) leads.others (omega (arith, shows.room)) few leads.rest_is in
+    subst (Finds message spot) leads.whole (record {
+      at = label spot.offset spot.bound size leads.others.labels leads.others.end leads.others.steps leads.others.pointers shows.first shows.some shows.short shows.inside rest.at;
+      few = rest.few;
+      short = omega (arith, rest.short, octets_of-more front leads.others.labels, octets_of-label message spot.offset size shows.inside);
+    })
+found_at message n spot (Pointer target) found shows short few finds e =
+    let leads = behind_pointer_leads (spot.offset + 2) (outcome_by n message (past_pointer spot target)) found e in
+    let rest = finds (past_pointer spot target) leads.others short (omega (arith, shows.few)) leads.rest_is in
+    subst (Finds message spot) leads.whole (record {
+      at = pointer spot.offset spot.bound target leads.others.labels leads.others.end leads.others.steps leads.others.pointers shows.inside shows.first shows.leads shows.past_header shows.below rest.at;
+      few = omega (arith, rest.few);
+      short = rest.short;
+    })
+found_at message n spot (Bad fault) found shows short few finds e = cc
+
+pub finds_by : (n : ℕ) (message : List ℕ) → FindsBy n message
+unfolding outcome_by walk_by outcome
+finds_by zero message spot found short few e = cc
+finds_by (suc n) message spot found short few e = found_at message n spot (place_of message spot) found (place_shows message spot) short few (finds_by n message) (sym (outcome_step message n spot (place_of message spot) refl) ∙ e)
+
+-- folding a folded octet changes nothing
+folded_twice : (c : ℕ) → folded_octet (folded_octet c) ≡ folded_octet c
+folded_twice c = grind (arith, nat_tests)
+
+folded_short : (c : ℕ) → c < 256 → folded_octet c < 256
+folded_short c h = grind (arith, nat_tests)
+
+is_folded : (c : ℕ) → c < 256 → IsFoldedOctet (folded_octet c)
+is_folded c h = record { octet = folded_short c h; lower = folded_twice c }
+
+-- octets of a message, each below 256
+folded_each : (octets : List ℕ) → ((k : ℕ) → get_or octets k 0 < 256) → AllByRecursion IsFoldedOctet (map folded_octet octets)
+folded_each [] each = tt
+folded_each (c ∷ octets) each = (is_folded c (each 0), folded_each octets (λ k. each (suc k)))
+
+drop_each : (n : ℕ) (octets : List ℕ) → ((k : ℕ) → get_or octets k 0 < 256) → (k : ℕ) → get_or (drop n octets) k 0 < 256
+drop_each n octets each k = rw get_or-drop (each (n + k))
+
+take_each : (n : ℕ) (octets : List ℕ) → ((k : ℕ) → get_or octets k 0 < 256) → (k : ℕ) → get_or (take n octets) k 0 < 256
+take_each zero octets each k = lit< tt
+take_each (suc n) [] each k = lit< tt
+take_each (suc n) (c ∷ octets) each zero = each 0
+take_each (suc n) (c ∷ octets) each (suc k) = take_each n octets (λ i. each (suc i)) k
+
+is_label : (message : List ℕ) (offset size : ℕ) → ((k : ℕ) → get_or message k 0 < 256) → 0 < size → size ≤ 63 → offset + size < length message → IsLabel (label_at message offset size)
+is_label message offset size each some short inside =
+    let len = octets_of-label message offset size inside in
+    record {
+      some = omega (arith, len);
+      short = omega (arith, len);
+      each = folded_each (take size (drop (offset + 1) message)) (take_each size (drop (offset + 1) message) (drop_each (offset + 1) message each));
+    }
+
+at_labels : {message : List ℕ} {offset bound : ℕ} {labels : List (List ℕ)} {end steps pointers : ℕ} → ((k : ℕ) → get_or message k 0 < 256) → At message offset bound labels end steps pointers → AllByRecursion IsLabel labels
+at_labels each (root offset bound inside first) = tt
+at_labels {message} each (label offset bound size labels end steps pointers first some short inside rest) = (is_label message offset size each some short inside, at_labels each rest)
+at_labels each (pointer offset bound target labels end steps pointers inside first leads past_header below rest) = at_labels each rest
+
+-- what is found is a name
+pub walk_names : (message : List ℕ) (offset : ℕ) (found : Found) → ((k : ℕ) → get_or message k 0 < 256) → outcome message (walk message offset) ≡ named found → IsNameAt message offset found
+unfolding walk outcome_by
+walk_names message offset found each e =
+    let finds = finds_by 256 message (outset offset) found (lit≤ tt) (lit≤ tt) e in
+    record { at = finds.at; name = record { each = at_labels each finds.at; short = omega (arith, finds.short, wire-octets found.labels) }; few = omega (arith, finds.few) }
+
+-- what is found is the walk's end and length
+abbrev pub Measures : Outcome → List Visit → Type 0
+Measures (named found) visits = (length visits ≡ found.steps) × (ending visits ≡ None)
+Measures (refused fault steps) visits = (length visits ≡ steps) × (ending visits ≡ Some fault)
+
+measures_label : (front : List ℕ) (rest : Outcome) (size : ℕ) (spot : Spot) (visits : List Visit) → Measures rest visits → Measures (behind_label front rest) (visit spot (Label size) ∷ visits)
+unfolding ending
+measures_label front (named found) size spot visits m = (ap suc m.0, m.1)
+measures_label front (refused fault steps) size spot visits m = (ap suc m.0, m.1)
+
+measures_pointer : (end : ℕ) (rest : Outcome) (target : ℕ) (spot : Spot) (visits : List Visit) → Measures rest visits → Measures (behind_pointer end rest) (visit spot (Pointer target) ∷ visits)
+unfolding ending
+measures_pointer end (named found) target spot visits m = (ap suc m.0, m.1)
+measures_pointer end (refused fault steps) target spot visits m = (ap suc m.0, m.1)
+
+measures_at : (message : List ℕ) (n : ℕ) (spot : Spot) (standing : Standing) → ((next : Spot) → Measures (outcome_by n message next) (walk_by n message next)) → Measures (outcome_at message n spot standing) (walk_on (walk_by n message) spot standing)
+unfolding ending
+measures_at message n spot Outside m = (refl, refl)
+measures_at message n spot Root m = (refl, refl)
+measures_at message n spot (Label size) m = measures_label _ (outcome_by n message (past_label spot size)) size spot (walk_by n message (past_label spot size)) (m (past_label spot size))
+measures_at message n spot (Pointer target) m = measures_pointer _ (outcome_by n message (past_pointer spot target)) target spot (walk_by n message (past_pointer spot target)) (m (past_pointer spot target))
+measures_at message n spot (Bad fault) m = (refl, refl)
+
+pub measures : (n : ℕ) (message : List ℕ) (spot : Spot) → Measures (outcome_by n message spot) (walk_by n message spot)
+unfolding walk_by outcome_by outcome ending
+measures zero message spot = (refl, refl)
+measures (suc n) message spot = subst (λ o. Measures o (walk_by (suc n) message spot)) (sym (outcome_step message n spot (place_of message spot) refl)) (measures_at message n spot (place_of message spot) (λ next. measures n message next))
+
+walk_on_length : (n : ℕ) (message : List ℕ) (spot : Spot) (standing : Standing) → ((next : Spot) → length (walk_by n message next) ≤ n) → length (walk_on (walk_by n message) spot standing) ≤ suc n
+walk_on_length n message spot Outside each = omega arith
+walk_on_length n message spot Root each = omega arith
+walk_on_length n message spot (Label size) each = omega (arith, each (past_label spot size))
+walk_on_length n message spot (Pointer target) each = omega (arith, each (past_pointer spot target))
+walk_on_length n message spot (Bad fault) each = omega arith
+
+walk_on_inside : (n : ℕ) (message : List ℕ) (spot : Spot) (standing : Standing) → Shows message spot standing → ((next : Spot) → AllByRecursion (λ v. v.offset < length message) (walk_by n message next)) → AllByRecursion (λ v. v.offset < length message) (walk_on (walk_by n message) spot standing)
+walk_on_inside n message spot Outside shows each = tt
+walk_on_inside n message spot Root shows each = (shows.0, tt)
+walk_on_inside n message spot (Label size) shows each = (omega (arith, shows.inside), each (past_label spot size))
+walk_on_inside n message spot (Pointer target) shows each = (omega (arith, shows.inside), each (past_pointer spot target))
+walk_on_inside n message spot (Bad fault) shows each = (shows, tt)
+
+walk_on_enough : (n m : ℕ) (message : List ℕ) (spot : Spot) (standing : Standing) → Shows message spot standing → spot.octets + 1 ≤ 255 → spot.pointers ≤ 128 → 512 ≤ spot.octets + 2 * spot.pointers + 2 * suc n → ((next : Spot) → next.octets + 1 ≤ 255 → next.pointers ≤ 128 → 512 ≤ next.octets + 2 * next.pointers + 2 * n → walk_by m message next ≡ walk_by n message next) → walk_on (walk_by m message) spot standing ≡ walk_on (walk_by n message) spot standing
+walk_on_enough n m message spot Outside shows short few enough each = refl
+walk_on_enough n m message spot Root shows short few enough each = refl
+walk_on_enough n m message spot (Label size) shows short few enough each = ap (λ rest. visit spot (Label size) ∷ rest) (each (past_label spot size) (omega (arith, shows.room)) few (omega (arith, shows.some)))
+walk_on_enough n m message spot (Pointer target) shows short few enough each = ap (λ rest. visit spot (Pointer target) ∷ rest) (each (past_pointer spot target) short (omega (arith, shows.few)) (omega arith))
+walk_on_enough n m message spot (Bad fault) shows short few enough each = refl
+
+-- n places or fewer
+pub walk_length : (n : ℕ) (message : List ℕ) (spot : Spot) → length (walk_by n message spot) ≤ n
+unfolding walk_by
+walk_length zero message spot = omega arith
+walk_length (suc n) message spot = walk_on_length n message spot (place_of message spot) (λ next. walk_length n message next)
+
+-- each place lies in the message
+pub walk_inside : (n : ℕ) (message : List ℕ) (spot : Spot) → AllByRecursion (λ v. v.offset < length message) (walk_by n message spot)
+unfolding walk_by
+walk_inside zero message spot = tt
+walk_inside (suc n) message spot = walk_on_inside n message spot (place_of message spot) (place_shows message spot) (λ next. walk_inside n message next)
+
+-- more places than are enough change nothing
+pub walk_enough : (n more : ℕ) (message : List ℕ) (spot : Spot) → spot.octets + 1 ≤ 255 → spot.pointers ≤ 128 → 512 ≤ spot.octets + 2 * spot.pointers + 2 * n → walk_by (n + more) message spot ≡ walk_by n message spot
+unfolding walk_by
+walk_enough zero more message spot short few enough = absurd (omega arith)
+walk_enough (suc n) more message spot short few enough =
+    let same : suc n + more ≡ suc (n + more) = omega arith in
+    ap (λ k. walk_by k message spot) same ∙ walk_on_enough n (n + more) message spot (place_of message spot) (place_shows message spot) short few enough (λ next. walk_enough n more message next)
+
+pub walk_ends : (n : ℕ) (message : List ℕ) (offset : ℕ) → walk_by (256 + n) message (outset offset) ≡ walk message offset
+unfolding walk
+walk_ends n message offset = walk_enough 256 n message (outset offset) (lit≤ tt) (lit≤ tt) (lit≤ tt)
+
+pub walk_is_short : (message : List ℕ) (offset : ℕ) → length (walk message offset) ≤ 256
+unfolding walk
+walk_is_short message offset = walk_length 256 message (outset offset)
+
+pub walk_lies_inside : (message : List ℕ) (offset : ℕ) → AllByRecursion (λ v. v.offset < length message) (walk message offset)
+unfolding walk
+walk_lies_inside message offset = walk_inside 256 message (outset offset)
+
+-- what is found is how the walk ends
+pub walk_measures : (message : List ℕ) (offset : ℕ) → Measures (outcome message (walk message offset)) (walk message offset)
+unfolding walk outcome_by
+walk_measures message offset = measures 256 message (outset offset)
+
+pub name_measures : (message : List ℕ) (offset : ℕ) (found : Found) → IsNameAt message offset found → (length (walk message offset) ≡ found.steps) × (ending (walk message offset) ≡ None)
+name_measures message offset found is = subst (λ (o : Outcome). Measures o (walk message offset)) (name_walks message offset found is) (walk_measures message offset)
+
+named_at_root : (message : List ℕ) (offset : ℕ) (o : Outcome) → outcome message (walk message offset) ≡ o → Measures o (walk message offset) → ((k : ℕ) → get_or message k 0 < 256) → ending (walk message offset) ≡ None → (found : Found) × IsNameAt message offset found
+named_at_root message offset (named found) e measured each ends = (found, walk_names message offset found each e)
+named_at_root message offset (refused fault steps) e measured each ends = cc
+
+pub walk_gives_name : (message : List ℕ) (offset : ℕ) → ((k : ℕ) → get_or message k 0 < 256) → ending (walk message offset) ≡ None → (found : Found) × IsNameAt message offset found
+walk_gives_name message offset each ends = named_at_root message offset (outcome message (walk message offset)) refl (walk_measures message offset) each ends

@@ -1,0 +1,11 @@
+use Rattle.std.proofs.Common.{refl}
+use Rattle.zone_wire.specs.Walk.{place_of, walk_by, walk, ending}
+use Rattle.zone_wire.proofs.examples.pointers_that_lead_nowhere.Goals as goal
+
+pub returns : goal.returns
+unfolding place_of walk_by walk ending
+returns c = record {
+  header = record { ends = refl; count = refl };
+  itself = record { ends = refl; count = refl };
+  own_run = record { ends = refl; count = refl };
+}

@@ -1,0 +1,5 @@
+use Rattle.zone_wire.proofs.Walking.{walk_is_short, walk_lies_inside, walk_ends}
+use Rattle.zone_wire.proofs.laws.a_walk_is_bounded.Goals as goal
+
+pub returns : goal.returns
+returns c = record { places = walk_is_short; inside = walk_lies_inside; whole = λ message offset more. walk_ends more message offset }

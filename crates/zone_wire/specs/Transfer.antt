@@ -1,0 +1,105 @@
+-- The records that a zone transfer states: a stream of messages, each behind its length (RFC 5936 2.2, 3; RFC 1035 4.2.2).
+use Rattle.std.specs.Prelude.{◌≡◌, ◌≢◌, ℕ, ◌+◌, ◌-◌, ◌/◌, ◌%◌, ◌≤◌, List, [], ◌∷◌, ◌++◌, length, take, drop, nat_lt, if◌then◌else◌, MatchOption, ⊤}
+use Rattle.std.specs.List.{flat_map, AllByRecursion}
+use Rattle.zone_rdata.specs.Field.{FieldValue, name, field_octets, octets_of, HoldEach}
+use Rattle.zone_rdata.specs.Layout.{layout}
+use Rattle.zone_rdata.specs.Record.{Record, IsRecord}
+use Rattle.zone_rdata.specs.declared.fault.Place.TheVariants.{Message}
+use Rattle.zone_rdata.specs.declared.layout.Field.{Field}
+use Rattle.zone_rdata.specs.declared.record.Placed.{Placed}
+use Rattle.zone_wire.specs.Message.{QuestionAt, RecordAt, Sections, IsMessage}
+use Rattle.zone_wire.specs.Name.{Found, IsNameAt}
+
+abbrev pub part : List ℕ → ℕ → ℕ → List ℕ
+part octets start end = take (end - start) (drop start octets)
+
+-- The value of a field stands from one offset to another: a name as names stand in messages, every other value by its
+-- octets (RFC 1035 3.3).
+abbrev pub StandsAt : List ℕ → ℕ → ℕ → FieldValue → Type 0
+StandsAt octets start end (name labels) = (found : Found) × IsNameAt octets start found × (found.labels ≡ labels) × (found.end ≡ end)
+StandsAt octets start end value = (start ≤ end) × (part octets start end ≡ field_octets value)
+
+-- values stand one after another from one offset to another
+abbrev pub StandEach : List ℕ → ℕ → ℕ → List FieldValue → Type 0
+StandEach octets start end [] = start ≡ end
+StandEach octets start end (v ∷ values) = (next : ℕ) × (next ≤ end) × StandsAt octets start next v × StandEach octets next end values
+
+-- the canonical octets of the values that stand there for the fields of a layout
+pub record AreFieldsAt (octets : List ℕ) (start end : ℕ) (fields : List Field) (canonical : List ℕ) : Type 0 where
+  pub values : List FieldValue
+  pub held : HoldEach fields values
+  pub stand : StandEach octets start end values
+  pub whole : canonical ≡ octets_of values
+
+-- the canonical octets of a record's data: of the values of its layout, or the octets as they are where there is none (RFC 3597 4)
+abbrev pub IsDataAt : List ℕ → RecordAt → List ℕ → Type 0
+IsDataAt octets a canonical = MatchOption (layout a.class a.kind) (canonical ≡ part octets a.start a.end) (λ fields. AreFieldsAt octets a.start a.end fields canonical)
+
+-- a TTL with its top bit set counts as 0 (RFC 2181 8)
+abbrev pub ttl_of : ℕ → ℕ
+ttl_of n = if nat_lt 2147483647 n then 0 else n
+
+-- the types that may hold compressed names and aren't read: MD, MF, MB, MG, MR, MINFO, RP, AFSDB, RT, SIG, PX, NXT
+-- (RFC 1035 3.3, RFC 3597 4)
+abbrev pub compressible : List ℕ
+compressible = 3 ∷ 4 ∷ 7 ∷ 8 ∷ 9 ∷ 14 ∷ 17 ∷ 18 ∷ 21 ∷ 24 ∷ 26 ∷ 30 ∷ []
+
+-- an answer of a message states a record
+pub record StatesRecord (octets : List ℕ) (a : RecordAt) (r : Record) : Type 0 where
+  pub owner : r.owner ≡ a.owner
+  pub class : r.class ≡ a.class
+  pub kind : r.kind ≡ a.kind
+  pub ttl : r.ttl ≡ ttl_of a.ttl
+  pub rdata : IsDataAt octets a r.octets
+  pub fits : IsRecord r
+  pub readable : AllByRecursion (λ kind. a.kind ≢ kind) compressible
+
+-- each answer of the message of this number states its record, which stands at the answer's offset
+abbrev pub StateEach : ℕ → List ℕ → List RecordAt → List Placed → Type 0
+StateEach number octets [] [] = ⊤
+StateEach number octets (a ∷ answers) (p ∷ placed) = StatesRecord octets a p.rr × (p.place ≡ Message number a.offset) × StateEach number octets answers placed
+StateEach number octets answers placed = ⊥
+
+-- a message of a stream, what stands in it, and the records that its answers state
+pub record Part : Type 0 where
+  pub octets : List ℕ
+  pub sections : Sections
+  pub placed : List Placed
+
+-- a question for the whole zone: of type AXFR, 252, and of the zone's name and class
+pub record AsksFor (zone : Record) (q : QuestionAt) : Type 0 where
+  pub name : q.name ≡ zone.owner
+  pub kind : q.kind ≡ 252
+  pub class : q.class ≡ zone.class
+
+-- a message of the transfer, by its number in the stream
+pub record IsPart (id : ℕ) (zone : Record) (number : ℕ) (p : Part) : Type 0 where
+  pub short : length p.octets ≤ 65535
+  pub message : IsMessage p.octets p.sections
+  pub same_id : p.sections.id ≡ id
+  pub questions : AllByRecursion (AsksFor zone) p.sections.questions
+  pub answers : StateEach number p.octets p.sections.answers p.placed
+
+abbrev pub AreParts : ℕ → Record → ℕ → List Part → Type 0
+AreParts id zone number [] = ⊤
+AreParts id zone number (p ∷ parts) = IsPart id zone number p × AreParts id zone (number + 1) parts
+
+-- a message as it stands in a stream, behind its length in two octets
+abbrev pub frame : List ℕ → List ℕ
+frame octets = (length octets / 256) ∷ (length octets % 256) ∷ octets
+
+-- The stream states the records: messages with one ID, whose answers are an SOA, records that are none, and that SOA again.
+-- The closing SOA isn't handed on.
+pub record StreamStates (stream : List ℕ) (placed : List Placed) : Type 0 where
+  pub parts : List Part
+  pub framed : stream ≡ flat_map (λ p. frame p.octets) parts
+  pub id : ℕ
+  pub opening : Placed
+  pub others : List Placed
+  pub closing : Placed
+  pub each : AreParts id opening.rr 1 parts
+  pub answers : flat_map (λ p. p.placed) parts ≡ opening ∷ (others ++ closing ∷ [])
+  pub soa : opening.rr.kind ≡ 6
+  pub no_soa : AllByRecursion (λ p. p.rr.kind ≢ 6) others
+  pub same : closing.rr ≡ opening.rr
+  pub stated : placed ≡ opening ∷ others

@@ -1,0 +1,82 @@
+-- The walk along a name in a message, place by place, to its root or its first fault (RFC 1035 3.1, 4.1.4).
+use Rattle.std.specs.Prelude.{ℕ, zero, suc, ◌+◌, List, [], ◌∷◌, length, slice_index, nat_le, nat_lt, nat_eq, ◌||◌, if◌then◌else◌, Option, Some, None}
+use Rattle.zone_wire.specs.Name.{target_at}
+use Rattle.zone_wire.specs.declared.fault.WireFault.{WireFault}
+use Rattle.zone_wire.specs.declared.fault.WireFault.TheVariants.{ShortMessage, NameTooLong, ReservedLabel, BadPointer, TooManyPointers}
+use Rattle.zone_wire.specs.declared.place.Spot.{Spot}
+use Rattle.zone_wire.specs.declared.place.Standing.{Standing}
+use Rattle.zone_wire.specs.declared.place.Standing.TheVariants.{Outside, Root, Label, Pointer, Bad}
+
+-- where the walk of the name at an offset begins
+abbrev pub outset : ℕ → Spot
+outset offset = record { offset = offset; bound = offset; pointers = 0; octets = 0 }
+
+-- a label: its octets lie in the message, and with it and the root the name has at most 255 octets
+abbrev pub label_of : List ℕ → Spot → ℕ → Standing
+label_of message spot size =
+    if nat_le (length message) (spot.offset + size) then Bad ShortMessage
+    else if nat_lt 255 (spot.octets + size + 2) then Bad NameTooLong
+    else Label size
+
+-- a pointer: its two octets lie in the message, its target is past the header and below the bound, and it is at most the 128th
+abbrev pub pointer_of : List ℕ → Spot → ℕ → Standing
+pointer_of message spot target =
+    if nat_le (length message) (spot.offset + 1) then Bad ShortMessage
+    else if nat_lt target 12 || nat_le spot.bound target then Bad BadPointer
+    else if nat_le 128 spot.pointers then Bad TooManyPointers
+    else Pointer target
+
+-- what stands at a place, by its first octet
+unfoldable pub place_of : List ℕ → Spot → Standing
+place_of message spot =
+    let first : ℕ = slice_index message spot.offset in
+    if nat_le (length message) spot.offset then Outside
+    else if nat_eq first 0 then Root
+    else if nat_le first 63 then label_of message spot first
+    else if nat_lt first 192 then Bad ReservedLabel
+    else pointer_of message spot (target_at message spot.offset)
+
+abbrev pub past_label : Spot → ℕ → Spot
+past_label spot size = record spot { offset = spot.offset + 1 + size; octets = spot.octets + 1 + size }
+
+abbrev pub past_pointer : Spot → ℕ → Spot
+past_pointer spot target = record spot { offset = target; bound = target; pointers = spot.pointers + 1 }
+
+-- a place of a walk, and what stands there
+pub record Visit : Type 0 where
+  pub offset : ℕ
+  pub standing : Standing
+
+abbrev pub visit : Spot → Standing → Visit
+visit spot standing = record { offset = spot.offset; standing = standing }
+
+-- a walk from a place that lies in the message, where `rest` walks on
+abbrev pub walk_on : (Spot → List Visit) → Spot → Standing → List Visit
+walk_on rest spot Outside = []
+walk_on rest spot Root = visit spot Root ∷ []
+walk_on rest spot (Label size) = visit spot (Label size) ∷ rest (past_label spot size)
+walk_on rest spot (Pointer target) = visit spot (Pointer target) ∷ rest (past_pointer spot target)
+walk_on rest spot (Bad fault) = visit spot (Bad fault) ∷ []
+
+-- a look at a place that lies in the message counts as one step
+abbrev pub ticks_at : Standing → ℕ
+ticks_at Outside = 0
+ticks_at Root = 1
+ticks_at (Label size) = 1
+ticks_at (Pointer target) = 1
+ticks_at (Bad fault) = 1
+
+-- n places at the most
+unfoldable pub walk_by : ℕ → List ℕ → Spot → List Visit
+walk_by zero message spot = []
+walk_by (suc n) message spot = walk_on (walk_by n message) spot (place_of message spot)
+
+-- The places of the name at an offset. 256 are enough for each walk: 127 labels, 128 pointers and the last place.
+unfoldable pub walk : List ℕ → ℕ → List Visit
+walk message offset = walk_by 256 message (outset offset)
+
+-- The fault with which a walk ends, none where it ends at the root. One that ends at no fault and no root ends before a
+-- place outside the message.
+unfoldable pub ending : List Visit → Option WireFault
+ending [] = Some ShortMessage
+ending (last ∷ visits) = elim last.standing [ Outside ↦ Some ShortMessage | Root ↦ None | Label size ↦ ending visits | Pointer target ↦ ending visits | Bad fault ↦ Some fault ]

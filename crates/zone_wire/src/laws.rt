@@ -1,0 +1,50 @@
+//! Laws over the definitions alone.
+ghost use Rattle.std.specs.Prelude.{◌≡◌, ◌+◌, ◌≤◌, ◌<◌, ℕ, List, length, slice_index, None};
+ghost use Rattle.std.specs.List.{AllByRecursion};
+ghost use Rattle.zone_wire.specs.Message.{Sections, IsMessage};
+ghost use Rattle.zone_wire.specs.Name.{Found, IsNameAt};
+ghost use Rattle.zone_wire.specs.Transfer.{StreamStates};
+ghost use Rattle.zone_rdata.specs.declared.record.Placed.{Placed};
+ghost use Rattle.zone_wire.specs.Walk.{walk, walk_by, outset, ending};
+
+/// At most one name stands at an offset of a message.
+pub fn one_name_at_an_offset()
+    ensures { (message : List ℕ) (offset : ℕ) (found other : Found) → IsNameAt message offset found → IsNameAt message offset other → found ≡ other }
+{}
+
+/// A name in a message has at most 127 labels, 128 pointers and 256 steps, and ends in the message.
+pub fn a_name_is_bounded()
+    ensures labels { (message : List ℕ) (offset : ℕ) (found : Found) → IsNameAt message offset found → length found.labels ≤ 127 }
+    ensures pointers { (message : List ℕ) (offset : ℕ) (found : Found) → IsNameAt message offset found → found.pointers ≤ 128 }
+    ensures steps { (message : List ℕ) (offset : ℕ) (found : Found) → IsNameAt message offset found → found.steps ≤ 256 }
+    ensures start { (message : List ℕ) (offset : ℕ) (found : Found) → IsNameAt message offset found → offset < found.end }
+    ensures end { (message : List ℕ) (offset : ℕ) (found : Found) → IsNameAt message offset found → found.end ≤ length message }
+{}
+
+/// A walk has at most 256 places, all of them in the message, and a greater bound gives no other walk.
+pub fn a_walk_is_bounded()
+    ensures places { (message : List ℕ) (offset : ℕ) → length (walk message offset) ≤ 256 }
+    ensures inside { (message : List ℕ) (offset : ℕ) → AllByRecursion (λ visit. visit.offset < length message) (walk message offset) }
+    ensures whole { (message : List ℕ) (offset more : ℕ) → walk_by (256 + more) message (outset offset) ≡ walk message offset }
+{}
+
+/// The walk of a name ends at the root, after as many places as the name has steps.
+pub fn a_name_is_walked()
+    ensures ending { (message : List ℕ) (offset : ℕ) (found : Found) → IsNameAt message offset found → ending (walk message offset) ≡ None }
+    ensures steps { (message : List ℕ) (offset : ℕ) (found : Found) → IsNameAt message offset found → length (walk message offset) ≡ found.steps }
+{}
+
+/// Where the walk ends at the root, a name stands.
+pub fn a_walk_to_the_root_is_a_name()
+    ensures { (message : List ℕ) (offset : ℕ) → ((i : ℕ) → slice_index message i < 256) → ending (walk message offset) ≡ None → (found : Found) × IsNameAt message offset found }
+{}
+
+/// Octets are a message in at most one way.
+pub fn one_message_of_octets()
+    ensures { (octets : List ℕ) (sections other : Sections) → IsMessage octets sections → IsMessage octets other → sections ≡ other }
+{}
+
+/// A stream states at most one list of records.
+pub fn one_list_of_a_stream()
+    ensures { (stream : List ℕ) (placed other : List Placed) → StreamStates stream placed → StreamStates stream other → placed ≡ other }
+{}

@@ -1,0 +1,12 @@
+//! Names and records in messages, and zone transfers (RFC 1035 4.1, RFC 5936).
+#![tactic(auto)]
+
+pub mod examples;
+mod fault;
+pub mod laws;
+mod name;
+mod place;
+mod ticks;
+
+pub use fault::WireFault;
+pub use name::{Decoded, name_at};

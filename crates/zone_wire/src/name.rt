@@ -1,0 +1,69 @@
+ghost use Rattle.std.specs.Prelude.{◌≡◌, ◌<◌, ◌≤◌, ℕ, length, IfOk, IfErr, IsOk, MatchResult, Some};
+ghost use Rattle.zone_wire.specs.Name.{Found, IsNameAt, found_by};
+ghost use Rattle.zone_wire.specs.Reading.{Says, outcome};
+ghost use Rattle.zone_wire.specs.Walk.{walk, ending};
+
+use crate::fault::WireFault;
+use crate::place::{Spot, Standing, place_at};
+use crate::ticks::Ticks;
+use zone_name::{Name, NameBuilder};
+
+/// A name that was read from a message.
+#[derive(Debug, Drop)]
+pub struct Decoded {
+    pub name: Name,
+    /// The offset after the root's octet or after the first pointer.
+    pub end: usize,
+    /// How many labels and pointers led to the root, and the root.
+    pub steps: u16,
+}
+
+/// The name at an offset of a message (RFC 1035 3.1, 4.1.4).
+///
+/// # Errors
+///
+/// The fault at the first place of the name that has one, and how many places were looked at.
+pub fn name_at(message: &[u8], offset: usize) -> Result<Decoded, (WireFault, u16)>
+    ensures found { IfOk result (λ d. (pointers : ℕ) × IsNameAt message.now offset (found_by d pointers)) }
+    ensures only { (found : Found) → IsNameAt message.now offset found → IsOk result }
+    ensures within { IfOk result (λ d. (offset < d.end) × (d.end ≤ length message.now)) }
+    ensures fault { IfErr result (λ e. ending (walk message.now offset) ≡ Some e.0) }
+    ensures places { IfErr result (λ e. e.1 ≡ length (walk message.now offset)) }
+    ensures few { MatchResult result (λ d. d.steps ≤ 256) (λ e. e.1 ≤ 256) }
+{
+    walked(message, offset)
+}
+
+/// What the walk of the name at an offset finds.
+fn walked(message: &[u8], offset: usize) -> Result<Decoded, (WireFault, u16)>
+    ensures { Says result (outcome message.now (walk message.now offset)) }
+{
+    let mut ticks = Ticks::new();
+    let mut labels = NameBuilder::new();
+    let mut end = None;
+    let mut spot = Spot::outset(offset);
+    'places: loop {
+        match place_at(message, spot, &mut ticks) {
+            Standing::Outside => return Err((WireFault::ShortMessage, ticks.count())),
+            Standing::Bad(fault) => return Err((fault, ticks.count())),
+            Standing::Root => {
+                return Ok(Decoded {
+                    name: labels.finish(),
+                    end: end.unwrap_or(spot.offset + 1),
+                    steps: ticks.count(),
+                });
+            }
+            Standing::Label(size) => {
+                let start = spot.offset + 1;
+                match labels.push_label(&message[start..start + size]) {
+                    Ok(()) => spot = spot.past_label(size),
+                    Err(_) => unreachable!(),
+                }
+            }
+            Standing::Pointer(target) => {
+                end = Some(end.unwrap_or(spot.offset + 2));
+                spot = spot.past_pointer(target);
+            }
+        }
+    }
+}

@@ -1,0 +1,127 @@
+ghost use Rattle.std.specs.Prelude.{◌≡◌, ◌+◌, ◌^◌, ◌<◌, ◌≤◌, length, slice_index};
+ghost use Rattle.zone_wire.specs.Name.{target_at};
+ghost use Rattle.zone_wire.specs.Walk.{place_of, label_of, pointer_of, outset, past_label, past_pointer, ticks_at};
+
+use crate::fault::WireFault;
+use crate::ticks::Ticks;
+
+/// Where the walk along a name stands, and what it met before.
+#[derive(Clone, Copy, Debug)]
+pub(crate) struct Spot {
+    pub(crate) offset: usize,
+    /// The offset at which the run of labels began that stands here.
+    pub(crate) bound: usize,
+    pub(crate) pointers: usize,
+    /// The octets of the labels that were met, each with its length.
+    pub(crate) octets: usize,
+}
+
+/// What stands at one place of a name.
+#[derive(Clone, Copy, Debug)]
+pub(crate) enum Standing {
+    /// No octet of the message.
+    Outside,
+    Root,
+    /// A label, and how many octets it has.
+    Label(usize),
+    /// A pointer, and where it leads.
+    Pointer(usize),
+    Bad(WireFault),
+}
+
+/// What stands at a place, by its first octet. Where there is one, it ticks before it looks at it.
+#[tactic(auto, unfolding(crate::specs::Walk::place_of))]
+pub(crate) fn place_at(message: &[u8], spot: Spot, ticks: &mut Ticks) -> Standing
+    requires octets { spot.octets < 256 }
+    requires ticks { ticks.old < 256 }
+    ensures place { result ≡ place_of message.now spot }
+    ensures ticks { ticks.new ≡ ticks.old + ticks_at result }
+{
+    if spot.offset >= message.len() {
+        return Standing::Outside;
+    }
+    ticks.tick();
+    let first = message[spot.offset];
+    match first {
+        0 => Standing::Root,
+        1..=63 => label_at(message, spot, first as usize),
+        64..=191 => Standing::Bad(WireFault::ReservedLabel),
+        _ => pointer_at(message, spot),
+    }
+}
+
+/// A label of this many octets.
+fn label_at(message: &[u8], spot: Spot, size: usize) -> Standing
+    requires here { spot.offset < length message.now }
+    requires octets { spot.octets < 256 }
+    requires size { size < 256 }
+    ensures { result ≡ label_of message.now spot size }
+{
+    if size >= message.len() - spot.offset {
+        Standing::Bad(WireFault::ShortMessage)
+    } else if spot.octets + size + 2 > 255 {
+        Standing::Bad(WireFault::NameTooLong)
+    } else {
+        Standing::Label(size)
+    }
+}
+
+/// A pointer, whose first octet is 192 or more.
+fn pointer_at(message: &[u8], spot: Spot) -> Standing
+    requires here { spot.offset < length message.now }
+    requires first { 192 ≤ slice_index message.now spot.offset }
+    ensures { result ≡ pointer_of message.now spot (target_at message.now spot.offset) }
+{
+    if message.len() - spot.offset < 2 {
+        return Standing::Bad(WireFault::ShortMessage);
+    }
+    let high = message[spot.offset] as usize - 192;
+    let target = high * 256 + message[spot.offset + 1] as usize;
+    if target < 12 || target >= spot.bound {
+        Standing::Bad(WireFault::BadPointer)
+    } else if spot.pointers >= 128 {
+        Standing::Bad(WireFault::TooManyPointers)
+    } else {
+        Standing::Pointer(target)
+    }
+}
+
+impl Spot {
+    /// Where the walk of the name at an offset begins.
+    pub(crate) fn outset(offset: usize) -> Spot
+        ensures { result ≡ outset offset }
+    {
+        Spot {
+            offset,
+            bound: offset,
+            pointers: 0,
+            octets: 0,
+        }
+    }
+
+    /// Behind a label of this many octets.
+    pub(crate) fn past_label(self, size: usize) -> Spot
+        requires offset { self.offset + 1 + size < 2 ^ 64 }
+        requires octets { self.octets + 1 + size < 256 }
+        ensures { result ≡ past_label self size }
+    {
+        Spot {
+            offset: self.offset + 1 + size,
+            octets: self.octets + 1 + size,
+            ..self
+        }
+    }
+
+    /// Where a pointer leads.
+    pub(crate) fn past_pointer(self, target: usize) -> Spot
+        requires { self.pointers < 128 }
+        ensures { result ≡ past_pointer self target }
+    {
+        Spot {
+            offset: target,
+            bound: target,
+            pointers: self.pointers + 1,
+            ..self
+        }
+    }
+}
