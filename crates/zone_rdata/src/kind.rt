@@ -1,5 +1,6 @@
 ghost use Rattle.std.specs.Prelude.{length, ◌≡◌, ◌↔◌, ◌++◌, ◌<◌, ℕ, IsTrue, IfSome, IfNone, IfOk, IfErr, OnOk, OnErr, Option, Some, None, option_copied, ◌≤◌, min};
-ghost use Rattle.zone_rdata.specs.Words.{IsKind, IsKindWord, IsMnemonic, kind_mnemonic, kind_text, is_meta, IsWordFault};
+ghost use Rattle.zone_rdata.specs.Words.{laid_out_mnemonic, IsKind, IsKindWord, IsMnemonic, kind_mnemonic, kind_text, is_meta, IsWordFault};
+ghost use Rattle.zone_rdata.specs.Layout.{layout};
 
 use crate::class::Class;
 use crate::fault::Fault;
@@ -131,13 +132,19 @@ impl Kind {
         self.number == 6
     }
 
+    /// The mnemonic, where the type has a layout in the class.
+    fn printed_mnemonic(self, class: Class) -> Option<&'static [u8]>
+        ensures { option_copied result ≡ laid_out_mnemonic (layout class self) self }
+    {
+        layout_of(class, self).and_then(|_| mnemonic(self.number))
+    }
+
     /// The octets of the word that is printed in the class.
     pub fn word_len(self, class: Class) -> usize
         ensures value { result ≡ length (kind_text class self) }
         ensures short { result ≤ 45 }
     {
-        let named = layout_of(class, self).and_then(|_| mnemonic(self.number));
-        match named {
+        match self.printed_mnemonic(class) {
             Some(word) => word.len(),
             None => 4 + decimal_len(u64::from(self.number)),
         }
@@ -148,8 +155,7 @@ impl Kind {
         ensures ok { OnOk result (out.new.items ≡ out.old.items ++ kind_text class self) }
         ensures err { OnErr result (out.new.items ≡ out.old.items) }
     {
-        let named = layout_of(class, self).and_then(|_| mnemonic(self.number));
-        match named {
+        match self.printed_mnemonic(class) {
             Some(word) => out.extend_from_slice(word),
             None => push_numbered(b"TYPE", self.number, out),
         }
