@@ -32,9 +32,8 @@ impl NameBuilder {
     pub fn new() -> NameBuilder
         ensures { result ≡ [] }
     {
-        NameBuilder {
-            octets: ArrayVec::new(),
-        }
+        let octets = ArrayVec::new();
+        NameBuilder { octets }
     }
 
     /// Puts a label, with its letters in lower case (RFC 4343 3), behind those that were pushed before.
