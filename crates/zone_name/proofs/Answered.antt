@@ -1,10 +1,9 @@
 -- The name that a text spells under an origin, or its first fault, as an answer on lists.
-use Rattle.std.proofs.Common.{◌≡◌, ◌≢◌, ℕ, ◌<◌, ◌≤◌, Bool, true, false, nat_eq, nat_le, if◌then◌else◌, List, [], ◌∷◌, ◌++◌, length, codes, Result, Ok, Err, Option, Some, None, IfOk, IfErr, IfSome, ◌⊎◌, inl, inr, refl, sym, ap, ◌∙◌, subst, arith}
+use Rattle.std.proofs.Common.{◌≡◌, ◌≢◌, ℕ, ◌<◌, ◌≤◌, Bool, true, false, nat_eq, nat_le, if◌then◌else◌, List, [], ◌∷◌, ◌++◌, length, get_or, codes, Result, Ok, Err, Option, Some, None, IfOk, IfErr, IfSome, ◌⊎◌, inl, inr, refl, sym, ap, ◌∙◌, subst, arith}
 use Rattle.std.specs.List.{AllByRecursion}
 use Rattle.std.specs.Cmp.Lexicographic.{pointwise, bytes_decides}
 use Rattle.std.proofs.lemmas.List.{length-map}
-use Rattle.std.proofs.lemmas.Bool.{false≢true}
-use Rattle.std.proofs.lemmas.Bool.Decides.{nat_tests}
+use Rattle.std.proofs.lemmas.Bool.{false≢true, leb-true, leb-false}
 use Rattle.zone_name.specs.Name.{folded_label, folded_octet, wire, IsLabel, IsName}
 use Rattle.zone_name.specs.Spelling.{Written, plain, escaped, decimal, text_of, octet_of, IsWritten, IsWrittenLabel, AreWrittenLabels, written_text, written_octets, dotted, parted, named, Writes, root, at_origin, absolute, relative, Spells, FaultAt, empty_label, long_label, bad_escape, IsRelative, FirstFault, within, unfounded, long_name}
 use Rattle.zone_name.specs.declared.fault.NameFault.{NameFault}
@@ -15,7 +14,7 @@ use Rattle.zone_name.specs.Reading.{reading, sized, under}
 use Rattle.zone_name.specs.Seen.{HasForm}
 use Rattle.zone_name.proofs.Spelled.{AreShort, Says, reading-says}
 use Rattle.zone_name.proofs.Only.{reading-dotted, reading-parted, reading-fault}
-use Rattle.zone_name.proofs.Pushing.{AllByRecursion-append, IsLabel-folded, sized-name}
+use Rattle.zone_name.proofs.Pushing.{AllByRecursion-append, AllByRecursion-front, AllByRecursion-back, IsLabel-folded, sized-name, sized-long}
 
 -- labels of at most 63 octets
 abbrev ShortLabels : List (List ℕ) → Type 0
@@ -53,14 +52,6 @@ short_written : (written : List (List Written)) → ShortLabels (named written) 
 short_written [] each = tt
 short_written (label ∷ written) each = (subst (λ n. n ≤ 63) (length_label label) each.0, short_written written each.1)
 
-front_each : {X : Type 0} (P : X → Type 0) (xs ys : List X) → AllByRecursion P (xs ++ ys) → AllByRecursion P xs
-front_each P [] ys each = tt
-front_each P (x ∷ xs) ys each = (each.0, front_each P xs ys each.1)
-
-back_each : {X : Type 0} (P : X → Type 0) (xs ys : List X) → AllByRecursion P (xs ++ ys) → AllByRecursion P ys
-back_each P [] ys each = each
-back_each P (x ∷ xs) ys each = back_each P xs ys each.1
-
 -- ---- what is so is answered
 absolute_reads : (text : List ℕ) (written : List (List Written)) (labels : List (List ℕ)) → AreWrittenLabels written → text ≡ dotted written → labels ≡ named written → ShortLabels labels → reading text ≡ Ok (labels, true)
 absolute_reads text written labels are text_is is short =
@@ -68,7 +59,7 @@ absolute_reads text written labels are text_is is short =
 
 relative_reads : (text : List ℕ) (written : List (List Written)) (above labels : List (List ℕ)) → AreWrittenLabels written → text ≡ parted written → labels ≡ named written ++ above → ShortLabels labels → reading text ≡ Ok (named written, false)
 relative_reads text written above labels are text_is is short =
-    ap reading text_is ∙ reading-parted written are (short_written written (front_each (λ label. length label ≤ 63) (named written) above (subst ShortLabels is short)))
+    ap reading text_is ∙ reading-parted written are (short_written written (AllByRecursion-front (λ label. length label ≤ 63) (named written) above (subst ShortLabels is short)))
 
 reading_dot : reading (codes ".") ≡ Err EmptyLabel
 unfolding reading
@@ -89,12 +80,8 @@ part_not_whole : (found : Result (List (List ℕ) × Bool) NameFault) (left righ
 unfolding whole_of
 part_not_whole found left right e f = false≢true (sym (ap whole_of e) ∙ ap whole_of f)
 
-abbrev head_of : List ℕ → ℕ
-head_of [] = 0
-head_of (c ∷ rest) = c
-
 marks_differ : codes "." ≡ codes "@" → ⊥
-marks_differ e = false≢true (sym (ap (λ t. nat_eq (head_of t) 46) e))
+marks_differ e = false≢true (sym (ap (λ t. nat_eq (get_or t 0 0) 46) e))
 
 -- a text that writes labels is answered by them, where they fit
 writes_answered : (origin : Option (List (List ℕ))) (text : List ℕ) (labels : List (List ℕ)) (form : Form) → HasForm text form → Writes origin text labels → ShortLabels labels → answered origin text form ≡ sized labels
@@ -125,12 +112,6 @@ answered-origin origin text above is known =
     let found : IsName above = subst (λ t. IfSome t IsName) is known in
     ap (λ t. answered t text Origin) is ∙ sized-name above found.short
 
-sized_long : (labels : List (List ℕ)) → 255 < length (wire labels) → sized labels ≡ Err NameTooLong
-sized_long labels long = ap (λ (b : Bool). if b then Ok labels else Err NameTooLong) (not_le (length (wire labels)) 255 long)
-  where
-    not_le : (m n : ℕ) → n < m → nat_le m n ≡ false
-    not_le m n h = grind (arith, nat_tests)
-
 -- a dot alone has no fault
 faultless_dot : (text : List ℕ) (fault : NameFault) → text ≡ codes "." → FaultAt text fault → reading text ≡ Err fault → ⊥
 faultless_dot text fault dot (empty_label before rest r ends first other) e = other dot
@@ -152,7 +133,7 @@ relative_answered text Labels other is = ap (under None) (ap reading is.3 ∙ re
 pub answered-fault : (origin : Option (List (List ℕ))) (text : List ℕ) (form : Form) (fault : NameFault) → HasForm text form → FirstFault origin text fault → answered origin text form ≡ Err fault
 answered-fault origin text form fault has (within f at) = within_answered origin text form f has at
 answered-fault origin text form fault has (unfounded none is) = ap (λ t. answered t text form) none ∙ relative_answered text form has is
-answered-fault origin text form fault has (long_name labels writes short long) = writes_answered origin text labels form has writes short ∙ sized_long labels long
+answered-fault origin text form fault has (long_name labels writes short long) = writes_answered origin text labels form has writes short ∙ sized-long labels long
 
 -- ---- what is answered is so
 sized_ok : (labels name : List (List ℕ)) (fits : Bool) → Ok name ≡ (if fits then Ok labels else Err NameTooLong) → name ≡ labels
@@ -161,10 +142,7 @@ sized_ok labels name false e = absurd (cc)
 
 sized_err : (labels : List (List ℕ)) (fault : NameFault) (fits : Bool) → nat_le (length (wire labels)) 255 ≡ fits → Err fault ≡ (if fits then Ok labels else Err NameTooLong) → (NameTooLong ≡ fault) × (255 < length (wire labels))
 sized_err labels fault true test e = absurd (cc)
-sized_err labels fault false test e = (cc, above (length (wire labels)) test)
-  where
-    above : (m : ℕ) → nat_le m 255 ≡ false → 255 < m
-    above m h = grind (arith, nat_tests)
+sized_err labels fault false test e = (cc, leb-false (length (wire labels)) 255 test)
 
 found_by : (origin : Option (List (List ℕ))) (text : List ℕ) (found : Result (List (List ℕ) × Bool) NameFault) (name : List (List ℕ)) → text ≢ codes "@" → Says text found → Ok name ≡ under origin found → IsName name → Writes origin text name
 found_by origin text (Err fault) name other says e is = absurd (cc)
@@ -215,7 +193,7 @@ octet_short (decimal x y z) is each = omega (arith, is.3)
 octets_short : (label : List Written) → AllByRecursion IsWritten label → AreOctets (written_text label) → AreOctets (written_octets label)
 octets_short [] is each = tt
 octets_short (w ∷ label) is each =
-    (octet_short w is.0 (front_each (λ c. c < 256) (text_of w) (written_text label) each), octets_short label is.1 (back_each (λ c. c < 256) (text_of w) (written_text label) each))
+    (octet_short w is.0 (AllByRecursion-front (λ c. c < 256) (text_of w) (written_text label) each), octets_short label is.1 (AllByRecursion-back (λ c. c < 256) (text_of w) (written_text label) each))
 
 label_is : (label : List Written) → IsWrittenLabel label → length label ≤ 63 → AreOctets (written_text label) → IsLabel (folded_label (written_octets label))
 label_is label is short each =
@@ -224,15 +202,15 @@ label_is label is short each =
 dotted_are : (written : List (List Written)) → AllByRecursion IsWrittenLabel written → AreShort written → AreOctets (dotted written) → AllByRecursion IsLabel (named written)
 dotted_are [] is short each = tt
 dotted_are (label ∷ written) is short each =
-    let first = front_each (λ c. c < 256) (written_text label ++ 46 ∷ []) (dotted written) each in
-    let rest = back_each (λ c. c < 256) (written_text label ++ 46 ∷ []) (dotted written) each in
-    (label_is label is.0 short.0 (front_each (λ c. c < 256) (written_text label) (46 ∷ []) first), dotted_are written is.1 short.1 rest)
+    let first = AllByRecursion-front (λ c. c < 256) (written_text label ++ 46 ∷ []) (dotted written) each in
+    let rest = AllByRecursion-back (λ c. c < 256) (written_text label ++ 46 ∷ []) (dotted written) each in
+    (label_is label is.0 short.0 (AllByRecursion-front (λ c. c < 256) (written_text label) (46 ∷ []) first), dotted_are written is.1 short.1 rest)
 
 parted_are : (written : List (List Written)) (label : List Written) → AllByRecursion IsWrittenLabel (label ∷ written) → AreShort (label ∷ written) → AreOctets (parted (label ∷ written)) → AllByRecursion IsLabel (named (label ∷ written))
 parted_are [] label is short each = (label_is label is.0 short.0 each, tt)
 parted_are (next ∷ written) label is short each =
-    let rest = back_each (λ c. c < 256) (written_text label) (46 ∷ parted (next ∷ written)) each in
-    (label_is label is.0 short.0 (front_each (λ c. c < 256) (written_text label) (46 ∷ parted (next ∷ written)) each), parted_are written next is.1 short.1 rest.1)
+    let rest = AllByRecursion-back (λ c. c < 256) (written_text label) (46 ∷ parted (next ∷ written)) each in
+    (label_is label is.0 short.0 (AllByRecursion-front (λ c. c < 256) (written_text label) (46 ∷ parted (next ∷ written)) each), parted_are written next is.1 short.1 rest.1)
 
 relative_are : (written : List (List Written)) → AllByRecursion IsWrittenLabel written → AreShort written → AreOctets (parted written) → AllByRecursion IsLabel (named written)
 relative_are [] is short each = tt
@@ -241,11 +219,8 @@ relative_are (label ∷ written) is short each = parted_are written label is sho
 sized_is : (labels : List (List ℕ)) → AllByRecursion IsLabel labels → IfOk (sized labels) IsName
 sized_is labels each = by (nat_le (length (wire labels)) 255) refl
   where
-    le_of_test : (m n : ℕ) → nat_le m n ≡ true → m ≤ n
-    le_of_test m n e = grind (arith, nat_tests)
-
     by : (fits : Bool) → nat_le (length (wire labels)) 255 ≡ fits → IfOk (if fits then Ok labels else Err NameTooLong) IsName
-    by true e = record { each = each; short = le_of_test (length (wire labels)) 255 e }
+    by true e = record { each = each; short = leb-true (length (wire labels)) 255 e }
     by false e = tt
 
 under_is : (origin : Option (List (List ℕ))) (text : List ℕ) (found : Result (List (List ℕ) × Bool) NameFault) → IfSome origin IsName → AreOctets text → Says text found → IfOk (under origin found) IsName

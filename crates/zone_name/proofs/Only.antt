@@ -1,9 +1,8 @@
 -- What a text spells, and its own first fault, is what the walk over it finds.
-use Rattle.std.proofs.Common.{◌≡◌, ℕ, zero, suc, ◌+◌, ◌<◌, ◌≤◌, Bool, true, false, nat_eq, nat_le, if◌then◌else◌, List, [], ◌∷◌, ◌++◌, length, Ok, Err, inl, inr, refl, sym, ap, ◌∙◌, subst, arith, append_assoc, length-append}
+use Rattle.std.proofs.Common.{◌≡◌, ℕ, zero, suc, ◌+◌, ◌<◌, ◌≤◌, Bool, true, false, nat_eq, if◌then◌else◌, List, [], ◌∷◌, ◌++◌, length, get_or, Ok, Err, inl, inr, refl, sym, ap, ◌∙◌, subst, arith, append_assoc, length-append}
 use Rattle.std.specs.List.{AllByRecursion}
 use Rattle.std.proofs.lemmas.List.{append-nil, length-map}
-use Rattle.std.proofs.lemmas.Bool.{false≢true}
-use Rattle.std.proofs.lemmas.Bool.Decides.{nat_tests}
+use Rattle.std.proofs.lemmas.Bool.{false≢true, le-leb, lt-leb}
 use Rattle.zone_name.specs.Name.{folded_label}
 use Rattle.zone_name.specs.Spelling.{Written, text_of, octet_of, IsWritten, IsWrittenLabel, AreWrittenLabels, written_text, written_octets, dotted, parted, named, EndsLabel, IsBadEscape, Reaches, FaultAt, empty_label, long_label, bad_escape}
 use Rattle.zone_name.specs.declared.fault.NameFault.{NameFault}
@@ -13,16 +12,13 @@ use Rattle.zone_name.proofs.Places.{IsPlace, place_is, place-written, text_of-so
 use Rattle.zone_name.proofs.Steps.{after_step, read_step, reading-nil}
 use Rattle.zone_name.proofs.Spelled.{AreShort}
 
-le_test : (m n : ℕ) → m < n → nat_le n m ≡ false
-le_test m n h = grind (arith, nat_tests)
-
 -- one written octet is read
 octet_reads : (w : Written) (rest open_label : List ℕ) (labels : List (List ℕ)) (n : ℕ) → IsWritten w → length open_label < 63 → read (suc n) labels open_label (text_of w ++ rest) ≡ read n labels (open_label ++ octet_of w ∷ []) rest
 octet_reads w rest [] labels n is room =
     read_step n labels [] (text_of w ++ rest) (at_octet (octet_of w) rest) (place-written w rest is)
 octet_reads w rest (c ∷ open_label) labels n is room =
     read_step n labels (c ∷ open_label) (text_of w ++ rest) (at_octet (octet_of w) rest) (place-written w rest is)
-    ∙ ap (λ (b : Bool). after_step n (if b then failed LabelTooLong else goes labels (c ∷ open_label ++ octet_of w ∷ []) rest)) (le_test (length (c ∷ open_label)) 63 room)
+    ∙ ap (λ (b : Bool). after_step n (if b then failed LabelTooLong else goes labels (c ∷ open_label ++ octet_of w ∷ []) rest)) (lt-leb 63 (length (c ∷ open_label)) room)
 
 -- a written label is read
 label_reads : (label : List Written) (tail open_label : List ℕ) (labels : List (List ℕ)) (n : ℕ) → AllByRecursion IsWritten label → length open_label + length label ≤ 63 → length (written_text label ++ tail) < n → (m : ℕ) × (length tail < m) × (read n labels open_label (written_text label ++ tail) ≡ read m labels (open_label ++ written_octets label) tail)
@@ -142,23 +138,16 @@ reads_fault text before open_label rest place fault some r at fails =
 
 full_step : (labels : List (List ℕ)) (open_label : List ℕ) (c : ℕ) (rest : List ℕ) → 63 ≤ length open_label → step_at labels open_label (at_octet c rest) ≡ failed LabelTooLong
 full_step labels [] c rest full = absurd (omega arith)
-full_step labels (x ∷ open_label) c rest full = ap (λ (b : Bool). if b then failed LabelTooLong else goes labels (x ∷ open_label ++ c ∷ []) rest) (full_test (length (x ∷ open_label)) 63 full)
-  where
-    full_test : (m n : ℕ) → n ≤ m → nat_le n m ≡ true
-    full_test m n h = grind (arith, nat_tests)
+full_step labels (x ∷ open_label) c rest full = ap (λ (b : Bool). if b then failed LabelTooLong else goes labels (x ∷ open_label ++ c ∷ []) rest) (le-leb 63 (length (x ∷ open_label)) full)
 
 bad_step : (labels : List (List ℕ)) (open_label : List ℕ) → step_at labels open_label at_fault ≡ failed BadEscape
 bad_step labels [] = refl
 bad_step labels (c ∷ open_label) = refl
 
-abbrev first_of : List ℕ → ℕ
-first_of [] = 0
-first_of (c ∷ rest) = c
-
 -- a backslash that begins no escape stands at a fault
 bad_place : (rest : List ℕ) (place : Place) → IsBadEscape rest → IsPlace rest place → place ≡ at_fault
 bad_place rest at_end bad is = absurd (omega (arith, ap length bad.1, ap length is))
-bad_place rest (at_dot after) bad is = absurd (false≢true (ap (λ t. nat_eq (first_of t) 46) (sym bad.1 ∙ is)))
+bad_place rest (at_dot after) bad is = absurd (false≢true (ap (λ t. nat_eq (get_or t 0 0) 46) (sym bad.1 ∙ is)))
 bad_place rest (at_octet c after) bad is = absurd (bad.2 is.0 after is.1 is.3)
 bad_place rest at_fault bad is = refl
 
