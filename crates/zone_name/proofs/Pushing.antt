@@ -128,13 +128,6 @@ sized-name labels short = ap (λ (b : Bool). if b then Ok labels else Err NameTo
 pub sized-long : (labels : List (List ℕ)) → 255 < length (wire labels) → sized labels ≡ Err NameTooLong
 sized-long labels long = ap (λ (b : Bool). if b then Ok labels else Err NameTooLong) (lt-leb (length (wire labels)) 255 long)
 
--- where there is no room, the labels are too long for a name
-pub joined-long : (octets others : List ℕ) (left right : List (List ℕ)) → HoldsLabels octets → labels_of octets ≡ left → others ≡ wire right → 255 < length octets + length others → sized (left ++ right) ≡ Err NameTooLong
-joined-long octets others left right holds is text full =
-    let size : length (wire left) ≡ length octets + 1 = omega (arith, length-append (flat_map frame left) (0 ∷ []), ap (λ t. length (flat_map frame t)) is, ap length holds.whole) in
-    let long : 255 < length (wire (left ++ right)) = omega (arith, length-wire_append left right, ap length text) in
-    sized-long (left ++ right) long
-
 pub sized-joined : (left right : List (List ℕ)) (new : List ℕ) (name : List (List ℕ)) → Joined left right new → name ≡ labels_of new → sized (left ++ right) ≡ Ok name
 sized-joined left right new name both is =
     let named : IsName (left ++ right) = subst IsName both.gives both.holds.name in

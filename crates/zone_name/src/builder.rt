@@ -1,4 +1,4 @@
-ghost use Rattle.std.specs.Prelude.{◌≡◌, ◌<◌, ◌≤◌, ◌↔◌, ◌++◌, ◌∷◌, [], List, ℕ, length, OnOk, OnErr, IfErr, Err, map, ◌⊎◌};
+ghost use Rattle.std.specs.Prelude.{◌≡◌, ◌<◌, ◌≤◌, ◌↔◌, ◌++◌, ◌∷◌, [], List, ℕ, length, OnOk, OnErr, IfErr, Err};
 ghost use Rattle.zone_name.specs.Name.{folded_label, folded_octet, wire};
 ghost use Rattle.zone_name.specs.Reading.{sized};
 ghost use Rattle.zone_name.specs.Spelling.{IsLabelFault};
