@@ -1,5 +1,10 @@
 pub mod Fault
+pub mod Item
+pub mod Strings
+pub mod Address
+pub mod Generic
 pub mod Field
+pub mod Uncompressed
 pub mod Layout
 pub mod Number
 pub mod Time
@@ -8,6 +13,7 @@ pub mod Record
 pub mod Minimum
 pub mod Order
 pub mod Spelling
+pub mod DataFault
 pub mod Reading
 pub mod Text
 pub mod Source

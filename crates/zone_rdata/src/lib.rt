@@ -1,11 +1,15 @@
 //! Record data: classes, types, layouts, the records themselves, and why an input is refused (RFC 1035 3, RFC 3597).
 #![tactic(auto)]
 
+mod address;
 mod class;
 mod fault;
+mod front;
+mod generic;
 mod item;
 mod kind;
 mod layout;
+mod lengths;
 mod minimum;
 mod number;
 mod order;
@@ -14,7 +18,9 @@ mod rdata;
 mod reading;
 mod record;
 mod source;
+mod string;
 mod time;
+mod uncompressed;
 mod word;
 
 pub use class::Class;
