@@ -8,6 +8,8 @@ pub mod Record
 pub mod Minimum
 pub mod Order
 pub mod Spelling
+pub mod Strings
+pub mod StringReading
 pub mod Reading
 pub mod Text
 pub mod Source

@@ -5,6 +5,7 @@ mod class;
 mod fault;
 mod item;
 mod kind;
+pub mod laws;
 mod layout;
 mod minimum;
 mod number;
@@ -14,6 +15,7 @@ mod rdata;
 mod reading;
 mod record;
 mod source;
+mod string;
 mod time;
 mod word;
 
