@@ -1,6 +1,7 @@
 pub mod Fault
 pub mod Item
 pub mod Strings
+pub mod StringReading
 pub mod Address
 pub mod Generic
 pub mod Field

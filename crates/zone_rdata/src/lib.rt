@@ -8,6 +8,7 @@ mod front;
 mod generic;
 mod item;
 mod kind;
+pub mod laws;
 mod layout;
 mod lengths;
 mod minimum;

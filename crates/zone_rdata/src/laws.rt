@@ -1,0 +1,2 @@
+//! Laws of record data, each the contract of a function that does nothing.
+pub mod string;
