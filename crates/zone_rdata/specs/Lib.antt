@@ -8,6 +8,7 @@ pub mod Record
 pub mod Minimum
 pub mod Order
 pub mod Spelling
+pub mod Generic
 pub mod Strings
 pub mod StringReading
 pub mod Reading

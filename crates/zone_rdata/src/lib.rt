@@ -3,6 +3,7 @@
 
 mod class;
 mod fault;
+mod generic;
 mod item;
 mod kind;
 pub mod laws;
