@@ -7,7 +7,7 @@ use Rattle.std.proofs.lemmas.Bool.Decides.{nat_tests}
 use Rattle.zone_name.specs.Spelling.{Written, plain, escaped, decimal, text_of, octet_of, IsWritten, written_text, written_octets, is_digit}
 use Rattle.zone_name.specs.Text.{decimal_escape}
 use Rattle.zone_rdata.specs.declared.fault.Fault.{Fault}
-use Rattle.zone_rdata.specs.Spelling.{RawItem, quoted}
+use Rattle.zone_rdata.specs.Item.{RawItem, quoted}
 use Rattle.zone_rdata.specs.Strings.{IsString, SpellsString, StringFault, StandsInQuotes, IsUnit, IsQuotedUnit, inside_text, is_shown, item_text, unit_text}
 use Rattle.zone_rdata.specs.StringReading.{reading}
 use Rattle.zone_rdata.proofs.StringSteps.{AllByRecursion-append, FindsUnits, Says, reading-says}

@@ -4,7 +4,7 @@ use Rattle.hex.specs.Hex.{decode_of, encode_lower}
 use Rattle.zone_rdata.specs.declared.fault.Fault.{Fault}
 use Rattle.zone_rdata.specs.declared.fault.Fault.TheVariants.{BadGeneric, RdataTooLong}
 use Rattle.zone_rdata.specs.Number.{IsDecimal}
-use Rattle.zone_rdata.specs.Spelling.{RawItem, bare, quoted, generic_mark, IsGeneric}
+use Rattle.zone_rdata.specs.Item.{RawItem, bare, quoted, generic_mark, IsGeneric}
 
 -- a bare item of decimal digits that stand for the number
 abbrev pub StatesLength : RawItem → ℕ → Type 0

@@ -1,7 +1,8 @@
 ghost use Rattle.std.specs.Prelude.{◌≡◌, ◌≢◌, ◌≤◌, List, ℕ, length, map, IfOk, IfErr, OnOk, Ok, Err};
 ghost use Rattle.hex.specs.Hex.{decode_of};
+ghost use Rattle.zone_rdata.specs.Fault.{IfFault};
 ghost use Rattle.zone_rdata.specs.Generic.{AppendsDigits, GenericFault, JoinTo, LengthFault, StatesGeneric, StatesLength};
-ghost use Rattle.zone_rdata.specs.Spelling.{IsGeneric, raw};
+ghost use Rattle.zone_rdata.specs.Item.{IsGeneric, raw};
 
 use crate::fault::{Failing, Fault};
 use crate::item::Item;
@@ -21,7 +22,7 @@ const LONGEST: u64 = 65535;
 pub(crate) fn octets_of_generic(alloc: Global, items: &[Item]) -> Result<Vec<u8>, Failing>
     requires { IsGeneric (map raw items.now) }
     ensures found { IfOk result (λ octets. StatesGeneric (map raw items.now) octets.items) }
-    ensures fault { (fault : Fault) → result ≡ Err (Failing.Fault fault) → GenericFault (map raw items.now) fault }
+    ensures fault { IfErr result (IfFault (GenericFault (map raw items.now))) }
 {
     match items {
         [_, first, digits @ ..] => {
@@ -53,8 +54,7 @@ fn octets_of_digits(alloc: Global, items: &[Item], len: usize) -> Result<Vec<u8>
     requires { len ≤ 65535 }
     ensures found { IfOk result (λ octets. JoinTo (map raw items.now) octets.items) }
     ensures count { IfOk result (λ octets. length octets.items ≡ len) }
-    ensures only { (fault : Fault) → result ≡ Err (Failing.Fault fault) → fault ≡ Fault.BadGeneric }
-    ensures none { (fault : Fault) → result ≡ Err (Failing.Fault fault) → (octets : List ℕ) → JoinTo (map raw items.now) octets → length octets ≢ len }
+    ensures fault { IfErr result (IfFault (λ f. (f ≡ Fault.BadGeneric) × ((octets : List ℕ) → JoinTo (map raw items.now) octets → length octets ≢ len))) }
 {
     let mut octets = Vec::with_capacity(alloc, len)?;
     for item in items {
@@ -77,8 +77,7 @@ fn push_digits(text: &[u8], octets: &mut Vec<u8>) -> Result<(), Failing>
     requires few { length octets.old.items ≤ 65535 }
     requires fits { length text.now ≤ 131071 }
     ensures found { OnOk result (AppendsDigits text.now octets.old.items octets.new.items) }
-    ensures only { (fault : Fault) → result ≡ Err (Failing.Fault fault) → fault ≡ Fault.BadGeneric }
-    ensures none { (fault : Fault) → result ≡ Err (Failing.Fault fault) → (front : List ℕ) → decode_of text.now ≢ Ok front }
+    ensures fault { IfErr result (IfFault (λ f. (f ≡ Fault.BadGeneric) × ((front : List ℕ) → decode_of text.now ≢ Ok front))) }
 {
     let before = octets.len();
     octets.resize(before + text.len() / 2, 0)?;

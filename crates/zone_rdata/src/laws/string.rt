@@ -1,7 +1,7 @@
 //! Laws of character-strings (RFC 1035 3.3, 5.1).
 ghost use Rattle.std.specs.Prelude.{◌≡◌, ◌⊎◌, ◌<◌, List, ℕ};
 ghost use Rattle.std.specs.List.{AllByRecursion};
-ghost use Rattle.zone_rdata.specs.Spelling.{RawItem, quoted};
+ghost use Rattle.zone_rdata.specs.Item.{RawItem, quoted};
 ghost use Rattle.zone_rdata.specs.Strings.{IsString, SpellsString, StandsInQuotes, StringFault, inside_text, item_text};
 ghost use Rattle.zone_rdata.specs.declared.fault.Fault.{Fault};
 

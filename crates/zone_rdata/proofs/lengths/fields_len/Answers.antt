@@ -1,7 +1,7 @@
 use Rattle.std.proofs.Common.{refl, arith}
 use Rattle.zone_rdata.proofs.Texts.{counted_more}
-use Rattle.zone_rdata.proofs.printing.fields_len.Goals as goal
-use Rattle.zone_rdata.proofs.printing.fields_len.Goals.{then-i-gt0, else-i-gt0}
+use Rattle.zone_rdata.proofs.lengths.fields_len.Goals as goal
+use Rattle.zone_rdata.proofs.lengths.fields_len.Goals.{then-i-gt0, else-i-gt0}
 
 pub loop-i-preserved : goal.loop-i-preserved
 loop-i-preserved c =
