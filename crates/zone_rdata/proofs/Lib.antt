@@ -6,7 +6,10 @@ pub mod Items
 pub mod Texts
 pub mod Times
 pub mod Decimal
+pub mod Failings
 pub mod UnitPlaces
 pub mod StringSteps
 pub mod Strings
 pub mod StringLaws
+pub mod GenericForm
+pub mod GenericLaws
