@@ -10,7 +10,8 @@ use Rattle.zone_rdata.specs.declared.layout.Field.TheVariants as fields
 use Rattle.zone_rdata.specs.Field.{FieldValue, name, long, two_octets, field_octets, octets_of, Holds, HoldEach, field_at, values_of}
 use Rattle.zone_rdata.specs.Layout.{AreLaidOut, layout, IsData}
 use Rattle.zone_rdata.specs.Reading.{AreSpelt}
-use Rattle.zone_rdata.specs.Spelling.{RawItem, bare, quoted, SpellsField, SpellEach, IsGeneric, States, in_words}
+use Rattle.zone_rdata.specs.Item.{RawItem, bare, quoted, IsGeneric}
+use Rattle.zone_rdata.specs.Spelling.{SpellsField, SpellEach, States, in_words}
 use Rattle.zone_rdata.proofs.Names.{name_back}
 
 number_back : (n : ℕ) (rest : List ℕ) → n < 2 ^ 32 → from_be_bytes w32 (take 4 (to_be_bytes w32 n ++ rest)) ≡ n

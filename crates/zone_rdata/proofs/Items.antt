@@ -13,7 +13,8 @@ use Rattle.zone_rdata.specs.Field.{FieldValue, long, two_octets, field_octets, o
 use Rattle.zone_rdata.specs.declared.layout.Field.TheVariants as fields
 use Rattle.zone_rdata.specs.declared.item.Item.{Item}
 use Rattle.zone_rdata.specs.Reading.{AppendsField, AppendsDecimal, AppendsTime, AppendsTwoOctets, AreSpelt}
-use Rattle.zone_rdata.specs.Spelling.{RawItem, bare, raw, generic_mark, IsGeneric, SpellsField, SpellEach}
+use Rattle.zone_rdata.specs.Item.{RawItem, bare, raw, generic_mark, IsGeneric}
+use Rattle.zone_rdata.specs.Spelling.{SpellsField, SpellEach}
 
 -- the octets are those of values such that whatever the rest spells goes on from them
 pub record HaveRead (origin : List (List ℕ)) (fields : List Field) (items : List RawItem) (at : ℕ) (rest : List RawItem) (octets : List ℕ) : Type 0 where

@@ -2,7 +2,7 @@
 use Rattle.std.specs.Prelude.{◌≡◌, ℕ, zero, suc, ◌+◌, ◌^◌, ◌<◌, List, [], ◌∷◌, ◌++◌, length, take, drop, ⊤}
 use Rattle.std.specs.List.{flat_map, AllByRecursion}
 use Rattle.std.specs.Int.{w16, w32, to_be_bytes, from_be_bytes}
-use Rattle.zone_name.specs.Name.{wire, labels_of, IsName}
+use Rattle.zone_name.specs.Name.{frame, wire, labels_of, IsName}
 use Rattle.zone_rdata.specs.Strings.{IsString}
 use Rattle.zone_rdata.specs.declared.layout.Field.{Field}
 use Rattle.zone_rdata.specs.declared.layout.Field.TheVariants.{Name, Serial, Time, U16, Octets, OneString, Strings}
@@ -16,18 +16,14 @@ pub data FieldValue : Type 0 where
   string : List ℕ → FieldValue
   strings : List (List ℕ) → FieldValue
 
--- a string behind its length
-abbrev pub string_octets : List ℕ → List ℕ
-string_octets octets = length octets ∷ octets
-
 -- its octets: a name uncompressed, a number with the highest octet first, a string behind its length
 abbrev pub field_octets : FieldValue → List ℕ
 field_octets (name labels) = wire labels
 field_octets (long n) = to_be_bytes w32 n
 field_octets (two_octets n) = to_be_bytes w16 n
 field_octets (fixed octets) = octets
-field_octets (string octets) = string_octets octets
-field_octets (strings many) = flat_map string_octets many
+field_octets (string octets) = frame octets
+field_octets (strings many) = flat_map frame many
 
 abbrev pub octets_of : List FieldValue → List ℕ
 octets_of values = flat_map field_octets values
@@ -94,9 +90,9 @@ values_of (f ∷ fields) octets = field_at f octets ∷ values_of fields (drop (
 pub record BeginsWithString (octets : List ℕ) : Type 0 where
   pub some : 0 < length octets
   pub held : IsString (string_at octets)
-  pub front : take (length (string_octets (string_at octets))) octets ≡ string_octets (string_at octets)
+  pub front : take (length (frame (string_at octets))) octets ≡ frame (string_at octets)
 
 -- octets that are one string or more, each behind its length
 pub record HoldsStrings (octets : List ℕ) : Type 0 where
   pub held : AreStrings (strings_of octets)
-  pub whole : flat_map string_octets (strings_of octets) ≡ octets
+  pub whole : flat_map frame (strings_of octets) ≡ octets

@@ -1,7 +1,7 @@
 ghost use Rattle.std.specs.Prelude.{◌≡◌, ◌≤◌, length, take, drop};
 ghost use Rattle.std.specs.Int.{w16, w32, from_be_bytes};
-ghost use Rattle.zone_name.specs.Name.{wire, labels_of, BeginsWithName};
-ghost use Rattle.zone_rdata.specs.Field.{BeginsWithString, string_at, string_octets};
+ghost use Rattle.zone_name.specs.Name.{frame, wire, labels_of, BeginsWithName};
+ghost use Rattle.zone_rdata.specs.Field.{BeginsWithString, string_at};
 ghost use Rattle.zone_rdata.specs.Text.{BeginsWithField, after_field};
 
 use crate::layout::Field;
@@ -44,7 +44,7 @@ pub(crate) fn split_short(octets: &[u8]) -> (u16, &[u8])
 pub(crate) fn split_string(octets: &[u8]) -> (&[u8], &[u8])
     requires { BeginsWithString octets.now }
     ensures string { result.0.now ≡ string_at octets.now }
-    ensures rest { result.1.now ≡ drop (length (string_octets (string_at octets.now))) octets.now }
+    ensures rest { result.1.now ≡ drop (length (frame (string_at octets.now))) octets.now }
     ensures short { length result.0.now ≤ 255 }
 {
     let (count, behind) = octets.split_at(1);

@@ -1,10 +1,9 @@
 ghost use Rattle.std.specs.Prelude.{◌≡◌, ◌++◌, ◌+◌, ◌*◌, ◌≤◌, List, ℕ, length, true, IfOk, IfErr, OnOk, OnErr, Ok, Err};
+ghost use Rattle.zone_name.specs.Name.{frame};
 ghost use Rattle.zone_name.specs.Spelling.{is_digit};
-ghost use Rattle.zone_rdata.specs.Fault.{IfFault};
-ghost use Rattle.zone_rdata.specs.Field.{string_octets};
 ghost use Rattle.zone_rdata.specs.Item.{raw};
 ghost use Rattle.zone_rdata.specs.StringReading.{digits_place, escape_place, place_of, reading, seen};
-ghost use Rattle.zone_rdata.specs.Strings.{SpellsString, StringFault, item_text, string_text, unit_text};
+ghost use Rattle.zone_rdata.specs.Strings.{AppendsString, StringFault, item_text, string_text, unit_text};
 ghost use Rattle.zone_rdata.specs.Text.{Extends};
 
 use crate::fault::{Failing, Fault};
@@ -31,8 +30,8 @@ enum Next<'t> {
 ///
 /// The leftmost `BadEscape` or `StringTooLong`, and want of memory.
 pub(crate) fn push_string(item: Item, out: &mut Vec<u8>) -> Result<(), Failing>
-    ensures found { OnOk result ((octets : List ℕ) × SpellsString (raw item.entry) octets × (out.new.items ≡ out.old.items ++ string_octets octets)) }
-    ensures fault { IfErr result (IfFault (StringFault (raw item.entry))) }
+    ensures found { OnOk result (AppendsString (raw item.entry) out.old.items out.new.items) }
+    ensures fault { (fault : Fault) → result ≡ Err (Failing.Fault fault) → StringFault (raw item.entry) fault }
     ensures err { OnErr result (out.new.items ≡ out.old.items) }
 {
     let octets = string_of(text_of(item))?;
@@ -44,7 +43,7 @@ pub(crate) fn push_string(item: Item, out: &mut Vec<u8>) -> Result<(), Failing>
 /// Appends a string's octets behind their number. Where memory is refused, `out` holds what it held.
 pub(crate) fn push_framed(octets: &[u8], out: &mut Vec<u8>) -> Result<(), AllocError>
     requires { length octets.now ≤ 255 }
-    ensures ok { OnOk result (out.new.items ≡ out.old.items ++ string_octets octets.now) }
+    ensures ok { OnOk result (out.new.items ≡ out.old.items ++ frame octets.now) }
     ensures err { OnErr result (out.new.items ≡ out.old.items) }
 {
     let before = out.len();

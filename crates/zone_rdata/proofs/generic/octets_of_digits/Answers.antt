@@ -1,6 +1,6 @@
 use Rattle.std.proofs.Common.{◌≡◌, refl, sym, ap, ◌∙◌, subst, arith, length-append, length}
 use Rattle.zone_rdata.specs.Item.{raw}
-use Rattle.zone_rdata.proofs.Failings.{fault_passed}
+use Rattle.zone_rdata.proofs.Failings.{if_fault_passed}
 use Rattle.zone_rdata.proofs.GenericForm.{joined_more, joined_over, joined_bad, joined_all, half_length}
 use Rattle.zone_rdata.proofs.generic.octets_of_digits.Goals as goal
 
@@ -10,7 +10,7 @@ returns-then-text-len-clause-fault c =
 
 pub returns-in_err-push_digits-clause-fault : goal.returns-in_err-push_digits-clause-fault
 returns-in_err-push_digits-clause-fault c =
-    fault_passed c.from_residual-in_err-push_digits.result c.in_err-push_digits.field-0.0 _ _ c.from_residual-in_err-push_digits.ensures.1
+    if_fault_passed c.from_residual-in_err-push_digits.result c.in_err-push_digits.field-0.0 _ _ c.from_residual-in_err-push_digits.ensures.1
     (λ fault bad. (bad.0, λ whole h e. joined_bad c.args.items.now c.loop-item.item-index _ _ c.in-Bare.text.now c.loop-item.octets.items c.loop-item-test.true refl (ap raw c.in-Bare.is) c.loop-item.invariant.0 bad.1 whole h))
     c.in_err-push_digits.ensures.fault
 

@@ -1,6 +1,6 @@
 use Rattle.std.proofs.Common.{refl, subst, map, ap}
 use Rattle.std.proofs.lemmas.List.{drop_all}
-use Rattle.zone_rdata.specs.Spelling.{raw}
+use Rattle.zone_rdata.specs.Item.{raw}
 use Rattle.zone_rdata.specs.Reading.{AreSpelt}
 use Rattle.zone_rdata.proofs.Items.{read_at, read_all}
 use Rattle.zone_rdata.proofs.reading.octets_of_items.Goals as goal

@@ -1,6 +1,7 @@
 use Rattle.std.proofs.Common.{◌≡◌, List, ◌++◌, drop, map}
 use Rattle.zone_rdata.specs.Field.{FieldValue, octets_of}
-use Rattle.zone_rdata.specs.Spelling.{SpellEach, raw}
+use Rattle.zone_rdata.specs.Item.{raw}
+use Rattle.zone_rdata.specs.Spelling.{SpellEach}
 use Rattle.zone_rdata.proofs.Items.{HaveRead}
 use Rattle.zone_rdata.proofs.reading.octets_of_items.Given as goal
 
