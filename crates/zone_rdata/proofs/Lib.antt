@@ -19,3 +19,5 @@ pub mod UnitPlaces
 pub mod StringSteps
 pub mod Strings
 pub mod StringLaws
+pub mod GenericForm
+pub mod GenericLaws

@@ -3,11 +3,11 @@ pub mod Item
 pub mod Strings
 pub mod StringReading
 pub mod Address
+pub mod Number
 pub mod Generic
 pub mod Field
 pub mod Uncompressed
 pub mod Layout
-pub mod Number
 pub mod Time
 pub mod Words
 pub mod Record

@@ -1,2 +1,3 @@
 //! Laws of record data, each the contract of a function that does nothing.
+pub mod generic;
 pub mod string;
