@@ -12,6 +12,7 @@ pub mod TimeLaws
 pub mod Values
 pub mod Faults
 pub mod Texts
+pub mod StringTexts
 pub mod Times
 pub mod Decimal
 pub mod Failings
