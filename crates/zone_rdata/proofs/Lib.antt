@@ -6,3 +6,7 @@ pub mod Items
 pub mod Texts
 pub mod Times
 pub mod Decimal
+pub mod AddressTexts
+pub mod Addresses
+pub mod AddressParts
+pub mod AddressGaps

@@ -11,3 +11,5 @@ pub mod Spelling
 pub mod Reading
 pub mod Text
 pub mod Source
+pub mod Address
+pub mod AddressReading

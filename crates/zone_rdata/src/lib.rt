@@ -1,6 +1,7 @@
 //! Record data: classes, types, layouts, the records themselves, and why an input is refused (RFC 1035 3, RFC 3597).
 #![tactic(auto)]
 
+mod address;
 mod class;
 mod fault;
 mod item;
