@@ -10,3 +10,4 @@ pub mod AddressTexts
 pub mod Addresses
 pub mod AddressParts
 pub mod AddressGaps
+pub mod AddressLaws

@@ -6,6 +6,7 @@ mod class;
 mod fault;
 mod item;
 mod kind;
+pub mod laws;
 mod layout;
 mod minimum;
 mod number;

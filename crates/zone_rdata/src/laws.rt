@@ -1,0 +1,3 @@
+//! Laws, each the contract of a function that does nothing.
+
+pub mod address;
