@@ -22,3 +22,8 @@ pub mod Strings
 pub mod StringLaws
 pub mod GenericForm
 pub mod GenericLaws
+pub mod AddressTexts
+pub mod Addresses
+pub mod AddressParts
+pub mod AddressGaps
+pub mod AddressLaws
