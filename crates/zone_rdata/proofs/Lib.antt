@@ -13,3 +13,4 @@ pub mod Strings
 pub mod StringLaws
 pub mod GenericForm
 pub mod GenericLaws
+pub mod Sent
