@@ -1,8 +1,16 @@
 pub mod Words
 pub mod Names
 pub mod Minima
+pub mod StringFields
+pub mod AddressFields
 pub mod Fields
 pub mod Items
+pub mod Forms
+pub mod Rows
+pub mod Walks
+pub mod TimeLaws
+pub mod Values
+pub mod Faults
 pub mod Texts
 pub mod Times
 pub mod Decimal

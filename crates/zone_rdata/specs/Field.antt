@@ -92,7 +92,7 @@ pub record BeginsWithString (octets : List ℕ) : Type 0 where
   pub held : IsString (string_at octets)
   pub front : take (length (frame (string_at octets))) octets ≡ frame (string_at octets)
 
--- octets that are one string or more, each behind its length
+-- octets that are strings, each behind its length
 pub record HoldsStrings (octets : List ℕ) : Type 0 where
-  pub held : AreStrings (strings_of octets)
+  pub each : AllByRecursion IsString (strings_of octets)
   pub whole : flat_map frame (strings_of octets) ≡ octets

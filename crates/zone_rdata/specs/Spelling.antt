@@ -35,10 +35,13 @@ SpellEach origin [] [] [] = ⊤
 SpellEach origin (f ∷ fields) (item ∷ items) (v ∷ values) = SpellsField origin f item v × SpellEach origin fields items values
 SpellEach origin fields items values = ⊥
 
+abbrev pub is_strings : Field → Bool
+is_strings Strings = true
+is_strings field = false
+
 abbrev pub ends_with_strings : List Field → Bool
 ends_with_strings [] = false
-ends_with_strings (Strings ∷ []) = true
-ends_with_strings (f ∷ []) = false
+ends_with_strings (f ∷ []) = is_strings f
 ends_with_strings (f ∷ g ∷ fields) = ends_with_strings (g ∷ fields)
 
 -- the fields that items are to spell, one each: where strings stand last, each item behind the fields is one more

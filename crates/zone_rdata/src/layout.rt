@@ -1,7 +1,7 @@
 ghost use Rattle.std.specs.Prelude.{◌≡◌, option_map, slice_get};
 ghost use Rattle.zone_rdata.specs.Layout.{layout, fields_of};
 ghost use Rattle.zone_rdata.specs.Reading.{item_field};
-ghost use Rattle.zone_rdata.specs.Spelling.{ends_with_strings};
+ghost use Rattle.zone_rdata.specs.Spelling.{ends_with_strings, is_strings};
 
 use crate::class::Class;
 use crate::kind::Kind;
@@ -23,6 +23,14 @@ pub enum Field {
     OneString,
     /// One or more character-strings, up to the end of the data.
     Strings,
+}
+
+impl Field {
+    fn is_strings(self) -> bool
+        ensures { result ≡ is_strings self }
+    {
+        matches!(self, Field::Strings)
+    }
 }
 
 /// The fields of one type's data, in order.
@@ -98,7 +106,10 @@ impl Layout {
     fn ends_with_strings(self) -> bool
         ensures { result ≡ ends_with_strings (fields_of self) }
     {
-        matches!(self.fields.last(), Some(Field::Strings))
+        match self.fields.last() {
+            Some(field) => field.is_strings(),
+            None => false,
+        }
     }
 
     /// The field that the item at a place from 0 is to spell. `None`: no item stands there.

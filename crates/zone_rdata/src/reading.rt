@@ -115,8 +115,8 @@ fn push_bare(
     octets: &mut Vec<u8>,
 ) -> Result<(), Failing>
     requires { raw item ≡ bare text.now }
-    ensures found { OnOk result (AppendsField origin.now field (raw item) octets.old.items octets.new.items) }
-    ensures fault { IfErr result (IfFault (IsItemFault origin.now field (raw item))) }
+    ensures found { OnOk result (AppendsField origin.now field (raw item.entry) octets.old.items octets.new.items) }
+    ensures fault { IfErr result (IfFault (IsItemFault origin.now field (raw item.entry))) }
 {
     match field {
         Field::Name => push_name(text, origin, octets),
@@ -130,13 +130,15 @@ fn push_bare(
 
 /// Appends the octets of the value that the item spells for the field.
 fn push_field(field: Field, item: Item, origin: &Name, octets: &mut Vec<u8>) -> Result<(), Failing>
-    ensures found { OnOk result (AppendsField origin.now field (raw item) octets.old.items octets.new.items) }
-    ensures fault { IfErr result (IfFault (IsItemFault origin.now field (raw item))) }
+    ensures found { OnOk result (AppendsField origin.now field (raw item.entry) octets.old.items octets.new.items) }
+    ensures fault { IfErr result (IfFault (IsItemFault origin.now field (raw item.entry))) }
 {
-    match (item, field) {
-        (Item::Bare(text), _) => push_bare(field, item, text, origin, octets),
-        (Item::Quoted(_), Field::OneString | Field::Strings) => push_string(item, octets),
-        (Item::Quoted(_), _) => Err(Failing::Fault(Fault::BadRdata)),
+    match item {
+        Item::Bare(text) => push_bare(field, item, text, origin, octets),
+        Item::Quoted(_) => match field {
+            Field::OneString | Field::Strings => push_string(item, octets),
+            _ => Err(Failing::Fault(Fault::BadRdata)),
+        },
     }
 }
 
