@@ -3,7 +3,11 @@ pub mod Names
 pub mod Minima
 pub mod StringFields
 pub mod AddressFields
+pub mod Sent
+pub mod SentLengths
 pub mod Fields
+pub mod Fronts
+pub mod Taken
 pub mod Items
 pub mod Forms
 pub mod Rows
@@ -21,4 +25,3 @@ pub mod Strings
 pub mod StringLaws
 pub mod GenericForm
 pub mod GenericLaws
-pub mod Sent

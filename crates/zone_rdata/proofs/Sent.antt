@@ -45,7 +45,7 @@ frame_at c behind fits =
     let count : length (take c behind) ≡ c = omega (arith, length-take c behind) in
     ap (λ t. c ∷ t) (sym (take-append-drop c behind)) ∙ ap (λ n. n ∷ (take c behind ++ drop c behind)) (sym count)
 
-frames_push : (many : List (List ℕ)) (x a : List ℕ) → flat_map frame many ++ (frame x ++ a) ≡ flat_map frame (many ++ x ∷ []) ++ a
+pub frames_push : (many : List (List ℕ)) (x a : List ℕ) → flat_map frame many ++ (frame x ++ a) ≡ flat_map frame (many ++ x ∷ []) ++ a
 frames_push many x a =
     sym (append_assoc (flat_map frame many) (frame x) a)
     ∙ ap (λ t. t ++ a) (ap (λ t. flat_map frame many ++ t) (sym (append-nil (frame x))) ∙ sym (flat_map-append frame many (x ∷ [])))
