@@ -16,6 +16,7 @@ pub mod TimeLaws
 pub mod Values
 pub mod Faults
 pub mod Texts
+pub mod StringTexts
 pub mod Times
 pub mod Decimal
 pub mod Failings
@@ -25,3 +26,8 @@ pub mod Strings
 pub mod StringLaws
 pub mod GenericForm
 pub mod GenericLaws
+pub mod AddressTexts
+pub mod Addresses
+pub mod AddressParts
+pub mod AddressGaps
+pub mod AddressLaws

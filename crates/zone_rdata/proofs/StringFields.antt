@@ -5,7 +5,7 @@ use Rattle.std.proofs.lemmas.List.{take_at, drop_at, take_all, drop_all, take-ap
 use Rattle.zone_name.specs.Name.{frame}
 use Rattle.zone_rdata.specs.Field.{HoldsStrings, BeginsWithString, AreStrings, string_at, strings_by, strings_of}
 use Rattle.zone_rdata.specs.Strings.{IsString}
-use Rattle.zone_rdata.specs.Text.{after_field}
+use Rattle.zone_rdata.specs.Text.{BeginsWithField, after_field}
 use Rattle.zone_rdata.specs.declared.layout.Field.{Field}
 use Rattle.zone_rdata.specs.declared.layout.Field.TheVariants as fields
 use Rattle.zone_rdata.proofs.Names.{length-frames}
@@ -96,3 +96,13 @@ nothing_behind octets = drop_all (length (flat_map frame (strings_of octets))) o
 
 pub nothing_after : (field : Field) (octets rest : List ℕ) → field ≡ fields.Strings → rest ≡ drop (length octets) octets → rest ≡ after_field field octets
 nothing_after field octets rest is e = e ∙ drop_all (length octets) octets (omega arith) ∙ sym (ap (λ f. after_field f octets) is ∙ nothing_behind octets)
+
+strings_held : (field : Field) (octets : List ℕ) → field ≡ fields.Strings → BeginsWithField field octets → BeginsWithField fields.Strings octets
+strings_held field octets is begins = subst (λ f. BeginsWithField f octets) is begins
+
+-- octets that begin with a field of strings
+pub strings_front : (field : Field) (octets : List ℕ) → field ≡ fields.Strings → BeginsWithField field octets → HoldsStrings octets
+strings_front field octets is begins = let h = strings_held field octets is begins in all_strings octets h.held h.front
+
+pub strings_some : (field : Field) (octets : List ℕ) → field ≡ fields.Strings → BeginsWithField field octets → 0 < length octets
+strings_some field octets is begins = let h = strings_held field octets is begins in some_strings octets h.held

@@ -18,3 +18,4 @@ pub mod DataFault
 pub mod Reading
 pub mod Text
 pub mod Source
+pub mod AddressReading

@@ -1,4 +1,4 @@
-ghost use Rattle.std.specs.Prelude.{◌≡◌, ◌+◌, ◌*◌, ◌≤◌, length, map, option_map, decimal, MatchOption, IfSome, Some, ◌⊎◌};
+ghost use Rattle.std.specs.Prelude.{◌≡◌, ◌+◌, ◌*◌, ◌<◌, ◌≤◌, length, map, option_map, decimal, MatchOption, IfSome, Some, ◌⊎◌};
 ghost use Rattle.std.specs.List.{AllByRecursion, join_with_byte};
 ghost use Rattle.zone_rdata.specs.Field.{HoldsStrings, field_at, fixed, strings_of};
 ghost use Rattle.zone_rdata.specs.Layout.{AreLaidOut, IsSized, fields_of};
@@ -35,7 +35,8 @@ fn address_len(octets: &[u8]) -> usize
 
 /// The octets of strings in quotes, parted by single spaces.
 fn strings_len(octets: &[u8]) -> usize
-    requires short { length octets.now ≤ 65535 }
+    requires fits { length octets.now ≤ 65535 }
+    requires some { 0 < length octets.now }
     requires strings { HoldsStrings octets.now }
     ensures value { result ≡ length (join_with_byte 32 (map string_text (strings_of octets.now))) }
     ensures short { result ≤ 4 * length octets.now }

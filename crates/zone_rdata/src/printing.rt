@@ -1,4 +1,4 @@
-ghost use Rattle.std.specs.Prelude.{◌≡◌, ◌++◌, [], length, map, IfOk, OnOk, OnErr, option_map, decimal, MatchOption, IfSome, Some, ◌⊎◌};
+ghost use Rattle.std.specs.Prelude.{◌≡◌, ◌++◌, ◌<◌, [], length, map, IfOk, OnOk, OnErr, option_map, decimal, MatchOption, IfSome, Some, ◌⊎◌};
 ghost use Rattle.std.specs.List.{AllByRecursion, join_with_byte};
 ghost use Rattle.zone_rdata.specs.Field.{HoldsStrings, field_at, fixed, strings_of};
 ghost use Rattle.zone_rdata.specs.Layout.{AreLaidOut, IsSized, fields_of};
@@ -38,7 +38,8 @@ fn push_address(octets: &[u8], out: &mut Vec<u8>) -> Result<(), AllocError>
 
 /// Appends the strings in quotes, parted by single spaces.
 fn push_strings(octets: &[u8], out: &mut Vec<u8>) -> Result<(), AllocError>
-    requires { HoldsStrings octets.now }
+    requires some { 0 < length octets.now }
+    requires strings { HoldsStrings octets.now }
     ensures ok { OnOk result (out.new.items ≡ out.old.items ++ join_with_byte 32 (map string_text (strings_of octets.now))) }
     ensures err { OnErr result (Extends out.old.items out.new.items) }
 {
