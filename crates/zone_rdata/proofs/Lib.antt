@@ -8,6 +8,7 @@ pub mod SentLengths
 pub mod Fields
 pub mod Fronts
 pub mod Taken
+pub mod Wire
 pub mod Items
 pub mod Forms
 pub mod Rows

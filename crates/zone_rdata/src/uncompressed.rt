@@ -1,6 +1,7 @@
-ghost use Rattle.std.specs.Prelude.{◌≡◌, ◌+◌, ◌<◌, ◌≤◌, ◌↔◌, ◌++◌, ◌∷◌, ℕ, List, length, take, drop, IsTrue, IfOk, IfErr, IfSome, IfNone};
+ghost use Rattle.std.specs.Prelude.{◌≡◌, ◌+◌, ◌<◌, ◌≤◌, ◌↔◌, ◌++◌, ◌∷◌, ℕ, List, length, take, drop, IsTrue, IfOk, IfErr, IfSome, IfNone, option_map};
 ghost use Rattle.zone_rdata.specs.Fault.{IfFault};
 ghost use Rattle.zone_rdata.specs.Layout.{StringsLast, fields_of};
+ghost use Rattle.zone_rdata.specs.Spelling.{IsCanonicalOf};
 ghost use Rattle.zone_rdata.specs.Uncompressed.{AppendsFront, AppendsValue, AreFramed, BeginsWithNone, BeginsWithSent, IsUncompressed};
 
 use crate::fault::{Failing, Fault};
@@ -27,6 +28,28 @@ pub(crate) fn canonical_of(alloc: Global, layout: Layout, octets: &[u8]) -> Resu
     if !rest.is_empty() {
         return Err(Failing::Fault(Fault::BadRdata));
     }
+    Ok(canonical)
+}
+
+/// The canonical octets of octets that are one value of a layout, or the octets themselves where there is none.
+///
+/// # Errors
+///
+/// `BadRdata` where they aren't, and want of memory.
+pub(crate) fn canonical_for(
+    alloc: Global,
+    layout: Option<Layout>,
+    octets: &[u8],
+) -> Result<Vec<u8>, Failing>
+    requires { IfSome layout (λ l. StringsLast (fields_of l)) }
+    ensures found { IfOk result (λ canonical. IsCanonicalOf (option_map fields_of layout) octets.now canonical.items) }
+    ensures fault { IfErr result (IfFault (λ f. (f ≡ Fault.BadRdata) × ((canonical : List ℕ) → IsCanonicalOf (option_map fields_of layout) octets.now canonical → ⊥))) }
+{
+    if let Some(layout) = layout {
+        return canonical_of(alloc, layout, octets);
+    }
+    let mut canonical = Vec::with_capacity(alloc, octets.len())?;
+    canonical.extend_from_slice(octets)?;
     Ok(canonical)
 }
 
