@@ -13,6 +13,7 @@ pub mod Items
 pub mod Forms
 pub mod Rows
 pub mod Walks
+pub mod ItemLaws
 pub mod TimeLaws
 pub mod Values
 pub mod Faults
