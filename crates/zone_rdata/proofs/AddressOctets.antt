@@ -1,9 +1,9 @@
 -- How many octets an address has, and that they are octets.
-use Rattle.std.proofs.Common.{◌≡◌, ℕ, zero, suc, ◌+◌, ◌-◌, ◌*◌, ◌<◌, ◌≤◌, Bool, true, false, ◌⊎◌, inl, inr, List, [], ◌∷◌, ◌++◌, length, replicate, refl, sym, ap, ◌∙◌, subst, arith, length-append}
+use Rattle.std.proofs.Common.{◌≡◌, ℕ, zero, suc, ◌-◌, ◌<◌, Bool, true, false, inl, inr, List, [], ◌∷◌, ◌++◌, length, replicate, refl, sym, ap, ◌∙◌, subst, arith, length-append}
 use Rattle.std.specs.List.{AllByRecursion, AllZip}
 use Rattle.std.proofs.lemmas.List.{length-replicate}
 use Rattle.hex.proofs.HexLemmas.{decode_of-ok, decode_sized-ok, decode_sized-twice}
-use Rattle.zone_rdata.specs.Address.{IsOctetNumber, AreNumbers, IsFourNumbers, Part, IsGroup, IsLastPart, AreParts, parts_octets, ArePartsOf, AreAround, IsGroups, eight, fewer}
+use Rattle.zone_rdata.specs.Address.{IsOctetNumber, IsFourNumbers, Part, IsGroup, IsLastPart, AreParts, parts_octets, ArePartsOf, IsGroups, eight, fewer}
 use Rattle.zone_rdata.proofs.Fields.{bytes_each}
 
 abbrev AreBytes : List ℕ → Type 0

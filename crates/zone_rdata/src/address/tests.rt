@@ -1,10 +1,16 @@
 use super::*;
 use std::test::Fail;
 
+/// Appends the canonical text of the address that a text says, and gives that text's length.
+fn push_canonical(text: &[u8], out: &mut Vec<u8>) -> Result<usize, Fail> {
+    let octets = sixteen_octets_of(text).ok_or("no address")?;
+    push_sixteen(&octets, out)?;
+    Ok(sixteen_len(&octets))
+}
+
 #[test]
-fn texts_of_sixteen_are_printed_shortened(rt: HostRuntime) -> Result<(), Fail> {
-    // An address, and its canonical text: rows of zones, and the examples of RFC 4291 2.2 and RFC 5952 4.
-    let rows: [(&[u8], &[u8]); 26] = [
+fn texts_of_sixteen_are_shortened(rt: HostRuntime) -> Result<(), Fail> {
+    let rows: [(&[u8], &[u8]); 14] = [
         (b"::FFFF:10.0.0.1", b"::ffff:a00:1"),
         (b"0:0:0:0:0:ffff:a00:1", b"::ffff:a00:1"),
         (b"0:0:0:0:0:0:0:0", b"::"),
@@ -19,6 +25,19 @@ fn texts_of_sixteen_are_printed_shortened(rt: HostRuntime) -> Result<(), Fail> {
         (b"::2:3:4:5:6:7:8", b"0:2:3:4:5:6:7:8"),
         (b"1:2:3:4:5:6:010.0.0.1", b"1:2:3:4:5:6:a00:1"),
         (b"1:2:0:0:3:4:5:6", b"1:2::3:4:5:6"),
+    ];
+    for (text, printed) in rows {
+        let mut out = Vec::new(rt.alloc());
+        assert_eq!(rt; push_canonical(text, &mut out)?, printed.len());
+        assert_eq!(rt; out.as_slice(), printed);
+    }
+    Ok(())
+}
+
+/// The examples of RFC 4291 2.2 and RFC 5952 4.
+#[test]
+fn examples_of_the_standards(rt: HostRuntime) -> Result<(), Fail> {
+    let rows: [(&[u8], &[u8]); 12] = [
         (b"::", b"::"),
         (b"::1", b"::1"),
         (b"0:0:0:0:0:0:13.1.68.3", b"::d01:4403"),
@@ -37,16 +56,14 @@ fn texts_of_sixteen_are_printed_shortened(rt: HostRuntime) -> Result<(), Fail> {
         (b"2001:0:0:1:0:0:0:1", b"2001:0:0:1::1"),
         (b"2001:db8:0:0:1:0:0:1", b"2001:db8::1:0:0:1"),
         (
-            b"2001:DB8:aaaa:bbbb:cccc:dddd:eeee:AAAA",
+            b"2001:db8:aaaa:bbbb:cccc:dddd:eeee:AAAA",
             b"2001:db8:aaaa:bbbb:cccc:dddd:eeee:aaaa",
         ),
     ];
     for (text, printed) in rows {
-        let octets = sixteen_octets_of(text).ok_or("no address")?;
         let mut out = Vec::new(rt.alloc());
-        push_sixteen(&octets, &mut out)?;
+        assert_eq!(rt; push_canonical(text, &mut out)?, printed.len());
         assert_eq!(rt; out.as_slice(), printed);
-        assert_eq!(rt; sixteen_len(&octets), printed.len());
     }
     Ok(())
 }
