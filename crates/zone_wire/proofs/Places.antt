@@ -5,7 +5,7 @@ use Rattle.std.proofs.lemmas.Bool.{cond_both, cond-true, cond-false, leb-true, e
 use Rattle.std.proofs.lemmas.Bool.Decides.{nat_tests}
 use Rattle.zone_wire.specs.Name.{target_at}
 use Rattle.zone_wire.specs.Walk.{label_of, pointer_of, place_of}
-use Rattle.zone_wire.specs.declared.fault.WireFault.TheVariants.{BadPointer, TooManyPointers}
+use Rattle.zone_rdata.specs.declared.fault.Fault.TheVariants.{BadPointer, TooManyPointers}
 use Rattle.zone_wire.specs.declared.place.Spot.{Spot}
 use Rattle.zone_wire.specs.declared.place.Standing.{Standing}
 use Rattle.zone_wire.specs.declared.place.Standing.TheVariants.{Outside, Root, Label, Pointer, Bad}

@@ -8,7 +8,7 @@ use Rattle.zone_name.specs.Name.{IsLabel, IsFoldedOctet, folded_octet, frame, wi
 use Rattle.zone_wire.specs.Name.{At, root, label, pointer, Found, IsNameAt, label_at}
 use Rattle.zone_wire.specs.Walk.{Visit, visit, walk_on, walk_by, walk, ending, outset, past_label, past_pointer, place_of}
 use Rattle.zone_wire.specs.Reading.{Outcome, named, refused, outcome, behind_label, behind_pointer}
-use Rattle.zone_wire.specs.declared.fault.WireFault.TheVariants.{ShortMessage}
+use Rattle.zone_rdata.specs.declared.fault.Fault.TheVariants.{ShortMessage}
 use Rattle.zone_wire.specs.declared.place.Spot.{Spot}
 use Rattle.zone_wire.specs.declared.place.Standing.{Standing}
 use Rattle.zone_wire.specs.declared.place.Standing.TheVariants.{Outside, Root, Label, Pointer, Bad}

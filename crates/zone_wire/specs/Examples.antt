@@ -4,14 +4,14 @@ use Rattle.zone_rdata.specs.Record.{Record}
 use Rattle.zone_rdata.specs.declared.fault.Place.TheVariants.{Message}
 use Rattle.zone_rdata.specs.declared.record.Placed.{Placed}
 use Rattle.zone_wire.specs.Walk.{walk, ending}
-use Rattle.zone_wire.specs.declared.fault.WireFault.{WireFault}
+use Rattle.zone_rdata.specs.declared.fault.Fault.{Fault}
 
 -- octets behind a header
 abbrev pub behind_header : List ℕ → List ℕ
 behind_header octets = replicate 12 0 ++ octets
 
 -- the walk of the name at an offset of octets behind a header ends so, after so many places
-pub record WalkEnds (octets : List ℕ) (offset : ℕ) (fault : Option WireFault) (places : ℕ) : Type 0 where
+pub record WalkEnds (octets : List ℕ) (offset : ℕ) (fault : Option Fault) (places : ℕ) : Type 0 where
   pub ends : ending (walk (behind_header octets) offset) ≡ fault
   pub count : length (walk (behind_header octets) offset) ≡ places
 

@@ -4,7 +4,7 @@ ghost use Rattle.zone_wire.specs.Examples.{behind_header, chain, root_soa, soa_m
 ghost use Rattle.zone_rdata.specs.Record.{IsRecord};
 ghost use Rattle.zone_wire.specs.Name.{IsNameAt};
 ghost use Rattle.zone_wire.specs.Transfer.{frame, StreamStates};
-ghost use Rattle.zone_wire.specs.declared.fault.WireFault.TheVariants.{ShortMessage, ReservedLabel, BadPointer, TooManyPointers};
+ghost use Rattle.zone_rdata.specs.declared.fault.Fault.TheVariants.{ShortMessage, ReservedLabel, BadPointer, TooManyPointers};
 
 /// `A.x.` by a pointer from behind `X.`: letters are folded, and the name ends after the pointer.
 pub fn a_compressed_name()

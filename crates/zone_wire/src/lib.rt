@@ -2,11 +2,9 @@
 #![tactic(auto)]
 
 pub mod examples;
-mod fault;
 pub mod laws;
 mod name;
 mod place;
 mod ticks;
 
-pub use fault::WireFault;
 pub use name::{Decoded, name_at};
