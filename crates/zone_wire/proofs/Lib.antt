@@ -1,8 +1,10 @@
 pub mod Carrying
 pub mod Computing
+pub mod Frames
 pub mod Messages
 pub mod Naming
 pub mod Places
+pub mod Streams
 pub mod Transferring
 pub mod Transfers
 pub mod Walking

@@ -36,7 +36,7 @@ init_unique a b x y e =
     (front_unique a b (x ∷ []) (y ∷ []) len e).0
 
 -- a frame at the front of a stream
-frame_unique : (a b c d : List ℕ) → frame a ++ c ≡ frame b ++ d → (a ≡ b) × (c ≡ d)
+pub frame_unique : (a b c d : List ℕ) → frame a ++ c ≡ frame b ++ d → (a ≡ b) × (c ≡ d)
 frame_unique a b c d e =
     let high : length a / 256 ≡ length b / 256 = cc in
     let low : length a % 256 ≡ length b % 256 = cc in

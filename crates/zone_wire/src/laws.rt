@@ -1,9 +1,12 @@
 //! Laws over the definitions alone.
-ghost use Rattle.std.specs.Prelude.{◌≡◌, ◌+◌, ◌≤◌, ◌<◌, ℕ, List, length, slice_index, None};
+ghost use Rattle.std.specs.Prelude.{◌≡◌, ◌+◌, ◌≤◌, ◌<◌, ℕ, List, length, slice_index, Option, None};
 ghost use Rattle.std.specs.List.{AllByRecursion};
 ghost use Rattle.zone_wire.specs.Message.{Sections, IsMessage};
 ghost use Rattle.zone_wire.specs.Name.{Found, IsNameAt};
 ghost use Rattle.zone_wire.specs.Transfer.{StreamStates};
+ghost use Rattle.zone_wire.specs.Stream.{StreamReads, Decided};
+ghost use Rattle.zone_rdata.specs.declared.fault.Fault.{Fault};
+ghost use Rattle.zone_rdata.specs.declared.fault.Place.{Place};
 ghost use Rattle.zone_rdata.specs.declared.record.Placed.{Placed};
 ghost use Rattle.zone_wire.specs.Walk.{walk, walk_by, outset, ending};
 
@@ -47,4 +50,10 @@ pub fn one_message_of_octets()
 /// A stream states at most one list of records.
 pub fn one_list_of_a_stream()
     ensures { (stream : List ℕ) (placed other : List Placed) → StreamStates stream placed → StreamStates stream other → placed ≡ other }
+{}
+
+/// A stream is read in at most one way, and one thing is decided for it.
+pub fn one_reading_of_a_stream()
+    ensures whole { (stream : List ℕ) (placed other : List Placed) (ending late : Option (Fault × Place)) → StreamReads stream placed ending → StreamReads stream other late → (placed ≡ other) × (ending ≡ late) }
+    ensures decided { (stream : List ℕ) (placed other : List Placed) (ending late : Option (Fault × Place)) → Decided stream placed ending → Decided stream other late → (placed ≡ other) × (ending ≡ late) }
 {}
