@@ -1,6 +1,6 @@
 -- The records that the answers of a message state, up to the first answer that has a fault. An answer is judged by what
 -- stands before it in the stream: all questions, and the records of all answers (RFC 5936 2.2, 3).
-use Rattle.std.specs.Prelude.{ℕ, suc, ◌+◌, List, [], ◌∷◌, ◌++◌, length, ◌==◌, ◌&&◌, ◌||◌, nat_eq, not, if◌then◌else◌, Bool, true, Option, Some, None, Result, Ok, Err}
+use Rattle.std.specs.Prelude.{ℕ, List, [], ◌∷◌, ◌++◌, ◌==◌, ◌&&◌, ◌||◌, nat_eq, not, if◌then◌else◌, Bool, true, Option, Some, None, Result, Ok, Err}
 use Rattle.std.specs.List.{list_any}
 use Rattle.std.specs.Cmp.Lexicographic.{pointwise}
 use Rattle.zone_rdata.specs.Record.{Record}
@@ -70,11 +70,15 @@ pub record Answered (E : Type 0) : Type 0 where
   pub placed : List Placed
   pub fault : Option E
 
-abbrev pub in_front : {E : Type 0} → Placed → Answered E → Answered E
-in_front p rest = record rest { placed = p ∷ rest.placed }
+-- the record of an answer, and then those of the answers after it, if it has no fault
+abbrev pub before_others : ℕ → ℕ → Result Record Fault → (Placed → Answered (Fault × ℕ)) → Answered (Fault × ℕ)
+before_others number offset (Err fault) next = record { placed = []; fault = Some (fault, offset) }
+before_others number offset (Ok r) next =
+    let p : Placed = record { rr = r; place = Message number offset } in
+    let others = next p in
+    record others { placed = p ∷ others.placed }
 
 -- the records of the answers of the message of this number, each at its answer's offset, and the first fault after them
 abbrev pub answers_of : ℕ → List ℕ → List QuestionAt → List Placed → List RecordAt → Answered (Fault × ℕ)
 answers_of number octets questions before [] = record { placed = []; fault = None }
-answers_of number octets questions before (a ∷ answers) =
-    elim (answer_of octets questions before a) [ Err fault ↦ record { placed = []; fault = Some (fault, a.offset) } | Ok r ↦ let p : Placed = record { rr = r; place = Message number a.offset } in in_front p (answers_of number octets questions (before ++ p ∷ []) answers) ]
+answers_of number octets questions before (a ∷ answers) = before_others number a.offset (answer_of octets questions before a) (λ p. answers_of number octets questions (before ++ p ∷ []) answers)

@@ -1,5 +1,5 @@
 -- The data of a record in a message, or its first fault (RFC 1035 3.3, 4.1.4; RFC 3597 4).
-use Rattle.std.specs.Prelude.{ℕ, ◌+◌, List, [], ◌∷◌, ◌==◌, nat_le, if◌then◌else◌, Option, Some, None, Result, Ok, Err}
+use Rattle.std.specs.Prelude.{ℕ, ◌+◌, List, [], ◌∷◌, ◌==◌, nat_le, if◌then◌else◌, Some, None, Result, Ok, Err}
 use Rattle.zone_rdata.specs.Field.{FieldValue, name, field_at, octets_of}
 use Rattle.zone_rdata.specs.Layout.{layout}
 use Rattle.zone_rdata.specs.declared.fault.Fault.{Fault}

@@ -1,6 +1,6 @@
 -- What a stream of messages states, each behind its length, up to the first fault of its frames and messages
 -- (RFC 1035 4.2.2; RFC 5936 2.2, 3).
-use Rattle.std.specs.Prelude.{◌≡◌, ℕ, suc, ◌+◌, ◌<◌, ◌≤◌, List, [], ◌∷◌, ◌++◌, length, ◌==◌, ◌&&◌, not, if◌then◌else◌, Bool, false, Option, Some, None, Result, Ok, Err}
+use Rattle.std.specs.Prelude.{◌≡◌, ℕ, ◌+◌, ◌<◌, ◌≤◌, List, [], ◌∷◌, ◌++◌, length, ◌==◌, ◌&&◌, not, if◌then◌else◌, Bool, false, Option, Some, None, Result, Ok, Err}
 use Rattle.std.specs.List.{flat_map, AllByRecursion, filter, list_any}
 use Rattle.zone_rdata.specs.declared.fault.Fault.{Fault}
 use Rattle.zone_rdata.specs.declared.fault.Fault.TheVariants.{ShortFrame, IdMismatch, BadQuestion, NoClosingSoa}
@@ -47,12 +47,19 @@ at_message number e = (e.0, Message number e.1)
 abbrev pub followed_by : ℕ → Answered (Fault × ℕ) → (List Placed → Answered (Fault × Place)) → Answered (Fault × Place)
 followed_by number answered next = elim answered.fault [ Some e ↦ record { placed = answered.placed; fault = Some (at_message number e) } | None ↦ let rest = next answered.placed in record rest { placed = answered.placed ++ rest.placed } ]
 
+-- a fault of the whole message comes before its answers
+abbrev pub unless_refused : ℕ → Result Sections (Fault × ℕ) → (Sections → Answered (Fault × Place)) → Answered (Fault × Place)
+unless_refused number (Err e) next = record { placed = []; fault = Some (at_message number e) }
+unless_refused number (Ok s) next = next s
+
 -- the records of messages behind others, whose records are these, up to the first fault, and that fault with its place
 unfoldable pub records_of : List Sections → List Placed → List (List ℕ) → Answered (Fault × Place)
 records_of before placed [] = record { placed = []; fault = None }
 records_of before placed (octets ∷ messages) =
     let number : ℕ = length before + 1 in
-    elim (message_of before placed octets) [ Err e ↦ record { placed = []; fault = Some (at_message number e) } | Ok s ↦ followed_by number (answers_of number octets (questions_of (before ++ s ∷ [])) placed s.answers) (λ here. records_of (before ++ s ∷ []) (placed ++ here) messages) ]
+    unless_refused number (message_of before placed octets) (λ s.
+    followed_by number (answers_of number octets (questions_of (before ++ s ∷ [])) placed s.answers) (λ here.
+    records_of (before ++ s ∷ []) (placed ++ here) messages))
 
 -- the opening SOA and the records that are none: the closing SOA isn't handed on
 abbrev pub handed_on : List Placed → List Placed

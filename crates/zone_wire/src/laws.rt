@@ -1,5 +1,5 @@
 //! Laws over the definitions alone.
-ghost use Rattle.std.specs.Prelude.{◌≡◌, ◌+◌, ◌≤◌, ◌<◌, ℕ, List, length, slice_index, Option, None};
+ghost use Rattle.std.specs.Prelude.{◌++◌, Some, ◌≡◌, ◌+◌, ◌≤◌, ◌<◌, ℕ, List, length, slice_index, Option, None};
 ghost use Rattle.std.specs.List.{AllByRecursion};
 ghost use Rattle.zone_wire.specs.Message.{Sections, IsMessage};
 ghost use Rattle.zone_wire.specs.Name.{Found, IsNameAt};
@@ -56,4 +56,22 @@ pub fn one_list_of_a_stream()
 pub fn one_reading_of_a_stream()
     ensures whole { (stream : List ℕ) (placed other : List Placed) (ending late : Option (Fault × Place)) → StreamReads stream placed ending → StreamReads stream other late → (placed ≡ other) × (ending ≡ late) }
     ensures decided { (stream : List ℕ) (placed other : List Placed) (ending late : Option (Fault × Place)) → Decided stream placed ending → Decided stream other late → (placed ≡ other) × (ending ≡ late) }
+{}
+
+/// Each stream of octets is read in some way, and something is decided for it.
+pub fn each_stream_is_read()
+    ensures whole { (stream : List ℕ) → ((i : ℕ) → slice_index stream i < 256) → (placed : List Placed) × (ending : Option (Fault × Place)) × StreamReads stream placed ending }
+    ensures decided { (stream : List ℕ) → ((i : ℕ) → slice_index stream i < 256) → (placed : List Placed) × (ending : Option (Fault × Place)) × Decided stream placed ending }
+{}
+
+/// The records that are decided for a stream begin those of every longer one, and a decided fault stays.
+pub fn what_is_decided_stays()
+    ensures records { (stream more : List ℕ) (placed other : List Placed) (ending late : Option (Fault × Place)) → Decided stream placed ending → Decided (stream ++ more) other late → (rest : List Placed) × (other ≡ placed ++ rest) }
+    ensures fault { (stream more : List ℕ) (placed other : List Placed) (e : Fault × Place) (late : Option (Fault × Place)) → Decided stream placed (Some e) → Decided (stream ++ more) other late → (other ≡ placed) × (late ≡ Some e) }
+{}
+
+/// The records that are decided for a stream begin those that every longer one is read as, and a decided fault is its fault.
+pub fn what_is_decided_is_read()
+    ensures records { (stream more : List ℕ) (placed other : List Placed) (ending late : Option (Fault × Place)) → Decided stream placed ending → StreamReads (stream ++ more) other late → (rest : List Placed) × (other ≡ placed ++ rest) }
+    ensures fault { (stream more : List ℕ) (placed other : List Placed) (e : Fault × Place) (late : Option (Fault × Place)) → Decided stream placed (Some e) → StreamReads (stream ++ more) other late → (other ≡ placed) × (late ≡ Some e) }
 {}
