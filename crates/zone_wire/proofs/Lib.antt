@@ -1,9 +1,13 @@
+pub mod Accepting
+pub mod Answering
 pub mod Carrying
 pub mod Computing
+pub mod Fielding
 pub mod Frames
 pub mod Messages
 pub mod Naming
 pub mod Places
+pub mod Sectioning
 pub mod Streams
 pub mod Transferring
 pub mod Transfers

@@ -48,7 +48,7 @@ placed_same : (p q : Placed) → p.rr ≡ q.rr → p.place ≡ q.place → p ≡
 placed_same p q rr place = ap (λ x. record p { rr = x }) rr ∙ ap (λ x. record q { place = x }) place
 
 -- a part of octets that is a text
-part_text : (octets : List ℕ) (start end : ℕ) (text : List ℕ) → start ≤ end → end ≤ length octets → part octets start end ≡ text → end ≡ start + length text
+pub part_text : (octets : List ℕ) (start end : ℕ) (text : List ℕ) → start ≤ end → end ≤ length octets → part octets start end ≡ text → end ≡ start + length text
 part_text octets start end text order inside e =
     let len : length (part octets start end) ≡ end - start = length-take-le (end - start) (drop start octets) (omega (arith, length-drop start octets)) in
     let same : length (part octets start end) ≡ length text = ap length e in

@@ -34,11 +34,18 @@ question_at octets offset = inside octets (question_by octets) (λ q. q.end) (ou
 unfoldable pub record_at : List ℕ → ℕ → Result RecordAt Fault
 record_at octets offset = inside octets (record_by octets offset) (λ r. r.end) (outcome octets (walk octets offset))
 
+abbrev pub at_offset : {X : Type 0} → ℕ → Result X Fault → Result X (Fault × ℕ)
+at_offset offset (Err fault) = Err (fault, offset)
+at_offset offset (Ok x) = Ok x
+
 -- So many of them, each behind the one before, and the offset after the last; or the first fault, at the start of the
 -- one that has it.
 abbrev pub each_from : {X : Type 0} → (ℕ → Result X Fault) → (X → ℕ) → ℕ → ℕ → Result (List X × ℕ) (Fault × ℕ)
 each_from read end zero offset = Ok ([], offset)
-each_from read end (suc count) offset = elim (read offset) [ Err fault ↦ Err (fault, offset) | Ok x ↦ and_then (each_from read end count (end x)) (λ others. Ok (x ∷ others.0, others.1)) ]
+each_from read end (suc count) offset =
+    and_then (at_offset offset (read offset)) (λ first.
+    and_then (each_from read end count (end first)) (λ others.
+    Ok (first ∷ others.0, others.1)))
 
 abbrev pub questions_from : List ℕ → ℕ → ℕ → Result (List QuestionAt × ℕ) (Fault × ℕ)
 questions_from octets count offset = each_from (question_at octets) (λ q. q.end) count offset

@@ -1,9 +1,10 @@
 //! Laws over the definitions alone.
-ghost use Rattle.std.specs.Prelude.{◌++◌, Some, ◌≡◌, ◌+◌, ◌≤◌, ◌<◌, ℕ, List, length, slice_index, Option, None};
+ghost use Rattle.std.specs.Prelude.{◌++◌, Some, Ok, ◌≡◌, ◌+◌, ◌≤◌, ◌<◌, ℕ, List, length, slice_index, Option, None};
 ghost use Rattle.std.specs.List.{AllByRecursion};
 ghost use Rattle.zone_wire.specs.Message.{Sections, IsMessage};
 ghost use Rattle.zone_wire.specs.Name.{Found, IsNameAt};
 ghost use Rattle.zone_wire.specs.Transfer.{StreamStates};
+ghost use Rattle.zone_wire.specs.Sections.{sections_of};
 ghost use Rattle.zone_wire.specs.Stream.{StreamReads, Decided};
 ghost use Rattle.zone_rdata.specs.declared.fault.Fault.{Fault};
 ghost use Rattle.zone_rdata.specs.declared.fault.Place.{Place};
@@ -74,4 +75,14 @@ pub fn what_is_decided_stays()
 pub fn what_is_decided_is_read()
     ensures records { (stream more : List ℕ) (placed other : List Placed) (ending late : Option (Fault × Place)) → Decided stream placed ending → StreamReads (stream ++ more) other late → (rest : List Placed) × (other ≡ placed ++ rest) }
     ensures fault { (stream more : List ℕ) (placed other : List Placed) (e : Fault × Place) (late : Option (Fault × Place)) → Decided stream placed (Some e) → StreamReads (stream ++ more) other late → (other ≡ placed) × (late ≡ Some e) }
+{}
+
+/// A message is read as its sections.
+pub fn a_message_is_read()
+    ensures { (octets : List ℕ) (sections : Sections) → IsMessage octets sections → sections_of octets ≡ Ok sections }
+{}
+
+/// A transfer is read as its records, without a fault.
+pub fn a_transfer_is_read()
+    ensures { (stream : List ℕ) (placed : List Placed) → StreamStates stream placed → StreamReads stream placed None }
 {}

@@ -1,0 +1,5 @@
+use Rattle.zone_wire.proofs.Sectioning.{sections_read}
+use Rattle.zone_wire.proofs.laws.a_message_is_read.Goals as goal
+
+pub returns : goal.returns
+returns c = sections_read

@@ -1,0 +1,5 @@
+use Rattle.zone_wire.proofs.Accepting.{transfer_is_read}
+use Rattle.zone_wire.proofs.laws.a_transfer_is_read.Goals as goal
+
+pub returns : goal.returns
+returns c = transfer_is_read
