@@ -7,6 +7,8 @@ pub mod Frames
 pub mod Messages
 pub mod Naming
 pub mod Places
+pub mod ReadFields
+pub mod ReadSections
 pub mod Sectioning
 pub mod Streams
 pub mod Transferring

@@ -187,10 +187,10 @@ folded_each : (octets : List ℕ) → ((k : ℕ) → get_or octets k 0 < 256) �
 folded_each [] each = tt
 folded_each (c ∷ octets) each = (is_folded c (each 0), folded_each octets (λ k. each (suc k)))
 
-drop_each : (n : ℕ) (octets : List ℕ) → ((k : ℕ) → get_or octets k 0 < 256) → (k : ℕ) → get_or (drop n octets) k 0 < 256
+pub drop_each : (n : ℕ) (octets : List ℕ) → ((k : ℕ) → get_or octets k 0 < 256) → (k : ℕ) → get_or (drop n octets) k 0 < 256
 drop_each n octets each k = rw get_or-drop (each (n + k))
 
-take_each : (n : ℕ) (octets : List ℕ) → ((k : ℕ) → get_or octets k 0 < 256) → (k : ℕ) → get_or (take n octets) k 0 < 256
+pub take_each : (n : ℕ) (octets : List ℕ) → ((k : ℕ) → get_or octets k 0 < 256) → (k : ℕ) → get_or (take n octets) k 0 < 256
 take_each zero octets each k = lit< tt
 take_each (suc n) [] each k = lit< tt
 take_each (suc n) (c ∷ octets) each zero = each 0

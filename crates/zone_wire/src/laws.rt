@@ -1,9 +1,10 @@
 //! Laws over the definitions alone.
 ghost use Rattle.std.specs.Prelude.{◌++◌, Some, Ok, ◌≡◌, ◌+◌, ◌≤◌, ◌<◌, ℕ, List, length, slice_index, Option, None};
 ghost use Rattle.std.specs.List.{AllByRecursion};
-ghost use Rattle.zone_wire.specs.Message.{Sections, IsMessage};
+ghost use Rattle.zone_wire.specs.Message.{RecordAt, Sections, IsMessage};
 ghost use Rattle.zone_wire.specs.Name.{Found, IsNameAt};
-ghost use Rattle.zone_wire.specs.Transfer.{StreamStates};
+ghost use Rattle.zone_wire.specs.Transfer.{IsDataAt, StreamStates};
+ghost use Rattle.zone_wire.specs.Data.{data_at};
 ghost use Rattle.zone_wire.specs.Sections.{sections_of};
 ghost use Rattle.zone_wire.specs.Stream.{StreamReads, Decided};
 ghost use Rattle.zone_rdata.specs.declared.fault.Fault.{Fault};
@@ -77,9 +78,16 @@ pub fn what_is_decided_is_read()
     ensures fault { (stream more : List ℕ) (placed other : List Placed) (e : Fault × Place) (late : Option (Fault × Place)) → Decided stream placed (Some e) → StreamReads (stream ++ more) other late → (other ≡ placed) × (late ≡ Some e) }
 {}
 
-/// A message is read as its sections.
+/// A message is read as its sections, and octets that are read as sections are that message.
 pub fn a_message_is_read()
-    ensures { (octets : List ℕ) (sections : Sections) → IsMessage octets sections → sections_of octets ≡ Ok sections }
+    ensures found { (octets : List ℕ) (sections : Sections) → ((i : ℕ) → slice_index octets i < 256) → sections_of octets ≡ Ok sections → IsMessage octets sections }
+    ensures only { (octets : List ℕ) (sections : Sections) → IsMessage octets sections → sections_of octets ≡ Ok sections }
+{}
+
+/// The data that is read for a record is its data.
+pub fn the_data_of_a_record()
+    ensures found { (octets canonical : List ℕ) (a : RecordAt) → ((i : ℕ) → slice_index octets i < 256) → a.end ≤ length octets → data_at octets a ≡ Ok canonical → IsDataAt octets a canonical }
+    ensures only { (octets canonical : List ℕ) (a : RecordAt) → a.end ≤ length octets → IsDataAt octets a canonical → data_at octets a ≡ Ok canonical }
 {}
 
 /// A transfer is read as its records, without a fault.
