@@ -18,7 +18,7 @@ use Rattle.zone_wire.specs.Transfer.{Part, AreParts, AsksFor, frame, StreamState
 use Rattle.zone_wire.proofs.Answering.{OpensWith, zone_agrees, is_soa, InOrder, all_read, answers_are_read, differ, records_same}
 use Rattle.zone_wire.proofs.Sectioning.{and_then_ok, sections_read}
 
-all_append : {X : Type 0} (P : X → Type 0) (xs ys : List X) → AllByRecursion P xs → AllByRecursion P ys → AllByRecursion P (xs ++ ys)
+pub all_append : {X : Type 0} (P : X → Type 0) (xs ys : List X) → AllByRecursion P xs → AllByRecursion P ys → AllByRecursion P (xs ++ ys)
 all_append P [] ys each also = also
 all_append P (x ∷ xs) ys each also = (each.0, all_append P xs ys each.1 also)
 
@@ -51,10 +51,10 @@ opens_more zone [] [] opens order = tt
 opens_more zone [] (p ∷ here) opens order = order.0.0
 opens_more zone (opening ∷ before) here opens order = opens
 
-abbrev octets_of_parts : List Part → List (List ℕ)
+abbrev pub octets_of_parts : List Part → List (List ℕ)
 octets_of_parts parts = map (λ p. p.octets) parts
 
-abbrev placed_of_parts : List Part → List Placed
+abbrev pub placed_of_parts : List Part → List Placed
 placed_of_parts parts = flat_map (λ p. p.placed) parts
 
 read_here : (number : ℕ) (here rest : List Placed) (answered : Answered (Fault × ℕ)) (next : List Placed → Answered (Fault × Place)) → answered ≡ all_read here → next here ≡ all_read rest → followed_by number answered next ≡ all_read (here ++ rest)
@@ -76,7 +76,7 @@ parts_are_read id zone (p ∷ parts) before placed number count are ids asked op
     ap (λ r. unless_refused here r (λ (t : Sections). followed_by here (answers_of here p.octets (questions_of (before ++ t ∷ [])) placed t.answers) (λ xs. records_of (before ++ t ∷ []) (placed ++ xs) (octets_of_parts parts)))) (message_is_read id zone before placed p.octets s is.message is.same_id ids asked is.questions opens)
     ∙ read_here here p.placed (placed_of_parts parts) (answers_of here p.octets (questions_of (before ++ s ∷ [])) placed s.answers) next answered rest
 
-any_append : (xs ys : List Placed) → list_any is_soa (xs ++ ys) ≡ (list_any is_soa xs || list_any is_soa ys)
+pub any_append : (xs ys : List Placed) → list_any is_soa (xs ++ ys) ≡ (list_any is_soa xs || list_any is_soa ys)
 any_append [] ys = refl
 any_append (x ∷ xs) ys = ap (λ b. is_soa x || b) (any_append xs ys) ∙ or_assoc (is_soa x) (list_any is_soa xs) (list_any is_soa ys)
   where
@@ -97,7 +97,7 @@ others_kept : (others : List Placed) → AllByRecursion (λ (p : Placed). p.rr.k
 others_kept [] each = refl
 others_kept (p ∷ others) each = cond-true (not (p.rr.kind == 6)) _ _ (ap not (differ p.rr.kind 6 each.0)) ∙ ap (λ x. p ∷ x) (others_kept others each.1)
 
-framed_parts : (parts : List Part) → flat_map (λ p. frame p.octets) parts ≡ flat_map frame (octets_of_parts parts)
+pub framed_parts : (parts : List Part) → flat_map (λ p. frame p.octets) parts ≡ flat_map frame (octets_of_parts parts)
 framed_parts [] = refl
 framed_parts (p ∷ parts) = ap (λ x. frame p.octets ++ x) (framed_parts parts)
 
@@ -105,15 +105,21 @@ short_parts : (id : ℕ) (zone : Record) (number : ℕ) (parts : List Part) → 
 short_parts id zone number [] are = tt
 short_parts id zone number (p ∷ parts) are = (are.0.short, short_parts id zone (number + 1) parts are.1)
 
+pub handed_transfer : (opening : Placed) (others : List Placed) (closing : Placed) → AllByRecursion (λ (p : Placed). p.rr.kind ≢ 6) others → closing.rr.kind ≡ 6 → handed_on (opening ∷ (others ++ closing ∷ [])) ≡ opening ∷ others
+handed_transfer opening others closing each soa =
+    let test = λ (p : Placed). not (p.rr.kind == 6) in
+    let none : filter test (closing ∷ []) ≡ [] = cond-false (test closing) _ _ (ap not (eq-eqb closing.rr.kind 6 soa)) in
+    ap (λ x. opening ∷ x) (filter-append test others (closing ∷ []) ∙ ap (λ x. x ++ filter test (closing ∷ [])) (others_kept others each) ∙ ap (λ x. others ++ x) none ∙ append-nil others)
+
 -- a transfer is read as its records
 pub transfer_is_read : (stream : List ℕ) (placed : List Placed) → StreamStates stream placed → StreamReads stream placed None
 transfer_is_read stream placed s =
     let all : List Placed = s.opening ∷ (s.others ++ s.closing ∷ []) in
     let order : InOrder s.opening.rr [] all = ((refl, s.soa), rest_in_order s.opening.rr s.opening s.closing [] s.others s.same refl s.no_soa) in
     let read : records_of [] [] (octets_of_parts s.parts) ≡ all_read all = parts_are_read s.id s.opening.rr s.parts [] [] 1 refl s.each tt tt tt (subst (InOrder s.opening.rr []) (sym s.answers) order) ∙ ap all_read s.answers in
-    let soa : is_soa s.closing ≡ true = eq-eqb s.closing.rr.kind 6 (ap (λ (r : Record). r.kind) s.same ∙ s.soa) in
-    let none : filter (λ (p : Placed). not (p.rr.kind == 6)) (s.closing ∷ []) ≡ [] = cond-false (not (is_soa s.closing)) _ _ (ap not soa) in
-    let kept : handed_on all ≡ s.opening ∷ s.others = ap (λ x. s.opening ∷ x) (filter-append (λ (p : Placed). not (p.rr.kind == 6)) s.others (s.closing ∷ []) ∙ ap (λ x. x ++ filter (λ (p : Placed). not (p.rr.kind == 6)) (s.closing ∷ [])) (others_kept s.others s.no_soa) ∙ ap (λ x. s.others ++ x) none ∙ append-nil s.others) in
+    let kind : s.closing.rr.kind ≡ 6 = ap (λ (r : Record). r.kind) s.same ∙ s.soa in
+    let soa : is_soa s.closing ≡ true = eq-eqb s.closing.rr.kind 6 kind in
+    let kept : handed_on all ≡ s.opening ∷ s.others = handed_transfer s.opening s.others s.closing s.no_soa kind in
     let closed : is_closed all ≡ true = any_append s.others (s.closing ∷ []) ∙ or_right (list_any is_soa s.others) (list_any is_soa (s.closing ∷ [])) (or_left (is_soa s.closing) false soa) in
     record {
       messages = octets_of_parts s.parts;

@@ -7,8 +7,10 @@ pub mod Frames
 pub mod Messages
 pub mod Naming
 pub mod Places
+pub mod ReadAnswers
 pub mod ReadFields
 pub mod ReadSections
+pub mod ReadStreams
 pub mod Sectioning
 pub mod Streams
 pub mod Transferring

@@ -1,11 +1,11 @@
 -- What is read as the data of a record is its data.
 use Rattle.std.proofs.Common.{◌≡◌, ℕ, ◌+◌, ◌-◌, ◌≤◌, ◌^◌, ◌<◌, List, [], ◌∷◌, length, refl, ap, sym, ◌∙◌, subst, nat_le, arith}
-use Rattle.std.specs.Prelude.{get_or, take, drop, ◌==◌, Option, Some, None, MatchOption, Result, Ok, Err}
+use Rattle.std.specs.Prelude.{get_or, take, drop, ◌==◌, Option, Some, None, MatchOption, Result, Ok}
 use Rattle.std.specs.Int.{w16, w32, to_be_bytes, from_be_bytes}
 use Rattle.std.proofs.lemmas.Bool.{leb-true, eqb-true}
 use Rattle.std.proofs.lemmas.List.{take_all, length-take-le, length-drop}
 use Rattle.std.proofs.lemmas.Nat.{be_bytes_2, be_bytes_4}
-use Rattle.zone_rdata.specs.Field.{FieldValue, name, octets_of, Holds, HoldEach, field_at}
+use Rattle.zone_rdata.specs.Field.{FieldValue, octets_of, Holds, HoldEach, field_at}
 use Rattle.zone_rdata.specs.Layout.{layout}
 use Rattle.zone_rdata.specs.declared.fault.Fault.{Fault}
 use Rattle.zone_rdata.specs.declared.layout.Field.{Field}

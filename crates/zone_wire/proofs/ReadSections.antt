@@ -1,5 +1,5 @@
 -- What is read as the sections of a message are its sections.
-use Rattle.std.proofs.Common.{◌≡◌, ℕ, zero, suc, ◌<◌, ◌≤◌, List, [], ◌∷◌, length, refl, ap, sym, ◌∙◌, subst, Bool, true, false, nat_le, arith}
+use Rattle.std.proofs.Common.{◌≡◌, ℕ, zero, suc, ◌<◌, ◌≤◌, List, length, refl, ap, sym, subst, Bool, true, false, nat_le}
 use Rattle.std.specs.Prelude.{get_or, ◌==◌, ◌&&◌, not, Option, Some, None, Result, Ok, Err, if◌then◌else◌}
 use Rattle.std.proofs.lemmas.Bool.{leb-true, ltb-false, eqb-true}
 use Rattle.zone_rdata.specs.declared.fault.Fault.{Fault}

@@ -7,6 +7,7 @@ ghost use Rattle.zone_wire.specs.Transfer.{IsDataAt, StreamStates};
 ghost use Rattle.zone_wire.specs.Data.{data_at};
 ghost use Rattle.zone_wire.specs.Sections.{sections_of};
 ghost use Rattle.zone_wire.specs.Stream.{StreamReads, Decided};
+ghost use Rattle.zone_rdata.specs.Record.{IsRecord};
 ghost use Rattle.zone_rdata.specs.declared.fault.Fault.{Fault};
 ghost use Rattle.zone_rdata.specs.declared.fault.Place.{Place};
 ghost use Rattle.zone_rdata.specs.declared.record.Placed.{Placed};
@@ -90,7 +91,8 @@ pub fn the_data_of_a_record()
     ensures only { (octets canonical : List ℕ) (a : RecordAt) → a.end ≤ length octets → IsDataAt octets a canonical → data_at octets a ≡ Ok canonical }
 {}
 
-/// A transfer is read as its records, without a fault.
+/// A transfer is read as its records, without a fault, and a stream that is read without a fault is that transfer.
 pub fn a_transfer_is_read()
-    ensures { (stream : List ℕ) (placed : List Placed) → StreamStates stream placed → StreamReads stream placed None }
+    ensures found { (stream : List ℕ) (placed : List Placed) → ((i : ℕ) → slice_index stream i < 256) → AllByRecursion (λ p. IsRecord p.rr) placed → StreamReads stream placed None → StreamStates stream placed }
+    ensures only { (stream : List ℕ) (placed : List Placed) → StreamStates stream placed → StreamReads stream placed None }
 {}
