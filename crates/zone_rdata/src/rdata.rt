@@ -1,17 +1,25 @@
-ghost use Rattle.std.specs.Prelude.{◌≡◌, ◌++◌, ◌+◌, ◌*◌, ◌≤◌, ℕ, List, length, map, IfOk, IfErr, OnOk, OnErr};
+ghost use Rattle.std.specs.Prelude.{◌≡◌, ◌++◌, ◌+◌, ◌*◌, ◌≤◌, ℕ, List, length, map, IfOk, IfErr, OnOk, OnErr, option_map};
+ghost use Rattle.zone_rdata.specs.DataFault.{IsDataFault, IsFaultFor, IsFormFault};
+ghost use Rattle.zone_rdata.specs.Fault.{IfFault};
+ghost use Rattle.zone_rdata.specs.Generic.{StatesGeneric};
+ghost use Rattle.zone_rdata.specs.Item.{IsGeneric, raw};
+ghost use Rattle.zone_rdata.specs.Layout.{fields_of};
 ghost use Rattle.zone_rdata.specs.Minimum.{minimum};
 ghost use Rattle.zone_rdata.specs.Record.{Data, IsRdata};
-ghost use Rattle.zone_rdata.specs.Spelling.{States, raw};
+ghost use Rattle.zone_rdata.specs.Spelling.{IsCanonicalOf, States, StatesFor};
 ghost use Rattle.zone_rdata.specs.Text.{data_text};
 
 use crate::class::Class;
 use crate::fault::{Failing, Fault};
+use crate::generic::octets_of_generic;
 use crate::item::Item;
 use crate::kind::Kind;
-use crate::layout::layout_of;
+use crate::layout::{Layout, layout_of};
+use crate::lengths::data_len;
 use crate::minimum::last_number_of;
-use crate::printing::{data_len, push_data};
+use crate::printing::push_data;
 use crate::reading::{are_octets, is_generic, octets_of_items};
+use crate::uncompressed::canonical_of;
 use std::alloc::{AllocError, Global};
 use std::marker::Model;
 use zone_name::Name;
@@ -34,8 +42,40 @@ impl Model for Rdata {
     ghost invariant = { λ d. IsRdata (record { class = d.class; kind = d.kind; octets = d.octets.items }) };
 }
 
+/// The canonical octets that items in the generic form state for a layout.
+fn octets_in_form(alloc: Global, layout: Option<Layout>, items: &[Item]) -> Result<Vec<u8>, Failing>
+    requires { IsGeneric (map raw items.now) }
+    ensures found { IfOk result (λ octets. (stated : List ℕ) × StatesGeneric (map raw items.now) stated × IsCanonicalOf (option_map fields_of layout) stated octets.items) }
+    ensures fault { IfErr result (IfFault (IsFormFault (option_map fields_of layout) (map raw items.now))) }
+{
+    let stated = octets_of_generic(alloc, items)?;
+    match layout {
+        Some(layout) => canonical_of(alloc, layout, &stated),
+        None => Ok(stated),
+    }
+}
+
+/// The canonical octets that items state for a layout, in words or in the generic form.
+fn octets_for(
+    alloc: Global,
+    layout: Option<Layout>,
+    items: &[Item],
+    origin: &Name,
+) -> Result<Vec<u8>, Failing>
+    ensures found { IfOk result (λ octets. StatesFor origin.now (option_map fields_of layout) (map raw items.now) octets.items) }
+    ensures fault { IfErr result (IfFault (IsFaultFor origin.now (option_map fields_of layout) (map raw items.now))) }
+{
+    if is_generic(items) {
+        return octets_in_form(alloc, layout, items);
+    }
+    match layout {
+        Some(layout) => octets_of_items(alloc, layout, items, origin),
+        None => Err(Failing::Fault(Fault::BadGeneric)),
+    }
+}
+
 impl Rdata {
-    /// The data that the items state under the origin (RFC 1035 5.1).
+    /// The data that the items state under the origin (RFC 1035 5.1; RFC 3597 5).
     ///
     /// # Errors
     ///
@@ -50,14 +90,9 @@ impl Rdata {
         ensures class { IfOk result (λ d. d.class ≡ class) }
         ensures kind { IfOk result (λ d. d.kind ≡ kind) }
         ensures found { IfOk result (λ d. States origin.now class kind (map raw items.now) d.octets) }
+        ensures fault { IfErr result (IfFault (IsDataFault origin.now class kind (map raw items.now))) }
     {
-        let Some(layout) = layout_of(class, kind) else {
-            return Err(Failing::Fault(Fault::NotYet));
-        };
-        if is_generic(items) {
-            return Err(Failing::Fault(Fault::NotYet));
-        }
-        let octets = octets_of_items(alloc, layout, items, origin)?;
+        let octets = octets_for(alloc, layout_of(class, kind), items, origin)?;
         class.known();
         kind.known();
         are_octets(&octets);

@@ -1,6 +1,6 @@
 use Rattle.std.proofs.Common.{◌<◌, length, arith}
 use Rattle.zone_rdata.proofs.Texts as texts
-use Rattle.zone_rdata.proofs.printing.generic_len.Goals as goal
+use Rattle.zone_rdata.proofs.lengths.generic_len.Goals as goal
 
 pub returns-clause-value : goal.returns-clause-value
 returns-clause-value c =
