@@ -1,26 +1,50 @@
 -- What is read as the data of a record is its data.
-use Rattle.std.proofs.Common.{◌≡◌, ℕ, ◌+◌, ◌-◌, ◌≤◌, ◌^◌, ◌<◌, List, [], ◌∷◌, length, refl, ap, sym, ◌∙◌, subst, nat_le, arith}
-use Rattle.std.specs.Prelude.{get_or, take, drop, ◌==◌, Option, Some, None, MatchOption, Result, Ok}
+use Rattle.std.proofs.Common.{◌≡◌, ℕ, zero, suc, ◌+◌, ◌-◌, ◌≤◌, ◌^◌, ◌<◌, List, [], ◌∷◌, length, refl, ap, sym, ◌∙◌, subst, nat_le, nat_lt, nat_eq, arith}
+use Rattle.std.specs.Prelude.{get_or, slice_index, take, drop, ◌==◌, ◌&&◌, Option, Some, None, MatchOption, Result, Ok, Err}
 use Rattle.std.specs.Int.{w16, w32, to_be_bytes, from_be_bytes}
-use Rattle.std.proofs.lemmas.Bool.{leb-true, eqb-true}
-use Rattle.std.proofs.lemmas.List.{take_all, length-take-le, length-drop}
+use Rattle.std.specs.Cmp.Lexicographic.{pointwise, bytes_decides}
+use Rattle.std.specs.List.{flat_map, AllByRecursion}
+use Rattle.std.proofs.lemmas.Bool.{leb-true, ltb-true, eqb-true}
+use Rattle.std.proofs.lemmas.List.{take_all, length-take, length-take-le, length-drop}
 use Rattle.std.proofs.lemmas.Nat.{be_bytes_2, be_bytes_4}
-use Rattle.zone_rdata.specs.Field.{FieldValue, octets_of, Holds, HoldEach, field_at}
+use Rattle.zone_name.specs.Name.{frame}
+use Rattle.zone_rdata.specs.Field.{FieldValue, name, string_at, strings_by, strings_of, octets_of, Holds, HoldEach, field_at}
 use Rattle.zone_rdata.specs.Layout.{layout}
+use Rattle.zone_rdata.specs.Strings.{IsString}
 use Rattle.zone_rdata.specs.declared.fault.Fault.{Fault}
 use Rattle.zone_rdata.specs.declared.layout.Field.{Field}
-use Rattle.zone_rdata.specs.declared.layout.Field.TheVariants.{Name, Serial, Time, U16}
-use Rattle.zone_wire.specs.Data.{name_before, sized_before, value_at, values_at, data_at}
+use Rattle.zone_rdata.specs.declared.layout.Field.TheVariants.{Name, Serial, Time, U16, Octets, OneString, Strings}
+use Rattle.zone_wire.specs.Data.{name_before, sized_before, strings_before, value_at, values_at, data_at}
 use Rattle.zone_wire.specs.Message.{RecordAt}
 use Rattle.zone_wire.specs.Reading.{Outcome, named, refused, outcome}
 use Rattle.zone_wire.specs.Sections.{and_then}
 use Rattle.zone_wire.specs.Transfer.{part, StandsAt, StandEach, AreFieldsAt, IsDataAt}
 use Rattle.zone_wire.specs.Walk.{walk}
-use Rattle.zone_wire.proofs.ReadSections.{ok_same, leads, passes}
+use Rattle.zone_wire.proofs.Fielding.{part_first}
+use Rattle.zone_wire.proofs.ReadSections.{ok_same, leads, passes, both}
 use Rattle.zone_wire.proofs.Walking.{walk_names, take_each, drop_each}
 
 abbrev Shown : List ℕ → ℕ → ℕ → Field → FieldValue × ℕ → Type 0
 Shown octets end start field v = Holds field v.0 × (v.1 ≤ end) × StandsAt octets start v.1 v.0
+
+-- octets, each below 256
+bytes_each : (octets : List ℕ) → ((k : ℕ) → get_or octets k 0 < 256) → AllByRecursion (λ c. c < 256) octets
+bytes_each [] small = tt
+bytes_each (c ∷ octets) small = (small 0, bytes_each octets (λ k. small (suc k)))
+
+strings_each_by : (n : ℕ) (octets : List ℕ) → ((k : ℕ) → get_or octets k 0 < 256) → AllByRecursion IsString (strings_by n octets)
+strings_each_by zero octets small = tt
+strings_each_by (suc n) [] small = tt
+strings_each_by (suc n) (c ∷ octets) small =
+    (record { short = omega (arith, length-take c octets, small 0); each = bytes_each (take c octets) (take_each c octets (λ k. small (suc k))) }, strings_each_by n (drop c octets) (drop_each c octets (λ k. small (suc k))))
+
+strings_each : (octets : List ℕ) → ((k : ℕ) → get_or octets k 0 < 256) → AllByRecursion IsString (strings_of octets)
+unfolding strings_of
+strings_each octets small = strings_each_by (length octets) octets small
+
+some_strings : (many : List (List ℕ)) → 0 < length (flat_map frame many) → 0 < length many
+some_strings [] h = absurd (omega arith)
+some_strings (text ∷ many) h = omega arith
 
 module _ (octets : List ℕ) (each : (k : ℕ) → get_or octets k 0 < 256) (end : ℕ) (within : end ≤ length octets) where
   name_shows : (start : ℕ) (o : Outcome) (v : FieldValue × ℕ) → outcome octets (walk octets start) ≡ o → name_before end o ≡ Ok v → Shown octets end start Name v
@@ -61,12 +85,50 @@ module _ (octets : List ℕ) (each : (k : ℕ) → get_or octets k 0 < 256) (end
       let len : length bs ≡ 2 = part_size start 2 fits in
       (omega arith, sym (be_bytes_2 bs (from_be_bytes w16 (take 2 bs)) len (part_bytes start (start + 2)) (ap (from_be_bytes w16) (take_all 2 bs (omega (arith, len))))))
 
+  -- octets of a fixed number
+  fixed_shows : (start n : ℕ) → start + n ≤ end → Shown octets end start (Octets n) (field_at (Octets n) (part octets start (start + n)), start + n)
+  fixed_shows start n fits =
+      let bs = part octets start (start + n) in
+      let len : length bs ≡ n = part_size start n fits in
+      let whole : take n bs ≡ bs = take_all n bs (omega (arith, len)) in
+      (record { size = ap length whole ∙ len; each = bytes_each (take n bs) (take_each n bs (part_bytes start (start + n))) }, fits, (omega arith, sym whole))
+
+  -- a string behind its length
+  string_shows : (start : ℕ) → start + (1 + slice_index octets start) ≤ end → Shown octets end start OneString (field_at OneString (part octets start (start + (1 + slice_index octets start))), start + (1 + slice_index octets start))
+  string_shows start fits =
+      let past = start + (1 + slice_index octets start) in
+      let bs = part octets start past in
+      let h = framed bs (slice_index octets start) (part_bytes start past) (part_size start (1 + slice_index octets start) fits) (part_first octets start past (omega arith)) in
+      (h.0, fits, (omega arith, h.1))
+    where
+      framed : (bs : List ℕ) (size : ℕ) → ((k : ℕ) → get_or bs k 0 < 256) → length bs ≡ 1 + size → get_or bs 0 0 ≡ size → IsString (string_at bs) × (bs ≡ frame (string_at bs))
+      framed [] size small len first = absurd (omega (arith, len))
+      framed (c ∷ rest) size small len first =
+          let same : length rest ≡ c = omega (arith, len, first) in
+          let whole : take c rest ≡ rest = take_all c rest (omega (arith, same)) in
+          let text : length (take c rest) ≡ c = ap length whole ∙ same in
+          (record { short = omega (arith, text, small 0); each = bytes_each (take c rest) (take_each c rest (λ k. small (suc k))) }, ap (λ x. x ∷ rest) (sym text) ∙ ap (λ x. length (take c rest) ∷ x) (sym whole))
+
+  -- strings up to the end
+  strings_show : (start : ℕ) (v : FieldValue × ℕ) → strings_before end (part octets start end) ≡ Ok v → Shown octets end start Strings v
+  strings_show start v e =
+      let bs = part octets start end in
+      let p = passes (nat_lt 0 (length bs) && pointwise nat_eq (flat_map frame (strings_of bs)) bs) _ v _ e in
+      let b = both (nat_lt 0 (length bs)) (pointwise nat_eq (flat_map frame (strings_of bs)) bs) p.0 in
+      let some : 0 < length bs = ltb-true 0 (length bs) b.0 in
+      let whole : flat_map frame (strings_of bs) ≡ bs = (bytes_decides (flat_map frame (strings_of bs)) bs).0 b.1 in
+      let order : start ≤ end = omega (arith, some, length-take (end - start) (drop start octets)) in
+      subst (Shown octets end start Strings) p.1 (record { some = some_strings (strings_of bs) (omega (arith, some, ap length whole)); each = strings_each bs (part_bytes start end) }, omega arith, (order, sym whole))
+
   -- what is read for a field stands there
   value_shows : (start : ℕ) (field : Field) (v : FieldValue × ℕ) → value_at octets end start field ≡ Ok v → Shown octets end start field v
   unfolding value_at
   value_shows start Name v e = name_shows start (outcome octets (walk octets start)) v refl e
   value_shows start Serial v e = sized_shows start 4 Serial v (λ fits. (long_short _ (take_each 4 _ (part_bytes start (start + 4))), fits, long_stands start fits)) e
   value_shows start Time v e = sized_shows start 4 Time v (λ fits. (long_short _ (take_each 4 _ (part_bytes start (start + 4))), fits, long_stands start fits)) e
+  value_shows start (Octets n) v e = sized_shows start n (Octets n) v (fixed_shows start n) e
+  value_shows start OneString v e = sized_shows start (1 + slice_index octets start) OneString v (string_shows start) e
+  value_shows start Strings v e = strings_show start v e
   value_shows start U16 v e = sized_shows start 2 U16 v (λ fits. (two_short _ (take_each 2 _ (part_bytes start (start + 2))), fits, two_stands start fits)) e
 
   values_show : (fields : List Field) (start : ℕ) (values : List FieldValue) → values_at octets end start fields ≡ Ok values → HoldEach fields values × StandEach octets start end values
