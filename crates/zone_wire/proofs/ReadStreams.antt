@@ -164,6 +164,24 @@ followed : (number : ℕ) (here : List Placed) (fault : Option (Fault × ℕ)) (
 followed number here None next e = (refl, e, refl)
 followed number here (Some f) next e = cc
 
+-- a message, and those after it
+accepted_more : (before : List Sections) (placed : List Placed) (octets : List ℕ) (messages : List (List ℕ)) (s : Sections) (here : List Placed) (answered whole : Answered (Fault × Place)) → length octets ≤ 65535 → IsMessage octets s → (AllByRecursion (λ x. IsRecord x.rr) here → StateEach (length before + 1) octets s.answers here) → Orders placed here → whole.placed ≡ here ++ answered.placed → AreAccepted (before ++ s ∷ []) (placed ++ here) messages answered → AreAccepted before placed (octets ∷ messages) whole
+accepted_more before placed octets messages s here answered whole short message states order all rest =
+    let parts = rest.parts in
+    let count : length (before ++ s ∷ []) + 1 ≡ length before + 1 + 1 = omega (arith, length-append before (s ∷ [])) in
+    let sections : (before ++ s ∷ []) ++ sections_of_parts parts ≡ before ++ s ∷ sections_of_parts parts = append_assoc before (s ∷ []) (sections_of_parts parts) in
+    let records : (placed ++ here) ++ placed_of_parts parts ≡ placed ++ (here ++ placed_of_parts parts) = append_assoc placed here (placed_of_parts parts) in
+    let zone : OfOneZone (questions_of ((before ++ s ∷ []) ++ sections_of_parts parts)) (placed ++ (here ++ placed_of_parts parts)) = subst (OfOneZone (questions_of ((before ++ s ∷ []) ++ sections_of_parts parts))) records rest.one_zone in
+    record {
+      parts = record { octets = octets; sections = s; placed = here } ∷ parts;
+      octets = ap (λ x. octets ∷ x) rest.octets;
+      stated = ap (λ x. here ++ x) rest.stated ∙ sym all;
+      loose = (record { short = short; message = message; answers = states }, subst (λ m. AreLoose m parts) count rest.loose);
+      one_id = subst OfOneId sections rest.one_id;
+      one_zone = subst (λ b. OfOneZone (questions_of b) (placed ++ (here ++ placed_of_parts parts))) sections zone;
+      order = orders_append placed here (placed_of_parts parts) order rest.order;
+    }
+
 accepted : (messages : List (List ℕ)) (before : List Sections) (placed : List Placed) → AllByRecursion (λ octets. length octets ≤ 65535) messages → AllByRecursion Bytes messages → OfOneId before → OfOneZone (questions_of before) placed → (records_of before placed messages).fault ≡ None → AreAccepted before placed messages (records_of before placed messages)
 unfolding records_of
 accepted [] before placed short each ids zone e = record {
@@ -187,19 +205,9 @@ accepted (octets ∷ messages) before placed short each ids zone e =
     let f = followed number answered.placed answered.fault after n.rest in
     let stated = answers_shown number octets questions each.0 read.message.past_questions read.message.past_answers s.answers placed read.message.answers f.0 in
     let rest = accepted messages (before ++ s ∷ []) (placed ++ answered.placed) short.1 each.1 read.one_id (records_in_zone questions placed answered.placed stated.kept read.one_zone) f.1 in
-    let p : Part = record { octets = octets; sections = s; placed = answered.placed } in
-    let count : length (before ++ s ∷ []) + 1 ≡ number + 1 = omega (arith, length-append before (s ∷ [])) in
-    let sections : (before ++ s ∷ []) ++ sections_of_parts rest.parts ≡ before ++ s ∷ sections_of_parts rest.parts = append_assoc before (s ∷ []) (sections_of_parts rest.parts) in
-    let records : (placed ++ answered.placed) ++ placed_of_parts rest.parts ≡ placed ++ (answered.placed ++ placed_of_parts rest.parts) = append_assoc placed answered.placed (placed_of_parts rest.parts) in
-    record {
-      parts = p ∷ rest.parts;
-      octets = ap (λ x. octets ∷ x) rest.octets;
-      stated = ap (λ x. answered.placed ++ x) rest.stated ∙ sym f.2 ∙ sym (ap (λ r. (unless_refused number r next).placed) n.is);
-      loose = (record { short = short.0; message = read.message; answers = stated.stated }, subst (λ m. AreLoose m rest.parts) count rest.loose);
-      one_id = subst OfOneId sections rest.one_id;
-      one_zone = subst (λ b. OfOneZone (questions_of b) (placed ++ (answered.placed ++ placed_of_parts rest.parts))) sections (subst (OfOneZone (questions_of ((before ++ s ∷ []) ++ sections_of_parts rest.parts))) records rest.one_zone);
-      order = orders_append placed answered.placed (placed_of_parts rest.parts) (orders_from questions placed answered.placed stated.kept) rest.order;
-    }
+    let whole : Answered (Fault × Place) = unless_refused number (message_of before placed octets) next in
+    let all : whole.placed ≡ answered.placed ++ (after answered.placed).placed = ap (λ r. (unless_refused number r next).placed) n.is ∙ f.2 in
+    accepted_more before placed octets messages s answered.placed (after answered.placed) whole short.0 read.message stated.stated (orders_from questions placed answered.placed stated.kept) all rest
 
 -- records that are none of them an SOA, and the opening SOA again
 record Closes (opening : Placed) (rest : List Placed) : Type 0 where

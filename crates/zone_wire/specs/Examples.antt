@@ -60,24 +60,30 @@ numbers serial = 0 ∷ 0 ∷ 0 ∷ serial ∷ 0 ∷ 0 ∷ 0 ∷ 2 ∷ 0 ∷ 0 �
 abbrev pub opening_x : List ℕ
 opening_x = (192 ∷ 12 ∷ 0 ∷ 6 ∷ 0 ∷ 1 ∷ 0 ∷ 0 ∷ 14 ∷ 16 ∷ 0 ∷ 28 ∷ 1 ∷ 110 ∷ 192 ∷ 12 ∷ 1 ∷ 104 ∷ 192 ∷ 12 ∷ []) ++ numbers 1
 
--- a record of `x.` with TTL 3600, of a type and with data that points to `n.x.`
-abbrev pub pointing_x : ℕ → List ℕ
-pointing_x kind = 192 ∷ 12 ∷ 0 ∷ kind ∷ 0 ∷ 1 ∷ 0 ∷ 0 ∷ 14 ∷ 16 ∷ 0 ∷ 2 ∷ 192 ∷ 31 ∷ []
+-- a record of `x.` with TTL 3600, of a type and with data
+abbrev pub record_x : ℕ → List ℕ → List ℕ
+record_x kind octets = (192 ∷ 12 ∷ 0 ∷ kind ∷ 0 ∷ 1 ∷ 0 ∷ 0 ∷ 14 ∷ 16 ∷ 0 ∷ length octets ∷ []) ++ octets
 
--- the name server of `x.`
+-- the name server of `x.`: a pointer to `n.x.`
 abbrev pub server_x : List ℕ
-server_x = pointing_x 2
+server_x = record_x 2 (192 ∷ 31 ∷ [])
 
 -- the SOA again, with a serial, its names being pointers to the first one's
 abbrev pub closing_x : ℕ → List ℕ
 closing_x serial = (192 ∷ 12 ∷ 0 ∷ 6 ∷ 0 ∷ 1 ∷ 0 ∷ 0 ∷ 14 ∷ 16 ∷ 0 ∷ 24 ∷ 192 ∷ 31 ∷ 192 ∷ 35 ∷ []) ++ numbers serial
 
--- the records of a message behind the question: the SOA, the name server, and the SOA again
+-- behind the header: the question, the SOA, an answer, and the SOA again
+abbrev pub body_with : List ℕ → List ℕ
+body_with answer = question_x ++ opening_x ++ answer ++ closing_x 1
+
+abbrev pub message_with : List ℕ → List ℕ
+message_with answer = answer_header 1 3 0 ++ body_with answer
+
 abbrev pub small_body : List ℕ
-small_body = question_x ++ opening_x ++ server_x ++ closing_x 1
+small_body = body_with server_x
 
 abbrev pub small_message : List ℕ
-small_message = answer_header 1 3 0 ++ small_body
+small_message = message_with server_x
 
 -- the first of two messages: the SOA, the name server, and OPT as additional record
 abbrev pub first_message : List ℕ
@@ -103,6 +109,13 @@ soa_x = record { owner = name_x; class = 1; kind = 6; ttl = 3600; octets = (1 �
 
 abbrev pub ns_x : Record
 ns_x = record { owner = name_x; class = 1; kind = 2; ttl = 3600; octets = 1 ∷ 110 ∷ 1 ∷ 120 ∷ 0 ∷ [] }
+
+abbrev pub srv_x : Record
+srv_x = record { owner = name_x; class = 1; kind = 33; ttl = 3600; octets = 0 ∷ 0 ∷ 0 ∷ 5 ∷ 19 ∷ 196 ∷ 1 ∷ 110 ∷ 1 ∷ 120 ∷ 0 ∷ [] }
+
+-- order 100, preference 10, the strings `U` and two empty ones, and `n.x.`
+abbrev pub naptr_x : Record
+naptr_x = record { owner = name_x; class = 1; kind = 35; ttl = 3600; octets = 0 ∷ 100 ∷ 0 ∷ 10 ∷ 1 ∷ 85 ∷ 0 ∷ 0 ∷ 1 ∷ 110 ∷ 1 ∷ 120 ∷ 0 ∷ [] }
 
 abbrev pub address_n : Record
 address_n = record { owner = name_n; class = 1; kind = 1; ttl = 3600; octets = 10 ∷ 0 ∷ 0 ∷ 1 ∷ [] }
