@@ -8,3 +8,6 @@ mod place;
 mod ticks;
 
 pub use name::{Decoded, name_at};
+
+#[cfg(test)]
+mod tests;
