@@ -1,5 +1,5 @@
--- The laws of names.
-use Rattle.std.proofs.Common.{◌≡◌, ◌≢◌, ℕ, ◌+◌, ◌/◌, ◌%◌, ◌<◌, Bool, true, false, ◌||◌, ◌==◌, nat_eq, if◌then◌else◌, List, [], ◌∷◌, ◌++◌, reverse, codes, Option, Some, Result, Ok, ◌⊎◌, inl, inr, div-add-mod', refl, sym, ap, ◌∙◌, subst, arith}
+-- The laws of the order and of what is printed.
+use Rattle.std.proofs.Common.{◌≡◌, ◌≢◌, ℕ, ◌+◌, ◌/◌, ◌%◌, ◌<◌, Bool, true, false, ◌||◌, ◌==◌, nat_eq, if◌then◌else◌, List, [], ◌∷◌, ◌++◌, reverse, Option, div-add-mod', refl, sym, ap, ◌∙◌, subst, arith}
 use Rattle.std.specs.Prelude.{map}
 use Rattle.std.specs.List.{flat_map, AllByRecursion}
 use Rattle.std.specs.declared.cmp.Ordering.TheVariants.{Equal}
@@ -10,10 +10,7 @@ use Rattle.std.proofs.lemmas.Cmp.{nat_cmp_total}
 use Rattle.std.proofs.lemmas.List.{reverse-reverse, length-map}
 use Rattle.std.proofs.lemmas.Bool.Decides.{nat_tests}
 use Rattle.zone_name.specs.Name.{IsFoldedOctet, IsLabel, IsName, folded_octet, folded_label}
-use Rattle.std.proofs.lemmas.Bool.{false≢true}
-use Rattle.zone_name.specs.Reading.{reading, under}
-use Rattle.zone_name.specs.declared.fault.NameFault.{NameFault}
-use Rattle.zone_name.proofs.Only.{decided-only, root-only, origin_by}
+use Rattle.std.proofs.lemmas.Bool.{eqb-true, eqb-false, or_parts}
 use Rattle.zone_name.specs.Order.{name_cmp}
 use Rattle.zone_name.specs.Spelling.{Written, plain, escaped, decimal, text_of, octet_of, IsWritten, IsWrittenLabel, written_text, written_octets, dotted, named, Writes, root, absolute, Spells, is_digit}
 use Rattle.zone_name.specs.Text.{is_special, is_printed, decimal_escape, octet_text, label_text, name_text}
@@ -64,26 +61,12 @@ octet_of-printed c = value_by (is_special c) (is_printed c) c
 digit_test : (d : ℕ) → d < 10 → is_digit (48 + d) ≡ true
 digit_test d h = grind (arith, nat_tests)
 
-or_false : (a b : Bool) → (a || b) ≡ false → (a ≡ false) × (b ≡ false)
-or_false true b e = absurd (false≢true (sym e))
-or_false false b e = (refl, e)
-
-or_true : (a b : Bool) → (a || b) ≡ true → (a ≡ true) ⊎ (b ≡ true)
-or_true true b e = inl refl
-or_true false b e = inr e
-
-eq_test : (m n : ℕ) → (m == n) ≡ true → m ≡ n
-eq_test m n e = grind (arith, nat_tests)
-
-ne_test : (m n : ℕ) → (m == n) ≡ false → m ≢ n
-ne_test m n e = grind (arith, nat_tests)
-
 -- no special octet is a digit or ends a line
 abbrev Escapes : ℕ → Type 0
 Escapes c = (is_digit c ≡ false) × (c ≢ 10) × (c ≢ 13)
 
 escapes_at : (c n : ℕ) → Escapes n → (c == n) ≡ true → Escapes c
-escapes_at c n at e = let P : ℕ → Type 0 = λ t. Escapes t in subst P (sym (eq_test c n e)) at
+escapes_at c n at e = let P : ℕ → Type 0 = λ t. Escapes t in subst P (sym (eqb-true c n e)) at
 
 either : (a b : Bool) (P : Type 0) → (a ≡ true → P) → (b ≡ true → P) → (a || b) ≡ true → P
 either true b P f g e = f refl
@@ -109,11 +92,11 @@ special_escapes c =
 
 plain_octets : (c : ℕ) → is_special c ≡ false → (c ≢ 46) × (c ≢ 92)
 plain_octets c e =
-    let last = or_false (c == 34 || c == 36 || c == 40 || c == 41 || c == 46 || c == 59 || c == 64) (c == 92) e in
-    let one = or_false (c == 34 || c == 36 || c == 40 || c == 41 || c == 46 || c == 59) (c == 64) last.0 in
-    let two = or_false (c == 34 || c == 36 || c == 40 || c == 41 || c == 46) (c == 59) one.0 in
-    let three = or_false (c == 34 || c == 36 || c == 40 || c == 41) (c == 46) two.0 in
-    (ne_test c 46 three.1, ne_test c 92 last.1)
+    let last = or_parts (c == 34 || c == 36 || c == 40 || c == 41 || c == 46 || c == 59 || c == 64) (c == 92) e in
+    let one = or_parts (c == 34 || c == 36 || c == 40 || c == 41 || c == 46 || c == 59) (c == 64) last.0 in
+    let two = or_parts (c == 34 || c == 36 || c == 40 || c == 41 || c == 46) (c == 59) one.0 in
+    let three = or_parts (c == 34 || c == 36 || c == 40 || c == 41) (c == 46) two.0 in
+    (eqb-false c 46 three.1, eqb-false c 92 last.1)
 
 written_is : (special printed : Bool) (c : ℕ) → c < 256 → is_special c ≡ special → IsWritten (written_by special printed c)
 unfolding written_by
@@ -166,28 +149,3 @@ printed_by origin (label ∷ labels) name =
 
 pub name_text-spelled : (origin : Option (List (List ℕ))) (labels : List (List ℕ)) → IsName labels → Spells origin (name_text labels) labels
 name_text-spelled origin labels name = record { written = printed_by origin labels name; name = name }
-
--- ---- a text spells one name
-abbrev same_result : Result (List (List ℕ)) NameFault → Result (List (List ℕ)) NameFault → Type 0
-same_result r s = r ≡ s
-
-once_by : (origin : Option (List (List ℕ))) (text : List ℕ) (a b : List (List ℕ)) (is_dot is_at : Bool) → pointwise nat_eq text (codes ".") ≡ is_dot → pointwise nat_eq text (codes "@") ≡ is_at → Spells origin text a → Spells origin text b → a ≡ b
-once_by origin text a b true is_at e f one two =
-    let dot = (bytes_decides text (codes ".")).0 e in
-    sym (root-only origin text [] a dot refl one) ∙ root-only origin text [] b dot refl two
-once_by origin text a b false true e f one two =
-    let at = (bytes_decides text (codes "@")).0 f in
-    some_same a b (sym (origin_by origin text a at one.written one.name) ∙ origin_by origin text b at two.written two.name)
-  where
-    some_same : (x y : List (List ℕ)) → Some x ≡ Some y → x ≡ y
-    some_same x y e = cc
-once_by origin text a b false false e f one two =
-    let no_dot : text ≢ codes "." = λ h. false≢true (sym e ∙ (bytes_decides text (codes ".")).1 h) in
-    let no_at : text ≢ codes "@" = λ h. false≢true (sym f ∙ (bytes_decides text (codes "@")).1 h) in
-    ok_same a b (sym (decided-only origin text (under origin (reading text)) no_dot no_at refl a one) ∙ decided-only origin text (under origin (reading text)) no_dot no_at refl b two)
-  where
-    ok_same : (x y : List (List ℕ)) → same_result (Ok x) (Ok y) → x ≡ y
-    ok_same x y e = cc
-
-pub Spells-once : (origin : Option (List (List ℕ))) (text : List ℕ) (a b : List (List ℕ)) → Spells origin text a → Spells origin text b → a ≡ b
-Spells-once origin text a b one two = once_by origin text a b (pointwise nat_eq text (codes ".")) (pointwise nat_eq text (codes "@")) refl refl one two

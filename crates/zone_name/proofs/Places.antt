@@ -1,7 +1,6 @@
 -- What stands at a place of a text, in the words of its spelling.
-use Rattle.std.proofs.Common.{◌≡◌, ◌≢◌, ℕ, ◌<◌, ◌≤◌, Bool, true, false, ◌&&◌, ◌||◌, ◌==◌, nat_le, if◌then◌else◌, List, [], ◌∷◌, ◌++◌, length, refl, sym, ap, ◌∙◌, subst, arith, length-append}
-use Rattle.std.proofs.lemmas.Bool.Decides.{nat_tests}
-use Rattle.std.proofs.lemmas.Bool.{false≢true}
+use Rattle.std.proofs.Common.{◌≡◌, ◌≢◌, ℕ, ◌<◌, Bool, true, false, ◌&&◌, ◌||◌, ◌==◌, nat_le, if◌then◌else◌, List, [], ◌∷◌, ◌++◌, length, refl, sym, ap, ◌∙◌, subst, arith, length-append}
+use Rattle.std.proofs.lemmas.Bool.{false≢true, le-leb, leb-true, eqb-true, eqb-false, ne_eqb, or_parts}
 use Rattle.zone_name.specs.Spelling.{Written, plain, escaped, decimal, text_of, octet_of, IsWritten, IsBadEscape, is_digit}
 use Rattle.zone_name.specs.Reading.{Place, at_end, at_dot, at_octet, at_fault, digits_place, escape_place, place_of}
 
@@ -38,10 +37,7 @@ abbrev is_decimal : ℕ → ℕ → ℕ → Bool
 is_decimal x y z = is_digit x && is_digit y && is_digit z && nat_le (octet_of (decimal x y z)) 255
 
 passes : (x y z : ℕ) → IsWritten (decimal x y z) → is_decimal x y z ≡ true
-passes x y z is = rw (is.0, is.1, is.2) (le_test (octet_of (decimal x y z)) 255 is.3)
-  where
-    le_test : (m n : ℕ) → m ≤ n → nat_le m n ≡ true
-    le_test m n h = grind (arith, nat_tests)
+passes x y z is = rw (is.0, is.1, is.2) (le-leb (octet_of (decimal x y z)) 255 is.3)
 
 and_parts : (a b c d : Bool) → (a && b && c && d) ≡ true → (a ≡ true) × (b ≡ true) × (c ≡ true) × (d ≡ true)
 and_parts true true true d e = (refl, refl, refl, e)
@@ -49,19 +45,10 @@ and_parts true true false d e = absurd (false≢true e)
 and_parts true false c d e = absurd (false≢true e)
 and_parts false b c d e = absurd (false≢true e)
 
-le_of_test : (m n : ℕ) → nat_le m n ≡ true → m ≤ n
-le_of_test m n e = grind (arith, nat_tests)
-
-eq_of_test : (m n : ℕ) → (m == n) ≡ true → m ≡ n
-eq_of_test m n e = grind (arith, nat_tests)
-
-ne_of_test : (m n : ℕ) → (m == n) ≡ false → m ≢ n
-ne_of_test m n e = grind (arith, nat_tests)
-
 is_written_decimal : (x y z : ℕ) → is_decimal x y z ≡ true → IsWritten (decimal x y z)
 is_written_decimal x y z e =
     let parts = and_parts (is_digit x) (is_digit y) (is_digit z) (nat_le (octet_of (decimal x y z)) 255) e in
-    (parts.0, parts.1, parts.2, le_of_test (octet_of (decimal x y z)) 255 parts.3)
+    (parts.0, parts.1, parts.2, leb-true (octet_of (decimal x y z)) 255 parts.3)
 
 no_decimal : (x y z : ℕ) (rest : List ℕ) → is_digit x ≡ true → is_decimal x y z ≡ false → (w : Written) (after : List ℕ) → IsWritten w → 92 ∷ x ∷ y ∷ z ∷ rest ≡ text_of w ++ after → ⊥
 no_decimal x y z rest d f (plain c) after is e = is.1 (cc)
@@ -84,20 +71,16 @@ digits_are x (y ∷ z ∷ rest) d = decimal_is x y z rest d (is_decimal x y z) r
 -- the ends of a line take no backslash
 no_escaped : (x : ℕ) (rest : List ℕ) → is_digit x ≡ false → (x == 10 || x == 13) ≡ true → (w : Written) (after : List ℕ) → IsWritten w → 92 ∷ x ∷ rest ≡ text_of w ++ after → ⊥
 no_escaped x rest d t (plain c) after is e = is.1 (cc)
-no_escaped x rest d t (escaped c) after is e = let same : x ≡ c = cc in or_neither (x == 10) (x == 13) t (λ h. is.1 (sym same ∙ eq_of_test x 10 h)) (λ h. is.2 (sym same ∙ eq_of_test x 13 h))
+no_escaped x rest d t (escaped c) after is e = let same : x ≡ c = cc in or_neither (x == 10) (x == 13) t (λ h. is.1 (sym same ∙ eqb-true x 10 h)) (λ h. is.2 (sym same ∙ eqb-true x 13 h))
   where
     or_neither : (a b : Bool) → (a || b) ≡ true → (a ≡ true → ⊥) → (b ≡ true → ⊥) → ⊥
     or_neither true b e f g = f refl
     or_neither false b e f g = g e
 no_escaped x rest d t (decimal u v w) after is e = let same : x ≡ u = cc in two_ways (is_digit u) is.0 (ap is_digit (sym same) ∙ d)
 
-or_parts : (a b : Bool) → (a || b) ≡ false → (a ≡ false) × (b ≡ false)
-or_parts true b e = absurd (false≢true (sym e))
-or_parts false b e = (refl, e)
-
 end_is : (x : ℕ) (rest : List ℕ) → is_digit x ≡ false → (b : Bool) → (x == 10 || x == 13) ≡ b → IsPlace (92 ∷ x ∷ rest) (if b then at_fault else at_octet x rest)
 end_is x rest d true e = (x ∷ rest, refl, no_escaped x rest d e)
-end_is x rest d false e = let parts = or_parts (x == 10) (x == 13) e in (escaped x, (d, ne_of_test x 10 parts.0, ne_of_test x 13 parts.1), refl, refl)
+end_is x rest d false e = let parts = or_parts (x == 10) (x == 13) e in (escaped x, (d, eqb-false x 10 parts.0, eqb-false x 13 parts.1), refl, refl)
 
 escape_by : (x : ℕ) (rest : List ℕ) (b : Bool) → is_digit x ≡ b → IsPlace (92 ∷ x ∷ rest) (if b then digits_place x rest else (if x == 10 || x == 13 then at_fault else at_octet x rest))
 escape_by x rest true d = digits_are x rest d
@@ -108,12 +91,12 @@ escape_is [] = ([], refl, bare_backslash)
 escape_is (x ∷ rest) = escape_by x rest (is_digit x) refl
 
 octet_is : (c : ℕ) (rest : List ℕ) → c ≢ 46 → (b : Bool) → (c == 92) ≡ b → IsPlace (c ∷ rest) (if b then escape_place rest else at_octet c rest)
-octet_is c rest n true e = let P : ℕ → Type 0 = λ t. IsPlace (t ∷ rest) (escape_place rest) in subst P (sym (eq_of_test c 92 e)) (escape_is rest)
-octet_is c rest n false e = (plain c, (n, ne_of_test c 92 e), refl, refl)
+octet_is c rest n true e = let P : ℕ → Type 0 = λ t. IsPlace (t ∷ rest) (escape_place rest) in subst P (sym (eqb-true c 92 e)) (escape_is rest)
+octet_is c rest n false e = (plain c, (n, eqb-false c 92 e), refl, refl)
 
 dot_is : (c : ℕ) (rest : List ℕ) (b : Bool) → (c == 46) ≡ b → IsPlace (c ∷ rest) (if b then at_dot rest else (if c == 92 then escape_place rest else at_octet c rest))
-dot_is c rest true e = ap (λ t. t ∷ rest) (eq_of_test c 46 e)
-dot_is c rest false e = octet_is c rest (ne_of_test c 46 e) (c == 92) refl
+dot_is c rest true e = ap (λ t. t ∷ rest) (eqb-true c 46 e)
+dot_is c rest false e = octet_is c rest (eqb-false c 46 e) (c == 92) refl
 
 -- each place is what the text's spelling says
 pub place_is : (rest : List ℕ) → IsPlace rest (place_of rest)
@@ -143,12 +126,9 @@ pub place_shrinks : (rest : List ℕ) → Shrinks rest (place_of rest)
 place_shrinks rest = shrinks_by rest (place_of rest) (place_is rest)
 
 -- the way back: what stands where a written octet stands
-test_not : (m n : ℕ) → m ≢ n → (m == n) ≡ false
-test_not m n h = grind (arith, nat_tests)
-
 pub place-written : (w : Written) (rest : List ℕ) → IsWritten w → place_of (text_of w ++ rest) ≡ at_octet (octet_of w) rest
-place-written (plain c) rest is = rw (test_not c 46 is.0, test_not c 92 is.1) refl
-place-written (escaped x) rest is = rw (is.0, test_not x 10 is.1, test_not x 13 is.2) refl
+place-written (plain c) rest is = rw (ne_eqb c 46 is.0, ne_eqb c 92 is.1) refl
+place-written (escaped x) rest is = rw (is.0, ne_eqb x 10 is.1, ne_eqb x 13 is.2) refl
 place-written (decimal x y z) rest is =
     ap (λ (b : Bool). if b then digits_place x (y ∷ z ∷ rest) else (if x == 10 || x == 13 then at_fault else at_octet x (y ∷ z ∷ rest))) is.0
     ∙ ap (λ (b : Bool). if b then at_octet (octet_of (decimal x y z)) rest else at_fault) (passes x y z is)

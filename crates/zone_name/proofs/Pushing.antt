@@ -1,9 +1,10 @@
 -- A label that is put behind others.
-use Rattle.std.proofs.Common.{◌≡◌, ℕ, suc, ◌+◌, ◌<◌, ◌≤◌, Bool, true, false, Ok, Err, List, [], ◌∷◌, ◌++◌, length, take, get_or, nat_le, if◌then◌else◌, sym, ap, ◌∙◌, subst, arith, append_assoc, length-append}
+use Rattle.std.proofs.Common.{◌≡◌, ℕ, suc, ◌+◌, ◌<◌, ◌≤◌, Bool, Ok, Err, List, [], ◌∷◌, ◌++◌, length, take, get_or, if◌then◌else◌, sym, ap, ◌∙◌, subst, arith, append_assoc, length-append}
 use Rattle.std.specs.Prelude.{map}
 use Rattle.std.specs.List.{flat_map, AllByRecursion}
 use Rattle.std.proofs.lemmas.List.{length-map, append-nil, take_all}
 use Rattle.std.proofs.lemmas.List.Concat.{flat_map-append}
+use Rattle.std.proofs.lemmas.Bool.{le-leb, lt-leb}
 use Rattle.std.proofs.lemmas.Bool.Decides.{nat_tests}
 use Rattle.zone_name.specs.Name.{IsLabel, IsName, IsFoldedOctet, folded_octet, folded_label, frame, wire, labels_of, HoldsName, HoldsLabels}
 use Rattle.zone_name.specs.Reading.{sized}
@@ -15,10 +16,18 @@ pub AllByRecursion-from_places : (P : ℕ → Type 0) (octets : List ℕ) → ((
 AllByRecursion-from_places P [] each = tt
 AllByRecursion-from_places P (c ∷ octets) each = (each 0 (omega arith), AllByRecursion-from_places P octets (λ k h. each (suc k) (omega arith)))
 
--- what holds of the parts holds of the whole
+-- what holds of the parts holds of the whole, and the other way round
 pub AllByRecursion-append : {X : Type 0} (P : X → Type 0) (xs ys : List X) → AllByRecursion P xs → AllByRecursion P ys → AllByRecursion P (xs ++ ys)
 AllByRecursion-append P [] ys left right = right
 AllByRecursion-append P (x ∷ xs) ys left right = (left.0, AllByRecursion-append P xs ys left.1 right)
+
+pub AllByRecursion-front : {X : Type 0} (P : X → Type 0) (xs ys : List X) → AllByRecursion P (xs ++ ys) → AllByRecursion P xs
+AllByRecursion-front P [] ys each = tt
+AllByRecursion-front P (x ∷ xs) ys each = (each.0, AllByRecursion-front P xs ys each.1)
+
+pub AllByRecursion-back : {X : Type 0} (P : X → Type 0) (xs ys : List X) → AllByRecursion P (xs ++ ys) → AllByRecursion P ys
+AllByRecursion-back P [] ys each = each
+AllByRecursion-back P (x ∷ xs) ys each = AllByRecursion-back P xs ys each.1
 
 -- folding a folded octet changes nothing
 pub folded_octet-twice : (c : ℕ) → folded_octet (folded_octet c) ≡ folded_octet c
@@ -111,22 +120,13 @@ joined octets others new left right holds is name text e room =
     } in
     record { holds = subst HoldsName shape (HoldsName-wire (left ++ right) both); gives = ap labels_of (sym shape) ∙ labels_of-wire (left ++ right) both.each }
 
--- where there is no room, the labels are too long for a name
-pub joined-long : (octets others : List ℕ) (left right : List (List ℕ)) → HoldsLabels octets → labels_of octets ≡ left → others ≡ wire right → 255 < length octets + length others → sized (left ++ right) ≡ Err NameTooLong
-joined-long octets others left right holds is text full =
-    let size : length (wire left) ≡ length octets + 1 = omega (arith, length-append (flat_map frame left) (0 ∷ []), ap (λ t. length (flat_map frame t)) is, ap length holds.whole) in
-    let long : 255 < length (wire (left ++ right)) = omega (arith, length-wire_append left right, ap length text) in
-    ap (λ (b : Bool). if b then Ok (left ++ right) else Err NameTooLong) (not_le (length (wire (left ++ right))) 255 long)
-  where
-    not_le : (m n : ℕ) → n < m → nat_le m n ≡ false
-    not_le m n h = grind (arith, nat_tests)
-
 -- a name's labels have its size
 pub sized-name : (labels : List (List ℕ)) → length (wire labels) ≤ 255 → sized labels ≡ Ok labels
-sized-name labels short = ap (λ (b : Bool). if b then Ok labels else Err NameTooLong) (is_le (length (wire labels)) 255 short)
-  where
-    is_le : (m n : ℕ) → m ≤ n → nat_le m n ≡ true
-    is_le m n h = grind (arith, nat_tests)
+sized-name labels short = ap (λ (b : Bool). if b then Ok labels else Err NameTooLong) (le-leb (length (wire labels)) 255 short)
+
+-- labels over that size are refused
+pub sized-long : (labels : List (List ℕ)) → 255 < length (wire labels) → sized labels ≡ Err NameTooLong
+sized-long labels long = ap (λ (b : Bool). if b then Ok labels else Err NameTooLong) (lt-leb (length (wire labels)) 255 long)
 
 pub sized-joined : (left right : List (List ℕ)) (new : List ℕ) (name : List (List ℕ)) → Joined left right new → name ≡ labels_of new → sized (left ++ right) ≡ Ok name
 sized-joined left right new name both is =

@@ -1,13 +1,11 @@
 -- The walk over a text: what was read so far, and what it leads to.
-use Rattle.std.proofs.Common.{◌≡◌, ℕ, zero, suc, ◌<◌, ◌≤◌, Bool, true, false, nat_le, List, [], ◌∷◌, ◌++◌, length, Result, Ok, Err, refl, sym, ap, ◌∙◌, subst, arith}
-use Rattle.std.proofs.lemmas.Bool.Decides.{nat_tests}
+use Rattle.std.proofs.Common.{◌≡◌, ℕ, zero, suc, ◌<◌, Bool, true, false, List, [], ◌∷◌, ◌++◌, length, Result, Ok, Err, refl, sym, ap, ◌∙◌, arith}
 use Rattle.zone_name.specs.Name.{folded_label}
 use Rattle.zone_name.specs.declared.fault.NameFault.{NameFault}
 use Rattle.zone_name.specs.declared.fault.NameFault.TheVariants.{EmptyLabel}
 use Rattle.zone_name.specs.Reading.{Place, at_end, place_of, Step, done, failed, goes, step_at, read, reading, Collects}
 use Rattle.zone_name.specs.Seen.{Closes}
 use Rattle.zone_name.specs.declared.reading.Spelled.{Spelled}
-use Rattle.zone_name.proofs.Places.{place_shrinks, Shrinks}
 
 -- the labels that were closed lead to what the whole text leads to
 pub record Reads (text : List ℕ) (held : List (List ℕ)) (is_too_long : Bool) (open_label rest : List ℕ) : Type 0 where
@@ -39,16 +37,6 @@ read_step n labels open_label rest place e = by (step_at labels open_label (plac
   where
     by : (s : Step) → step_at labels open_label (place_of rest) ≡ s → read (suc n) labels open_label rest ≡ after_step n (step_at labels open_label (place_of rest))
     by s h = refl
-
--- the octets behind a place are fewer
-pub shrinks_at : (rest : List ℕ) (place : Place) → place_of rest ≡ place → Shrinks rest place
-shrinks_at rest place e = subst (Shrinks rest) e (place_shrinks rest)
-
-le_test : (m n : ℕ) → m < n → nat_le n m ≡ false
-le_test m n h = grind (arith, nat_tests)
-
-full_test : (m n : ℕ) → n ≤ m → nat_le n m ≡ true
-full_test m n h = grind (arith, nat_tests)
 
 -- no text spells no label
 pub reading-nil : (text : List ℕ) → length text ≡ 0 → reading text ≡ Err EmptyLabel

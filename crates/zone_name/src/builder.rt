@@ -1,4 +1,4 @@
-ghost use Rattle.std.specs.Prelude.{◌≡◌, ◌<◌, ◌≤◌, ◌↔◌, ◌++◌, ◌∷◌, [], List, ℕ, length, OnOk, OnErr, IfErr, Err, map, ◌⊎◌};
+ghost use Rattle.std.specs.Prelude.{◌≡◌, ◌<◌, ◌≤◌, ◌↔◌, ◌++◌, ◌∷◌, [], List, ℕ, length, OnOk, OnErr, IfErr, Err};
 ghost use Rattle.zone_name.specs.Name.{folded_label, folded_octet, wire};
 ghost use Rattle.zone_name.specs.Reading.{sized};
 ghost use Rattle.zone_name.specs.Spelling.{IsLabelFault};
@@ -32,9 +32,8 @@ impl NameBuilder {
     pub fn new() -> NameBuilder
         ensures { result ≡ [] }
     {
-        NameBuilder {
-            octets: ArrayVec::new(),
-        }
+        let octets = ArrayVec::new();
+        NameBuilder { octets }
     }
 
     /// Puts a label, with its letters in lower case (RFC 4343 3), behind those that were pushed before.

@@ -1,4 +1,4 @@
-ghost use Rattle.std.specs.Prelude.{◌≡◌, ◌+◌, ◌-◌, ◌*◌, ◌<◌, ◌≤◌, ◌↔◌, ℕ, List, [], ◌∷◌, ◌++◌, length, IsTrue, IfOk, IfErr, IfSome, OnOk, OnErr, Option, Some, None, Ok, Err, option_copied};
+ghost use Rattle.std.specs.Prelude.{◌≡◌, ◌≤◌, ◌↔◌, ℕ, List, [], length, IsTrue, IfOk, IfErr, IfSome, Ok, option_copied};
 ghost use Rattle.zone_name.specs.Name.{wire, labels_of, IsName, HoldsName, IsWithin, BeginsWithName};
 ghost use Rattle.zone_name.specs.Spelling.{Spells, FirstFault};
 
@@ -73,7 +73,7 @@ impl Name {
         Name::holding(self.octets.as_slice())
     }
 
-    /// What holds of every name.
+    /// Does nothing, and tells contracts what holds of every name.
     pub fn known(&self)
         ensures name { IsName self.now }
         ensures octets { labels_of (wire self.now) ≡ self.now }
@@ -98,7 +98,7 @@ impl Name {
         }
     }
 
-    /// The name of these octets.
+    /// The name of these octets, which are copied.
     fn holding(octets: &[u8]) -> Name
         requires { HoldsName octets.now }
         ensures { result ≡ labels_of octets.now }
@@ -129,7 +129,7 @@ impl Name {
     }
 }
 
-/// What holds of an origin.
+/// Does nothing, and tells contracts that an origin is a name.
 fn known_origin(origin: Option<&Name>)
     ensures { IfSome (option_copied origin.entry) IsName }
 {

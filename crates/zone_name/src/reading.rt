@@ -1,5 +1,5 @@
-ghost use Rattle.std.specs.Prelude.{◌≡◌, ℕ, ◌+◌, ◌<◌, ◌≤◌, List, [], ◌∷◌, ◌++◌, length, true, IfOk, IfErr, IfSome, Option, Some, None, Ok, Err, option_copied};
-ghost use Rattle.zone_name.specs.Name.{folded_label, IsName};
+ghost use Rattle.std.specs.Prelude.{◌≡◌, ℕ, ◌≤◌, List, length, true, IfOk, IfErr, Ok, Err, option_copied};
+ghost use Rattle.zone_name.specs.Name.{IsName};
 ghost use Rattle.zone_name.specs.Spelling.{is_digit};
 ghost use Rattle.zone_name.specs.Reading.{Collects, digits_place, escape_place, place_of, reading, under};
 ghost use Rattle.zone_name.specs.Seen.{seen, Closes, HasForm};

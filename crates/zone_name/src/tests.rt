@@ -9,28 +9,34 @@ fn origin_of(text: &[u8]) -> Option<Name> {
     Name::from_text(text, None).ok()
 }
 
+/// A name of 255 octets, the most that a name has, and those octets.
+const LONGEST_TEXT: &[u8] =
+    b"aaaaaaaaaaaaaaaaaaaaaaaaaaaaaaaaaaaaaaaaaaaaaaaaaaaaaaaaaaaaaaa.aaaaaaaaaaaaaaaaaaaaaaaaaaaaaaaaaaaaaaaaaaaaaaaaaaaaaaaaaaaaaaa.aaaaaaaaaaaaaaaaaaaaaaaaaaaaaaaaaaaaaaaaaaaaaaaaaaaaaaaaaaaaaaa.aaaaaaaaaaaaaaaaaaaaaaaaaaaaaaaaaaaaaaaaaaaaaaaaaaaaaaaaaaaaa.";
+
+const LONGEST_OCTETS: &[u8] =
+    b"\x3faaaaaaaaaaaaaaaaaaaaaaaaaaaaaaaaaaaaaaaaaaaaaaaaaaaaaaaaaaaaaaa\x3faaaaaaaaaaaaaaaaaaaaaaaaaaaaaaaaaaaaaaaaaaaaaaaaaaaaaaaaaaaaaaa\x3faaaaaaaaaaaaaaaaaaaaaaaaaaaaaaaaaaaaaaaaaaaaaaaaaaaaaaaaaaaaaaa\x3daaaaaaaaaaaaaaaaaaaaaaaaaaaaaaaaaaaaaaaaaaaaaaaaaaaaaaaaaaaaa\x00";
+
 #[test]
 fn texts_give_octets(rt: HostRuntime) -> Result<(), Fail> {
-    // A text, its origin or nothing, and the name's octets.
-    let rows: [(&[u8], &[u8], &[u8]); 7] = [
-        (
-            b"aaaaaaaaaaaaaaaaaaaaaaaaaaaaaaaaaaaaaaaaaaaaaaaaaaaaaaaaaaaaaaa.aaaaaaaaaaaaaaaaaaaaaaaaaaaaaaaaaaaaaaaaaaaaaaaaaaaaaaaaaaaaaaa.aaaaaaaaaaaaaaaaaaaaaaaaaaaaaaaaaaaaaaaaaaaaaaaaaaaaaaaaaaaaaaa.aaaaaaaaaaaaaaaaaaaaaaaaaaaaaaaaaaaaaaaaaaaaaaaaaaaaaaaaaaaaa.",
-            b"",
-            b"\x3faaaaaaaaaaaaaaaaaaaaaaaaaaaaaaaaaaaaaaaaaaaaaaaaaaaaaaaaaaaaaaa\x3faaaaaaaaaaaaaaaaaaaaaaaaaaaaaaaaaaaaaaaaaaaaaaaaaaaaaaaaaaaaaaa\x3faaaaaaaaaaaaaaaaaaaaaaaaaaaaaaaaaaaaaaaaaaaaaaaaaaaaaaaaaaaaaaa\x3daaaaaaaaaaaaaaaaaaaaaaaaaaaaaaaaaaaaaaaaaaaaaaaaaaaaaaaaaaaaa\x00",
-        ),
-        (b"\\@", b"x.", b"\x01\x40\x01x\x00"),
-        (b".", b"", b"\x00"),
-        (b"@", b"x.", b"\x01x\x00"),
-        (b"a", b"x.", b"\x01a\x01x\x00"),
-        (b"A.X.", b"", b"\x01a\x01x\x00"),
-        (b"\\065.", b"", b"\x01a\x00"),
+    // A text, its origin or nothing, the name's octets and its canonical spelling.
+    let rows: [(&[u8], &[u8], &[u8], &[u8]); 7] = [
+        (LONGEST_TEXT, b"", LONGEST_OCTETS, LONGEST_TEXT),
+        (b"\\@", b"x.", b"\x01\x40\x01x\x00", b"\\@.x."),
+        (b".", b"", b"\x00", b"."),
+        (b"@", b"x.", b"\x01x\x00", b"x."),
+        (b"a", b"x.", b"\x01a\x01x\x00", b"a.x."),
+        (b"A.X.", b"", b"\x01a\x01x\x00", b"a.x."),
+        (b"\\065.", b"", b"\x01a\x00", b"a."),
     ];
-    for (text, origin, octets) in rows {
+    for (text, origin, octets, spelling) in rows {
         let origin = origin_of(origin);
         let name = Name::from_text(text, origin.as_ref())?;
         assert_eq!(rt; name.wire(), octets);
         assert_eq!(rt; name.copy().wire(), octets);
-        assert_eq!(rt; name.text_len() > 0, true);
+        let mut out = Vec::new(rt.alloc());
+        name.push_text(&mut out)?;
+        assert_eq!(rt; out.as_slice(), spelling);
+        assert_eq!(rt; name.text_len(), spelling.len());
     }
     Ok(())
 }
@@ -124,17 +130,38 @@ fn names_are_printed(rt: HostRuntime) -> Result<(), Fail> {
 }
 
 #[test]
+fn a_refused_growth_appends_nothing(rt: HostRuntime) -> Result<(), Fail> {
+    // Where `rt try --test --fail-alloc N` refuses a growth, that call appends nothing and the next one goes on.
+    let spellings: &[u8] = b"a\\.b.x.a\\.b.x.a\\.b.x.a\\.b.x.";
+    let origin = Name::from_text(b"x.", None)?;
+    let name = Name::from_text(b"a\\046b", Some(&origin))?;
+    let mut out = Vec::new(rt.alloc());
+    for _ in 0..4 {
+        let before = out.len();
+        let appended = match name.push_text(&mut out) {
+            Ok(()) => 7,
+            Err(_) => 0,
+        };
+        assert_eq!(rt; out.len().checked_sub(before), Some(appended));
+        assert!(rt; spellings.starts_with(out.as_slice()));
+    }
+    Ok(())
+}
+
+#[test]
 fn names_are_built(rt: HostRuntime) -> Result<(), Fail> {
     let octets = [b'a'; 64];
+    let root: &[u8] = b"\x00";
+    assert_eq!(rt; Name::root().wire(), root);
+    for (len, fault) in [
+        (0usize, NameFault::EmptyLabel),
+        (64, NameFault::LabelTooLong),
+    ] {
+        let mut builder = NameBuilder::new();
+        assert_eq!(rt; builder.push_label(&octets[..len]).err(), Some(fault));
+        assert_eq!(rt; builder.finish().wire(), root);
+    }
     let mut builder = NameBuilder::new();
-    assert_eq!(rt;
-        builder.push_label(&octets[..0]).err(),
-        Some(NameFault::EmptyLabel)
-    );
-    assert_eq!(rt;
-        builder.push_label(&octets).err(),
-        Some(NameFault::LabelTooLong)
-    );
     for len in [63usize, 63, 63, 61] {
         builder.push_label(&octets[..len])?;
     }
@@ -143,14 +170,13 @@ fn names_are_built(rt: HostRuntime) -> Result<(), Fail> {
         Some(NameFault::NameTooLong)
     );
     let name = builder.finish();
-    assert_eq!(rt; name.wire().len(), 255);
+    assert_eq!(rt; name.wire(), LONGEST_OCTETS);
     let mut lens = [63usize, 63, 63, 61].iter();
     for label in name.labels() {
         assert_eq!(rt; Some(&label.len()), lens.next());
     }
     assert_eq!(rt; lens.next(), None);
-    assert_eq!(rt; Name::from_front(name.wire()).wire().len(), 255);
-    assert_eq!(rt; NameBuilder::new().finish().wire(), Name::root().wire());
+    assert_eq!(rt; Name::from_front(name.wire()).wire(), LONGEST_OCTETS);
     Ok(())
 }
 

@@ -1,12 +1,12 @@
-ghost use Rattle.std.specs.Prelude.{◌≡◌, ◌+◌, ◌*◌, ◌≤◌, ◌++◌, List, ℕ, length, OnOk, OnErr, IsTrue};
+ghost use Rattle.std.specs.Prelude.{◌≡◌, ◌+◌, ◌*◌, ◌≤◌, ◌++◌, length, OnOk, OnErr};
 ghost use Rattle.arrayvec.specs.ArrayVec.{array_vec_len};
-ghost use Rattle.zone_name.specs.Text.{decimal_escape, is_printed, is_special, label_text, name_text, octet_text};
+ghost use Rattle.zone_name.specs.Text.{is_special, label_text, name_text, octet_text};
 
 use crate::name::Name;
 use arrayvec::ArrayVec;
 use std::alloc::AllocError;
 
-/// The longest canonical spelling of a name, in octets.
+/// No canonical spelling has more octets: four for each octet of the name, and a dot.
 const LONGEST: usize = 1021;
 
 impl Name {

@@ -1,6 +1,9 @@
 -- An address in text has the octets that its field holds.
-use Rattle.std.proofs.Common.{◌≡◌, ℕ, zero, suc, ◌+◌, ◌-◌, ◌*◌, ◌<◌, ◌≤◌, Bool, true, List, [], ◌∷◌, ◌++◌, length, replicate, refl, sym, ap, ◌∙◌, subst, arith, length-append, inl, inr, Ok}
-use Rattle.std.specs.Prelude.{slice_index}
+use Rattle.std.proofs.Common.{◌≡◌, ℕ, zero, suc, ◌+◌, ◌-◌, ◌*◌, ◌<◌, ◌≤◌, Bool, true, List, [], ◌∷◌, ◌++◌, length, replicate, refl, sym, ap, ◌∙◌, subst, arith, length-append, inl, inr, Result, Ok}
+use Rattle.std.specs.Prelude.{slice_index, IfErr}
+use Rattle.zone_rdata.specs.declared.fault.Failing.{Failing}
+use Rattle.zone_rdata.specs.declared.fault.Fault.TheVariants.{BadRdata}
+use Rattle.zone_rdata.specs.Fault.{IfFault}
 use Rattle.std.specs.List.{AllByRecursion, AllZip, flat_map}
 use Rattle.std.proofs.lemmas.List.{length-replicate}
 use Rattle.hex.specs.Hex.{IsBytes, decode_sized}
@@ -28,8 +31,9 @@ bytes_each (c ∷ octets) h = (h 0, bytes_each octets (λ i. h (suc i)))
 
 group_octets : (p : Part) → IsGroup p → AreOctets p.octets
 group_octets p h =
-    let twice = decode_sized-ok _ 2 p.octets h.value in
-    bytes_each p.octets (decode_of-ok _ p.octets (sym (decode_sized-twice _ 2 twice) ∙ h.value)).3
+    let digits = replicate (4 - length p.text) 48 ++ p.text in
+    let twice = decode_sized-ok digits 2 p.octets h.value in
+    bytes_each p.octets (decode_of-ok digits p.octets (sym (decode_sized-twice digits 2 twice) ∙ h.value)).3
 
 last_octets : (ends : Bool) (p : Part) → IsLastPart ends p → AreOctets p.octets
 last_octets ends p (inl group) = group_octets p group
@@ -53,7 +57,7 @@ groups_fixed text octets (fewer front back parted around) =
     let gap = 16 - length around.before - length around.after in
     let whole = length-append around.before (replicate gap 0 ++ around.after) in
     let rest = length-append (replicate gap 0) around.after in
-    let zeros = length-replicate gap 0 in
+    let zeros : length (replicate gap 0) ≡ gap = length-replicate {A = ℕ} gap 0 in
     let same : length octets ≡ length (around.before ++ (replicate gap 0 ++ around.after)) = ap length around.value in
     record {
       size = let room = around.room in omega (arith, whole, rest, zeros, same);
@@ -66,3 +70,15 @@ address_fixed n text octets (of_four e h) =
     let numbers = numbers_octets h.numbers octets h.each in
     record { size = let c = h.counted in omega (arith, numbers.1, c, e); each = numbers.0 }
 address_fixed n text octets (of_sixteen e h) = let fits = groups_fixed text octets h in record { size = fits.size ∙ sym e; each = fits.each }
+
+pub no_four : (text : List ℕ) → ((octets : List ℕ) → IsFourNumbers text octets → ⊥) → (octets : List ℕ) → IsAddress 4 text octets → ⊥
+no_four text none octets (of_four e h) = none octets h
+no_four text none octets (of_sixteen e h) = absurd (omega arith)
+
+pub no_sixteen : (text : List ℕ) → ((octets : List ℕ) → IsGroups text octets → ⊥) → (octets : List ℕ) → IsAddress 16 text octets → ⊥
+no_sixteen text none octets (of_four e h) = absurd (omega arith)
+no_sixteen text none octets (of_sixteen e h) = none octets h
+
+-- the fault of an address of so many octets
+pub at_count : {T : Type 0} (n count : ℕ) (text : List ℕ) (r : Result T Failing) → count ≡ n → IfErr r (IfFault (λ f. (f ≡ BadRdata) × ((found : List ℕ) → IsAddress n text found → ⊥))) → IfErr r (IfFault (λ f. (f ≡ BadRdata) × ((found : List ℕ) → IsAddress count text found → ⊥)))
+at_count n count text r is h = subst (λ k. IfErr r (IfFault (λ f. (f ≡ BadRdata) × ((found : List ℕ) → IsAddress k text found → ⊥)))) (sym is) h

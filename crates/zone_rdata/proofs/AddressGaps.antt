@@ -107,8 +107,7 @@ refused_without_gap text none refused octets (fewer front back parted around) = 
 around_gap : (text front back : List ℕ) (at : ℕ) (octets : List ℕ) → IsFirstGap text at → text ≡ front ++ 58 ∷ 58 ∷ back → AreAround front back octets → (front ≡ take at text) × (back ≡ drop (at + 2) text)
 around_gap text front back at octets first parted around =
     let same : length front ≡ at = first_same text (length front) at (front_gap text front back around.before parted around.front_parts) first in
-    let regroup : text ≡ (front ++ 58 ∷ 58 ∷ []) ++ back = parted ∙ sym (append_assoc front (58 ∷ 58 ∷ []) back) in
-    (
+    let regroup : text ≡ (front ++ 58 ∷ 58 ∷ []) ++ back = parted ∙ sym (append_assoc front (58 ∷ 58 ∷ []) back) in (
       sym (ap (take at) parted ∙ take_at front (58 ∷ 58 ∷ back) at same),
       sym (ap (drop (at + 2)) regroup ∙ drop_at (front ++ 58 ∷ 58 ∷ []) back (at + 2) (omega (arith, length-append front (58 ∷ 58 ∷ [])))),
     )

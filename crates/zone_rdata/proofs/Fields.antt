@@ -22,6 +22,7 @@ use Rattle.zone_rdata.proofs.AddressFields.{address_fixed}
 use Rattle.zone_rdata.proofs.StringFields.{strings_back}
 use Rattle.zone_rdata.proofs.StringSteps.{AllByRecursion-append}
 use Rattle.zone_rdata.proofs.Names.{name_back}
+use Rattle.zone_rdata.proofs.SentLengths.{uncompressed_length}
 
 number_back : (n : ℕ) (rest : List ℕ) → n < 2 ^ 32 → from_be_bytes w32 (take 4 (to_be_bytes w32 n ++ rest)) ≡ n
 number_back n rest short = ap (from_be_bytes w32) (take_at (to_be_bytes w32 n) rest 4 refl) ∙ from_be_bytes-to_be_bytes_4 n short
@@ -30,7 +31,7 @@ two_octets_back : (n : ℕ) (rest : List ℕ) → n < 2 ^ 16 → from_be_bytes w
 two_octets_back n rest short = ap (from_be_bytes w16) (take_at (to_be_bytes w16 n) rest 2 refl) ∙ from_be_bytes-to_be_bytes_2 n short
 
 -- the field at the front of its octets is the value that was written
-field_back : (f : Field) (v : FieldValue) (rest : List ℕ) → Holds f v → (f ≡ fields.Strings → rest ≡ []) → field_at f (field_octets v ++ rest) ≡ v
+pub field_back : (f : Field) (v : FieldValue) (rest : List ℕ) → Holds f v → (f ≡ fields.Strings → rest ≡ []) → field_at f (field_octets v ++ rest) ≡ v
 field_back fields.Name (name labels) rest h last = ap name (name_back labels rest h.each)
 field_back fields.Serial (long n) rest h last = ap long (number_back n rest h)
 field_back fields.Time (long n) rest h last = ap long (number_back n rest h)
@@ -175,7 +176,7 @@ stated_laid origin (Some row) items octets table (in_octets stated marked form c
 
 short_form : (laid : Option (List Field)) (items : List RawItem) (stated octets : List ℕ) → StatesGeneric items stated → IsCanonicalOf laid stated octets → length octets ≤ 65535
 short_form None items stated octets form e = rw e form.short
-short_form (Some row) items stated octets form canonical = rw canonical.size form.short
+short_form (Some row) items stated octets form canonical = rw (uncompressed_length row stated octets canonical) form.short
 
 pub stated_short : (origin : List (List ℕ)) (laid : Option (List Field)) (items : List RawItem) (octets : List ℕ) → StatesFor origin laid items octets → length octets ≤ 65535
 stated_short origin laid items octets (in_words own values e words spelt written short) = short

@@ -3,7 +3,12 @@ pub mod Names
 pub mod Minima
 pub mod StringFields
 pub mod AddressFields
+pub mod Sent
+pub mod SentLengths
 pub mod Fields
+pub mod Fronts
+pub mod Taken
+pub mod Wire
 pub mod Items
 pub mod Forms
 pub mod Rows

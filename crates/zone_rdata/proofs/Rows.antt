@@ -69,14 +69,14 @@ found_behind true row items i f d past within e =
 
 found_by : (b : Bool) (row : List Field) (items : List RawItem) (i : ℕ) (f d : Field) → i < length items → Some f ≡ option_or (slice_get row i) (if b then Some fields.Strings else None) → FoundAt (row_for b row items) i f d
 found_by b row items i f d within e = elim (cases_lt i (length row)) [
-  inl lt ↦
-    let got = slice_get-get_or row i d lt in
-    let is : Some f ≡ Some (get_or row i d) = e ∙ ap (λ (o : Option Field). option_or o (if b then Some fields.Strings else None)) got in
-    let same : f ≡ get_or row i d = cc in
-    record { inside = let l = row_len b row items in omega (arith, l); at = same ∙ sym (inside_row b row items i d lt) }
+  | inl lt ↦
+      let got = slice_get-get_or row i d lt in
+      let is : Some f ≡ Some (get_or row i d) = e ∙ ap (λ (o : Option Field). option_or o (if b then Some fields.Strings else None)) got in
+      let same : f ≡ get_or row i d = cc in
+      record { inside = let l = row_len b row items in omega (arith, l); at = same ∙ sym (inside_row b row items i d lt) }
   | inr past ↦
-    let none = slice_get_past row i past in
-    found_behind b row items i f d past within (e ∙ ap (λ (o : Option Field). option_or o (if b then Some fields.Strings else None)) none)
+      let none = slice_get_past row i past in
+      found_behind b row items i f d past within (e ∙ ap (λ (o : Option Field). option_or o (if b then Some fields.Strings else None)) none)
 ]
 
 pub found_at : (row : List Field) (items : List RawItem) (i : ℕ) (f d : Field) → i < length items → Some f ≡ item_field row i → FoundAt (item_fields row items) i f d
@@ -88,7 +88,7 @@ none_behind false row items i past e = past
 
 none_by : (b : Bool) (row : List Field) (items : List RawItem) (i : ℕ) (d : Field) → None ≡ option_or (slice_get row i) (if b then Some fields.Strings else None) → length (row_for b row items) ≤ i
 none_by b row items i d e = elim (cases_lt i (length row)) [
-  inl lt ↦ absurd (let got : None ≡ Some (get_or row i d) = e ∙ ap (λ (o : Option Field). option_or o (if b then Some fields.Strings else None)) (slice_get-get_or row i d lt) in cc)
+  | inl lt ↦ absurd (let got : None ≡ Some (get_or row i d) = e ∙ ap (λ (o : Option Field). option_or o (if b then Some fields.Strings else None)) (slice_get-get_or row i d lt) in cc)
   | inr past ↦ none_behind b row items i past (e ∙ ap (λ (o : Option Field). option_or o (if b then Some fields.Strings else None)) (slice_get_past row i past))
 ]
 

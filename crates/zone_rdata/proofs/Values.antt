@@ -37,6 +37,6 @@ on_strings origin item old new h = record { value = strings (h.octets ∷ []); s
 
 pub on_string : (origin : List (List ℕ)) (field : Field) (item : RawItem) (old new : List ℕ) (r : Result (Unit {0}) Failing) → (field ≡ fields.OneString) ⊎ (field ≡ fields.Strings) → OnOk r (AppendsString item old new) → OnOk r (AppendsField origin field item old new)
 on_string origin field item old new r which done = on_ok_weaker r (λ h. elim which [
-  inl e ↦ subst (λ f. AppendsField origin f item old new) (sym e) (on_one_string origin item old new h)
+  | inl e ↦ subst (λ f. AppendsField origin f item old new) (sym e) (on_one_string origin item old new h)
   | inr e ↦ subst (λ f. AppendsField origin f item old new) (sym e) (on_strings origin item old new h)
 ]) done

@@ -14,6 +14,7 @@ pub mod Record
 pub mod Minimum
 pub mod Order
 pub mod Spelling
+pub mod Wire
 pub mod DataFault
 pub mod Reading
 pub mod Text

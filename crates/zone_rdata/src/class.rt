@@ -1,4 +1,4 @@
-ghost use Rattle.std.specs.Prelude.{◌≡◌, ◌≤◌, length, ◌↔◌, ◌++◌, ◌<◌, ℕ, IfSome, IfNone, IfOk, IfErr, OnOk, OnErr, Option, Some, None, min};
+ghost use Rattle.std.specs.Prelude.{◌≡◌, ◌≤◌, length, ◌↔◌, ◌++◌, ◌<◌, ℕ, IfSome, IfNone, IfOk, IfErr, OnOk, OnErr, Option, Some, None, option_copied, min};
 ghost use Rattle.zone_rdata.specs.Words.{IsClass, IsClassWord, IsMnemonic, class_mnemonic, class_text};
 
 use crate::fault::Fault;
@@ -24,6 +24,19 @@ impl Model for Class {
     ghost invariant = { λ c. IsClass c.number };
 
     ghost inverse = { λ n. record { number = n } };
+}
+
+/// The mnemonic of a class.
+fn mnemonic(number: u16) -> Option<&'static [u8]>
+    ensures { option_copied result ≡ class_mnemonic number }
+{
+    match number {
+        1 => Some(b"IN"),
+        2 => Some(b"CS"),
+        3 => Some(b"CH"),
+        4 => Some(b"HS"),
+        _ => None,
+    }
 }
 
 /// The number of a class's mnemonic.
@@ -107,9 +120,9 @@ impl Class {
         ensures value { result ≡ length (class_text self) }
         ensures short { result ≤ 45 }
     {
-        match self.number {
-            1..=4 => 2,
-            number => 5 + decimal_len(u64::from(number)),
+        match mnemonic(self.number) {
+            Some(word) => word.len(),
+            None => 5 + decimal_len(u64::from(self.number)),
         }
     }
 
@@ -118,12 +131,9 @@ impl Class {
         ensures ok { OnOk result (out.new.items ≡ out.old.items ++ class_text self) }
         ensures err { OnErr result (out.new.items ≡ out.old.items) }
     {
-        match self.number {
-            1 => out.extend_from_slice(b"IN"),
-            2 => out.extend_from_slice(b"CS"),
-            3 => out.extend_from_slice(b"CH"),
-            4 => out.extend_from_slice(b"HS"),
-            number => push_numbered(b"CLASS", number, out),
+        match mnemonic(self.number) {
+            Some(word) => out.extend_from_slice(word),
+            None => push_numbered(b"CLASS", self.number, out),
         }
     }
 }

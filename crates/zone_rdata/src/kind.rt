@@ -129,7 +129,7 @@ impl Kind {
     pub fn is_soa(self) -> bool
         ensures { IsTrue result ↔ (self ≡ 6) }
     {
-        self.number == 6
+        matches!(self.number, 6)
     }
 
     /// The mnemonic, where the type has a layout in the class.

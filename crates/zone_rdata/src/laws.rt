@@ -2,3 +2,4 @@
 pub mod address;
 pub mod generic;
 pub mod string;
+pub mod uncompressed;

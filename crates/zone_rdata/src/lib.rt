@@ -30,7 +30,7 @@ pub use item::Item;
 pub use kind::Kind;
 pub use layout::{Field, Layout, layout_of};
 pub use rdata::Rdata;
-pub use record::{Placed, Rr};
+pub use record::{MAX_TTL, Placed, Rr};
 pub use source::{Reading, RrSource};
 pub use time::seconds_of;
 

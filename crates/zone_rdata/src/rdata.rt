@@ -1,13 +1,14 @@
-ghost use Rattle.std.specs.Prelude.{◌≡◌, ◌++◌, ◌+◌, ◌*◌, ◌≤◌, ℕ, List, length, map, IfOk, IfErr, OnOk, OnErr, option_map};
+ghost use Rattle.std.specs.Prelude.{◌≡◌, ◌++◌, ◌+◌, ◌*◌, ◌≤◌, ℕ, List, length, map, IfOk, IfErr, IfSome, OnOk, OnErr, option_map};
 ghost use Rattle.zone_rdata.specs.DataFault.{IsDataFault, IsFaultFor, IsFormFault};
 ghost use Rattle.zone_rdata.specs.Fault.{IfFault};
 ghost use Rattle.zone_rdata.specs.Generic.{StatesGeneric};
 ghost use Rattle.zone_rdata.specs.Item.{IsGeneric, raw};
-ghost use Rattle.zone_rdata.specs.Layout.{fields_of};
+ghost use Rattle.zone_rdata.specs.Layout.{StringsLast, fields_of, layout};
 ghost use Rattle.zone_rdata.specs.Minimum.{minimum};
 ghost use Rattle.zone_rdata.specs.Record.{Data, IsRdata};
 ghost use Rattle.zone_rdata.specs.Spelling.{IsCanonicalOf, States, StatesFor};
 ghost use Rattle.zone_rdata.specs.Text.{data_text};
+ghost use Rattle.zone_rdata.specs.Wire.{IsWireFault};
 
 use crate::class::Class;
 use crate::fault::{Failing, Fault};
@@ -19,7 +20,7 @@ use crate::lengths::data_len;
 use crate::minimum::last_number_of;
 use crate::printing::push_data;
 use crate::reading::{are_octets, is_generic, octets_of_items};
-use crate::uncompressed::canonical_of;
+use crate::uncompressed::{canonical_for, canonical_of};
 use std::alloc::{AllocError, Global};
 use std::marker::Model;
 use zone_name::Name;
@@ -44,7 +45,8 @@ impl Model for Rdata {
 
 /// The canonical octets that items in the generic form state for a layout.
 fn octets_in_form(alloc: Global, layout: Option<Layout>, items: &[Item]) -> Result<Vec<u8>, Failing>
-    requires { IsGeneric (map raw items.now) }
+    requires marked { IsGeneric (map raw items.now) }
+    requires last { IfSome layout (λ l. StringsLast (fields_of l)) }
     ensures found { IfOk result (λ octets. (stated : List ℕ) × StatesGeneric (map raw items.now) stated × IsCanonicalOf (option_map fields_of layout) stated octets.items) }
     ensures fault { IfErr result (IfFault (IsFormFault (option_map fields_of layout) (map raw items.now))) }
 {
@@ -62,6 +64,7 @@ fn octets_for(
     items: &[Item],
     origin: &Name,
 ) -> Result<Vec<u8>, Failing>
+    requires { IfSome layout (λ l. StringsLast (fields_of l)) }
     ensures found { IfOk result (λ octets. StatesFor origin.now (option_map fields_of layout) (map raw items.now) octets.items) }
     ensures fault { IfErr result (IfFault (IsFaultFor origin.now (option_map fields_of layout) (map raw items.now))) }
 {
@@ -93,6 +96,39 @@ impl Rdata {
         ensures fault { IfErr result (IfFault (IsDataFault origin.now class kind (map raw items.now))) }
     {
         let octets = octets_for(alloc, layout_of(class, kind), items, origin)?;
+        class.known();
+        kind.known();
+        are_octets(&octets);
+        Ok(Rdata {
+            class,
+            kind,
+            octets,
+        })
+    }
+
+    /// The data whose octets are these, names uncompressed and in any letter case (RFC 1035 3.3; RFC 4343 3). Data
+    /// without a layout takes any octets.
+    ///
+    /// # Errors
+    ///
+    /// `RdataTooLong` over 65,535 octets, `BadRdata` where they aren't exactly one value of the layout, and want of
+    /// memory.
+    pub fn from_wire(
+        alloc: Global,
+        class: Class,
+        kind: Kind,
+        octets: &[u8],
+    ) -> Result<Rdata, Failing>
+        ensures class { IfOk result (λ d. d.class ≡ class) }
+        ensures kind { IfOk result (λ d. d.kind ≡ kind) }
+        ensures found { IfOk result (λ d. IsCanonicalOf (layout class kind) octets.now d.octets) }
+        ensures only { IfOk result (λ d. (canonical : List ℕ) → IsCanonicalOf (layout class kind) octets.now canonical → d.octets ≡ canonical) }
+        ensures fault { IfErr result (IfFault (IsWireFault (layout class kind) octets.now)) }
+    {
+        if octets.len() > 65535 {
+            return Err(Failing::Fault(Fault::RdataTooLong));
+        }
+        let octets = canonical_for(alloc, layout_of(class, kind), octets)?;
         class.known();
         kind.known();
         are_octets(&octets);

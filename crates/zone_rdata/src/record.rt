@@ -8,6 +8,9 @@ use crate::rdata::Rdata;
 use std::marker::Model;
 use zone_name::Name;
 
+/// The greatest TTL, in seconds (RFC 2181 8).
+pub const MAX_TTL: u32 = 2147483647;
+
 /// A resource record (RFC 1035 3.2.1) with a TTL of 31 bits (RFC 2181 8).
 #[derive(Debug, Drop)]
 pub struct Rr {
@@ -45,7 +48,7 @@ impl Rr {
         ensures value { IfOk result (λ r. r ≡ record { owner = owner; class = rdata.class; kind = rdata.kind; ttl = ttl; octets = rdata.octets }) }
         ensures err { IfErr result (λ e. e ≡ Fault.BadTtl) }
     {
-        if ttl > 2147483647 {
+        if ttl > MAX_TTL {
             return Err(Fault::BadTtl);
         }
         Ok(Rr { owner, ttl, rdata })

@@ -1,10 +1,7 @@
 ghost use Rattle.std.specs.Prelude.{◌≡◌, ◌≤◌, IfOk};
 ghost use Rattle.zone_rdata.specs.Number.{IsTime};
 
-use zone_rdata::{Fault, seconds_of};
-
-/// The greatest TTL, in seconds (RFC 2181 8).
-const MOST_SECONDS: u64 = 2147483647;
+use zone_rdata::{Fault, MAX_TTL, seconds_of};
 
 /// The seconds that a TTL states, in decimal or in groups with units.
 ///
@@ -19,7 +16,7 @@ pub fn ttl_of(text: &[u8]) -> Result<u32, Fault>
         return Err(Fault::NotYet);
     };
     match seconds_of(text) {
-        Some(seconds) if seconds <= MOST_SECONDS => Ok(seconds as u32),
+        Some(seconds) if seconds <= u64::from(MAX_TTL) => Ok(seconds as u32),
         _ => Err(Fault::BadTtl),
     }
 }

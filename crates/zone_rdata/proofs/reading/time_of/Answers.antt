@@ -12,9 +12,12 @@ returns-in-Some-clause-found c =
     (subst (IsTime c.args.text.now) same found.1.0, omega (arith, c.from.ensures))
 
 pub returns-in_default-clause-fault : goal.returns-in_default-clause-fault
-returns-in_default-clause-fault c = (refl, λ n time small. elim c.in_default.branch [
-  in_default-via-in-Some+else-number-from w ↦
-    let found = w.in-Some.ensures.found in
-    over_time c.args.text.now found.0 n _ found.1.0 found.1.1 (omega (arith, w.from.ensures)) time small
-  | in_default-via-in_default w ↦ untimed _ _ w.in_default.is c.seconds_of.ensures.none n time
-])
+returns-in_default-clause-fault c = (
+  refl,
+  λ n time small. elim c.in_default.branch [
+    | in_default-via-in-Some+else-number-from w ↦
+        let found = w.in-Some.ensures.found in
+        over_time c.args.text.now found.0 n _ found.1.0 found.1.1 (omega (arith, w.from.ensures)) time small
+    | in_default-via-in_default w ↦ untimed _ _ w.in_default.is c.seconds_of.ensures.none n time
+  ],
+)

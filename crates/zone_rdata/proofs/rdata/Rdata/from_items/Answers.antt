@@ -1,6 +1,7 @@
 use Rattle.std.proofs.Common.{sym, subst, ◌<◌}
 use Rattle.std.specs.List.{AllByRecursion}
 use Rattle.zone_rdata.proofs.Fields.{stated_data, states_for, first_for}
+use Rattle.zone_rdata.proofs.Wire.{table_last}
 use Rattle.zone_rdata.proofs.rdata.Rdata.from_items.Goals as goal
 
 pub invariant_of-result : goal.invariant_of-result
@@ -12,3 +13,6 @@ invariant_of-result c = record {
 
 pub returns-clause-found : goal.returns-clause-found
 returns-clause-found c = states_for _ _ _ _ _ _ c.layout_of.ensures c.in_ok-octets.ensures.found
+
+pub octets_for-requires : goal.octets_for-requires
+octets_for-requires c = table_last c.args.class c.args.kind _ c.layout_of.ensures
