@@ -1,4 +1,5 @@
 pub mod Pieces
+pub mod Breaks
 pub mod Entries
 pub mod File
 pub mod Lines
