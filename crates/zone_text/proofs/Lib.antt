@@ -4,4 +4,10 @@ pub mod Parts
 pub mod ClassWords
 pub mod Stated
 pub mod Whole
+pub mod Once
+pub mod Lower
+pub mod Inherits
+pub mod Outcomes
+pub mod Entered
+pub mod Files
 pub mod Seconds
