@@ -4,3 +4,6 @@ pub mod Parts
 pub mod Stated
 pub mod Whole
 pub mod Seconds
+pub mod Octets
+pub mod Fronts
+pub mod Cuttings

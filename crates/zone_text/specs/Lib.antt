@@ -1,5 +1,6 @@
 pub mod Pieces
 pub mod Breaks
+pub mod Cutting
 pub mod Entries
 pub mod File
 pub mod Lines
