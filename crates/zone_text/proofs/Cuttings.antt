@@ -1,13 +1,13 @@
 -- The whole text: the cutting and what it says, both ways.
-use Rattle.std.proofs.Common.{◌≡◌, ◌≢◌, ℕ, zero, suc, ◌-◌, ◌≤◌, ◌<◌, Bool, true, false, List, [], ◌∷◌, ◌++◌, length, Option, Some, None, refl, sym, ap, ◌∙◌, subst, arith, append_assoc, length-append, ◌⊎◌, inl, inr}
+use Rattle.std.proofs.Common.{◌≡◌, ℕ, zero, suc, ◌-◌, ◌<◌, List, [], ◌∷◌, ◌++◌, length, Option, Some, None, refl, sym, ap, ◌∙◌, subst, arith, append_assoc, length-append, ◌⊎◌, inl, inr}
 use Rattle.std.specs.List.{AllByRecursion}
-use Rattle.std.proofs.lemmas.Bool.{both_ways, or_left, or_right}
+use Rattle.std.proofs.lemmas.Bool.{both_ways}
 use Rattle.std.proofs.lemmas.List.{append-nil}
-use Rattle.zone_name.specs.Spelling.{Written, plain, escaped, decimal, text_of, IsBadEscape}
+use Rattle.zone_name.specs.Spelling.{Written, plain, escaped, decimal, text_of}
 use Rattle.zone_rdata.specs.declared.fault.Fault.{Fault}
-use Rattle.zone_text.specs.Pieces.{Piece, blank, opening, closing, line_feed, comment, bare, quoted, piece_text, text, written_text, is_blank, ends_item, IsPiece, IsBareUnit, MayFollow, AllFollow, depth_after, Cuts}
+use Rattle.zone_text.specs.Pieces.{Piece, blank, opening, closing, line_feed, comment, bare, quoted, piece_text, text, written_text, is_blank, ends_item, IsPiece, MayFollow, AllFollow, depth_after, Cuts}
 use Rattle.zone_text.specs.Breaks.{IsBroken, closes_nothing, no_escape, no_quoted_escape, no_quote, not_closed, MayEndBefore, Breaks}
-use Rattle.zone_text.specs.Cutting.{unit_first, Front, takes, stops, front_of, depth_behind, Cutting, cut_on, cut_by, cutting}
+use Rattle.zone_text.specs.Cutting.{Front, takes, stops, front_of, depth_behind, Cutting, cut_on, cut_by, cutting}
 use Rattle.zone_text.proofs.Octets.{NoUnit, at_end, at_octet, at_backslash, first_of_unit, first_of_none, unit_of_bare}
 use Rattle.zone_text.proofs.Fronts.{EndsComment, Stops, HasRoom, Takes, Ends, IsFront, front_is, front_takes, front_stops}
 
