@@ -1,6 +1,7 @@
 pub mod Pieces
 pub mod Breaks
 pub mod Cutting
+pub mod ExamplePieces
 pub mod Entries
 pub mod File
 pub mod Lines

@@ -1,5 +1,5 @@
 use Rattle.zone_text.proofs.Cuttings.{reads_cut, reads_broken, cut_is_read, broken_is_read}
-use Rattle.zone_text.proofs.laws.a_text_is_cut_from_the_left.Goals as goal
+use Rattle.zone_text.proofs.laws.pieces.a_text_is_cut_from_the_left.Goals as goal
 
 pub returns : goal.returns
 returns c = record {
