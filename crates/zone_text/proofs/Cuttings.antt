@@ -238,11 +238,11 @@ stop_of p [] depth after fault each follow last ends = stops_at_end p depth afte
 stop_of p (q ∷ pieces) depth after fault each follow last ends =
     subst (Stops p) (sym (append_assoc (piece_text q) (text pieces) after)) (behind p q (text pieces ++ after) each.0 follow.0)
 
-follow_behind : (p : Piece) (pieces : List Piece) → AllFollow (p ∷ pieces) → AllFollow pieces
+pub follow_behind : (p : Piece) (pieces : List Piece) → AllFollow (p ∷ pieces) → AllFollow pieces
 follow_behind p [] follow = tt
 follow_behind p (q ∷ pieces) follow = follow.1
 
-last_behind : (p : Piece) (pieces : List Piece) (after : List ℕ) → MayEndBefore (p ∷ pieces) after → MayEndBefore pieces after
+pub last_behind : (p : Piece) (pieces : List Piece) (after : List ℕ) → MayEndBefore (p ∷ pieces) after → MayEndBefore pieces after
 last_behind p [] after last = tt
 last_behind (blank c) (q ∷ pieces) after last = last
 last_behind line_feed (q ∷ pieces) after last = last

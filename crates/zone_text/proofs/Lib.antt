@@ -7,3 +7,4 @@ pub mod Seconds
 pub mod Octets
 pub mod Fronts
 pub mod Cuttings
+pub mod Lasting

@@ -1,5 +1,6 @@
 pub mod Pieces
 pub mod Breaks
+pub mod Lasting
 pub mod Cutting
 pub mod ExamplePieces
 pub mod Entries
