@@ -11,3 +11,7 @@ pub mod Outcomes
 pub mod Entered
 pub mod Files
 pub mod Seconds
+pub mod Octets
+pub mod Fronts
+pub mod Cuttings
+pub mod Lasting

@@ -1,5 +1,8 @@
 pub mod Pieces
 pub mod Breaks
+pub mod Lasting
+pub mod Cutting
+pub mod ExamplePieces
 pub mod Entries
 pub mod Forms
 pub mod Inherited

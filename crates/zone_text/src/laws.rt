@@ -1,0 +1,2 @@
+//! Laws over the definitions alone.
+pub mod pieces;
