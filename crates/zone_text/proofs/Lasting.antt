@@ -105,7 +105,7 @@ depth_append depth at (quoted units ∷ pieces) more e = depth_append depth at p
 
 -- ---- what stands behind a line feed outside parentheses is cut by itself
 
-joined : (front rest : List ℕ) (pieces more : List Piece) (fault : Option Fault) → Cuts front pieces → EndInLineFeed pieces → IsCut zero rest more fault → IsCut zero (front ++ rest) (pieces ++ more) fault
+pub joined : (front rest : List ℕ) (pieces more : List Piece) (fault : Option Fault) → Cuts front pieces → EndInLineFeed pieces → IsCut zero rest more fault → IsCut zero (front ++ rest) (pieces ++ more) fault
 joined front rest pieces more fault cut ends others = record {
   rest = others.rest;
   at = others.at;
@@ -130,7 +130,7 @@ pub record IsParted (octets : List ℕ) (pieces more : List Piece) (fault : Opti
   pub front : Cuts (text pieces) pieces
   pub back : IsCut zero rest more fault
 
-parted : (octets : List ℕ) (pieces more : List Piece) (fault : Option Fault) → depth_after zero pieces ≡ Some zero → IsCut zero octets (pieces ++ more) fault → IsParted octets pieces more fault
+pub parted : (octets : List ℕ) (pieces more : List Piece) (fault : Option Fault) → depth_after zero pieces ≡ Some zero → IsCut zero octets (pieces ++ more) fault → IsParted octets pieces more fault
 parted octets pieces more fault balanced is = record {
   rest = text more ++ is.rest;
   whole = is.whole ∙ ap (λ t. t ++ is.rest) (flat_map-append piece_text pieces more) ∙ append_assoc (text pieces) (text more) is.rest;

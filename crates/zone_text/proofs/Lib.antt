@@ -15,3 +15,4 @@ pub mod Octets
 pub mod Fronts
 pub mod Cuttings
 pub mod Lasting
+pub mod Ending

@@ -1,2 +1,3 @@
 //! Laws over the definitions alone.
+pub mod entries;
 pub mod pieces;
