@@ -219,7 +219,7 @@ begins_backslash rest (one_digit x c others e is is_not) = (x ∷ c ∷ others, 
 begins_backslash rest (two_digits x y c others e is is_one is_not) = (x ∷ y ∷ c ∷ others, e)
 begins_backslash rest (too_great x y z others e is is_one is_too great) = (x ∷ y ∷ z ∷ others, e)
 
-lost_escape : (rest more : List ℕ) → IsLostEscape rest → IsBadEscape (rest ++ more)
+pub lost_escape : (rest more : List ℕ) → IsLostEscape rest → IsBadEscape (rest ++ more)
 lost_escape rest more lost =
     let begins = begins_backslash rest lost in
     (begins.0 ++ more, ap (λ t. t ++ more) begins.1, λ w after written e. begins_none rest more after w lost written e)

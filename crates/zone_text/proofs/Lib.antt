@@ -16,3 +16,4 @@ pub mod Fronts
 pub mod Cuttings
 pub mod Lasting
 pub mod Ending
+pub mod Escapes

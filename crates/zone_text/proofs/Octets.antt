@@ -24,17 +24,17 @@ IsFirst ends octets (Some (w, rest)) = IsUnit ends w × (octets ≡ text_of w ++
 
 -- ---- a backslash that begins no escape
 
-bare_backslash : (w : Written) (after : List ℕ) → IsWritten w → 92 ∷ [] ≡ text_of w ++ after → ⊥
+pub bare_backslash : (w : Written) (after : List ℕ) → IsWritten w → 92 ∷ [] ≡ text_of w ++ after → ⊥
 bare_backslash (plain c) after is e = is.1 (cc)
 bare_backslash (escaped c) after is e = cc
 bare_backslash (decimal x y z) after is e = cc
 
-one_digit : (x : ℕ) → is_digit x ≡ true → (w : Written) (after : List ℕ) → IsWritten w → 92 ∷ x ∷ [] ≡ text_of w ++ after → ⊥
+pub one_digit : (x : ℕ) → is_digit x ≡ true → (w : Written) (after : List ℕ) → IsWritten w → 92 ∷ x ∷ [] ≡ text_of w ++ after → ⊥
 one_digit x d (plain c) after is e = is.1 (cc)
 one_digit x d (escaped c) after is e = let same : x ≡ c = cc in both_ways (is_digit c) is.0 (ap is_digit (sym same) ∙ d)
 one_digit x d (decimal u v w) after is e = cc
 
-two_digits : (x y : ℕ) → is_digit x ≡ true → (w : Written) (after : List ℕ) → IsWritten w → 92 ∷ x ∷ y ∷ [] ≡ text_of w ++ after → ⊥
+pub two_digits : (x y : ℕ) → is_digit x ≡ true → (w : Written) (after : List ℕ) → IsWritten w → 92 ∷ x ∷ y ∷ [] ≡ text_of w ++ after → ⊥
 two_digits x y d (plain c) after is e = is.1 (cc)
 two_digits x y d (escaped c) after is e = let same : x ≡ c = cc in both_ways (is_digit c) is.0 (ap is_digit (sym same) ∙ d)
 two_digits x y d (decimal u v w) after is e = cc

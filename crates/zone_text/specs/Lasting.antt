@@ -21,11 +21,24 @@ pub data IsLostEscape (rest : List ℕ) : Type 0 where
   two_digits : (x y c : ℕ) (more : List ℕ) → rest ≡ 92 ∷ x ∷ y ∷ c ∷ more → is_digit x ≡ true → is_digit y ≡ true → is_digit c ≡ false → IsLostEscape rest
   too_great : (x y z : ℕ) (more : List ℕ) → rest ≡ 92 ∷ x ∷ y ∷ z ∷ more → is_digit x ≡ true → is_digit y ≡ true → is_digit z ≡ true → 255 < octet_of (decimal x y z) → IsLostEscape rest
 
+-- A backslash that begins no escape where the text ends, and might where it goes on
+pub data IsCutOff (rest : List ℕ) : Type 0 where
+  behind_backslash : rest ≡ 92 ∷ [] → IsCutOff rest
+  behind_digit : (x : ℕ) → rest ≡ 92 ∷ x ∷ [] → is_digit x ≡ true → IsCutOff rest
+  behind_two_digits : (x y : ℕ) → rest ≡ 92 ∷ x ∷ y ∷ [] → is_digit x ≡ true → is_digit y ≡ true → IsCutOff rest
+
 -- what breaks a text as it stands: a `)`, or a backslash outside quotes or behind an opening quote and quoted units
 pub data StaysBroken (rest : List ℕ) : Type 0 where
   closing_stays : (after : List ℕ) → rest ≡ 41 ∷ after → StaysBroken rest
   escape_stays : IsLostEscape rest → StaysBroken rest
   quoted_escape_stays : (units : List Written) (after : List ℕ) → AllByRecursion IsQuotedUnit units → rest ≡ 34 ∷ written_text units ++ after → IsLostEscape after → StaysBroken rest
+
+-- what breaks a text where it ends: nothing stands there, no quote closes an item, or an escape is cut off
+pub data BreaksAtEnd (rest : List ℕ) : Type 0 where
+  nothing_left : rest ≡ [] → BreaksAtEnd rest
+  quote_open : (units : List Written) → AllByRecursion IsQuotedUnit units → rest ≡ 34 ∷ written_text units → BreaksAtEnd rest
+  escape_open : IsCutOff rest → BreaksAtEnd rest
+  quoted_escape_open : (units : List Written) (after : List ℕ) → AllByRecursion IsQuotedUnit units → rest ≡ 34 ∷ written_text units ++ after → IsCutOff after → BreaksAtEnd rest
 
 -- the text breaks behind these pieces, and so does every text that it begins
 pub record BreaksForGood (octets : List ℕ) (pieces : List Piece) (fault : Fault) : Type 0 where

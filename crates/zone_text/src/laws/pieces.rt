@@ -1,9 +1,10 @@
 //! Laws of pieces: how a text is cut, how it breaks, and what a front of it settles.
 ghost use Rattle.std.specs.Prelude.{◌++◌, ◌≡◌, ◌↔◌, ◌⊎◌, ℕ, List, None, Some, zero};
+ghost use Rattle.zone_name.specs.Spelling.{IsBadEscape};
 ghost use Rattle.zone_rdata.specs.declared.fault.Fault.{Fault};
 ghost use Rattle.zone_text.specs.Breaks.{Breaks};
 ghost use Rattle.zone_text.specs.Cutting.{cutting};
-ghost use Rattle.zone_text.specs.Lasting.{BreaksForGood, EndInLineFeed};
+ghost use Rattle.zone_text.specs.Lasting.{BreaksAtEnd, BreaksForGood, EndInLineFeed, IsCutOff, IsLostEscape, StaysBroken};
 ghost use Rattle.zone_text.specs.Pieces.{Cuts, depth_after, Piece, text};
 
 /// A text is cut into pieces in at most one way.
@@ -42,6 +43,17 @@ pub fn lines_are_cut_by_themselves()
 pub fn a_text_is_parted_at_depth_zero()
     ensures cut { (octets : List ℕ) (pieces more : List Piece) → depth_after zero pieces ≡ Some zero → Cuts octets (pieces ++ more) → (rest : List ℕ) × (octets ≡ text pieces ++ rest) × Cuts (text pieces) pieces × Cuts rest more }
     ensures broken { (octets : List ℕ) (pieces more : List Piece) (fault : Fault) → depth_after zero pieces ≡ Some zero → Breaks octets (pieces ++ more) fault → (rest : List ℕ) × (octets ≡ text pieces ++ rest) × Cuts (text pieces) pieces × Breaks rest more fault }
+{}
+
+/// A backslash begins no escape exactly before a line feed, a carriage return, the end, fewer than three digits or a
+/// number over 255.
+pub fn bad_escapes_are_lost_or_cut_off()
+    ensures { (rest : List ℕ) → IsBadEscape rest ↔ (IsLostEscape rest ⊎ IsCutOff rest) }
+{}
+
+/// What breaks a text does so as it stands, or since the text ends there.
+pub fn a_break_stays_or_stands_at_the_end()
+    ensures { (octets : List ℕ) (pieces : List Piece) (fault : Fault) (broken : Breaks octets pieces fault) → StaysBroken broken.rest ⊎ BreaksAtEnd broken.rest }
 {}
 
 /// A `)` at depth zero, and a backslash that begins no escape as the octets behind it tell, break every text that goes on
