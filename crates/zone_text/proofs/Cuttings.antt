@@ -129,7 +129,7 @@ ends_at_stop (quoted units) depth rest fault ends stop = tt
 
 -- ---- depths
 
-pub depth_on : (depth : ℕ) (p : Piece) (pieces : List Piece) → HasRoom depth p → depth_after depth (p ∷ pieces) ≡ depth_after (depth_behind depth p) pieces
+depth_on : (depth : ℕ) (p : Piece) (pieces : List Piece) → HasRoom depth p → depth_after depth (p ∷ pieces) ≡ depth_after (depth_behind depth p) pieces
 depth_on depth (blank c) pieces room = refl
 depth_on depth line_feed pieces room = refl
 depth_on depth opening pieces room = refl
@@ -139,7 +139,7 @@ depth_on depth (comment octets) pieces room = refl
 depth_on depth (bare units) pieces room = refl
 depth_on depth (quoted units) pieces room = refl
 
-pub room_of : (depth at : ℕ) (p : Piece) (pieces : List Piece) → depth_after depth (p ∷ pieces) ≡ Some at → HasRoom depth p
+room_of : (depth at : ℕ) (p : Piece) (pieces : List Piece) → depth_after depth (p ∷ pieces) ≡ Some at → HasRoom depth p
 room_of depth at (blank c) pieces e = tt
 room_of depth at line_feed pieces e = tt
 room_of depth at opening pieces e = tt

@@ -105,8 +105,8 @@ depth_append depth at (quoted units ∷ pieces) more e = depth_append depth at p
 
 -- ---- what stands behind a line feed outside parentheses is cut by itself
 
-pub joined : (front rest : List ℕ) (pieces more : List Piece) (fault : Option Fault) → Cuts front pieces → EndInLineFeed pieces → IsCut zero rest more fault → IsCut zero (front ++ rest) (pieces ++ more) fault
-joined front rest pieces more fault cut ends others = record {
+pub both_cut : (front rest : List ℕ) (pieces more : List Piece) (fault : Option Fault) → Cuts front pieces → EndInLineFeed pieces → IsCut zero rest more fault → IsCut zero (front ++ rest) (pieces ++ more) fault
+both_cut front rest pieces more fault cut ends others = record {
   rest = others.rest;
   at = others.at;
   whole = ap (λ t. t ++ rest) cut.whole ∙ ap (λ t. text pieces ++ t) others.whole ∙ sym (append_assoc (text pieces) (text more) others.rest) ∙ ap (λ t. t ++ others.rest) (sym (flat_map-append piece_text pieces more));
@@ -118,10 +118,10 @@ joined front rest pieces more fault cut ends others = record {
 }
 
 pub cut_joined : (front rest : List ℕ) (pieces more : List Piece) → Cuts front pieces → EndInLineFeed pieces → Cuts rest more → Cuts (front ++ rest) (pieces ++ more)
-cut_joined front rest pieces more cut ends others = cuts (front ++ rest) (pieces ++ more) (joined front rest pieces more None cut ends (is_cut rest more others))
+cut_joined front rest pieces more cut ends others = cuts (front ++ rest) (pieces ++ more) (both_cut front rest pieces more None cut ends (is_cut rest more others))
 
 pub break_joined : (front rest : List ℕ) (pieces more : List Piece) (fault : Fault) → Cuts front pieces → EndInLineFeed pieces → Breaks rest more fault → Breaks (front ++ rest) (pieces ++ more) fault
-break_joined front rest pieces more fault cut ends others = breaks (front ++ rest) (pieces ++ more) fault (joined front rest pieces more (Some fault) cut ends (is_broken rest more fault others))
+break_joined front rest pieces more fault cut ends others = breaks (front ++ rest) (pieces ++ more) fault (both_cut front rest pieces more (Some fault) cut ends (is_broken rest more fault others))
 
 -- the text behind pieces
 pub record IsParted (octets : List ℕ) (pieces more : List Piece) (fault : Option Fault) : Type 0 where

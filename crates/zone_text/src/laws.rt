@@ -1,3 +1,2 @@
 //! Laws over the definitions alone.
-pub mod entries;
 pub mod pieces;

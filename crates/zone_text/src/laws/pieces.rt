@@ -1,9 +1,11 @@
-//! Laws of pieces: how a text is cut, how it breaks, and what a front of it settles.
+//! Laws of pieces and the entries that they make: how a text is cut, how it breaks, and what a front of it settles.
 ghost use Rattle.std.specs.Prelude.{◌++◌, ◌≡◌, ◌↔◌, ◌⊎◌, ℕ, List, None, Some, zero};
+ghost use Rattle.std.specs.List.{flat_map};
 ghost use Rattle.zone_name.specs.Spelling.{IsBadEscape};
 ghost use Rattle.zone_rdata.specs.declared.fault.Fault.{Fault};
 ghost use Rattle.zone_text.specs.Breaks.{Breaks};
 ghost use Rattle.zone_text.specs.Cutting.{cutting};
+ghost use Rattle.zone_text.specs.Entries.{and_last, cut_from, ended_entries, entries_of, Entry};
 ghost use Rattle.zone_text.specs.Lasting.{BreaksAtEnd, BreaksForGood, EndInLineFeed, IsCutOff, IsLostEscape, StaysBroken};
 ghost use Rattle.zone_text.specs.Pieces.{Cuts, depth_after, Piece, text};
 
@@ -60,4 +62,16 @@ pub fn a_break_stays_or_stands_at_the_end()
 /// from there, and in the same way.
 pub fn a_break_for_good_stays()
     ensures { (octets more : List ℕ) (pieces : List Piece) (fault : Fault) → BreaksForGood octets pieces fault → BreaksForGood (octets ++ more) pieces fault }
+{}
+
+/// The texts of all entries joined are the text.
+pub fn entries_joined_are_the_text()
+    ensures { (pieces : List Piece) → flat_map text (and_last (cut_from zero pieces).ended (cut_from zero pieces).open_pieces) ≡ text pieces }
+{}
+
+/// The entries that a line feed has ended are the first ones of every text that goes on from there, and of the text
+/// itself.
+pub fn ended_entries_stay()
+    ensures longer { (octets more : List ℕ) → (others : List Entry) × (ended_entries (cutting (octets ++ more)).pieces ≡ ended_entries (cutting octets).pieces ++ others) }
+    ensures whole { (pieces : List Piece) → (others : List Entry) × (entries_of pieces ≡ ended_entries pieces ++ others) }
 {}
