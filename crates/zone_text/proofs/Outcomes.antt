@@ -14,8 +14,8 @@ use Rattle.zone_text.specs.Forms.{Form, no_items, sets_origin, sets_ttl, include
 use Rattle.zone_text.specs.Inherited.{IsOrigin, SpellsBehind, IsOwner, HasClass, IsTtl, one_bare}
 use Rattle.zone_text.specs.Records.{HasValue, Head, HasHead, StatesData, HasTtl, StatesRecord, StatesNothing, head_of}
 use Rattle.zone_text.specs.EntryFault.{IsNameFault, OriginFault, DefaultTtlFault, DirectiveFault, OwnerFault, WordFault, WordsFault, KindFault, TtlFault, none, long, EntryFault, of_directive, of_owner, of_words, of_kind, of_rdata, of_ttl}
-use Rattle.zone_text.proofs.Once.{Once, Then, then_once}
-use Rattle.zone_text.proofs.Lower.{Lower}
+use Rattle.zone_text.proofs.Once.{Then, then_once}
+use Rattle.zone_text.specs.Lower.{Lower, Once}
 use Rattle.zone_text.proofs.Inherits.{origin_once, spells_behind_once, owner_once, class_once, ttl_once}
 
 abbrev pub Outcome : Type 0 → Type 0
