@@ -6,3 +6,5 @@ pub mod Items
 pub mod Texts
 pub mod Times
 pub mod Decimal
+pub mod OneWord
+pub mod OneData

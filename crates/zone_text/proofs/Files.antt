@@ -12,21 +12,14 @@ use Rattle.zone_text.specs.Records.{StatesRecord}
 use Rattle.zone_text.specs.EntryFault.{EntryFault}
 use Rattle.zone_text.specs.File.{StatesFirst, states_none, states_one, StateEach, FileStates}
 use Rattle.zone_text.specs.FileReads.{Ending, ReadsFirst, reads_none, reads_one, refused, ReadEach, FileReads, whole, broken}
-use Rattle.zone_text.proofs.Once.{Once}
-use Rattle.zone_text.proofs.Lower.{Lower}
+use Rattle.zone_text.specs.Lower.{Lower, Once}
+use Rattle.zone_text.proofs.Cuttings.{one_cut, one_break, cut_not_broken}
 use Rattle.zone_text.proofs.Entered.{record_once, fault_once, record_or_fault, nothing_or_record, nothing_or_fault}
-
--- the laws of pieces on which those of files stand
-pub record Lexed : Type 0 where
-  pub cut : (octets : List ℕ) → Once (List Piece) (Cuts octets)
-  pub cut_or_break : (octets : List ℕ) (pieces front : List Piece) (fault : Fault) → Cuts octets pieces → Breaks octets front fault → ⊥
-  pub front : (octets : List ℕ) (a b : List Piece) (f g : Fault) → Breaks octets a f → Breaks octets b g → a ≡ b
-  pub fault : (octets : List ℕ) (a b : List Piece) (f g : Fault) → Breaks octets a f → Breaks octets b g → f ≡ g
 
 same_placed : (p q : Placed) → p.rr ≡ q.rr → p.place ≡ q.place → p ≡ q
 same_placed p q a b = rw (a, b) refl
 
-one_more : (p q : Placed) (a b more others : List Placed) → p.rr ≡ q.rr → p.place ≡ q.place → a ≡ p ∷ more → b ≡ q ∷ others → more ≡ others → a ≡ b
+pub one_more : (p q : Placed) (a b more others : List Placed) → p.rr ≡ q.rr → p.place ≡ q.place → a ≡ p ∷ more → b ≡ q ∷ others → more ≡ others → a ≡ b
 one_more p q a b more others rr place x y rest = let same : p ≡ q = same_placed p q rr place in cc
 
 pub states_once : Lower → (origin : List (List ℕ)) (before entries : List Entry) → Once (List Placed) (StateEach origin before entries)
@@ -37,9 +30,9 @@ states_once lower origin before (entry ∷ entries) a b (states_one p more r at 
 states_once lower origin before (entry ∷ entries) a b (states_one p more r at e xs) (states_one q others s place f ys) =
     one_more p q a b more others (record_once lower origin before entry p.rr q.rr r s) (at ∙ sym place) e f (states_once lower origin (entry ∷ before) entries more others xs ys)
 
-pub file_once : Lexed → Lower → (origin : List (List ℕ)) (octets : List ℕ) → Once (List Placed) (FileStates origin octets)
-file_once lexed lower origin octets a b x y =
-    let pieces : x.pieces ≡ y.pieces = lexed.cut octets x.pieces y.pieces x.cut y.cut in
+pub file_once : Lower → (origin : List (List ℕ)) (octets : List ℕ) → Once (List Placed) (FileStates origin octets)
+file_once lower origin octets a b x y =
+    let pieces : x.pieces ≡ y.pieces = one_cut octets x.pieces y.pieces x.cut y.cut in
     states_once lower origin [] (entries_of y.pieces) a b (subst (λ ps. StateEach origin [] (entries_of ps) a) pieces x.each) y.each
 
 -- the readings of entries
@@ -63,15 +56,15 @@ reads_once lower origin behind before (entry ∷ entries) a b e f (refused fault
     let same : fault ≡ other = fault_once lower origin before entry fault other h k in
     (u ∙ sym s, v ∙ (ap (λ (x : Fault). let o : Ending = Some (x, Line entry.line) in o) same ∙ sym t))
 
-pub file_reads_once : Lexed → Lower → (origin : List (List ℕ)) (octets : List ℕ) (a b : List Placed) (e f : Ending) → FileReads origin octets a e → FileReads origin octets b f → Both a b e f
-file_reads_once lexed lower origin octets a b e f (whole ps cut xs) (whole qs other ys) =
-    let pieces : ps ≡ qs = lexed.cut octets ps qs cut other in
+pub file_reads_once : Lower → (origin : List (List ℕ)) (octets : List ℕ) (a b : List Placed) (e f : Ending) → FileReads origin octets a e → FileReads origin octets b f → Both a b e f
+file_reads_once lower origin octets a b e f (whole ps cut xs) (whole qs other ys) =
+    let pieces : ps ≡ qs = one_cut octets ps qs cut other in
     reads_once lower origin None [] (entries_of qs) a b e f (subst (λ p. ReadEach origin None [] (entries_of p) a e) pieces xs) ys
-file_reads_once lexed lower origin octets a b e f (whole ps cut xs) (broken qs fault breaks ys) = absurd (lexed.cut_or_break octets ps qs fault cut breaks)
-file_reads_once lexed lower origin octets a b e f (broken ps fault breaks xs) (whole qs cut ys) = absurd (lexed.cut_or_break octets qs ps fault cut breaks)
-file_reads_once lexed lower origin octets a b e f (broken ps fault breaks xs) (broken qs other more ys) =
-    let pieces : ps ≡ qs = lexed.front octets ps qs fault other breaks more in
-    let same : fault ≡ other = lexed.fault octets ps qs fault other breaks more in
+file_reads_once lower origin octets a b e f (whole ps cut xs) (broken qs fault breaks ys) = absurd (cut_not_broken octets ps qs fault cut breaks)
+file_reads_once lower origin octets a b e f (broken ps fault breaks xs) (whole qs cut ys) = absurd (cut_not_broken octets qs ps fault cut breaks)
+file_reads_once lower origin octets a b e f (broken ps fault breaks xs) (broken qs other more ys) =
+    let pieces : ps ≡ qs = (one_break octets ps qs fault other breaks more).0 in
+    let same : fault ≡ other = (one_break octets ps qs fault other breaks more).1 in
     reads_once lower origin (Some (other, Line (open_line qs))) [] (ended_entries qs) a b e f (rw (← pieces, ← same) xs) ys
 
 -- what is stated is read with no fault, and the other way

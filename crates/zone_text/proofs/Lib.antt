@@ -5,13 +5,13 @@ pub mod ClassWords
 pub mod Stated
 pub mod Whole
 pub mod Once
-pub mod Lower
 pub mod Inherits
 pub mod Outcomes
 pub mod Entered
 pub mod Files
 pub mod Seconds
 pub mod CutAgain
+pub mod Decides
 pub mod Octets
 pub mod Fronts
 pub mod Cuttings

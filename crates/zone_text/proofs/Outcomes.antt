@@ -14,8 +14,8 @@ use Rattle.zone_text.specs.Forms.{Form, no_items, sets_origin, sets_ttl, include
 use Rattle.zone_text.specs.Inherited.{IsOrigin, SpellsBehind, IsOwner, HasClass, IsTtl, one_bare}
 use Rattle.zone_text.specs.Records.{HasValue, Head, HasHead, StatesData, HasTtl, StatesRecord, StatesNothing, head_of}
 use Rattle.zone_text.specs.EntryFault.{IsNameFault, OriginFault, DefaultTtlFault, DirectiveFault, OwnerFault, WordFault, WordsFault, KindFault, TtlFault, none, long, EntryFault, of_directive, of_owner, of_words, of_kind, of_rdata, of_ttl}
-use Rattle.zone_text.proofs.Once.{Once, Then, then_once}
-use Rattle.zone_text.proofs.Lower.{Lower}
+use Rattle.zone_text.proofs.Once.{Then, then_once}
+use Rattle.zone_text.specs.Lower.{Lower, Once}
 use Rattle.zone_text.proofs.Inherits.{origin_once, spells_behind_once, owner_once, class_once, ttl_once}
 
 abbrev pub Outcome : Type 0 → Type 0
@@ -170,9 +170,11 @@ ttl_fault_once lower origin before entry f g x y = both f g x y
     of_none : (g : Fault) → ((seconds : ℕ) → HasTtl origin before entry seconds → ⊥) → TtlFault origin before entry g → NoTtl ≡ g
     of_none g missing (none other) = refl
     of_none g missing (long n has over) = absurd (missing n has)
+
     of_long : (g : Fault) (n : ℕ) → HasTtl origin before entry n → TtlFault origin before entry g → BadTtl ≡ g
     of_long g n has (none other) = absurd (other n has)
     of_long g n has (long m more over) = refl
+
     both : (f g : Fault) → TtlFault origin before entry f → TtlFault origin before entry g → f ≡ g
     both f g (none missing) y = of_none g missing y
     both f g (long n has over) y = of_long g n has y

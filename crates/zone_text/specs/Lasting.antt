@@ -21,7 +21,7 @@ pub data IsLostEscape (rest : List ℕ) : Type 0 where
   two_digits : (x y c : ℕ) (more : List ℕ) → rest ≡ 92 ∷ x ∷ y ∷ c ∷ more → is_digit x ≡ true → is_digit y ≡ true → is_digit c ≡ false → IsLostEscape rest
   too_great : (x y z : ℕ) (more : List ℕ) → rest ≡ 92 ∷ x ∷ y ∷ z ∷ more → is_digit x ≡ true → is_digit y ≡ true → is_digit z ≡ true → 255 < octet_of (decimal x y z) → IsLostEscape rest
 
--- A backslash that begins no escape where the text ends, and might where it goes on
+-- A backslash that begins no escape since the text ends, at once or behind one or two digits
 pub data IsCutOff (rest : List ℕ) : Type 0 where
   behind_backslash : rest ≡ 92 ∷ [] → IsCutOff rest
   behind_digit : (x : ℕ) → rest ≡ 92 ∷ x ∷ [] → is_digit x ≡ true → IsCutOff rest

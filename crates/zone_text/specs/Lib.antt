@@ -10,4 +10,6 @@ pub mod Records
 pub mod EntryFault
 pub mod File
 pub mod FileReads
+pub mod Decided
+pub mod Lower
 pub mod Lines

@@ -7,7 +7,10 @@ use Rattle.zone_rdata.specs.Number.{IsTime}
 use Rattle.zone_rdata.specs.Spelling.{RawItem, States}
 use Rattle.zone_rdata.specs.Words.{IsClassWord, IsKind, IsKindWord, IsWordFault}
 use Rattle.zone_rdata.specs.declared.fault.Fault.{Fault}
-use Rattle.zone_text.proofs.Once.{Once}
+
+-- the relation holds of one value at most
+abbrev pub Once : (A : Type 0) → (A → Type 0) → Type 0
+Once A P = (a b : A) → P a → P b → a ≡ b
 
 pub record Lower : Type 0 where
   pub name : (above : List (List ℕ)) (text : List ℕ) → Once (List (List ℕ)) (Spells (Some above) text)
