@@ -34,3 +34,5 @@ pub mod AddressParts
 pub mod AddressGaps
 pub mod AddressLaws
 pub mod AddressOctets
+pub mod OneWord
+pub mod OneData

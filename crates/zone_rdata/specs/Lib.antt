@@ -18,5 +18,6 @@ pub mod Wire
 pub mod DataFault
 pub mod Reading
 pub mod Text
+pub mod DataFault
 pub mod Source
 pub mod AddressReading

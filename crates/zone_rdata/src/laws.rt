@@ -4,3 +4,5 @@ pub mod generic;
 pub mod items;
 pub mod string;
 pub mod uncompressed;
+pub mod data;
+pub mod word;
