@@ -1,15 +1,15 @@
 -- Names, words and NS records that files spell, for examples.
-use Rattle.std.proofs.Common.{◌≡◌, ◌≢◌, ℕ, ◌<◌, ◌≤◌, List, [], ◌∷◌, ◌++◌, codes, Option, Some, None, refl, sym, ap, ◌∙◌, arith, subst, true, inr, lit<, lit≤}
+use Rattle.std.proofs.Common.{◌≡◌, ℕ, ◌≤◌, List, [], ◌∷◌, codes, Some, refl, sym, ap, ◌∙◌, arith, subst, true, inr, lit<, lit≤}
 use Rattle.std.specs.List.{AllByRecursion}
 use Rattle.zone_name.specs.Name.{IsName, labels_of, wire}
-use Rattle.zone_name.specs.Spelling.{plain, Writes, at_origin, absolute, relative, Spells, FirstFault, within, empty_label}
+use Rattle.zone_name.specs.Spelling.{plain, at_origin, absolute, relative, Spells, FirstFault, within, empty_label}
 use Rattle.zone_name.specs.declared.fault.NameFault.TheVariants.{EmptyLabel}
 use Rattle.zone_rdata.specs.declared.layout.Field.TheVariants.{Name}
 use Rattle.zone_rdata.specs.Field.{name}
 use Rattle.zone_rdata.specs.Number.{IsTime, IsDecimal}
 use Rattle.zone_rdata.specs.Number as number
-use Rattle.zone_rdata.specs.Record.{Record, IsRecord}
-use Rattle.zone_rdata.specs.Spelling.{RawItem, bare, States, in_words}
+use Rattle.zone_rdata.specs.Record.{IsRecord}
+use Rattle.zone_rdata.specs.Spelling.{bare, States, in_words}
 use Rattle.zone_rdata.specs.Minimum.{minimum}
 use Rattle.zone_rdata.specs.Words.{IsClass, IsClassWord, class_named, class_numbered, IsKind, IsKindWord, kind_named, kind_numbered, IsWordFault, beyond, for_queries}
 use Rattle.zone_rdata.specs.declared.fault.Fault.TheVariants.{UnknownType, MetaType}

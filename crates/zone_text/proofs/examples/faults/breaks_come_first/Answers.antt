@@ -1,10 +1,9 @@
-use Rattle.std.proofs.Common.{◌≡◌, ◌∷◌, [], codes, Some, None, refl, lit<, lit≤, inl, inr}
+use Rattle.std.proofs.Common.{refl, lit≤}
 use Rattle.zone_text.specs.Cutting.{units_by, units_first, before_line_feed, from_line_feed, front_of, cut_by, cutting}
-use Rattle.zone_text.specs.ExampleEntries.{x, under}
-use Rattle.zone_text.specs.EntryFault.{of_directive, of_owner, of_words, of_kind, of_ttl, none}
-use Rattle.zone_text.specs.FileReads.{reads_none, reads_one, refused, whole, broken}
-use Rattle.zone_text.proofs.Cuttings.{cut_is_read, broken_is_read}
-use Rattle.zone_text.proofs.ExampleFacts.{x_name, ax_name, bax_name, at_spells, a_spells, b_spells, sixty, three_hundred, in_class, ch_class, is_ch, is_ns, ns_kind, ns_states, states_ns, too_long, no_digit, empty_label_between, class_zero_word, type_65536, type_41, ns_has_no_minimum}
+use Rattle.zone_text.specs.ExampleEntries.{x}
+use Rattle.zone_text.specs.FileReads.{reads_one, broken}
+use Rattle.zone_text.proofs.Cuttings.{broken_is_read}
+use Rattle.zone_text.proofs.ExampleFacts.{x_name, at_spells, sixty, in_class, states_ns}
 use Rattle.zone_text.proofs.examples.faults.breaks_come_first.Goals as goal
 
 pub returns : goal.returns
