@@ -5,6 +5,7 @@ mod engine;
 mod explain;
 mod form;
 mod input;
+pub mod laws;
 mod order;
 mod run;
 
