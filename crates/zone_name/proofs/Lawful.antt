@@ -1,5 +1,5 @@
--- The laws of names.
-use Rattle.std.proofs.Common.{◌≡◌, ◌≢◌, ℕ, ◌+◌, ◌/◌, ◌%◌, ◌<◌, Bool, true, false, ◌||◌, ◌==◌, nat_eq, if◌then◌else◌, List, [], ◌∷◌, ◌++◌, reverse, codes, Option, Some, Result, Ok, ◌⊎◌, inl, inr, div-add-mod', refl, sym, ap, ◌∙◌, subst, arith}
+-- The laws of the order and of what is printed.
+use Rattle.std.proofs.Common.{◌≡◌, ◌≢◌, ℕ, ◌+◌, ◌/◌, ◌%◌, ◌<◌, Bool, true, false, ◌||◌, ◌==◌, nat_eq, if◌then◌else◌, List, [], ◌∷◌, ◌++◌, reverse, Option, ◌⊎◌, inl, inr, div-add-mod', refl, sym, ap, ◌∙◌, subst, arith}
 use Rattle.std.specs.Prelude.{map}
 use Rattle.std.specs.List.{flat_map, AllByRecursion}
 use Rattle.std.specs.declared.cmp.Ordering.TheVariants.{Equal}
@@ -11,9 +11,6 @@ use Rattle.std.proofs.lemmas.List.{reverse-reverse, length-map}
 use Rattle.std.proofs.lemmas.Bool.Decides.{nat_tests}
 use Rattle.zone_name.specs.Name.{IsFoldedOctet, IsLabel, IsName, folded_octet, folded_label}
 use Rattle.std.proofs.lemmas.Bool.{false≢true}
-use Rattle.zone_name.specs.Reading.{reading, under}
-use Rattle.zone_name.specs.declared.fault.NameFault.{NameFault}
-use Rattle.zone_name.proofs.Only.{decided-only, root-only, origin_by}
 use Rattle.zone_name.specs.Order.{name_cmp}
 use Rattle.zone_name.specs.Spelling.{Written, plain, escaped, decimal, text_of, octet_of, IsWritten, IsWrittenLabel, written_text, written_octets, dotted, named, Writes, root, absolute, Spells, is_digit}
 use Rattle.zone_name.specs.Text.{is_special, is_printed, decimal_escape, octet_text, label_text, name_text}
@@ -166,28 +163,3 @@ printed_by origin (label ∷ labels) name =
 
 pub name_text-spelled : (origin : Option (List (List ℕ))) (labels : List (List ℕ)) → IsName labels → Spells origin (name_text labels) labels
 name_text-spelled origin labels name = record { written = printed_by origin labels name; name = name }
-
--- ---- a text spells one name
-abbrev same_result : Result (List (List ℕ)) NameFault → Result (List (List ℕ)) NameFault → Type 0
-same_result r s = r ≡ s
-
-once_by : (origin : Option (List (List ℕ))) (text : List ℕ) (a b : List (List ℕ)) (is_dot is_at : Bool) → pointwise nat_eq text (codes ".") ≡ is_dot → pointwise nat_eq text (codes "@") ≡ is_at → Spells origin text a → Spells origin text b → a ≡ b
-once_by origin text a b true is_at e f one two =
-    let dot = (bytes_decides text (codes ".")).0 e in
-    sym (root-only origin text [] a dot refl one) ∙ root-only origin text [] b dot refl two
-once_by origin text a b false true e f one two =
-    let at = (bytes_decides text (codes "@")).0 f in
-    some_same a b (sym (origin_by origin text a at one.written one.name) ∙ origin_by origin text b at two.written two.name)
-  where
-    some_same : (x y : List (List ℕ)) → Some x ≡ Some y → x ≡ y
-    some_same x y e = cc
-once_by origin text a b false false e f one two =
-    let no_dot : text ≢ codes "." = λ h. false≢true (sym e ∙ (bytes_decides text (codes ".")).1 h) in
-    let no_at : text ≢ codes "@" = λ h. false≢true (sym f ∙ (bytes_decides text (codes "@")).1 h) in
-    ok_same a b (sym (decided-only origin text (under origin (reading text)) no_dot no_at refl a one) ∙ decided-only origin text (under origin (reading text)) no_dot no_at refl b two)
-  where
-    ok_same : (x y : List (List ℕ)) → same_result (Ok x) (Ok y) → x ≡ y
-    ok_same x y e = cc
-
-pub Spells-once : (origin : Option (List (List ℕ))) (text : List ℕ) (a b : List (List ℕ)) → Spells origin text a → Spells origin text b → a ≡ b
-Spells-once origin text a b one two = once_by origin text a b (pointwise nat_eq text (codes ".")) (pointwise nat_eq text (codes "@")) refl refl one two

@@ -6,4 +6,5 @@ pub mod Places
 pub mod Steps
 pub mod Spelled
 pub mod Only
+pub mod Answered
 pub mod Lawful

@@ -1,18 +1,17 @@
--- What a text spells is what the walk over it finds.
-use Rattle.std.proofs.Common.{◌≡◌, ◌≢◌, ℕ, zero, suc, ◌+◌, ◌<◌, ◌≤◌, Bool, true, false, nat_eq, nat_le, if◌then◌else◌, List, [], ◌∷◌, ◌++◌, length, codes, Result, Ok, Err, Option, Some, None, IfOk, IfErr, IfSome, refl, sym, ap, ◌∙◌, subst, arith, append_assoc, length-append}
+-- What a text spells, and its own first fault, is what the walk over it finds.
+use Rattle.std.proofs.Common.{◌≡◌, ℕ, zero, suc, ◌+◌, ◌<◌, ◌≤◌, Bool, true, false, nat_eq, nat_le, if◌then◌else◌, List, [], ◌∷◌, ◌++◌, length, Ok, Err, inl, inr, refl, sym, ap, ◌∙◌, subst, arith, append_assoc, length-append}
 use Rattle.std.specs.List.{AllByRecursion}
 use Rattle.std.proofs.lemmas.List.{append-nil, length-map}
 use Rattle.std.proofs.lemmas.Bool.{false≢true}
 use Rattle.std.proofs.lemmas.Bool.Decides.{nat_tests}
-use Rattle.zone_name.specs.Name.{folded_label, folded_octet, wire, IsLabel, IsName}
-use Rattle.zone_name.specs.Spelling.{Written, plain, text_of, octet_of, IsWritten, IsWrittenLabel, AreWrittenLabels, written_text, written_octets, dotted, parted, named, Writes, root, at_origin, absolute, relative, Spells, IsRelative, FirstFault, within, unfounded, long_name}
+use Rattle.zone_name.specs.Name.{folded_label}
+use Rattle.zone_name.specs.Spelling.{Written, text_of, octet_of, IsWritten, IsWrittenLabel, AreWrittenLabels, written_text, written_octets, dotted, parted, named, EndsLabel, IsBadEscape, Reaches, FaultAt, empty_label, long_label, bad_escape}
 use Rattle.zone_name.specs.declared.fault.NameFault.{NameFault}
-use Rattle.zone_name.specs.declared.fault.NameFault.TheVariants.{EmptyLabel, LabelTooLong, NameTooLong, RelativeName}
-use Rattle.zone_name.specs.Reading.{at_dot, at_octet, goes, failed, read, reading, sized, under}
-use Rattle.zone_name.proofs.Places.{place-written, text_of-some}
-use Rattle.zone_name.proofs.Steps.{after_step, read_step}
-use Rattle.zone_name.proofs.Spelled.{AreShort, Says, reading-says}
-use Rattle.zone_name.proofs.Pushing.{AllByRecursion-append, sized-name}
+use Rattle.zone_name.specs.declared.fault.NameFault.TheVariants.{EmptyLabel, LabelTooLong, BadEscape}
+use Rattle.zone_name.specs.Reading.{Place, at_end, at_dot, at_octet, at_fault, place_of, goes, failed, step_at, read, reading}
+use Rattle.zone_name.proofs.Places.{IsPlace, place_is, place-written, text_of-some}
+use Rattle.zone_name.proofs.Steps.{after_step, read_step, reading-nil}
+use Rattle.zone_name.proofs.Spelled.{AreShort}
 
 le_test : (m n : ℕ) → m < n → nat_le n m ≡ false
 le_test m n h = grind (arith, nat_tests)
@@ -52,14 +51,25 @@ regroup : (a rest : List ℕ) → (a ++ 46 ∷ []) ++ rest ≡ a ++ (46 ∷ rest
 regroup a rest = append_assoc a (46 ∷ []) rest
 
 -- labels with dots behind them are read
+dots_read : (written : List (List Written)) (rest : List ℕ) (labels : List (List ℕ)) (n : ℕ) → AllByRecursion IsWrittenLabel written → AreShort written → length (dotted written ++ rest) < n → (m : ℕ) × (length rest < m) × (read n labels [] (dotted written ++ rest) ≡ read m (labels ++ named written) [] rest)
+dots_read [] rest labels n each short enough = (n, enough, ap (λ t. read n t [] rest) (sym (append-nil labels)))
+dots_read (label ∷ written) rest labels n each short enough =
+    let tail = dotted written ++ rest in
+    let shape = append_assoc (written_text label ++ 46 ∷ []) (dotted written) rest ∙ regroup (written_text label) tail in
+    let found = dot_reads label tail labels n each.0 short.0 (subst (λ t. length t < n) shape enough) in
+    let next = dots_read written rest (labels ++ folded_label (written_octets label) ∷ []) found.0 each.1 short.1 found.1 in
+    (next.0, next.1, ap (read n labels []) shape ∙ found.2 ∙ next.2 ∙ ap (λ t. read next.0 t [] rest) (append_assoc labels (folded_label (written_octets label) ∷ []) (named written)))
+
+-- labels with dots behind them and no more
 dotted_reads : (written : List (List Written)) (labels : List (List ℕ)) (n : ℕ) → AllByRecursion IsWrittenLabel written → AreShort written → length (dotted written) < n → read n labels [] (dotted written) ≡ Ok (labels ++ named written, true)
-dotted_reads [] labels zero each short enough = absurd (omega arith)
-dotted_reads [] labels (suc n) each short enough = ap (λ t. Ok (t, true)) (sym (append-nil labels))
-dotted_reads (label ∷ written) labels n each short enough =
-    let shape = regroup (written_text label) (dotted written) in
-    let found = dot_reads label (dotted written) labels n each.0 short.0 (subst (λ t. length t < n) shape enough) in
-    ap (read n labels []) shape ∙ found.2 ∙ dotted_reads written (labels ++ folded_label (written_octets label) ∷ []) found.0 each.1 short.1 found.1
-    ∙ ap (λ t. Ok (t, true)) (append_assoc labels (folded_label (written_octets label) ∷ []) (named written))
+dotted_reads written labels n each short enough =
+    let none = append-nil (dotted written) in
+    let found = dots_read written [] labels n each short (subst (λ t. length t < n) (sym none) enough) in
+    ap (read n labels []) (sym none) ∙ found.2 ∙ ends found.0 found.1
+  where
+    ends : (m : ℕ) → length {A = ℕ} [] < m → read m (labels ++ named written) [] [] ≡ Ok (labels ++ named written, true)
+    ends zero left = absurd (omega arith)
+    ends (suc k) left = refl
 
 -- the last label of a relative text
 last_reads : (label : List Written) (labels : List (List ℕ)) (n : ℕ) → IsWrittenLabel label → length label ≤ 63 → length (written_text label) < n → read n labels [] (written_text label) ≡ Ok (labels ++ folded_label (written_octets label) ∷ [], false)
@@ -108,137 +118,62 @@ reading-parted (label ∷ written) are short =
     reading_is (parted (label ∷ written)) (parted_some written label are.each.0)
     ∙ parted_reads written label [] (suc (length (parted (label ∷ written)))) are.each short (omega arith)
 
--- ---- lengths
-length_label : (label : List Written) → length (folded_label (written_octets label)) ≡ length label
-length_label label = length-map (written_octets label) folded_octet ∙ length-map label octet_of
+-- ---- the faults
+-- a walk that has come to a place leads from there to what the whole text leads to
+reached : (text : List ℕ) (before : List (List Written)) (open_label : List Written) (rest : List ℕ) → 0 < length rest → Reaches text before open_label rest → (n : ℕ) × (length rest < n) × (reading text ≡ read n (named before) (written_octets open_label) rest)
+reached text before open_label rest some r =
+    let tail = written_text open_label ++ rest in
+    let shape : text ≡ dotted before ++ tail = r.parts ∙ append_assoc (dotted before) (written_text open_label) rest in
+    let longer : 0 < length text = omega (arith, ap length shape, length-append (dotted before) tail, length-append (written_text open_label) rest) in
+    let enough : length (dotted before ++ tail) < suc (length text) = omega (arith, ap length shape) in
+    let closed = dots_read before tail [] (suc (length text)) r.labels r.short enough in
+    let opened = label_reads open_label rest [] (named before) closed.0 r.octets (omega (arith, r.room)) closed.1 in
+    (opened.0, opened.1, reading_is text longer ∙ ap (read (suc (length text)) [] []) shape ∙ closed.2 ∙ opened.2)
 
-pub short_labels : (written : List (List Written)) → AreShort written → AllByRecursion (λ label. length label ≤ 63) (named written)
-short_labels [] short = tt
-short_labels (label ∷ written) short = (subst (λ n. n ≤ 63) (sym (length_label label)) short.0, short_labels written short.1)
+fails_by : (n : ℕ) (labels : List (List ℕ)) (open_label rest : List ℕ) (place : Place) (fault : NameFault) → length rest < n → place_of rest ≡ place → step_at labels open_label place ≡ failed fault → read n labels open_label rest ≡ Err fault
+fails_by zero labels open_label rest place fault enough at fails = absurd (omega arith)
+fails_by (suc n) labels open_label rest place fault enough at fails = read_step n labels open_label rest place at ∙ ap (after_step n) fails
 
-pub short_name : (labels : List (List ℕ)) → AllByRecursion IsLabel labels → AllByRecursion (λ label. length label ≤ 63) labels
-short_name [] each = tt
-short_name (label ∷ labels) each = (each.0.short, short_name labels each.1)
+-- a step that fails where a walk has come to is what is read
+reads_fault : (text : List ℕ) (before : List (List Written)) (open_label : List Written) (rest : List ℕ) (place : Place) (fault : NameFault) → 0 < length rest → Reaches text before open_label rest → place_of rest ≡ place → step_at (named before) (written_octets open_label) place ≡ failed fault → reading text ≡ Err fault
+reads_fault text before open_label rest place fault some r at fails =
+    let walk = reached text before open_label rest some r in
+    walk.2 ∙ fails_by walk.0 (named before) (written_octets open_label) rest place fault walk.1 at fails
 
-short_written : (written : List (List Written)) → AllByRecursion IsLabel (named written) → AreShort written
-short_written [] each = tt
-short_written (label ∷ written) each = (subst (λ n. n ≤ 63) (length_label label) each.0.short, short_written written each.1)
-
-front_each : {X : Type 0} (P : X → Type 0) (xs ys : List X) → AllByRecursion P (xs ++ ys) → AllByRecursion P xs
-front_each P [] ys each = tt
-front_each P (x ∷ xs) ys each = (each.0, front_each P xs ys each.1)
-
--- ---- what the answer says
-sized_ok : (labels name : List (List ℕ)) (fits : Bool) → Ok name ≡ (if fits then Ok labels else Err NameTooLong) → name ≡ labels
-sized_ok labels name true e = cc
-sized_ok labels name false e = absurd (cc)
-
-sized_err : (labels : List (List ℕ)) (fault : NameFault) (fits : Bool) → nat_le (length (wire labels)) 255 ≡ fits → Err fault ≡ (if fits then Ok labels else Err NameTooLong) → (NameTooLong ≡ fault) × (255 < length (wire labels))
-sized_err labels fault true test e = absurd (cc)
-sized_err labels fault false test e = (cc, above (length (wire labels)) test)
+full_step : (labels : List (List ℕ)) (open_label : List ℕ) (c : ℕ) (rest : List ℕ) → 63 ≤ length open_label → step_at labels open_label (at_octet c rest) ≡ failed LabelTooLong
+full_step labels [] c rest full = absurd (omega arith)
+full_step labels (x ∷ open_label) c rest full = ap (λ (b : Bool). if b then failed LabelTooLong else goes labels (x ∷ open_label ++ c ∷ []) rest) (full_test (length (x ∷ open_label)) 63 full)
   where
-    above : (m : ℕ) → nat_le m 255 ≡ false → 255 < m
-    above m h = grind (arith, nat_tests)
+    full_test : (m n : ℕ) → n ≤ m → nat_le n m ≡ true
+    full_test m n h = grind (arith, nat_tests)
 
-found_by : (origin : Option (List (List ℕ))) (text : List ℕ) (found : Result (List (List ℕ) × Bool) NameFault) (name : List (List ℕ)) → text ≢ codes "@" → Says text found → Ok name ≡ under origin found → IsName name → Writes origin text name
-found_by origin text (Err fault) name other says e is = absurd (cc)
-found_by origin text (Ok (labels, true)) name other says e is =
-    absolute says.written says.are says.text_is (sized_ok labels name (nat_le (length (wire labels)) 255) e ∙ says.labels_are)
-found_by None text (Ok (labels, false)) name other says e is = absurd (cc)
-found_by (Some above) text (Ok (labels, false)) name other says e is =
-    relative says.written above says.are other says.text_is refl (sized_ok (labels ++ above) name (nat_le (length (wire (labels ++ above))) 255) e ∙ ap (λ t. t ++ above) says.labels_are)
+bad_step : (labels : List (List ℕ)) (open_label : List ℕ) → step_at labels open_label at_fault ≡ failed BadEscape
+bad_step labels [] = refl
+bad_step labels (c ∷ open_label) = refl
 
-pub decided-found : (origin : Option (List (List ℕ))) (text : List ℕ) (result : Result (List (List ℕ)) NameFault) → text ≢ codes "." → text ≢ codes "@" → result ≡ under origin (reading text) → IfOk result IsName → IfOk result (Spells origin text)
-decided-found origin text (Ok name) dot other e is = record { written = found_by origin text (reading text) name other (reading-says text dot) e is; name = is }
-decided-found origin text (Err fault) dot other e is = tt
+abbrev first_of : List ℕ → ℕ
+first_of [] = 0
+first_of (c ∷ rest) = c
 
-fault_by : (origin : Option (List (List ℕ))) (text : List ℕ) (found : Result (List (List ℕ) × Bool) NameFault) (fault : NameFault) → text ≢ codes "@" → IfSome origin IsName → Says text found → Err fault ≡ under origin found → FirstFault origin text fault
-fault_by origin text (Err first) fault other known says e = let same : first ≡ fault = cc in subst (FirstFault origin text) same (within first says)
-fault_by origin text (Ok (labels, true)) fault other known says e =
-    let long = sized_err labels fault (nat_le (length (wire labels)) 255) refl e in
-    subst (FirstFault origin text) long.0 (long_name labels (absolute says.written says.are says.text_is says.labels_are)
-    (subst (AllByRecursion (λ label. length label ≤ 63)) (sym says.labels_are) (short_labels says.written says.short)) long.1)
-fault_by None text (Ok (labels, false)) fault other known says e =
-    let same : RelativeName ≡ fault = cc in
-    subst (FirstFault None text) same (unfounded refl (says.written, says.are, says.short, says.text_is))
-fault_by (Some above) text (Ok (labels, false)) fault other known says e =
-    let long = sized_err (labels ++ above) fault (nat_le (length (wire (labels ++ above))) 255) refl e in
-    let each = subst (AllByRecursion (λ label. length label ≤ 63)) (sym says.labels_are) (short_labels says.written says.short) in
-    subst (FirstFault (Some above) text) long.0 (long_name (labels ++ above) (relative says.written above says.are other says.text_is refl (ap (λ t. t ++ above) says.labels_are))
-    (AllByRecursion-append (λ label. length label ≤ 63) labels above each (short_name above known.each)) long.1)
+-- a backslash that begins no escape stands at a fault
+bad_place : (rest : List ℕ) (place : Place) → IsBadEscape rest → IsPlace rest place → place ≡ at_fault
+bad_place rest at_end bad is = absurd (omega (arith, ap length bad.1, ap length is))
+bad_place rest (at_dot after) bad is = absurd (false≢true (ap (λ t. nat_eq (first_of t) 46) (sym bad.1 ∙ is)))
+bad_place rest (at_octet c after) bad is = absurd (bad.2 is.0 after is.1 is.3)
+bad_place rest at_fault bad is = refl
 
-pub decided-fault : (origin : Option (List (List ℕ))) (text : List ℕ) (result : Result (List (List ℕ)) NameFault) → text ≢ codes "." → text ≢ codes "@" → IfSome origin IsName → result ≡ under origin (reading text) → IfErr result (FirstFault origin text)
-decided-fault origin text (Ok name) dot other known e = tt
-decided-fault origin text (Err fault) dot other known e = fault_by origin text (reading text) fault other known (reading-says text dot) e
+empty_reads : (text : List ℕ) (before : List (List Written)) (rest : List ℕ) → Reaches text before [] rest → EndsLabel rest → (rest ≡ [] → before ≡ []) → reading text ≡ Err EmptyLabel
+empty_reads text before rest r (inl e) first =
+    let none : text ≡ [] = r.parts ∙ ap (λ t. dotted t ++ [] ++ rest) (first e) ∙ e in
+    reading-nil text (ap length none)
+empty_reads text before rest r (inr dot) first =
+    reads_fault text before [] rest (at_dot dot.0) EmptyLabel (omega (arith, ap length dot.1)) r (ap place_of dot.1) refl
 
-absolute_reads : (text : List ℕ) (written : List (List Written)) (name : List (List ℕ)) → AreWrittenLabels written → text ≡ dotted written → name ≡ named written → IsName name → reading text ≡ Ok (name, true)
-absolute_reads text written name are text_is is known =
-    ap reading text_is ∙ reading-dotted written are (short_written written (subst (AllByRecursion IsLabel) is known.each)) ∙ ap (λ t. Ok (t, true)) (sym is)
-
-relative_reads : (text : List ℕ) (written : List (List Written)) (above name : List (List ℕ)) → AreWrittenLabels written → text ≡ parted written → name ≡ named written ++ above → IsName name → reading text ≡ Ok (named written, false)
-relative_reads text written above name are text_is is known =
-    ap reading text_is ∙ reading-parted written are (short_written written (front_each IsLabel (named written) above (subst (AllByRecursion IsLabel) is known.each)))
-
-only_by : (origin : Option (List (List ℕ))) (text : List ℕ) (name : List (List ℕ)) → text ≢ codes "." → text ≢ codes "@" → Writes origin text name → IsName name → under origin (reading text) ≡ Ok name
-only_by origin text name dot other (root e l) known = absurd (dot e)
-only_by origin text name dot other (at_origin e o) known = absurd (other e)
-only_by origin text name dot other (absolute written are e l) known =
-    ap (under origin) (absolute_reads text written name are e l known) ∙ sized-name name known.short
-only_by origin text name dot other (relative written above are n e o l) known =
-    ap (λ t. under t (reading text)) o ∙ ap (under (Some above)) (relative_reads text written above name are e l known) ∙ ap sized (sym l) ∙ sized-name name known.short
-
-pub decided-only : (origin : Option (List (List ℕ))) (text : List ℕ) (result : Result (List (List ℕ)) NameFault) → text ≢ codes "." → text ≢ codes "@" → result ≡ under origin (reading text) → (name : List (List ℕ)) → Spells origin text name → result ≡ Ok name
-decided-only origin text result dot other e name spells = e ∙ only_by origin text name dot other spells.written spells.name
-
--- ---- the root and the origin
-reading_dot : reading (codes ".") ≡ Err EmptyLabel
-unfolding reading
-reading_dot = refl
-
-reading_at : reading (codes "@") ≡ Ok ((64 ∷ []) ∷ [], false)
-unfolding reading
-reading_at = refl
-
-err_not_ok : (fault : NameFault) (found : List (List ℕ) × Bool) → Err fault ≡ Ok found → ⊥
-err_not_ok fault found e = cc
-
-whole_of : Result (List (List ℕ) × Bool) NameFault → Bool
-whole_of (Ok found) = found.1
-whole_of (Err fault) = true
-
-part_not_whole : (found : Result (List (List ℕ) × Bool) NameFault) (left right : List (List ℕ)) → found ≡ Ok (left, false) → found ≡ Ok (right, true) → ⊥
-unfolding whole_of
-part_not_whole found left right e f = false≢true (sym (ap whole_of e) ∙ ap whole_of f)
-
-abbrev head_of : List ℕ → ℕ
-head_of [] = 0
-head_of (c ∷ rest) = c
-
-marks_differ : codes "." ≡ codes "@" → ⊥
-marks_differ e = false≢true (sym (ap (λ t. nat_eq (head_of t) 46) e))
-
-root_by : (origin : Option (List (List ℕ))) (text : List ℕ) (name : List (List ℕ)) → text ≡ codes "." → Writes origin text name → IsName name → [] ≡ name
-root_by origin text name dot (root e l) known = sym l
-root_by origin text name dot (at_origin e o) known = absurd (marks_differ (sym dot ∙ e))
-root_by origin text name dot (absolute written are e l) known = absurd (err_not_ok EmptyLabel (name, true) (sym (ap reading dot ∙ reading_dot) ∙ absolute_reads text written name are e l known))
-root_by origin text name dot (relative written above are n e o l) known = absurd (err_not_ok EmptyLabel (named written, false) (sym (ap reading dot ∙ reading_dot) ∙ relative_reads text written above name are e l known))
-
-pub root-only : (origin : Option (List (List ℕ))) (text : List ℕ) (result name : List (List ℕ)) → text ≡ codes "." → result ≡ [] → Spells origin text name → result ≡ name
-root-only origin text result name dot e spells = e ∙ root_by origin text name dot spells.written spells.name
-
-pub origin_by : (origin : Option (List (List ℕ))) (text : List ℕ) (name : List (List ℕ)) → text ≡ codes "@" → Writes origin text name → IsName name → origin ≡ Some name
-origin_by origin text name at (root e l) known = absurd (marks_differ (sym e ∙ at))
-origin_by origin text name at (at_origin e o) known = o
-origin_by origin text name at (absolute written are e l) known =
-    absurd (part_not_whole (reading text) ((64 ∷ []) ∷ []) name (ap reading at ∙ reading_at) (absolute_reads text written name are e l known))
-origin_by origin text name at (relative written above are n e o l) known = absurd (n at)
-
-pub origin-only : (origin : Option (List (List ℕ))) (text : List ℕ) (above result name : List (List ℕ)) → text ≡ codes "@" → origin ≡ Some above → result ≡ above → Spells origin text name → result ≡ name
-origin-only origin text above result name at e is spells = let o = sym e ∙ origin_by origin text name at spells.written spells.name in cc
-
-pub no_origin-only : (origin : Option (List (List ℕ))) (text : List ℕ) (name : List (List ℕ)) → text ≡ codes "@" → origin ≡ None → Spells origin text name → ⊥
-no_origin-only origin text name at e spells = let o = sym e ∙ origin_by origin text name at spells.written spells.name in cc
-
--- an `@` is a relative text
-pub at-relative : (text : List ℕ) → text ≡ codes "@" → IsRelative text
-at-relative text e = ((plain 64 ∷ []) ∷ [], record { some = omega arith; each = (record { some = omega arith; each = ((λ h. cc, λ h. cc), tt) }, tt) }, (omega arith, tt), e)
+-- the leftmost fault of a text is what is read
+pub reading-fault : (text : List ℕ) (fault : NameFault) → FaultAt text fault → reading text ≡ Err fault
+reading-fault text fault (empty_label before rest r ends first other) = empty_reads text before rest r ends first
+reading-fault text fault (long_label before open_label w rest r full is) =
+    reads_fault text before open_label (text_of w ++ rest) (at_octet (octet_of w) rest) LabelTooLong (omega (arith, length-append (text_of w) rest, text_of-some w)) r (place-written w rest is)
+    (full_step (named before) (written_octets open_label) (octet_of w) rest (omega (arith, length-map open_label octet_of)))
+reading-fault text fault (bad_escape before open_label rest r bad) =
+    reads_fault text before open_label rest at_fault BadEscape (omega (arith, ap length bad.1)) r (bad_place rest (place_of rest) bad (place_is rest)) (bad_step (named before) (written_octets open_label))

@@ -10,4 +10,5 @@ pub mod Order
 pub mod Spelling
 pub mod Reading
 pub mod Text
+pub mod DataFault
 pub mod Source

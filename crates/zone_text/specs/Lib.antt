@@ -1,4 +1,10 @@
 pub mod Pieces
+pub mod Breaks
 pub mod Entries
+pub mod Forms
+pub mod Inherited
+pub mod Records
+pub mod EntryFault
 pub mod File
+pub mod FileReads
 pub mod Lines

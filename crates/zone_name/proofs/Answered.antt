@@ -1,0 +1,300 @@
+-- The name that a text spells under an origin, or its first fault, as an answer on lists.
+use Rattle.std.proofs.Common.{◌≡◌, ◌≢◌, ℕ, ◌<◌, ◌≤◌, Bool, true, false, nat_eq, nat_le, if◌then◌else◌, List, [], ◌∷◌, ◌++◌, length, codes, Result, Ok, Err, Option, Some, None, IfOk, IfErr, IfSome, ◌⊎◌, inl, inr, refl, sym, ap, ◌∙◌, subst, arith}
+use Rattle.std.specs.List.{AllByRecursion}
+use Rattle.std.specs.Cmp.Lexicographic.{pointwise, bytes_decides}
+use Rattle.std.proofs.lemmas.List.{length-map}
+use Rattle.std.proofs.lemmas.Bool.{false≢true}
+use Rattle.std.proofs.lemmas.Bool.Decides.{nat_tests}
+use Rattle.zone_name.specs.Name.{folded_label, folded_octet, wire, IsLabel, IsName}
+use Rattle.zone_name.specs.Spelling.{Written, plain, escaped, decimal, text_of, octet_of, IsWritten, IsWrittenLabel, AreWrittenLabels, written_text, written_octets, dotted, parted, named, Writes, root, at_origin, absolute, relative, Spells, FaultAt, empty_label, long_label, bad_escape, IsRelative, FirstFault, within, unfounded, long_name}
+use Rattle.zone_name.specs.declared.fault.NameFault.{NameFault}
+use Rattle.zone_name.specs.declared.fault.NameFault.TheVariants.{EmptyLabel, NameTooLong, RelativeName}
+use Rattle.zone_name.specs.declared.reading.Form.{Form}
+use Rattle.zone_name.specs.declared.reading.Form.TheVariants.{Root, Origin, Labels}
+use Rattle.zone_name.specs.Reading.{reading, sized, under}
+use Rattle.zone_name.specs.Seen.{HasForm}
+use Rattle.zone_name.proofs.Spelled.{AreShort, Says, reading-says}
+use Rattle.zone_name.proofs.Only.{reading-dotted, reading-parted, reading-fault}
+use Rattle.zone_name.proofs.Pushing.{AllByRecursion-append, IsLabel-folded, sized-name}
+
+-- labels of at most 63 octets
+abbrev ShortLabels : List (List ℕ) → Type 0
+ShortLabels labels = AllByRecursion (λ label. length label ≤ 63) labels
+
+-- what a text of this form is under an origin
+abbrev pub answered : Option (List (List ℕ)) → List ℕ → Form → Result (List (List ℕ)) NameFault
+answered origin text Root = sized []
+answered None text Origin = Err RelativeName
+answered (Some above) text Origin = sized above
+answered origin text Labels = under origin (reading text)
+
+-- each text has a form
+pub form_at : (text : List ℕ) → (form : Form) × HasForm text form
+form_at text = by (pointwise nat_eq text (codes ".")) (pointwise nat_eq text (codes "@")) refl refl
+  where
+    by : (is_dot is_at : Bool) → pointwise nat_eq text (codes ".") ≡ is_dot → pointwise nat_eq text (codes "@") ≡ is_at → (form : Form) × HasForm text form
+    by true is_at e f = (Root, (bytes_decides text (codes ".")).0 e)
+    by false true e f = (Origin, (bytes_decides text (codes "@")).0 f)
+    by false false e f = (Labels, (λ h. false≢true (sym e ∙ (bytes_decides text (codes ".")).1 h), λ h. false≢true (sym f ∙ (bytes_decides text (codes "@")).1 h)))
+
+-- ---- lengths
+length_label : (label : List Written) → length (folded_label (written_octets label)) ≡ length label
+length_label label = length-map (written_octets label) folded_octet ∙ length-map label octet_of
+
+short_labels : (written : List (List Written)) → AreShort written → ShortLabels (named written)
+short_labels [] short = tt
+short_labels (label ∷ written) short = (subst (λ n. n ≤ 63) (sym (length_label label)) short.0, short_labels written short.1)
+
+short_name : (labels : List (List ℕ)) → AllByRecursion IsLabel labels → ShortLabels labels
+short_name [] each = tt
+short_name (label ∷ labels) each = (each.0.short, short_name labels each.1)
+
+short_written : (written : List (List Written)) → ShortLabels (named written) → AreShort written
+short_written [] each = tt
+short_written (label ∷ written) each = (subst (λ n. n ≤ 63) (length_label label) each.0, short_written written each.1)
+
+front_each : {X : Type 0} (P : X → Type 0) (xs ys : List X) → AllByRecursion P (xs ++ ys) → AllByRecursion P xs
+front_each P [] ys each = tt
+front_each P (x ∷ xs) ys each = (each.0, front_each P xs ys each.1)
+
+back_each : {X : Type 0} (P : X → Type 0) (xs ys : List X) → AllByRecursion P (xs ++ ys) → AllByRecursion P ys
+back_each P [] ys each = each
+back_each P (x ∷ xs) ys each = back_each P xs ys each.1
+
+-- ---- what is so is answered
+absolute_reads : (text : List ℕ) (written : List (List Written)) (labels : List (List ℕ)) → AreWrittenLabels written → text ≡ dotted written → labels ≡ named written → ShortLabels labels → reading text ≡ Ok (labels, true)
+absolute_reads text written labels are text_is is short =
+    ap reading text_is ∙ reading-dotted written are (short_written written (subst ShortLabels is short)) ∙ ap (λ t. Ok (t, true)) (sym is)
+
+relative_reads : (text : List ℕ) (written : List (List Written)) (above labels : List (List ℕ)) → AreWrittenLabels written → text ≡ parted written → labels ≡ named written ++ above → ShortLabels labels → reading text ≡ Ok (named written, false)
+relative_reads text written above labels are text_is is short =
+    ap reading text_is ∙ reading-parted written are (short_written written (front_each (λ label. length label ≤ 63) (named written) above (subst ShortLabels is short)))
+
+reading_dot : reading (codes ".") ≡ Err EmptyLabel
+unfolding reading
+reading_dot = refl
+
+reading_at : reading (codes "@") ≡ Ok ((64 ∷ []) ∷ [], false)
+unfolding reading
+reading_at = refl
+
+err_not_ok : (fault : NameFault) (found : List (List ℕ) × Bool) → Err fault ≡ Ok found → ⊥
+err_not_ok fault found e = cc
+
+whole_of : Result (List (List ℕ) × Bool) NameFault → Bool
+whole_of (Ok found) = found.1
+whole_of (Err fault) = true
+
+part_not_whole : (found : Result (List (List ℕ) × Bool) NameFault) (left right : List (List ℕ)) → found ≡ Ok (left, false) → found ≡ Ok (right, true) → ⊥
+unfolding whole_of
+part_not_whole found left right e f = false≢true (sym (ap whole_of e) ∙ ap whole_of f)
+
+abbrev head_of : List ℕ → ℕ
+head_of [] = 0
+head_of (c ∷ rest) = c
+
+marks_differ : codes "." ≡ codes "@" → ⊥
+marks_differ e = false≢true (sym (ap (λ t. nat_eq (head_of t) 46) e))
+
+-- a text that writes labels is answered by them, where they fit
+writes_answered : (origin : Option (List (List ℕ))) (text : List ℕ) (labels : List (List ℕ)) (form : Form) → HasForm text form → Writes origin text labels → ShortLabels labels → answered origin text form ≡ sized labels
+writes_answered origin text labels Root dot (root e l) short = ap sized (sym l)
+writes_answered origin text labels Root dot (at_origin e o) short = absurd (marks_differ (sym dot ∙ e))
+writes_answered origin text labels Root dot (absolute written are e l) short =
+    absurd (err_not_ok EmptyLabel (labels, true) (sym (ap reading dot ∙ reading_dot) ∙ absolute_reads text written labels are e l short))
+writes_answered origin text labels Root dot (relative written above are n e o l) short =
+    absurd (err_not_ok EmptyLabel (named written, false) (sym (ap reading dot ∙ reading_dot) ∙ relative_reads text written above labels are e l short))
+writes_answered origin text labels Origin at (root e l) short = absurd (marks_differ (sym e ∙ at))
+writes_answered origin text labels Origin at (at_origin e o) short = ap (λ t. answered t text Origin) o
+writes_answered origin text labels Origin at (absolute written are e l) short =
+    absurd (part_not_whole (reading text) ((64 ∷ []) ∷ []) labels (ap reading at ∙ reading_at) (absolute_reads text written labels are e l short))
+writes_answered origin text labels Origin at (relative written above are n e o l) short = absurd (n at)
+writes_answered origin text labels Labels other (root e l) short = absurd (other.0 e)
+writes_answered origin text labels Labels other (at_origin e o) short = absurd (other.1 e)
+writes_answered origin text labels Labels other (absolute written are e l) short = ap (under origin) (absolute_reads text written labels are e l short)
+writes_answered origin text labels Labels other (relative written above are n e o l) short =
+    ap (λ t. under t (reading text)) o ∙ ap (under (Some above)) (relative_reads text written above labels are e l short) ∙ ap sized (sym l)
+
+-- the name that a text spells is its answer
+pub answered-only : (origin : Option (List (List ℕ))) (text : List ℕ) (form : Form) (name : List (List ℕ)) → HasForm text form → Spells origin text name → answered origin text form ≡ Ok name
+answered-only origin text form name has spells = writes_answered origin text name form has spells.written (short_name name spells.name.each) ∙ sized-name name spells.name.short
+
+-- an origin that is a name is the answer of an `@`
+pub answered-origin : (origin : Option (List (List ℕ))) (text : List ℕ) (above : List (List ℕ)) → origin ≡ Some above → IfSome origin IsName → answered origin text Origin ≡ Ok above
+answered-origin origin text above is known =
+    let found : IsName above = subst (λ t. IfSome t IsName) is known in
+    ap (λ t. answered t text Origin) is ∙ sized-name above found.short
+
+sized_long : (labels : List (List ℕ)) → 255 < length (wire labels) → sized labels ≡ Err NameTooLong
+sized_long labels long = ap (λ (b : Bool). if b then Ok labels else Err NameTooLong) (not_le (length (wire labels)) 255 long)
+  where
+    not_le : (m n : ℕ) → n < m → nat_le m n ≡ false
+    not_le m n h = grind (arith, nat_tests)
+
+-- a dot alone has no fault
+faultless_dot : (text : List ℕ) (fault : NameFault) → text ≡ codes "." → FaultAt text fault → reading text ≡ Err fault → ⊥
+faultless_dot text fault dot (empty_label before rest r ends first other) e = other dot
+faultless_dot text fault dot (long_label before open_label w rest r full is) e = let d = sym (ap reading dot ∙ reading_dot) ∙ e in absurd (cc)
+faultless_dot text fault dot (bad_escape before open_label rest r bad) e = let d = sym (ap reading dot ∙ reading_dot) ∙ e in absurd (cc)
+
+within_answered : (origin : Option (List (List ℕ))) (text : List ℕ) (form : Form) (fault : NameFault) → HasForm text form → FaultAt text fault → answered origin text form ≡ Err fault
+within_answered origin text Root fault dot at = absurd (faultless_dot text fault dot at (reading-fault text fault at))
+within_answered origin text Origin fault is at = absurd (err_not_ok fault ((64 ∷ []) ∷ [], false) (sym (reading-fault text fault at) ∙ ap reading is ∙ reading_at))
+within_answered origin text Labels fault other at = ap (under origin) (reading-fault text fault at)
+
+relative_answered : (text : List ℕ) (form : Form) → HasForm text form → IsRelative text → answered None text form ≡ Err RelativeName
+relative_answered text Root dot is =
+    absurd (err_not_ok EmptyLabel (named is.0, false) (sym (ap reading dot ∙ reading_dot) ∙ ap reading is.3 ∙ reading-parted is.0 is.1 is.2))
+relative_answered text Origin at is = refl
+relative_answered text Labels other is = ap (under None) (ap reading is.3 ∙ reading-parted is.0 is.1 is.2)
+
+-- the first fault of a text is its answer
+pub answered-fault : (origin : Option (List (List ℕ))) (text : List ℕ) (form : Form) (fault : NameFault) → HasForm text form → FirstFault origin text fault → answered origin text form ≡ Err fault
+answered-fault origin text form fault has (within f at) = within_answered origin text form f has at
+answered-fault origin text form fault has (unfounded none is) = ap (λ t. answered t text form) none ∙ relative_answered text form has is
+answered-fault origin text form fault has (long_name labels writes short long) = writes_answered origin text labels form has writes short ∙ sized_long labels long
+
+-- ---- what is answered is so
+sized_ok : (labels name : List (List ℕ)) (fits : Bool) → Ok name ≡ (if fits then Ok labels else Err NameTooLong) → name ≡ labels
+sized_ok labels name true e = cc
+sized_ok labels name false e = absurd (cc)
+
+sized_err : (labels : List (List ℕ)) (fault : NameFault) (fits : Bool) → nat_le (length (wire labels)) 255 ≡ fits → Err fault ≡ (if fits then Ok labels else Err NameTooLong) → (NameTooLong ≡ fault) × (255 < length (wire labels))
+sized_err labels fault true test e = absurd (cc)
+sized_err labels fault false test e = (cc, above (length (wire labels)) test)
+  where
+    above : (m : ℕ) → nat_le m 255 ≡ false → 255 < m
+    above m h = grind (arith, nat_tests)
+
+found_by : (origin : Option (List (List ℕ))) (text : List ℕ) (found : Result (List (List ℕ) × Bool) NameFault) (name : List (List ℕ)) → text ≢ codes "@" → Says text found → Ok name ≡ under origin found → IsName name → Writes origin text name
+found_by origin text (Err fault) name other says e is = absurd (cc)
+found_by origin text (Ok (labels, true)) name other says e is =
+    absolute says.written says.are says.text_is (sized_ok labels name (nat_le (length (wire labels)) 255) e ∙ says.labels_are)
+found_by None text (Ok (labels, false)) name other says e is = absurd (cc)
+found_by (Some above) text (Ok (labels, false)) name other says e is =
+    relative says.written above says.are other says.text_is refl (sized_ok (labels ++ above) name (nat_le (length (wire (labels ++ above))) 255) e ∙ ap (λ t. t ++ above) says.labels_are)
+
+-- an answer that is a name is spelled
+pub decided-found : (origin : Option (List (List ℕ))) (text : List ℕ) (result : Result (List (List ℕ)) NameFault) → text ≢ codes "." → text ≢ codes "@" → result ≡ under origin (reading text) → IfOk result IsName → IfOk result (Spells origin text)
+decided-found origin text (Ok name) dot other e is = record { written = found_by origin text (reading text) name other (reading-says text dot) e is; name = is }
+decided-found origin text (Err fault) dot other e is = tt
+
+fault_by : (origin : Option (List (List ℕ))) (text : List ℕ) (found : Result (List (List ℕ) × Bool) NameFault) (fault : NameFault) → text ≢ codes "@" → IfSome origin IsName → Says text found → Err fault ≡ under origin found → FirstFault origin text fault
+fault_by origin text (Err first) fault other known says e = let same : first ≡ fault = cc in subst (FirstFault origin text) same (within first says)
+fault_by origin text (Ok (labels, true)) fault other known says e =
+    let long = sized_err labels fault (nat_le (length (wire labels)) 255) refl e in
+    subst (FirstFault origin text) long.0 (long_name labels (absolute says.written says.are says.text_is says.labels_are)
+    (subst ShortLabels (sym says.labels_are) (short_labels says.written says.short)) long.1)
+fault_by None text (Ok (labels, false)) fault other known says e =
+    let same : RelativeName ≡ fault = cc in
+    subst (FirstFault None text) same (unfounded refl (says.written, says.are, says.short, says.text_is))
+fault_by (Some above) text (Ok (labels, false)) fault other known says e =
+    let long = sized_err (labels ++ above) fault (nat_le (length (wire (labels ++ above))) 255) refl e in
+    let each = subst ShortLabels (sym says.labels_are) (short_labels says.written says.short) in
+    subst (FirstFault (Some above) text) long.0 (long_name (labels ++ above) (relative says.written above says.are other says.text_is refl (ap (λ t. t ++ above) says.labels_are))
+    (AllByRecursion-append (λ label. length label ≤ 63) labels above each (short_name above known.each)) long.1)
+
+-- an answer that is a fault is the first
+pub decided-fault : (origin : Option (List (List ℕ))) (text : List ℕ) (result : Result (List (List ℕ)) NameFault) → text ≢ codes "." → text ≢ codes "@" → IfSome origin IsName → result ≡ under origin (reading text) → IfErr result (FirstFault origin text)
+decided-fault origin text (Ok name) dot other known e = tt
+decided-fault origin text (Err fault) dot other known e = fault_by origin text (reading text) fault other known (reading-says text dot) e
+
+-- an `@` is a relative text
+pub at-relative : (text : List ℕ) → text ≡ codes "@" → IsRelative text
+at-relative text e = ((plain 64 ∷ []) ∷ [], record { some = omega arith; each = (record { some = omega arith; each = ((λ h. cc, λ h. cc), tt) }, tt) }, (omega arith, tt), e)
+
+-- ---- the labels of a text of octets
+abbrev AreOctets : List ℕ → Type 0
+AreOctets text = AllByRecursion (λ c. c < 256) text
+
+octet_short : (w : Written) → IsWritten w → AreOctets (text_of w) → octet_of w < 256
+octet_short (plain c) is each = each.0
+octet_short (escaped c) is each = each.1.0
+octet_short (decimal x y z) is each = omega (arith, is.3)
+
+octets_short : (label : List Written) → AllByRecursion IsWritten label → AreOctets (written_text label) → AreOctets (written_octets label)
+octets_short [] is each = tt
+octets_short (w ∷ label) is each =
+    (octet_short w is.0 (front_each (λ c. c < 256) (text_of w) (written_text label) each), octets_short label is.1 (back_each (λ c. c < 256) (text_of w) (written_text label) each))
+
+label_is : (label : List Written) → IsWrittenLabel label → length label ≤ 63 → AreOctets (written_text label) → IsLabel (folded_label (written_octets label))
+label_is label is short each =
+    IsLabel-folded (written_octets label) (omega (arith, is.some, length-map label octet_of)) (omega (arith, length-map label octet_of)) (octets_short label is.each each)
+
+dotted_are : (written : List (List Written)) → AllByRecursion IsWrittenLabel written → AreShort written → AreOctets (dotted written) → AllByRecursion IsLabel (named written)
+dotted_are [] is short each = tt
+dotted_are (label ∷ written) is short each =
+    let first = front_each (λ c. c < 256) (written_text label ++ 46 ∷ []) (dotted written) each in
+    let rest = back_each (λ c. c < 256) (written_text label ++ 46 ∷ []) (dotted written) each in
+    (label_is label is.0 short.0 (front_each (λ c. c < 256) (written_text label) (46 ∷ []) first), dotted_are written is.1 short.1 rest)
+
+parted_are : (written : List (List Written)) (label : List Written) → AllByRecursion IsWrittenLabel (label ∷ written) → AreShort (label ∷ written) → AreOctets (parted (label ∷ written)) → AllByRecursion IsLabel (named (label ∷ written))
+parted_are [] label is short each = (label_is label is.0 short.0 each, tt)
+parted_are (next ∷ written) label is short each =
+    let rest = back_each (λ c. c < 256) (written_text label) (46 ∷ parted (next ∷ written)) each in
+    (label_is label is.0 short.0 (front_each (λ c. c < 256) (written_text label) (46 ∷ parted (next ∷ written)) each), parted_are written next is.1 short.1 rest.1)
+
+relative_are : (written : List (List Written)) → AllByRecursion IsWrittenLabel written → AreShort written → AreOctets (parted written) → AllByRecursion IsLabel (named written)
+relative_are [] is short each = tt
+relative_are (label ∷ written) is short each = parted_are written label is short each
+
+sized_is : (labels : List (List ℕ)) → AllByRecursion IsLabel labels → IfOk (sized labels) IsName
+sized_is labels each = by (nat_le (length (wire labels)) 255) refl
+  where
+    le_of_test : (m n : ℕ) → nat_le m n ≡ true → m ≤ n
+    le_of_test m n e = grind (arith, nat_tests)
+
+    by : (fits : Bool) → nat_le (length (wire labels)) 255 ≡ fits → IfOk (if fits then Ok labels else Err NameTooLong) IsName
+    by true e = record { each = each; short = le_of_test (length (wire labels)) 255 e }
+    by false e = tt
+
+under_is : (origin : Option (List (List ℕ))) (text : List ℕ) (found : Result (List (List ℕ) × Bool) NameFault) → IfSome origin IsName → AreOctets text → Says text found → IfOk (under origin found) IsName
+under_is origin text (Err fault) known octets says = tt
+under_is origin text (Ok (labels, true)) known octets says =
+    sized_is labels (subst (AllByRecursion IsLabel) (sym says.labels_are) (dotted_are says.written says.are.each says.short (subst AreOctets says.text_is octets)))
+under_is None text (Ok (labels, false)) known octets says = tt
+under_is (Some above) text (Ok (labels, false)) known octets says =
+    sized_is (labels ++ above)
+    (AllByRecursion-append IsLabel labels above (subst (AllByRecursion IsLabel) (sym says.labels_are) (relative_are says.written says.are.each says.short (subst AreOctets says.text_is octets))) known.each)
+
+-- ---- one answer
+abbrev OneOf : Option (List (List ℕ)) → List ℕ → Type 0
+OneOf origin text = ((labels : List (List ℕ)) × Spells origin text labels) ⊎ ((fault : NameFault) × FirstFault origin text fault)
+
+one_at_origin : (origin : Option (List (List ℕ))) (text : List ℕ) → text ≡ codes "@" → IfSome origin IsName → OneOf origin text
+one_at_origin None text at known = inr (RelativeName, unfounded refl (at-relative text at))
+one_at_origin (Some above) text at known = inl (above, record { written = at_origin at refl; name = known })
+
+one_by : (origin : Option (List (List ℕ))) (text : List ℕ) (result : Result (List (List ℕ)) NameFault) → IfOk result (Spells origin text) → IfErr result (FirstFault origin text) → OneOf origin text
+one_by origin text (Ok name) found fault = inl (name, found)
+one_by origin text (Err first) found fault = inr (first, fault)
+
+-- a text of octets spells a name or has a first fault
+pub Spells-or-FirstFault : (origin : Option (List (List ℕ))) (text : List ℕ) → IfSome origin IsName → AreOctets text → OneOf origin text
+Spells-or-FirstFault origin text known octets = let form = form_at text in by form.0 form.1
+  where
+    by : (form : Form) → HasForm text form → OneOf origin text
+    by Root dot = inl ([], record { written = root dot refl; name = record { each = tt; short = omega arith } })
+    by Origin at = one_at_origin origin text at known
+    by Labels other =
+        let result = under origin (reading text) in
+        one_by origin text result (decided-found origin text result other.0 other.1 refl (under_is origin text (reading text) known octets (reading-says text other.0)))
+        (decided-fault origin text result other.0 other.1 known refl)
+
+pub Spells-once : (origin : Option (List (List ℕ))) (text : List ℕ) (a b : List (List ℕ)) → Spells origin text a → Spells origin text b → a ≡ b
+Spells-once origin text a b one two =
+    let form = form_at text in
+    let e = sym (answered-only origin text form.0 a form.1 one) ∙ answered-only origin text form.0 b form.1 two in
+    cc
+
+pub Spells-faultless : (origin : Option (List (List ℕ))) (text : List ℕ) (labels : List (List ℕ)) (fault : NameFault) → Spells origin text labels → FirstFault origin text fault → ⊥
+Spells-faultless origin text labels fault spells first =
+    let form = form_at text in
+    let e = sym (answered-fault origin text form.0 fault form.1 first) ∙ answered-only origin text form.0 labels form.1 spells in
+    absurd (cc)
+
+pub FirstFault-once : (origin : Option (List (List ℕ))) (text : List ℕ) (f g : NameFault) → FirstFault origin text f → FirstFault origin text g → f ≡ g
+FirstFault-once origin text f g one two =
+    let form = form_at text in
+    let e = sym (answered-fault origin text form.0 f form.1 one) ∙ answered-fault origin text form.0 g form.1 two in
+    cc
