@@ -1,6 +1,6 @@
 -- The records that a builder holds after it took records one after another.
 use Rattle.std.proofs.Common.{◌≡◌, ℕ, List, [], ◌∷◌, inl, inr, ⊎_elim, false}
-use Rattle.std.specs.Prelude.{◌⊎◌, ◌↔◌, Option, None, IfNone, Result, Ok, Err, IfOk}
+use Rattle.std.specs.Prelude.{◌⊎◌, ◌↔◌, IfNone, Result, Ok, Err, IfOk}
 use Rattle.zone_rdata.specs.Record.{Record}
 use Rattle.zone_rdata.specs.declared.record.Placed.{Placed}
 use Rattle.zone_rdata.specs.declared.source.Reading.{Reading}

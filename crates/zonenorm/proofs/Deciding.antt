@@ -1,5 +1,5 @@
 -- Of the records of an input one is the first that is refused, or all are accepted.
-use Rattle.std.proofs.Common.{◌≡◌, ◌≢◌, ◌⊎◌, ℕ, ◌+◌, Bool, true, false, Decides, List, [], ◌∷◌, ◌++◌, length, length-append, refl, sym, ap, ◌∙◌, subst, inl, inr, ⊎_elim, append_assoc, append-nil, arith}
+use Rattle.std.proofs.Common.{◌≡◌, ◌≢◌, ◌⊎◌, ℕ, Bool, true, false, Decides, List, [], ◌∷◌, ◌++◌, length, length-append, refl, sym, ap, ◌∙◌, subst, inl, inr, ⊎_elim, append_assoc, append-nil, arith}
 use Rattle.std.proofs.lemmas.Bool.{cases_eq}
 use Rattle.std.specs.Cmp.Lexicographic.{bytes_decides}
 use Rattle.zone_name.specs.Name.{IsWithin}
@@ -106,7 +106,7 @@ module _ (held : List Record) (r : Record) where
 -- ---- the first that is refused
 
 -- one more at the end
-AllAccepted-push : (before : List Placed) (p : Placed) → AllAccepted before → Accepts (records_of before) p.rr → AllAccepted (before ++ p ∷ [])
+pub AllAccepted-push : (before : List Placed) (p : Placed) → AllAccepted before → Accepts (records_of before) p.rr → AllAccepted (before ++ p ∷ [])
 AllAccepted-push before p all fits b others q parts = by (two_partings before b [] others p q parts)
   where
     by : Partings before b p q → Accepts (records_of b) q.rr
@@ -123,7 +123,7 @@ first_or_all whole before (p ∷ placed) parts all =
     (λ fits. first_or_all whole (before ++ p ∷ []) placed (parts ∙ sym (append_assoc before (p ∷ []) placed)) (AllAccepted-push before p all fits))
     (refused_or_accepted (records_of before) p.rr)
 
-none_before : AllAccepted []
+pub none_before : AllAccepted []
 none_before [] others p parts = cc
 none_before (q ∷ before) others p parts = cc
 

@@ -6,3 +6,4 @@ pub mod Parting
 pub mod Refusing
 pub mod Deciding
 pub mod Making
+pub mod Small

@@ -1,5 +1,5 @@
 -- Records of which each may stand with all before it have one ascending list, and that is a zone's or lacks what a zone needs.
-use Rattle.std.proofs.Common.{◌≡◌, ◌≢◌, ◌⊎◌, ◌↔◌, ℕ, ◌<◌, ◌≤◌, leb, List, [], ◌∷◌, ◌++◌, length, Option, Some, None, Ordering, Less, Equal, Greater, refl, sym, ap, ◌∙◌, subst, inl, inr, ⊎_elim, append_assoc, append-nil}
+use Rattle.std.proofs.Common.{◌≡◌, ◌≢◌, ◌⊎◌, ◌↔◌, ℕ, List, [], ◌∷◌, ◌++◌, length, Some, None, Ordering, Less, Equal, Greater, refl, sym, ap, ◌∙◌, subst, inl, inr, ⊎_elim, append_assoc, append-nil}
 use Rattle.std.proofs.lemmas.Bool.{cases_eq}
 use Rattle.std.proofs.lemmas.Bool.Decides.{leb_tells}
 use Rattle.std.specs.Cmp.{IsTotalOrder}
@@ -13,10 +13,10 @@ use Rattle.zone_rdata.specs.declared.fault.Fault.TheVariants.{NoSoa, OutOfZone, 
 use Rattle.zone_rdata.specs.declared.fault.Place.{Place}
 use Rattle.zone_rdata.specs.declared.fault.Place.TheVariants.{Whole}
 use Rattle.zone_rdata.specs.declared.record.Placed.{Placed}
-use Rattle.zone_set.specs.Builder.{Accepts, Adds, IsLeastOutside, no_soa, outside}
+use Rattle.zone_set.specs.Builder.{Accepts, Adds, no_soa, outside}
 use Rattle.zone_set.specs.Order.{canonical_cmp, Ascends}
-use Rattle.zone_set.specs.Refusal.{AllAccepted, IsFirstRefused, records_of}
-use Rattle.zone_set.specs.Zone.{Has, InOneSet, SameRecords, AreCompatible, Zone, IsZone}
+use Rattle.zone_set.specs.Refusal.{AllAccepted, records_of}
+use Rattle.zone_set.specs.Zone.{Has, SameRecords, AreCompatible, Zone, IsZone}
 use Rattle.zone_print.specs.Canonical.{canon, text_limit}
 use Rattle.zonenorm.specs.Refusal.{RefusesReading, MakesZone, refused, unread, unfinished, too_large}
 use Rattle.zonenorm.proofs.Parting.{accepted_ttl, one_set, all_class, all_ttl, all_soa}

@@ -1,5 +1,5 @@
 -- A reading is refused for one fault at one place, and no zone has the records of a refused one.
-use Rattle.std.proofs.Common.{◌≡◌, ◌≢◌, ◌⊎◌, ℕ, ◌<◌, ◌≤◌, List, [], ◌∷◌, ◌++◌, length, Option, Some, None, Ordering, Less, refl, sym, ap, ◌∙◌, subst, inl, inr, ⊎_elim, arith}
+use Rattle.std.proofs.Common.{◌≡◌, ℕ, ◌≤◌, List, [], ◌∷◌, ◌++◌, length, Option, Some, None, Less, refl, sym, ap, ◌∙◌, subst, inl, inr, ⊎_elim, arith}
 use Rattle.std.specs.Cmp.{IsTotalOrder}
 use Rattle.std.specs.List.{AllByRecursion}
 use Rattle.std.specs.Ordering.{ordering_reverse}
@@ -7,18 +7,18 @@ use Rattle.zone_name.specs.Name.{IsWithin}
 use Rattle.zone_name.specs.Order.{name_cmp}
 use Rattle.zone_rdata.specs.Record.{Record}
 use Rattle.zone_rdata.specs.declared.fault.Fault.{Fault}
-use Rattle.zone_rdata.specs.declared.fault.Fault.TheVariants.{NoSoa, OutOfZone, ZoneTooLarge}
+use Rattle.zone_rdata.specs.declared.fault.Fault.TheVariants.{OutOfZone}
 use Rattle.zone_rdata.specs.declared.fault.Place.{Place}
 use Rattle.zone_rdata.specs.declared.fault.Place.TheVariants.{Whole}
 use Rattle.zone_rdata.specs.declared.fault.Stop.{Stop}
 use Rattle.zone_rdata.specs.declared.fault.Stop.TheVariants.{Refused}
 use Rattle.zone_rdata.specs.declared.record.Placed.{Placed}
-use Rattle.zone_set.specs.Builder.{OtherClass, OtherSoa, OtherTtl, Accepts, IsRefusedFor, class, soa, ttl, HasNoSoa, IsLeastOutside, StopsFinish, no_soa, outside}
+use Rattle.zone_set.specs.Builder.{Accepts, IsRefusedFor, class, soa, ttl, HasNoSoa, IsLeastOutside, StopsFinish, no_soa, outside}
 use Rattle.zone_set.specs.Refusal.{AllAccepted, IsFirstRefused, records_of}
-use Rattle.zone_set.specs.Zone.{Has, InOneSet, SameRecords, AreCompatible, Zone, IsZone}
+use Rattle.zone_set.specs.Zone.{Has, SameRecords, Zone, IsZone}
 use Rattle.zone_print.specs.Canonical.{canon, text_limit}
 use Rattle.zonenorm.specs.Refusal.{RefusesReading, MakesZone, refused, unread, unfinished, too_large}
-use Rattle.zonenorm.proofs.Parting.{Partings, same, first, second, two_partings, StandsIn, stands_in, Has-part, stable_owner, all_soa}
+use Rattle.zonenorm.proofs.Parting.{Partings, same, first, second, two_partings, Has-part, stable_owner, all_soa}
 
 -- ---- the first record that is refused
 

@@ -2,4 +2,5 @@ pub mod Form
 pub mod Reading
 pub mod Normalise
 pub mod Refusal
+pub mod Examples
 pub mod Order

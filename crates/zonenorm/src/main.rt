@@ -2,6 +2,7 @@
 #![tactic(auto)]
 
 mod engine;
+pub mod examples;
 mod explain;
 mod form;
 mod input;

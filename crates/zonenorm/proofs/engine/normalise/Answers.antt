@@ -1,4 +1,4 @@
-use Rattle.std.proofs.Common.{rules, ◌≡◌, ◌≤◌, length, IfOk, IfErr, IfSome, ℕ, List}
+use Rattle.std.proofs.Common.{rules}
 use Rattle.zonenorm.proofs.Stopped.{stops_nothing, known_front}
 use Rattle.zonenorm.proofs.engine.normalise.Goals as goal
 

@@ -1,5 +1,3 @@
-use Rattle.std.proofs.Common.{rules, ◌≡◌, IfOk, List, []}
-use Rattle.zonenorm.specs.Normalise.{StatesZone}
 use Rattle.zonenorm.proofs.Added.{zone_stated}
 use Rattle.zonenorm.proofs.engine.zone_of.Goals as goal
 
