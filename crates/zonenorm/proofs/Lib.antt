@@ -7,3 +7,4 @@ pub mod Refusing
 pub mod Deciding
 pub mod Making
 pub mod Small
+pub mod Refused

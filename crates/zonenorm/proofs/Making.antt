@@ -65,7 +65,7 @@ module _ (total : IsTotalOrder canonical_cmp) (r : Record) where
             },
           )
 
-Has-push : (before : List Placed) (p : Placed) (s : Record) → Has (records_of (before ++ p ∷ [])) s ↔ ((s ≡ p.rr) ⊎ Has (records_of before) s)
+pub Has-push : (before : List Placed) (p : Placed) (s : Record) → Has (records_of (before ++ p ∷ [])) s ↔ ((s ≡ p.rr) ⊎ Has (records_of before) s)
 Has-push [] p s = (λ has. has, λ has. has)
 Has-push (q ∷ before) p s =
     let more = Has-push before p s in (

@@ -1,11 +1,13 @@
 -- Why an input is refused, and where: its first fault (RFC 1035 5; the order of faults is this project's choice).
-use Rattle.std.specs.Prelude.{◌≡◌, ℕ, ◌<◌, ◌≤◌, List, length, Option, Some, None}
+use Rattle.std.specs.Prelude.{◌≡◌, ℕ, ◌<◌, ◌≤◌, List, length, Option, Some, None, IfNone}
 use Rattle.zone_rdata.specs.declared.fault.Fault.{Fault}
 use Rattle.zone_rdata.specs.declared.fault.Fault.TheVariants.{ZoneTooLarge, InputTooLong}
 use Rattle.zone_rdata.specs.declared.fault.Place.{Place}
 use Rattle.zone_rdata.specs.declared.fault.Place.TheVariants.{Whole}
-use Rattle.zone_rdata.specs.declared.fault.Stop.TheVariants.{Refused}
+use Rattle.zone_rdata.specs.declared.fault.Stop.{Stop}
+use Rattle.zone_rdata.specs.declared.fault.Stop.TheVariants.{Refused, Read, Write, Memory}
 use Rattle.zone_rdata.specs.declared.record.Placed.{Placed}
+use Rattle.zone_text.specs.File.{FileStates}
 use Rattle.zone_text.specs.FileReads.{FileReads}
 use Rattle.zone_set.specs.Builder.{StopsFinish}
 use Rattle.zone_set.specs.Refusal.{AllAccepted, IsFirstRefused, records_of}
@@ -31,3 +33,23 @@ pub record MakesZone (placed : List Placed) (z : Zone) : Type 0 where
 pub data IsRefusal (origin : List (List ℕ)) (octets : List ℕ) : Fault → Place → Type 0 where
   too_long : text_limit < length octets → IsRefusal origin octets InputTooLong Whole
   reading : (placed : List Placed) (ending : Option (Fault × Place)) (fault : Fault) (place : Place) → length octets ≤ text_limit → FileReads origin octets placed ending → RefusesReading placed ending fault place → IsRefusal origin octets fault place
+
+-- The records of octets up to the first fault of reading, and that fault, are refused. Where no fault of reading stands
+-- after the records, they are those that the octets state.
+pub record RefusesRead (origin : List (List ℕ)) (octets : List ℕ) (fault : Fault) (place : Place) : Type 0 where
+  pub placed : List Placed
+  pub ending : Option (Fault × Place)
+  pub stated : IfNone ending (FileStates origin octets placed)
+  pub refuses : RefusesReading placed ending fault place
+
+-- octets are refused: for their length where they are longer than the limit, and else as they were read
+pub data RefusesOctets (origin : List (List ℕ)) (octets : List ℕ) : Fault → Place → Type 0 where
+  over : text_limit < length octets → RefusesOctets origin octets InputTooLong Whole
+  read : (fault : Fault) (place : Place) → length octets ≤ text_limit → RefusesRead origin octets fault place → RefusesOctets origin octets fault place
+
+-- the fault and place of a refusal are so
+abbrev pub IfRefused : Stop → (Fault → Place → Type 0) → Type 0
+IfRefused (Refused fault place) P = P fault place
+IfRefused Read P = Unit {0}
+IfRefused Write P = Unit {0}
+IfRefused Memory P = Unit {0}
