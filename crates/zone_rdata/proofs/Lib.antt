@@ -6,3 +6,4 @@ pub mod Items
 pub mod Texts
 pub mod Times
 pub mod Decimal
+pub mod OneWord

@@ -5,6 +5,7 @@ mod class;
 mod fault;
 mod item;
 mod kind;
+pub mod laws;
 mod layout;
 mod minimum;
 mod number;

@@ -4,4 +4,14 @@ pub mod Parts
 pub mod ClassWords
 pub mod Stated
 pub mod Whole
+pub mod Once
+pub mod Inherits
+pub mod Outcomes
+pub mod Entered
+pub mod Files
 pub mod Seconds
+pub mod CutAgain
+pub mod Octets
+pub mod Fronts
+pub mod Cuttings
+pub mod Lasting

@@ -1,5 +1,5 @@
 -- The entries of a master file (RFC 1035 5.1): its pieces, cut after each line feed outside parentheses.
-use Rattle.std.specs.Prelude.{◌≡◌, ℕ, zero, suc, ◌+◌, ◌-◌, List, [], ◌∷◌, ◌++◌, length, ◌==◌, count_by, Option, Some, None}
+use Rattle.std.specs.Prelude.{◌≡◌, ℕ, zero, suc, ◌+◌, List, [], ◌∷◌, ◌++◌, length, ◌==◌, count_by, Option, Some, None}
 use Rattle.std.specs.List.{flat_map}
 use Rattle.zone_rdata.specs.Spelling.{RawItem}
 use Rattle.zone_rdata.specs.Spelling as raw
@@ -27,7 +27,8 @@ abbrev pub cut_from : ℕ → List Piece → Cut
 cut_from depth [] = record { ended = []; open_pieces = [] }
 cut_from zero (line_feed ∷ pieces) = ending_one (cut_from zero pieces)
 cut_from depth (opening ∷ pieces) = in_front_of opening (cut_from (suc depth) pieces)
-cut_from depth (closing ∷ pieces) = in_front_of closing (cut_from (depth - 1) pieces)
+cut_from zero (closing ∷ pieces) = in_front_of closing (cut_from zero pieces)
+cut_from (suc depth) (closing ∷ pieces) = in_front_of closing (cut_from depth pieces)
 cut_from depth (p ∷ pieces) = in_front_of p (cut_from depth pieces)
 
 -- the input's end ends the last entry too

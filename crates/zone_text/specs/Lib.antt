@@ -1,5 +1,8 @@
 pub mod Pieces
 pub mod Breaks
+pub mod Lasting
+pub mod Cutting
+pub mod ExamplePieces
 pub mod Entries
 pub mod Forms
 pub mod Inherited
@@ -7,4 +10,6 @@ pub mod Records
 pub mod EntryFault
 pub mod File
 pub mod FileReads
+pub mod Decided
+pub mod Lower
 pub mod Lines

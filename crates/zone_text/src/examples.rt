@@ -1,0 +1,2 @@
+//! Texts computed from the definitions.
+pub mod pieces;
