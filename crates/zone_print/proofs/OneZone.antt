@@ -8,8 +8,12 @@ use Rattle.std.specs.Ordering.{ordering_then, ordering_reverse}
 use Rattle.zone_name.specs.Order.{name_cmp}
 use Rattle.zone_rdata.specs.Order.{data_cmp}
 use Rattle.zone_rdata.specs.Record.{Record, data_of}
+use Rattle.zone_rdata.specs.declared.record.Placed.{Placed}
+use Rattle.zone_text.specs.File.{FileStates}
 use Rattle.zone_set.specs.Order.{soa_rank, canonical_cmp, Ascends}
+use Rattle.zone_set.specs.Refusal.{records_of}
 use Rattle.zone_set.specs.Zone.{Has, SameRecords, Zone, IsZone}
+use Rattle.zone_print.specs.Denotes.{Denotes}
 
 names_total : IsTotalOrder name_cmp
 names_total = on_total (reverse {A = List ℕ}) (lists_total nat_list_cmp_total)
@@ -86,3 +90,12 @@ one_zone z w is_z is_w same =
     let apex : z.apex ≡ w.apex = sym at_r ∙ ap (λ t. t.owner) one ∙ at_s in
     let class : z.class ≡ w.class = sym (each_Has (λ t. t.class ≡ z.class) z.records s is_z.class has) ∙ each_Has (λ t. t.class ≡ w.class) w.records s is_w.class has_s in
     λ i. record { apex = apex i; class = class i; records = records i }
+
+-- a file that states one list of records denotes one zone
+pub one_zone_of_file : (origin : List (List ℕ)) (octets : List ℕ) → ((a b : List Placed) → FileStates origin octets a → FileStates origin octets b → a ≡ b) → (z w : Zone) → Denotes origin octets z → Denotes origin octets w → z ≡ w
+one_zone_of_file origin octets one z w denotes other =
+    let placed : denotes.placed ≡ other.placed = one denotes.placed other.placed denotes.states other.states in
+    one_zone z w denotes.zone other.zone (λ r. (
+      λ has. (other.same r).1 (subst (λ ps. Has (records_of ps) r) placed ((denotes.same r).0 has)),
+      λ has. (denotes.same r).1 (subst (λ ps. Has (records_of ps) r) (sym placed) ((other.same r).0 has)),
+    ))

@@ -1,8 +1,9 @@
-//! Laws of the canonical text. The functions do nothing: their contracts are the laws.
-ghost use Rattle.std.specs.Prelude.{◌≡◌};
+//! Laws of zones and their canonical text. The functions only call other laws: their contracts are the laws.
+ghost use Rattle.std.specs.Prelude.{◌≡◌, ℕ, List};
 ghost use Rattle.std.specs.Cmp.{IsTotalOrder};
 ghost use Rattle.std.specs.declared.cmp.Ordering.TheVariants.{Equal};
 ghost use Rattle.zone_rdata.specs.Record.{Record, data_of};
+ghost use Rattle.zone_print.specs.Denotes.{Denotes};
 ghost use Rattle.zone_print.specs.Laws.{EachLineEnds};
 ghost use Rattle.zone_set.specs.Order.{canonical_cmp};
 ghost use Rattle.zone_set.specs.Zone.{Zone, IsZone, SameRecords};
@@ -24,3 +25,10 @@ pub fn canonical_order_is_total()
 pub fn one_zone_of_records()
     ensures { (z w : Zone) → IsZone z → IsZone w → SameRecords z.records w.records → z ≡ w }
 {}
+
+/// A master file denotes at most one zone under its origin.
+pub fn one_zone_of_a_file()
+    ensures { (origin : List (List ℕ)) (octets : List ℕ) (z w : Zone) → Denotes origin octets z → Denotes origin octets w → z ≡ w }
+{
+    zone_text::laws::file::a_file_states_one_list();
+}

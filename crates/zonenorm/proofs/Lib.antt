@@ -8,3 +8,4 @@ pub mod Deciding
 pub mod Making
 pub mod Small
 pub mod Refused
+pub mod Inputs
