@@ -51,3 +51,13 @@ pub fn an_open_quote_before_a_missing_soa()
 pub fn an_input_that_is_too_long()
     ensures { (octets : List ℕ) → length octets ≡ 1073741825 → IsRefusal x octets InputTooLong Whole }
 {}
+
+/// An empty input has no SOA.
+pub fn an_empty_input()
+    ensures { IsRefusal x [] NoSoa Whole }
+{}
+
+/// An input of an opening quote alone.
+pub fn an_input_of_an_open_quote()
+    ensures { IsRefusal x (34 ∷ []) UnclosedQuote (Line 1) }
+{}
