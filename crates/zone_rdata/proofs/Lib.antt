@@ -7,3 +7,4 @@ pub mod Texts
 pub mod Times
 pub mod Decimal
 pub mod OneWord
+pub mod OneData

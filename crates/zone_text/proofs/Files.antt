@@ -19,7 +19,7 @@ use Rattle.zone_text.proofs.Entered.{record_once, fault_once, record_or_fault, n
 same_placed : (p q : Placed) → p.rr ≡ q.rr → p.place ≡ q.place → p ≡ q
 same_placed p q a b = rw (a, b) refl
 
-one_more : (p q : Placed) (a b more others : List Placed) → p.rr ≡ q.rr → p.place ≡ q.place → a ≡ p ∷ more → b ≡ q ∷ others → more ≡ others → a ≡ b
+pub one_more : (p q : Placed) (a b more others : List Placed) → p.rr ≡ q.rr → p.place ≡ q.place → a ≡ p ∷ more → b ≡ q ∷ others → more ≡ others → a ≡ b
 one_more p q a b more others rr place x y rest = let same : p ≡ q = same_placed p q rr place in cc
 
 pub states_once : Lower → (origin : List (List ℕ)) (before entries : List Entry) → Once (List Placed) (StateEach origin before entries)

@@ -11,6 +11,7 @@ pub mod Entered
 pub mod Files
 pub mod Seconds
 pub mod CutAgain
+pub mod Decides
 pub mod Octets
 pub mod Fronts
 pub mod Cuttings

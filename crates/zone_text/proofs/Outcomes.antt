@@ -170,9 +170,11 @@ ttl_fault_once lower origin before entry f g x y = both f g x y
     of_none : (g : Fault) → ((seconds : ℕ) → HasTtl origin before entry seconds → ⊥) → TtlFault origin before entry g → NoTtl ≡ g
     of_none g missing (none other) = refl
     of_none g missing (long n has over) = absurd (missing n has)
+
     of_long : (g : Fault) (n : ℕ) → HasTtl origin before entry n → TtlFault origin before entry g → BadTtl ≡ g
     of_long g n has (none other) = absurd (other n has)
     of_long g n has (long m more over) = refl
+
     both : (f g : Fault) → TtlFault origin before entry f → TtlFault origin before entry g → f ≡ g
     both f g (none missing) y = of_none g missing y
     both f g (long n has over) y = of_long g n has y

@@ -1,6 +1,7 @@
 //! Laws of files: the records that one states, and its reading.
-ghost use Rattle.std.specs.Prelude.{◌≡◌, ◌↔◌, List, ℕ, None};
+ghost use Rattle.std.specs.Prelude.{◌≡◌, ◌++◌, ◌↔◌, List, ℕ, None};
 ghost use Rattle.zone_rdata.specs.declared.record.Placed.{Placed};
+ghost use Rattle.zone_text.specs.Decided.{Decided, Stays};
 ghost use Rattle.zone_text.specs.File.{FileStates};
 ghost use Rattle.zone_text.specs.FileReads.{Ending, FileReads};
 
@@ -24,3 +25,12 @@ pub fn a_file_has_one_reading()
 pub fn a_file_states_what_is_read()
     ensures { (origin : List (List ℕ)) (octets : List ℕ) (placed : List Placed) → FileStates origin octets placed ↔ FileReads origin octets placed None }
 {}
+
+/// What is decided of a file by its front stays for every longer front and for the whole file: the records are the first
+/// ones, and a fault is the last word.
+pub fn what_is_decided_stays()
+    ensures longer { (origin : List (List ℕ)) (octets more : List ℕ) (placed later : List Placed) (ending last : Ending) → Decided origin octets placed ending → Decided origin (octets ++ more) later last → Stays placed ending later last }
+    ensures whole { (origin : List (List ℕ)) (octets more : List ℕ) (placed later : List Placed) (ending last : Ending) → Decided origin octets placed ending → FileReads origin (octets ++ more) later last → Stays placed ending later last }
+{
+    lower_laws();
+}
