@@ -1,9 +1,9 @@
 -- From readings to inputs.
-use Rattle.std.proofs.Common.{◌≡◌, ◌⊎◌, ◌↔◌, ℕ, ◌<◌, ◌≤◌, leb, List, [], ◌∷◌, ◌++◌, length, refl, sym, ap, ◌∙◌, subst, inl, inr, ⊎_elim, arith}
+use Rattle.std.proofs.Common.{◌≡◌, ◌⊎◌, ◌↔◌, ℕ, ◌≤◌, List, [], ◌∷◌, length, refl, sym, subst, inl, inr, ⊎_elim, arith}
 use Rattle.std.specs.Prelude.{Option, Some, None}
 use Rattle.std.proofs.lemmas.Bool.Decides.{leb_tells}
 use Rattle.std.specs.List.{AllByRecursion}
-use Rattle.zone_rdata.specs.Record.{Record, IsRecord}
+use Rattle.zone_rdata.specs.Record.{IsRecord}
 use Rattle.zone_rdata.specs.declared.fault.Fault.{Fault}
 use Rattle.zone_rdata.specs.declared.fault.Fault.TheVariants.{InputTooLong}
 use Rattle.zone_rdata.specs.declared.fault.Place.{Place}
@@ -14,7 +14,7 @@ use Rattle.zone_text.specs.File.{FileStates, StateEach, StatesFirst, states_none
 use Rattle.zone_text.specs.FileReads.{FileReads}
 use Rattle.zone_set.specs.Refusal.{records_of}
 use Rattle.zone_set.specs.Zone.{Zone}
-use Rattle.zone_print.specs.Canonical.{canon, text_limit}
+use Rattle.zone_print.specs.Canonical.{text_limit}
 use Rattle.zone_print.specs.Denotes.{Denotes}
 use Rattle.zonenorm.specs.Refusal.{RefusesReading, MakesZone, IsRefusal, too_long, reading}
 

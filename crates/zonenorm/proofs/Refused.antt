@@ -1,5 +1,5 @@
 -- From what a builder and a printer refuse to what refuses a reading.
-use Rattle.std.proofs.Common.{◌≡◌, ◌⊎◌, ◌↔◌, ℕ, ◌<◌, ◌≤◌, List, [], ◌∷◌, ◌++◌, length, refl, sym, ap, ◌∙◌, subst, inl, inr, ⊎_elim, append_assoc, append-nil, false}
+use Rattle.std.proofs.Common.{◌≡◌, ℕ, ◌<◌, ◌≤◌, List, [], ◌∷◌, ◌++◌, length, refl, sym, subst, inl, inr, ⊎_elim, append_assoc, append-nil, false}
 use Rattle.std.specs.Prelude.{Option, Some, None, IfSome, IfNone}
 use Rattle.zone_rdata.specs.Record.{Record}
 use Rattle.zone_rdata.specs.Source.{Feed}
@@ -12,9 +12,9 @@ use Rattle.zone_rdata.specs.declared.fault.Stop.TheVariants.{Refused, Read, Writ
 use Rattle.zone_rdata.specs.declared.record.Placed.{Placed}
 use Rattle.zone_rdata.specs.declared.source.Reading.{Reading}
 use Rattle.zone_text.specs.File.{FileStates}
-use Rattle.zone_set.specs.Builder.{Accepts, Adds, AddsEach, IsRefusedFor, class, soa, ttl, TakesAll, StopsTaking, memory, refused as by_record, ending as by_ending, IsLeastOutside, StopsFinish, no_soa, outside}
-use Rattle.zone_set.specs.Refusal.{AllAccepted, IsFirstRefused, records_of}
-use Rattle.zone_set.specs.Zone.{Has, SameRecords, Zone}
+use Rattle.zone_set.specs.Builder.{Accepts, AddsEach, IsRefusedFor, class, soa, ttl, TakesAll, StopsTaking, memory, refused as by_record, ending as by_ending, StopsFinish, no_soa, outside}
+use Rattle.zone_set.specs.Refusal.{AllAccepted, records_of}
+use Rattle.zone_set.specs.Zone.{SameRecords, Zone}
 use Rattle.zone_print.specs.Canonical.{canon, text_limit}
 use Rattle.zone_print.specs.Writing.{StopsPush, StopsWrite}
 use Rattle.zone_print.specs.Writing as printing

@@ -1,4 +1,4 @@
-use Rattle.std.proofs.Common.{◌≤◌, [], refl, arith}
+use Rattle.std.proofs.Common.{[], refl, arith}
 use Rattle.std.specs.Prelude.{None}
 use Rattle.zone_rdata.specs.declared.fault.Fault.TheVariants.{NoSoa}
 use Rattle.zone_rdata.specs.declared.fault.Place.TheVariants.{Whole}
