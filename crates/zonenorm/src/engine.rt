@@ -2,6 +2,7 @@ ghost use Rattle.std.specs.Prelude.{IfOk, IfErr, IfSome, IfNone};
 ghost use Rattle.zone_text.specs.File.{FileStates};
 ghost use Rattle.zonenorm.specs.Form.{origin_of};
 ghost use Rattle.zonenorm.specs.Normalise.{Normalises, NormalisesTo, StatesZone, WritesNothing, WritesFront, IsOfBytes};
+ghost use Rattle.zonenorm.specs.Refusal.{IfRefused, RefusesOctets, RefusesRead};
 
 use crate::form::Form;
 use crate::input::read_input;
@@ -19,7 +20,9 @@ const INPUT_LIMIT: u64 = 1_073_741_824;
 ///
 /// # Errors
 ///
-/// `Refused` where they denote none; `Read`, `Write` and `Memory`. A refused input writes nothing.
+/// `Refused` where they denote none: `InputTooLong` where there are more than 1,073,741,824; else the first fault of
+/// their records in order, of reading or of `ZoneBuilder::add`; else `NoSoa`, `OutOfZone` or `ZoneTooLarge`. `Read`,
+/// `Write` and `Memory`. A refused input writes nothing.
 pub fn normalise<R: Read, W: Write>(
     alloc: Global,
     form: Form<'_>,
@@ -31,6 +34,8 @@ pub fn normalise<R: Read, W: Write>(
     ensures refused { IfErr result (λ stop. WritesNothing stop (W.contents writer.old) (W.contents writer.new)) }
     ensures front { IfErr result (λ _. IfSome (R.remaining reader.old) (λ octets.
         WritesFront (origin_of form.entry) octets (W.contents writer.old) (W.contents writer.new))) }
+    ensures fault { IfErr result (λ stop. IfSome (R.remaining reader.old) (λ octets.
+        IfRefused stop (RefusesOctets (origin_of form.entry) octets))) }
 {
     let octets = read_input(alloc, reader, INPUT_LIMIT)?;
     let zone = zone_of(alloc, form, &octets)?;
@@ -46,6 +51,7 @@ pub fn normalise<R: Read, W: Write>(
 pub fn normalise_bytes(alloc: Global, form: Form<'_>, octets: &[u8]) -> Result<Vec<u8>, Stop>
     ensures accepted { IfOk result (λ text. NormalisesTo (origin_of form.entry) octets.now text.items) }
     ensures stopped { IfErr result IsOfBytes }
+    ensures fault { IfErr result (λ stop. IfRefused stop (RefusesOctets (origin_of form.entry) octets.now)) }
 {
     if octets.len() as u64 > INPUT_LIMIT {
         return Err(Stop::Refused(Fault::InputTooLong, Place::Whole));
@@ -62,6 +68,7 @@ pub fn normalise_bytes(alloc: Global, form: Form<'_>, octets: &[u8]) -> Result<V
 fn zone_of(alloc: Global, form: Form<'_>, octets: &[u8]) -> Result<Zone, Stop>
     ensures stated { IfOk result (StatesZone (origin_of form.entry) octets.now) }
     ensures stopped { IfErr result IsOfBytes }
+    ensures fault { IfErr result (λ stop. IfRefused stop (RefusesRead (origin_of form.entry) octets.now)) }
 {
     let Ok(mut reading) = reading_of(alloc, form, octets) else {
         return Err(Stop::Memory);
