@@ -35,4 +35,3 @@ pub mod AddressGaps
 pub mod AddressLaws
 pub mod AddressOctets
 pub mod OneWord
-pub mod OneData

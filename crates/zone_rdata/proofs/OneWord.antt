@@ -142,34 +142,3 @@ one_why word f g (inr x) (inr y) = x.0 ∙ sym y.0
 
 pub kind_fault_once : (word : List ℕ) (f g : Fault) → IsWordFault word f → IsWordFault word g → f ≡ g
 kind_fault_once word f g x y = one_why word f g (why word f x) (why word g y)
-
--- times
-
-same_group : (g h : Group) → IsGroup g → IsGroup h → g.digits ≡ h.digits → g.letter ≡ h.letter → g ≡ h
-same_group g h x y digits letter =
-    let units : Some g.unit ≡ Some h.unit = sym x.lasts ∙ (ap unit_seconds letter ∙ y.lasts) in
-    let unit : g.unit ≡ h.unit = cc in
-    rw (digits, letter, unit) refl
-
-one_group : (g : Group) (rest : List ℕ) → group_text g ++ rest ≡ g.digits ++ g.letter ∷ rest
-one_group g rest = append_assoc g.digits (g.letter ∷ []) rest
-
-same_groups : (gs hs : List Group) → AllByRecursion IsGroup gs → AllByRecursion IsGroup hs → flat_map group_text gs ≡ flat_map group_text hs → gs ≡ hs
-same_groups [] [] x y e = refl
-same_groups [] (h ∷ hs) x y e = absurd (no_run h.digits h.letter (flat_map group_text hs) [] tt (unit_no_digit h.letter h.unit y.0.lasts) (sym (e ∙ one_group h (flat_map group_text hs))))
-same_groups (g ∷ gs) [] x y e = absurd (no_run g.digits g.letter (flat_map group_text gs) [] tt (unit_no_digit g.letter g.unit x.0.lasts) (sym (one_group g (flat_map group_text gs)) ∙ e))
-same_groups (g ∷ gs) (h ∷ hs) x y e =
-    let cut = run_split g.digits h.digits g.letter h.letter (flat_map group_text gs) (flat_map group_text hs) x.0.each y.0.each (unit_no_digit g.letter g.unit x.0.lasts) (unit_no_digit h.letter h.unit y.0.lasts) (sym (one_group g (flat_map group_text gs)) ∙ (e ∙ one_group h (flat_map group_text hs))) in
-    let first : g ≡ h = same_group g h x.0 y.0 cut.0 cut.1 in
-    let rest : gs ≡ hs = same_groups gs hs x.1 y.1 cut.2 in
-    cc
-
-no_group : (gs : List Group) (text : List ℕ) → 0 < length gs → AllByRecursion IsGroup gs → AreDigits text → text ≡ flat_map group_text gs → ⊥
-no_group [] text some x digits e = absurd (omega arith)
-no_group (g ∷ gs) text some x digits e = no_run g.digits g.letter (flat_map group_text gs) text digits (unit_no_digit g.letter g.unit x.0.lasts) (sym (one_group g (flat_map group_text gs)) ∙ sym e)
-
-pub time_once : (text : List ℕ) (a b : ℕ) → IsTime text a → IsTime text b → a ≡ b
-time_once text a b (plain x) (plain y) = x.value ∙ sym y.value
-time_once text a b (plain x) (grouped hs some each e value) = absurd (no_group hs text some each x.digits e)
-time_once text a b (grouped gs some each e value) (plain y) = absurd (no_group gs text some each y.digits e)
-time_once text a b (grouped gs some each e value) (grouped hs many all f other) = value ∙ (ap (sum_by group_seconds) (same_groups gs hs each all (sym e ∙ f)) ∙ sym other)

@@ -18,6 +18,5 @@ pub mod Wire
 pub mod DataFault
 pub mod Reading
 pub mod Text
-pub mod DataFault
 pub mod Source
 pub mod AddressReading

@@ -1,8 +1,7 @@
-//! Laws of record data, each the contract of a function that does nothing.
+//! Laws of record data over the definitions alone. A law that rests on one of names calls it.
 pub mod address;
 pub mod generic;
 pub mod items;
 pub mod string;
 pub mod uncompressed;
-pub mod data;
 pub mod word;

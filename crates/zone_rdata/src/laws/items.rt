@@ -3,7 +3,6 @@ ghost use Rattle.std.specs.Prelude.{◌≡◌, List, ℕ, Some};
 ghost use Rattle.zone_rdata.specs.DataFault.{IsDataFault};
 ghost use Rattle.zone_rdata.specs.Item.{RawItem};
 ghost use Rattle.zone_rdata.specs.Layout.{IsLayout, layout};
-ghost use Rattle.zone_rdata.specs.Number.{IsTime};
 ghost use Rattle.zone_rdata.specs.Spelling.{States};
 ghost use Rattle.zone_rdata.specs.declared.fault.Fault.{Fault};
 ghost use Rattle.zone_rdata.specs.declared.layout.Field.{Field};
@@ -13,11 +12,6 @@ use zone_name::laws::{spelling_is_unique, texts_have_one_verdict};
 /// A layout has at most seven fields, strings stand last in it, and its addresses have 4 or 16 octets.
 pub fn layouts_are_sound()
     ensures { (class kind : ℕ) (fields : List Field) → layout class kind ≡ Some fields → IsLayout fields }
-{}
-
-/// A text states at most one time.
-pub fn time_is_unique()
-    ensures { (text : List ℕ) (m n : ℕ) → IsTime text m → IsTime text n → m ≡ n }
 {}
 
 /// Items state at most one value of a class and type under an origin.

@@ -9,7 +9,7 @@ ghost use Rattle.zone_text.specs.Lower.{Lower};
 ghost use Rattle.zone_text.specs.Records.{StatesNothing, StatesRecord};
 
 use zone_name::laws::{spelling_is_unique, texts_have_one_verdict};
-use zone_rdata::laws::data::{data_has_one_verdict, data_is_unique};
+use zone_rdata::laws::items::{data_fault_is_unique, data_is_unique, faulty_items_state_none};
 use zone_rdata::laws::word::{
     class_word_is_unique, kind_word_has_one_verdict, kind_word_is_unique, time_is_unique,
 };
@@ -25,7 +25,8 @@ pub(super) fn lower_laws()
     kind_word_is_unique();
     kind_word_has_one_verdict();
     data_is_unique();
-    data_has_one_verdict();
+    faulty_items_state_none();
+    data_fault_is_unique();
 }
 
 /// An entry states at most one record.

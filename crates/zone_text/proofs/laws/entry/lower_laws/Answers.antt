@@ -12,6 +12,6 @@ returns c = record {
   kind_or_fault = c.kind_word_has_one_verdict.ensures.never_both;
   kind_fault = c.kind_word_has_one_verdict.ensures.one_fault;
   rdata = c.data_is_unique.ensures;
-  rdata_or_fault = c.data_has_one_verdict.ensures.never_both;
-  rdata_fault = c.data_has_one_verdict.ensures.one_fault;
+  rdata_or_fault = c.faulty_items_state_none.ensures;
+  rdata_fault = c.data_fault_is_unique.ensures;
 }
