@@ -76,7 +76,7 @@ pub ns_kind : IsKind 2
 ns_kind = record { short = lit< tt; stored = refl }
 
 pub ns_states : (above : List (List ℕ)) (class : ℕ) → States above class 2 (bare (codes "n.x.") ∷ []) (wire (under 110 x))
-ns_states above class = in_words (Name ∷ []) (name (under 110 x) ∷ []) refl (λ is. let e = is.1 in absurd (let t : ⊥ = cc in t)) (n_spells above, tt) refl
+ns_states above class = record { stated = in_words (Name ∷ []) (name (under 110 x) ∷ []) refl (λ is. let e = is.1 in absurd (let t : ⊥ = cc in t)) (n_spells above, tt) refl (lit≤ tt) }
 
 ns_fits : (owner : List (List ℕ)) (class ttl : ℕ) → IsName owner → IsClass class → ttl ≤ 2147483647 → IsRecord (ns owner class ttl)
 unfolding labels_of
