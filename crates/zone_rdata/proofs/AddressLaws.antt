@@ -1,24 +1,22 @@
 -- What is printed for an address is read back, and is of the form that RFC 5952 recommends.
-use Rattle.std.proofs.Common.{◌≡◌, ℕ, zero, suc, ◌+◌, ◌-◌, ◌*◌, ◌/◌, ◌%◌, ◌^◌, ◌<◌, ◌≤◌, Bool, true, false, ◌⊎◌, inl, inr, List, [], ◌∷◌, ◌++◌, length, get_or, take, drop, map, replicate, codes, decimal, refl, sym, ap, ◌∙◌, subst, arith, append_assoc, length-append, le-leb, lt-ltb, le-ltb, add-one, one-add, Ok, Result, rules}
+use Rattle.std.proofs.Common.{◌≡◌, ℕ, zero, suc, ◌+◌, ◌-◌, ◌*◌, ◌/◌, ◌%◌, ◌^◌, ◌<◌, ◌≤◌, Bool, true, false, inl, inr, List, [], ◌∷◌, ◌++◌, length, get_or, take, drop, map, replicate, decimal, refl, sym, ap, ◌∙◌, subst, arith, append_assoc, le-leb, lt-ltb, le-ltb, rules}
 use Rattle.std.specs.Prelude.{fold, slice_index}
-use Rattle.std.specs.Int.{IsInRange}
 use Rattle.std.specs.Char.{digit_char}
-use Rattle.std.specs.List.{AllByRecursion, All, flat_map, join_with_byte}
+use Rattle.std.specs.List.{AllByRecursion}
 use Rattle.std.specs.Net.Addr.{segments_of}
-use Rattle.std.specs.Net.Text.{hex, leading_zero_digits, longest_zero_run, hex_groups_text, ipv4_text}
+use Rattle.std.specs.Net.Text.{hex, longest_zero_run, hex_groups_text}
 use Rattle.std.proofs.NetLemmas.Texts.{AllSegments, IsZeroRun-longest_zero_run, longest_zero_run_first}
 use Rattle.std.proofs.NetLemmas.Alphabet.{IsDigitOrDot, IsHexOrColon, All-ipv4_text, All-hex_groups_text}
 use Rattle.std.proofs.lemmas.Bool.{cases_lt, lt-leb}
-use Rattle.std.proofs.lemmas.Bool.Decides.{nat_tests}
 use Rattle.std.proofs.lemmas.Fmt.{decimal_nonempty, digits_decimal, digits_value-decimal}
 use Rattle.std.proofs.lemmas.List.{append-nil, take-append-drop, length-take-le, length-drop, drop-drop}
 use Rattle.std.proofs.lemmas.List.Elements.{All-weaker, recursion_from_All}
 use Rattle.std.proofs.lemmas.Str.Parse.{IsNumeralModel, IsDigitsTest, FoldsDigits, numerals_by_fold}
-use Rattle.hex.specs.Hex.{decode_sized, encode_lower}
+use Rattle.hex.specs.Hex.{decode_sized}
 use Rattle.hex.proofs.HexLemmas.{decode_sized-encode_lower}
 use Rattle.zone_name.specs.Spelling.{is_digit}
 use Rattle.zone_rdata.specs.Number.{decimal_value}
-use Rattle.zone_rdata.specs.Address.{IsOctetNumber, AreNumbers, IsFourNumbers, Part, IsGroup, AreParts, parts_text, parts_octets, ArePartsOf, AreAround, IsGroups, eight, fewer, four_text, groups_text, parted_groups, shortened_groups, IsZeroRun, IsShortenedRun, IsAddressOctet}
+use Rattle.zone_rdata.specs.Address.{IsOctetNumber, IsFourNumbers, Part, IsGroup, AreParts, parts_text, parts_octets, ArePartsOf, IsGroups, eight, fewer, four_text, groups_text, parted_groups, shortened_groups, IsZeroRun, IsShortenedRun, IsAddressOctet}
 use Rattle.zone_rdata.proofs.AddressTexts.{four_digits, four_encoded}
 
 -- ---- four octets

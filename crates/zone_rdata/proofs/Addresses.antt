@@ -1,14 +1,13 @@
 -- Addresses in text, cut at dots and colons.
-use Rattle.std.proofs.Common.{◌≡◌, ◌≢◌, ℕ, zero, suc, ◌+◌, ◌-◌, ◌*◌, ◌^◌, ◌<◌, ◌≤◌, Bool, true, false, ◌⊎◌, inl, inr, List, [], ◌∷◌, ◌++◌, length, get_or, take, drop, map, replicate, codes, refl, sym, ap, ◌∙◌, subst, arith, append_assoc, length-append, IsTrue, Result, Ok, Err, add-one}
-use Rattle.std.specs.List.{AllByRecursion, AllZip, All, AllPass, flat_map, join_with_byte}
-use Rattle.std.proofs.lemmas.List.{take_more, take_all, take_at, drop_at, drop_more, append-nil, take-append-drop, get_or_at, get_or_append_left}
-use Rattle.std.proofs.lemmas.List.Concat.{flat_map-append}
+use Rattle.std.proofs.Common.{◌≡◌, ◌≢◌, ℕ, zero, suc, ◌+◌, ◌-◌, ◌<◌, ◌≤◌, Bool, true, false, inl, inr, List, [], ◌∷◌, ◌++◌, length, get_or, take, drop, replicate, refl, sym, ap, ◌∙◌, subst, arith, Result, Ok}
+use Rattle.std.specs.List.{AllByRecursion, AllZip, All, join_with_byte}
+use Rattle.std.proofs.lemmas.List.{take_more, take_all, drop_at, drop_more, take-append-drop}
 use Rattle.std.proofs.lemmas.List.Elements.{All-drop, recursion_from_All}
 use Rattle.hex.specs.Hex.{decode_sized, is_hex_digit}
 use Rattle.hex.proofs.HexLemmas.{IsOk-decode_sized}
 use Rattle.zone_name.specs.Spelling.{is_digit}
-use Rattle.zone_rdata.specs.Address.{IsOctetNumber, AreNumbers, IsFourNumbers, Part, IsGroup, IsLastPart, AreParts, parts_text, parts_octets, ArePartsOf, AreAround, IsGroups, eight, fewer}
-use Rattle.zone_rdata.specs.AddressReading.{Lacks, IsCut, HasGapAt}
+use Rattle.zone_rdata.specs.Address.{IsOctetNumber, AreNumbers, IsFourNumbers, Part, IsGroup, IsLastPart}
+use Rattle.zone_rdata.specs.AddressReading.{Lacks, IsCut}
 
 -- ---- cutting
 

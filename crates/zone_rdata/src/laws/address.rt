@@ -31,3 +31,11 @@ pub fn the_longest_zero_run_is_shortened()
     ensures exists { (groups : List ℕ) (start len : ℕ) → IsZeroRun groups start len → 2 ≤ len → (first longest : ℕ) × IsShortenedRun groups first longest }
     ensures one { (groups : List ℕ) (start len other_start other_len : ℕ) → IsShortenedRun groups start len → IsShortenedRun groups other_start other_len → (start ≡ other_start) × (len ≡ other_len) }
 {}
+
+/// An address stands for four octets or for sixteen.
+pub fn addresses_have_their_octets()
+    ensures four { (text octets : List ℕ) → IsFourNumbers text octets → length octets ≡ 4 }
+    ensures four_each { (text octets : List ℕ) → IsFourNumbers text octets → AllByRecursion (λ c. c < 256) octets }
+    ensures sixteen { (text octets : List ℕ) → IsGroups text octets → length octets ≡ 16 }
+    ensures sixteen_each { (text octets : List ℕ) → IsGroups text octets → AllByRecursion (λ c. c < 256) octets }
+{}

@@ -1,4 +1,4 @@
-use Rattle.std.proofs.Common.{ℕ, suc, ◌<◌, ◌≤◌}
+use Rattle.std.proofs.Common.{ℕ, suc, ◌<◌}
 use Rattle.zone_rdata.specs.AddressReading.{HasGapAt}
 use Rattle.zone_rdata.proofs.address.sixteen.gap_in.Given as goal
 

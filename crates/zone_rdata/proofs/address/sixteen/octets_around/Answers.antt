@@ -1,4 +1,4 @@
-use Rattle.std.proofs.Common.{◌≡◌, ◌≤◌, ◌+◌, length, ap, ◌∙◌, arith, refl, true, false}
+use Rattle.std.proofs.Common.{◌≤◌, ◌+◌, length, ap, ◌∙◌, arith, refl, true, false}
 use Rattle.zone_rdata.proofs.AddressParts.{parts_unique}
 use Rattle.zone_rdata.proofs.AddressGaps.{around_written}
 use Rattle.zone_rdata.proofs.address.sixteen.octets_around.Goals as goal

@@ -1,4 +1,4 @@
-use Rattle.std.proofs.Common.{◌≡◌, length, ap, arith, true}
+use Rattle.std.proofs.Common.{length, ap, arith, true}
 use Rattle.zone_rdata.proofs.AddressParts.{parts_unique}
 use Rattle.zone_rdata.proofs.address.sixteen.octets_of_eight.Goals as goal
 
