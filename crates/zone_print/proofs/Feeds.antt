@@ -135,12 +135,15 @@ none_laid_out_row (Some fields) n = none_kind_row n
 none_kind : (class n : ℕ) → HasNoFeed (kind_text class n)
 none_kind class n = none_word (laid_out_mnemonic (layout class n) n) (codes "TYPE") n (none_laid_out_row (layout class n) n) (none_tested (codes "TYPE") refl)
 
+none_dot : (xs : List ℕ) → HasNoFeed xs → HasNoFeed (xs ++ 46 ∷ [])
+none_dot xs h = none_append xs (46 ∷ []) h (high 46 46 refl (omega arith), tt)
+
 none_four : (octets : List ℕ) → HasNoFeed (four_text octets)
 none_four octets =
-    none_append (decimal (slice_index octets 0)) _ (none_decimal (slice_index octets 0)) (high 46 46 refl (omega arith),
-    none_append (decimal (slice_index octets 1)) _ (none_decimal (slice_index octets 1)) (high 46 46 refl (omega arith),
-    none_append (decimal (slice_index octets 2)) _ (none_decimal (slice_index octets 2)) (high 46 46 refl (omega arith),
-    none_decimal (slice_index octets 3))))
+    let a = none_dot (decimal (slice_index octets 0)) (none_decimal (slice_index octets 0)) in
+    let b = none_dot _ (none_append _ (decimal (slice_index octets 1)) a (none_decimal (slice_index octets 1))) in
+    let c = none_dot _ (none_append _ (decimal (slice_index octets 2)) b (none_decimal (slice_index octets 2))) in
+    none_append _ (decimal (slice_index octets 3)) c (none_decimal (slice_index octets 3))
 
 none_drop : (n : ℕ) (xs : List ℕ) → HasNoFeed xs → HasNoFeed (drop n xs)
 none_drop zero xs h = h
@@ -161,7 +164,7 @@ none_groups (s ∷ rest) = none_append (hex s) (flat_map (λ t. codes ":" ++ hex
 none_run : (segments : List ℕ) (run : ℕ × ℕ) → HasNoFeed (compressed_text segments run)
 none_run segments run =
     none_if (nat_lt 1 run.1) (parted_groups (take run.0 segments) ++ codes "::" ++ parted_groups (drop (run.0 + run.1) segments)) (parted_groups segments)
-    (λ h. none_append (parted_groups (take run.0 segments)) (codes "::" ++ parted_groups (drop (run.0 + run.1) segments)) (none_groups (take run.0 segments)) (high 58 58 refl (omega arith), (high 58 58 refl (omega arith), none_groups (drop (run.0 + run.1) segments))))
+    (λ h. none_append (parted_groups (take run.0 segments) ++ codes "::") (parted_groups (drop (run.0 + run.1) segments)) (none_append (parted_groups (take run.0 segments)) (codes "::") (none_groups (take run.0 segments)) (high 58 58 refl (omega arith), (high 58 58 refl (omega arith), tt))) (none_groups (drop (run.0 + run.1) segments)))
     (λ h. none_groups segments)
 
 none_sixteen : (octets : List ℕ) → HasNoFeed (groups_text octets)

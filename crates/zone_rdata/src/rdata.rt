@@ -15,6 +15,7 @@ use crate::fault::{Failing, Fault};
 use crate::generic::octets_of_generic;
 use crate::item::Item;
 use crate::kind::Kind;
+use crate::laws::items::{data_is_unique, faulty_items_state_none};
 use crate::layout::{Layout, layout_of};
 use crate::lengths::data_len;
 use crate::minimum::last_number_of;
@@ -93,8 +94,11 @@ impl Rdata {
         ensures class { IfOk result (λ d. d.class ≡ class) }
         ensures kind { IfOk result (λ d. d.kind ≡ kind) }
         ensures found { IfOk result (λ d. States origin.now class kind (map raw items.now) d.octets) }
+        ensures only { (octets : List ℕ) → States origin.now class kind (map raw items.now) octets → IfOk result (λ d. d.octets ≡ octets) × IfErr result (λ e. e ≡ Failing.Memory) }
         ensures fault { IfErr result (IfFault (IsDataFault origin.now class kind (map raw items.now))) }
     {
+        data_is_unique();
+        faulty_items_state_none();
         let octets = octets_for(alloc, layout_of(class, kind), items, origin)?;
         class.known();
         kind.known();

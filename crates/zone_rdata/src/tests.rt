@@ -4,6 +4,7 @@ use std::collections::VecDeque;
 use std::test::Fail;
 use zone_name::{Name, NameFault};
 
+mod items;
 mod wire;
 
 fn name_of(text: &[u8]) -> Result<Name, NameFault> {

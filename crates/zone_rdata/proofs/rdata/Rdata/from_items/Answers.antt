@@ -2,6 +2,7 @@ use Rattle.std.proofs.Common.{sym, subst, ◌<◌}
 use Rattle.std.specs.List.{AllByRecursion}
 use Rattle.zone_rdata.proofs.Fields.{stated_data, states_for, first_for}
 use Rattle.zone_rdata.proofs.Wire.{table_last}
+use Rattle.zone_rdata.proofs.Forms.{only_memory}
 use Rattle.zone_rdata.proofs.rdata.Rdata.from_items.Goals as goal
 
 pub invariant_of-result : goal.invariant_of-result
@@ -16,3 +17,9 @@ returns-clause-found c = states_for _ _ _ _ _ _ c.layout_of.ensures c.in_ok-octe
 
 pub octets_for-requires : goal.octets_for-requires
 octets_for-requires c = table_last c.args.class c.args.kind _ c.layout_of.ensures
+
+pub returns-clause-only : goal.returns-clause-only
+returns-clause-only c = λ octets stated. (c.data_is_unique.ensures _ _ _ _ _ _ (states_for _ _ _ _ _ _ c.layout_of.ensures c.in_ok-octets.ensures.found) stated, tt)
+
+pub returns-in_err-octets-clause-only : goal.returns-in_err-octets-clause-only
+returns-in_err-octets-clause-only c = λ octets stated. only_memory c.from_residual.result c.in_err-octets.field-0.0 _ _ c.from_residual.ensures.1 c.in_err-octets.ensures.fault (λ fault bad. c.faulty_items_state_none.ensures _ _ _ _ octets fault stated (first_for _ _ _ _ _ _ c.layout_of.ensures bad))
