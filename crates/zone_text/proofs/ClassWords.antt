@@ -1,13 +1,15 @@
 -- The words of classes among items, and the digits with which a time begins.
-use Rattle.std.proofs.Common.{◌≡◌, ℕ, ◌<◌, ◌≤◌, List, [], ◌∷◌, ◌++◌, length, take, drop, codes, Bool, true, false, ◌==◌, cond, Option, Some, refl, sym, ap, ◌∙◌, arith, append_assoc}
+use Rattle.std.proofs.Common.{◌&&◌, bytes_eq, ◌≡◌, ℕ, ◌<◌, ◌≤◌, List, [], ◌∷◌, ◌++◌, length, take, drop, codes, Bool, true, false, ◌==◌, cond, Option, Some, refl, sym, ap, ◌∙◌, arith, append_assoc, inl, inr}
 use Rattle.std.specs.List.{AllByRecursion, flat_map}
 use Rattle.std.proofs.Math.Bool.{or-true}
 use Rattle.std.proofs.Math.Seq.{drop-append_seam}
 use Rattle.std.proofs.lemmas.Bool.Decides.{nat_tests}
-use Rattle.std.proofs.lemmas.List.{map-append, length-map}
+use Rattle.std.proofs.lemmas.Bool.{or_cases}
+use Rattle.std.proofs.lemmas.Slice.Eq.{bytes_eq-Decides}
+use Rattle.std.proofs.lemmas.List.{map-append, length-map, take-append-drop, take-map}
 use Rattle.zone_name.specs.Name.{folded_octet, folded_label}
 use Rattle.zone_name.specs.Spelling.{is_digit}
-use Rattle.zone_rdata.specs.Number.{IsDecimal, IsTime, plain, grouped, Group, IsGroup, group_text}
+use Rattle.zone_rdata.specs.Number.{decimal_value, IsDecimal, IsTime, plain, grouped, Group, IsGroup, group_text}
 use Rattle.zone_rdata.specs.Words.{IsNumbered, IsClassWord, class_named, class_numbered, class_mnemonic}
 use Rattle.zone_text.specs.Forms.{begins_with_digit, are_digits, is_class_word}
 
@@ -79,3 +81,51 @@ decimal_first (c ∷ text) n is = is.digits.0
 pub time_first : (text : List ℕ) (n : ℕ) → IsTime text n → begins_with_digit text ≡ true
 time_first text n (plain is) = decimal_first text n is
 time_first text n (grouped groups some each e value) = rw e (groups_first groups some each)
+
+-- what is taken for a class word is one
+
+both_true : (a b : Bool) → (a && b) ≡ true → (a ≡ true) × (b ≡ true)
+both_true true b e = (refl, e)
+both_true false b e = absurd (let t : ⊥ = cc in t)
+
+digits_all : (text : List ℕ) → are_digits text ≡ true → (0 < length text) × AllByRecursion (λ c. is_digit c ≡ true) text
+digits_all [] e = absurd (let t : ⊥ = cc in t)
+digits_all (c ∷ []) e = (omega arith, (e, tt))
+digits_all (c ∷ d ∷ text) e =
+    let both = both_true (is_digit c) (are_digits (d ∷ text)) e in
+    let rest = digits_all (d ∷ text) both.1 in
+    (omega arith, (both.0, rest.1))
+
+mnemonic_word : (text name : List ℕ) (n : ℕ) → class_mnemonic n ≡ Some name → bytes_eq (folded_label text) (folded_label name) ≡ true → (m : ℕ) × IsClassWord text m
+mnemonic_word text name n row e = (n, class_named (record { name = name; row = row; same = (bytes_eq-Decides (folded_label text) (folded_label name)).0 e }))
+
+numbered_class : (text : List ℕ) → (bytes_eq (take 5 (folded_label text)) (codes "class") && are_digits (drop 5 text)) ≡ true → (m : ℕ) × IsClassWord text m
+numbered_class text e =
+    let both = both_true (bytes_eq (take 5 (folded_label text)) (codes "class")) (are_digits (drop 5 text)) e in
+    let name : take 5 (folded_label text) ≡ codes "class" = (bytes_eq-Decides (take 5 (folded_label text)) (codes "class")).0 both.0 in
+    let digits = digits_all (drop 5 text) both.1 in (
+      decimal_value (drop 5 text),
+      class_numbered (record {
+        front = take 5 text;
+        digits = drop 5 text;
+        parts = sym (take-append-drop 5 text);
+        named = sym (take-map folded_octet 5 text) ∙ name;
+        number = record { some = digits.0; digits = digits.1; value = refl };
+      }),
+    )
+
+pub class_word_of : (text : List ℕ) → is_class_word text ≡ true → (m : ℕ) × IsClassWord text m
+class_word_of text e =
+    elim (or_cases _ _ e) [
+      | inr last ↦ numbered_class text last
+      | inl four ↦ elim (or_cases _ _ four) [
+        | inr hs ↦ mnemonic_word text (codes "HS") 4 refl hs
+        | inl three ↦ elim (or_cases _ _ three) [
+          | inr ch ↦ mnemonic_word text (codes "CH") 3 refl ch
+          | inl two ↦ elim (or_cases _ _ two) [
+            | inr cs ↦ mnemonic_word text (codes "CS") 2 refl cs
+            | inl in_word ↦ mnemonic_word text (codes "IN") 1 refl in_word
+          ]
+        ]
+      ]
+    ]

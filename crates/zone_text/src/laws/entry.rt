@@ -1,10 +1,11 @@
 //! Laws of entries: what one states and the first fault of one, whatever stands before it.
-ghost use Rattle.std.specs.Prelude.{◌≡◌, List, ℕ};
+ghost use Rattle.std.specs.Prelude.{◌≡◌, ◌↔◌, false, List, ℕ, true};
 ghost use Rattle.zone_rdata.specs.Record.{Record};
+ghost use Rattle.zone_rdata.specs.Words.{IsClassWord};
 ghost use Rattle.zone_rdata.specs.declared.fault.Fault.{Fault};
 ghost use Rattle.zone_text.specs.Entries.{Entry};
 ghost use Rattle.zone_text.specs.EntryFault.{EntryFault};
-ghost use Rattle.zone_text.specs.Forms.{form_of};
+ghost use Rattle.zone_text.specs.Forms.{begins_with_digit, form_of, is_class_word};
 ghost use Rattle.zone_text.specs.Lower.{Lower};
 ghost use Rattle.zone_text.specs.Records.{StatesNothing, StatesRecord};
 
@@ -28,6 +29,12 @@ pub(super) fn lower_laws()
     faulty_items_state_none();
     data_fault_is_unique();
 }
+
+/// An item is taken for a class where it is a class's word, and no word is a class's and begins with a digit, as a TTL.
+pub fn class_words_are_known()
+    ensures word { (text : List ℕ) → (is_class_word text ≡ true) ↔ ((number : ℕ) × IsClassWord text number) }
+    ensures no_ttl { (text : List ℕ) (number : ℕ) → IsClassWord text number → begins_with_digit text ≡ false }
+{}
 
 /// An entry states at most one record.
 pub fn an_entry_states_one_record()
