@@ -1,6 +1,6 @@
 -- The data of a record is read as the values that stand there.
 use Rattle.std.proofs.Common.{◌≡◌, ◌≢◌, ℕ, zero, suc, ◌+◌, ◌-◌, ◌≤◌, ◌^◌, ◌<◌, List, [], ◌∷◌, ◌++◌, length, refl, ap, sym, ◌∙◌, subst, arith, nat_lt, nat_eq, Bool, true, false, get_or-drop, length-append}
-use Rattle.std.specs.Prelude.{get_or, slice_index, ◌==◌, ◌&&◌, if◌then◌else◌, take, drop, Option, Some, None, MatchOption, Result, Ok, Err}
+use Rattle.std.specs.Prelude.{get_or, slice_index, ◌==◌, ◌&&◌, if◌then◌else◌, take, drop, Option, Some, None, MatchOption, Result, Ok}
 use Rattle.std.specs.Int.{w16, w32, to_be_bytes, from_be_bytes}
 use Rattle.std.specs.Cmp.Lexicographic.{pointwise, bytes_decides}
 use Rattle.std.specs.List.{flat_map}

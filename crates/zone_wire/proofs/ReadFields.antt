@@ -1,6 +1,6 @@
 -- What is read as the data of a record is its data.
 use Rattle.std.proofs.Common.{◌≡◌, ℕ, zero, suc, ◌+◌, ◌-◌, ◌≤◌, ◌^◌, ◌<◌, List, [], ◌∷◌, length, refl, ap, sym, ◌∙◌, subst, nat_le, nat_lt, nat_eq, arith}
-use Rattle.std.specs.Prelude.{get_or, slice_index, take, drop, ◌==◌, ◌&&◌, Option, Some, None, MatchOption, Result, Ok, Err}
+use Rattle.std.specs.Prelude.{get_or, slice_index, take, drop, ◌==◌, ◌&&◌, Option, Some, None, MatchOption, Result, Ok}
 use Rattle.std.specs.Int.{w16, w32, to_be_bytes, from_be_bytes}
 use Rattle.std.specs.Cmp.Lexicographic.{pointwise, bytes_decides}
 use Rattle.std.specs.List.{flat_map, AllByRecursion}
@@ -8,7 +8,7 @@ use Rattle.std.proofs.lemmas.Bool.{leb-true, ltb-true, eqb-true}
 use Rattle.std.proofs.lemmas.List.{take_all, length-take, length-take-le, length-drop}
 use Rattle.std.proofs.lemmas.Nat.{be_bytes_2, be_bytes_4}
 use Rattle.zone_name.specs.Name.{frame}
-use Rattle.zone_rdata.specs.Field.{FieldValue, name, string_at, strings_by, strings_of, octets_of, Holds, HoldEach, field_at}
+use Rattle.zone_rdata.specs.Field.{FieldValue, string_at, strings_by, strings_of, octets_of, Holds, HoldEach, field_at}
 use Rattle.zone_rdata.specs.Layout.{layout}
 use Rattle.zone_rdata.specs.Strings.{IsString}
 use Rattle.zone_rdata.specs.declared.fault.Fault.{Fault}
