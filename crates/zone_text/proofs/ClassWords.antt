@@ -1,15 +1,14 @@
 -- The words of classes among items, and the digits with which a time begins.
-use Rattle.std.proofs.Common.{◌≡◌, ℕ, ◌+◌, ◌<◌, ◌≤◌, List, [], ◌∷◌, ◌++◌, length, map, take, drop, codes, Bool, true, false, ◌&&◌, ◌||◌, ◌==◌, cond, Option, Some, None, refl, sym, ap, ◌∙◌, arith, bytes_eq, subst, append_assoc}
+use Rattle.std.proofs.Common.{◌≡◌, ℕ, ◌<◌, ◌≤◌, List, [], ◌∷◌, ◌++◌, length, take, drop, codes, Bool, true, false, ◌==◌, cond, Option, Some, refl, sym, ap, ◌∙◌, arith, append_assoc}
 use Rattle.std.specs.List.{AllByRecursion, flat_map}
 use Rattle.std.proofs.Math.Bool.{or-true}
 use Rattle.std.proofs.Math.Seq.{drop-append_seam}
 use Rattle.std.proofs.lemmas.Bool.Decides.{nat_tests}
 use Rattle.std.proofs.lemmas.List.{map-append, length-map}
-use Rattle.std.proofs.lemmas.Slice.Eq.{bytes_eq-Decides}
 use Rattle.zone_name.specs.Name.{folded_octet, folded_label}
 use Rattle.zone_name.specs.Spelling.{is_digit}
 use Rattle.zone_rdata.specs.Number.{IsDecimal, IsTime, plain, grouped, Group, IsGroup, group_text}
-use Rattle.zone_rdata.specs.Words.{IsMnemonic, IsNumbered, IsClassWord, class_named, class_numbered, class_mnemonic}
+use Rattle.zone_rdata.specs.Words.{IsNumbered, IsClassWord, class_named, class_numbered, class_mnemonic}
 use Rattle.zone_text.specs.Forms.{begins_with_digit, are_digits, is_class_word}
 
 chosen : (b : Bool) (x y : Option (List ℕ)) (m : List ℕ) (P : Type 0) → cond b x y ≡ Some m → (x ≡ Some m → P) → (y ≡ Some m → P) → P

@@ -1,10 +1,9 @@
 -- The entries that line feeds have ended, cut out of their pieces again, whatever comes behind them.
-use Rattle.std.proofs.Common.{◌≡◌, ℕ, zero, suc, ◌+◌, ◌<◌, List, [], ◌∷◌, ◌++◌, length, ◌==◌, Option, Some, None, refl, sym, ap, ◌∙◌, arith, append_assoc, add_assoc, add-zero}
+use Rattle.std.proofs.Common.{◌≡◌, ℕ, zero, suc, ◌+◌, ◌<◌, List, [], ◌∷◌, ◌++◌, length, ◌==◌, Some, refl, ap, ◌∙◌, arith, append_assoc}
 use Rattle.std.specs.List.{flat_map, AllByRecursion, count_by}
-use Rattle.std.proofs.lemmas.List.Sums.{sum_by-append}
 use Rattle.zone_text.specs.Pieces.{Piece, blank, opening, closing, line_feed, comment, bare, quoted, text, depth_after}
 use Rattle.zone_text.specs.Lasting.{EndInLineFeed}
-use Rattle.zone_text.specs.Entries.{Entry, entry_of, Cut, in_front, in_front_of, ending_one, cut_from, and_last, numbered}
+use Rattle.zone_text.specs.Entries.{Entry, entry_of, in_front, in_front_of, ending_one, cut_from, and_last, numbered}
 
 abbrev pub joined : List (List Piece) → List Piece
 joined entries = flat_map (λ (e : List Piece). e) entries

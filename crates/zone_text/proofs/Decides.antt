@@ -1,22 +1,21 @@
 -- What is decided of a front stays, whatever octets come behind it.
-use Rattle.std.proofs.Common.{◌≡◌, ℕ, zero, List, [], ◌∷◌, ◌++◌, Option, Some, None, ◌⊎◌, inl, inr, refl, sym, ◌∙◌, ap, subst, append_assoc}
+use Rattle.std.proofs.Common.{◌≡◌, ℕ, zero, List, [], ◌∷◌, ◌++◌, Some, None, inl, inr, sym, ◌∙◌, ap, subst, append_assoc}
 use Rattle.std.proofs.lemmas.List.{append-nil}
 use Rattle.zone_rdata.specs.declared.fault.Fault.{Fault}
-use Rattle.zone_rdata.specs.declared.fault.Place.{Place}
 use Rattle.zone_rdata.specs.declared.fault.Place.TheVariants.{Line}
 use Rattle.zone_rdata.specs.declared.record.Placed.{Placed}
-use Rattle.zone_text.specs.Pieces.{Piece, Cuts, text, depth_after}
+use Rattle.zone_text.specs.Pieces.{Piece, Cuts, text}
 use Rattle.zone_text.specs.Breaks.{Breaks}
 use Rattle.zone_text.specs.Lasting.{BreaksForGood}
-use Rattle.zone_text.specs.Entries.{Entry, Cut, cut_from, and_last, numbered, entries_of, ended_entries, open_line}
-use Rattle.zone_text.specs.FileReads.{Ending, ReadsFirst, reads_none, reads_one, refused, ReadEach, FileReads, whole, broken}
+use Rattle.zone_text.specs.Entries.{Entry, cut_from, and_last, entries_of, ended_entries, open_line}
+use Rattle.zone_text.specs.FileReads.{Ending, reads_none, reads_one, refused, ReadEach, FileReads, whole, broken}
 use Rattle.zone_text.specs.Decided.{ArePieces, Decided, decided, undecided, Stays}
 use Rattle.zone_text.specs.Lower.{Lower}
 use Rattle.zone_text.proofs.Cuttings.{one_cut, one_break, cut_not_broken, cut_or_broken}
 use Rattle.zone_text.proofs.Lasting.{cut_joined, break_joined, cut_parted, break_parted, breaks_for_good}
 use Rattle.zone_text.proofs.CutAgain.{joined, cut_whole, cut_ended, cut_again, ended_at_zero, and_last_behind, numbered_front}
 use Rattle.zone_text.proofs.Entered.{record_once, fault_once, record_or_fault, nothing_or_record, nothing_or_fault}
-use Rattle.zone_text.proofs.Files.{Both, reads_once, one_more}
+use Rattle.zone_text.proofs.Files.{reads_once, one_more}
 
 -- ---- the readings of entries and of the same with others behind them
 

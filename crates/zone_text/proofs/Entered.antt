@@ -1,13 +1,12 @@
 -- An entry states a record, states nothing or has a fault: one of the three at most, and each once.
-use Rattle.std.proofs.Common.{◌≡◌, ℕ, List, [], ◌∷◌, Option, Some, None, Result, Ok, Err, ◌⊎◌, inl, inr, refl, sym, ◌∙◌, ap, subst}
-use Rattle.std.specs.List.{AllByRecursion}
+use Rattle.std.proofs.Common.{◌≡◌, ℕ, List, [], ◌∷◌, Option, Some, None, Ok, Err, ◌⊎◌, inl, inr, refl, sym, ◌∙◌, subst}
 use Rattle.zone_rdata.specs.Record.{Record}
-use Rattle.zone_rdata.specs.Spelling.{RawItem, bare, quoted}
+use Rattle.zone_rdata.specs.Spelling.{bare, quoted}
 use Rattle.zone_rdata.specs.declared.fault.Fault.{Fault}
 use Rattle.zone_text.specs.Entries.{Entry}
 use Rattle.zone_text.specs.Forms.{Form, no_items, sets_origin, sets_ttl, includes, unknown, owned, unowned, form_of, Parts, parts_of, parts_in, parts_behind}
 use Rattle.zone_text.specs.Inherited.{one_bare}
-use Rattle.zone_text.specs.Records.{HasHead, StatesRecord, StatesNothing}
+use Rattle.zone_text.specs.Records.{StatesRecord, StatesNothing}
 use Rattle.zone_text.specs.EntryFault.{OriginFault, DefaultTtlFault, DirectiveFault, OwnerFault, EntryFault, of_directive, of_owner, of_words, of_kind, of_rdata, of_ttl}
 use Rattle.zone_text.specs.Lower.{Lower, Once}
 use Rattle.zone_text.proofs.Outcomes.{FromOwner, from_owner_once, name_fault_once, name_or_fault}

@@ -1,17 +1,11 @@
 -- A file states one list of records at most, and has one reading at most; the two agree.
-use Rattle.std.proofs.Common.{◌≡◌, ℕ, List, [], ◌∷◌, Option, Some, None, ◌⊎◌, inl, inr, refl, sym, ◌∙◌, ap, subst}
+use Rattle.std.proofs.Common.{◌≡◌, ℕ, List, [], ◌∷◌, Some, None, refl, sym, ◌∙◌, ap, subst}
 use Rattle.zone_rdata.specs.declared.fault.Fault.{Fault}
-use Rattle.zone_rdata.specs.declared.fault.Place.{Place}
 use Rattle.zone_rdata.specs.declared.fault.Place.TheVariants.{Line}
 use Rattle.zone_rdata.specs.declared.record.Placed.{Placed}
-use Rattle.zone_text.specs.Pieces.{Piece, Cuts}
-use Rattle.zone_text.specs.Breaks.{Breaks}
 use Rattle.zone_text.specs.Entries.{Entry, entries_of, ended_entries, open_line}
-use Rattle.zone_text.specs.Forms.{form_of}
-use Rattle.zone_text.specs.Records.{StatesRecord}
-use Rattle.zone_text.specs.EntryFault.{EntryFault}
-use Rattle.zone_text.specs.File.{StatesFirst, states_none, states_one, StateEach, FileStates}
-use Rattle.zone_text.specs.FileReads.{Ending, ReadsFirst, reads_none, reads_one, refused, ReadEach, FileReads, whole, broken}
+use Rattle.zone_text.specs.File.{states_none, states_one, StateEach, FileStates}
+use Rattle.zone_text.specs.FileReads.{Ending, reads_none, reads_one, refused, ReadEach, FileReads, whole, broken}
 use Rattle.zone_text.specs.Lower.{Lower, Once}
 use Rattle.zone_text.proofs.Cuttings.{one_cut, one_break, cut_not_broken}
 use Rattle.zone_text.proofs.Entered.{record_once, fault_once, record_or_fault, nothing_or_record, nothing_or_fault}

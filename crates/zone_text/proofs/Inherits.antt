@@ -1,12 +1,12 @@
 -- What an entry inherits is one thing at most.
-use Rattle.std.proofs.Common.{◌≡◌, ℕ, List, [], ◌∷◌, Option, Some, None, MatchOption, ◌⊎◌, inl, inr, refl, sym, ◌∙◌, ap, subst}
+use Rattle.std.proofs.Common.{◌≡◌, ℕ, List, [], ◌∷◌, Some, inl, inr, refl, sym, ◌∙◌, ap, subst}
 use Rattle.zone_name.specs.Spelling.{Spells}
 use Rattle.zone_rdata.specs.Minimum.{minimum}
 use Rattle.zone_rdata.specs.Number.{IsTime}
-use Rattle.zone_rdata.specs.Spelling.{RawItem, bare, quoted, States}
+use Rattle.zone_rdata.specs.Spelling.{bare, quoted, States}
 use Rattle.zone_rdata.specs.Words.{IsClassWord}
 use Rattle.zone_text.specs.Entries.{Entry}
-use Rattle.zone_text.specs.Forms.{Form, no_items, sets_origin, sets_ttl, includes, unknown, owned, unowned, form_of, Parts, parts_of}
+use Rattle.zone_text.specs.Forms.{Form, no_items, sets_origin, sets_ttl, includes, unknown, owned, unowned, form_of}
 use Rattle.zone_text.specs.Inherited.{IsOrigin, SpellsBehind, IsLastOwner, IsOwner, HasClass, stated_ttl, latest, origin_text, owner_text, class_word}
 use Rattle.zone_text.specs.Records.{Head, HasHead, StatesData, StatesMinimum, IsLastMinimum, HasTtl}
 use Rattle.zone_text.proofs.Once.{match_once}

@@ -12,6 +12,7 @@ pub mod Files
 pub mod Seconds
 pub mod CutAgain
 pub mod Decides
+pub mod ExampleFacts
 pub mod Octets
 pub mod Fronts
 pub mod Cuttings

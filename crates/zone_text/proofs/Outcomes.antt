@@ -1,22 +1,22 @@
 -- A record entry as steps one after the other, each with a value or a fault, and that it has one outcome at most.
-use Rattle.std.proofs.Common.{◌≡◌, ℕ, ◌<◌, ◌≤◌, List, [], ◌∷◌, Option, Some, None, Result, Ok, Err, ◌⊎◌, inl, inr, refl, sym, ◌∙◌, ap, subst, arith}
+use Rattle.std.proofs.Common.{◌≡◌, ℕ, ◌≤◌, List, [], ◌∷◌, Some, Result, Ok, Err, inl, inr, refl, sym, ◌∙◌, ap, subst, arith}
 use Rattle.std.specs.List.{AllByRecursion}
 use Rattle.zone_name.specs.Spelling.{FirstFault}
 use Rattle.zone_rdata.specs.DataFault.{IsDataFault}
 use Rattle.zone_rdata.specs.Fault.{fault_of}
 use Rattle.zone_rdata.specs.Record.{Record}
 use Rattle.zone_rdata.specs.Spelling.{RawItem, bare, quoted, States}
-use Rattle.zone_rdata.specs.Words.{IsClass, IsClassWord, IsKind, IsKindWord, IsWordFault}
+use Rattle.zone_rdata.specs.Words.{IsClass, IsKind, IsKindWord}
 use Rattle.zone_rdata.specs.declared.fault.Fault.{Fault}
 use Rattle.zone_rdata.specs.declared.fault.Fault.TheVariants.{NoTtl, BadTtl}
 use Rattle.zone_text.specs.Entries.{Entry}
-use Rattle.zone_text.specs.Forms.{Form, no_items, sets_origin, sets_ttl, includes, unknown, owned, unowned, form_of, Word, ttl, class, Parts, parts_of, parts_in}
-use Rattle.zone_text.specs.Inherited.{IsOrigin, SpellsBehind, IsOwner, HasClass, IsTtl, one_bare}
-use Rattle.zone_text.specs.Records.{HasValue, Head, HasHead, StatesData, HasTtl, StatesRecord, StatesNothing, head_of}
-use Rattle.zone_text.specs.EntryFault.{IsNameFault, OriginFault, DefaultTtlFault, DirectiveFault, OwnerFault, WordFault, WordsFault, KindFault, TtlFault, none, long, EntryFault, of_directive, of_owner, of_words, of_kind, of_rdata, of_ttl}
+use Rattle.zone_text.specs.Forms.{Form, no_items, sets_origin, sets_ttl, includes, unknown, owned, unowned, form_of, Word, ttl, class, Parts}
+use Rattle.zone_text.specs.Inherited.{IsOrigin, SpellsBehind, IsOwner, HasClass}
+use Rattle.zone_text.specs.Records.{HasValue, HasTtl}
+use Rattle.zone_text.specs.EntryFault.{IsNameFault, OwnerFault, WordFault, WordsFault, KindFault, TtlFault, none, long}
 use Rattle.zone_text.proofs.Once.{Then, then_once}
 use Rattle.zone_text.specs.Lower.{Lower, Once}
-use Rattle.zone_text.proofs.Inherits.{origin_once, spells_behind_once, owner_once, class_once, ttl_once}
+use Rattle.zone_text.proofs.Inherits.{origin_once, owner_once, class_once, ttl_once}
 
 abbrev pub Outcome : Type 0 → Type 0
 Outcome A = Result A Fault

@@ -13,7 +13,7 @@ use Rattle.zone_rdata.specs.declared.fault.Place.TheVariants.{Line}
 use Rattle.zone_text.specs.Pieces.{Piece, blank, opening, closing, line_feed, comment, bare, quoted, piece_text, text, IsPiece, AllFollow, MayFollow, depth_after}
 use Rattle.zone_text.specs.Entries.{Entry, entry_of, Cut, cut_from, numbered, in_front_of}
 use Rattle.zone_text.specs.Records.{StatesRecord}
-use Rattle.zone_text.specs.File.{StatesFirst, states_none, states_one, StateEach, FileStates}
+use Rattle.zone_text.specs.File.{states_none, states_one, StateEach, FileStates}
 use Rattle.zone_text.specs.Lines.{IsPlain, AreLine, IsLineThen, ended, LineStates, ReadsFront, KeepsOrigin}
 use Rattle.zone_text.proofs.Stated.{text_ended}
 

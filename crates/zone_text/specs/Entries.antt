@@ -1,9 +1,9 @@
 -- The entries of a master file (RFC 1035 5.1): its pieces, cut after each line feed outside parentheses.
-use Rattle.std.specs.Prelude.{◌≡◌, ℕ, zero, suc, ◌+◌, List, [], ◌∷◌, ◌++◌, length, ◌==◌, count_by, Option, Some, None}
+use Rattle.std.specs.Prelude.{ℕ, zero, suc, ◌+◌, List, [], ◌∷◌, ◌++◌, ◌==◌, count_by, Option, Some, None}
 use Rattle.std.specs.List.{flat_map}
 use Rattle.zone_rdata.specs.Spelling.{RawItem}
 use Rattle.zone_rdata.specs.Spelling as raw
-use Rattle.zone_text.specs.Pieces.{Piece, blank, opening, closing, line_feed, comment, bare, quoted, text, written_text}
+use Rattle.zone_text.specs.Pieces.{Piece, opening, closing, line_feed, bare, quoted, text, written_text}
 
 -- pieces cut into entries: those that a line feed outside parentheses ends, and the pieces behind the last of them
 pub record Cut : Type 0 where

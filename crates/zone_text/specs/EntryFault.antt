@@ -6,14 +6,13 @@ use Rattle.zone_name.specs.Spelling.{FirstFault}
 use Rattle.zone_name.specs.declared.fault.NameFault.{NameFault}
 use Rattle.zone_rdata.specs.DataFault.{IsDataFault}
 use Rattle.zone_rdata.specs.Fault.{fault_of}
-use Rattle.zone_rdata.specs.Record.{IsRdata}
 use Rattle.zone_rdata.specs.Spelling.{RawItem, bare, quoted}
 use Rattle.zone_rdata.specs.Words.{IsClass, IsClassWord, IsWordFault}
 use Rattle.zone_rdata.specs.declared.fault.Fault.{Fault}
 use Rattle.zone_rdata.specs.declared.fault.Fault.TheVariants.{IncludeDirective, UnknownDirective, BadDirective, NoOwner, NoTtl, BadTtl, BadClass, UnknownType}
 use Rattle.zone_text.specs.Entries.{Entry}
 use Rattle.zone_text.specs.Forms.{Form, sets_origin, sets_ttl, includes, unknown, owned, unowned, form_of, Word, ttl, class, Parts, parts_of}
-use Rattle.zone_text.specs.Inherited.{IsOrigin, IsLastOwner, IsOwner, HasClass, IsTtl, one_bare}
+use Rattle.zone_text.specs.Inherited.{IsOrigin, IsLastOwner, IsOwner, IsTtl, one_bare}
 use Rattle.zone_text.specs.Records.{HasValue, Head, HasHead, StatesData, HasTtl}
 
 -- the first fault of a text that is no name where it stands

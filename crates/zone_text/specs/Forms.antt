@@ -1,5 +1,5 @@
 -- The forms of an entry (RFC 1035 5.1; `$TTL` RFC 2308 4): blank, a directive or a record, and a record's parts.
-use Rattle.std.specs.Prelude.{◌≡◌, ℕ, List, [], ◌∷◌, ◌++◌, codes, take, drop, ◌==◌, ◌&&◌, ◌||◌, if◌then◌else◌, Bool, true, false, bytes_eq, Option, Some, None}
+use Rattle.std.specs.Prelude.{ℕ, List, [], ◌∷◌, ◌++◌, codes, take, drop, ◌==◌, ◌&&◌, ◌||◌, if◌then◌else◌, Bool, false, bytes_eq, Option, Some, None}
 use Rattle.zone_name.specs.Name.{folded_label}
 use Rattle.zone_name.specs.Spelling.{is_digit}
 use Rattle.zone_rdata.specs.Spelling.{RawItem, bare, quoted}

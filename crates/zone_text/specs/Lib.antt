@@ -13,3 +13,4 @@ pub mod FileReads
 pub mod Decided
 pub mod Lower
 pub mod Lines
+pub mod ExampleEntries

@@ -1,9 +1,9 @@
 -- The record that an entry states (RFC 1035 5.1), and the entries that state none.
-use Rattle.std.specs.Prelude.{◌≡◌, ℕ, List, [], ◌∷◌, Option, Some, None, MatchOption, ◌⊎◌, ⊤}
+use Rattle.std.specs.Prelude.{◌≡◌, ℕ, List, [], ◌∷◌, Some, MatchOption, ◌⊎◌, ⊤}
 use Rattle.std.specs.List.{AllByRecursion}
 use Rattle.zone_rdata.specs.Minimum.{minimum}
 use Rattle.zone_rdata.specs.Number.{IsTime}
-use Rattle.zone_rdata.specs.Record.{Data, Record, IsRdata, IsRecord, data_of}
+use Rattle.zone_rdata.specs.Record.{Record, IsRecord}
 use Rattle.zone_rdata.specs.Spelling.{RawItem, bare, States}
 use Rattle.zone_rdata.specs.Words.{IsClass, IsClassWord, IsKind, IsKindWord}
 use Rattle.zone_text.specs.Entries.{Entry}
