@@ -11,7 +11,7 @@ use Rattle.zone_rdata.specs.declared.fault.Stop.{Stop}
 use Rattle.zone_rdata.specs.declared.fault.Stop.TheVariants.{Refused, Read, Write, Memory}
 use Rattle.zone_rdata.specs.declared.record.Placed.{Placed}
 use Rattle.zone_rdata.specs.declared.source.Reading.{Reading}
-use Rattle.zone_text.specs.File.{FileStates}
+use Rattle.zone_text.specs.Lines.{ReadsFront}
 use Rattle.zone_set.specs.Builder.{Accepts, AddsEach, IsRefusedFor, class, soa, ttl, TakesAll, StopsTaking, memory, refused as by_record, ending as by_ending, StopsFinish, no_soa, outside}
 use Rattle.zone_set.specs.Refusal.{AllAccepted, records_of}
 use Rattle.zone_set.specs.Zone.{SameRecords, Zone}
@@ -70,12 +70,12 @@ taken_accepted placed new taken = accepted_from [] placed [] new (λ s. (λ has.
 
 -- ---- what a builder refuses
 
-module _ (origin : List (List ℕ)) (octets : List ℕ) (reading : Reading) (stated : IfNone reading.ending (FileStates origin octets reading.placed.items)) where
+module _ (origin : List (List ℕ)) (octets : List ℕ) (reading : Reading) (front : ReadsFront origin octets reading) where
   abbrev fed : Feed
   fed = record { failed = false; records = reading.placed.items; ending = reading.ending }
 
   reads : (f : Fault) (at : Place) → RefusesReading reading.placed.items reading.ending f at → RefusesRead origin octets f at
-  reads f at refuses = record { placed = reading.placed.items; ending = reading.ending; stated = stated; refuses = refuses }
+  reads f at refuses = record { front = front.front; rest = front.rest; placed = reading.placed.items; ending = reading.ending; whole = front.whole; states = front.records; all = front.all; behind = front.place; refuses = refuses }
 
   pub refused_taking : (old new : List Record) (stop : Stop) → old ≡ [] → StopsTaking old fed new stop → IfRefused stop (RefusesRead origin octets)
   refused_taking old new stop none stops = by stop (subst (λ held. StopsTaking held fed new stop) none stops)
@@ -105,7 +105,7 @@ module _ (origin : List (List ℕ)) (octets : List ℕ) (reading : Reading) (sta
 -- ---- what a printer refuses
 
 large_read : (origin : List (List ℕ)) (octets : List ℕ) (z : Zone) → StatesZone origin octets z → text_limit < length (canon z) → RefusesRead origin octets ZoneTooLarge Whole
-large_read origin octets z states long = record { placed = states.placed; ending = None; stated = states.states; refuses = too_large z refl states.zone states.same long }
+large_read origin octets z states long = record { front = octets; rest = []; placed = states.placed; ending = None; whole = sym (append-nil octets); states = states.states; all = λ none. refl; behind = tt; refuses = too_large z refl states.zone states.same long }
 
 pub refused_pushing : (origin : List (List ℕ)) (octets : List ℕ) (z : Zone) (stop : Stop) → length octets ≤ text_limit → StatesZone origin octets z → StopsPush text_limit (canon z) stop → IfRefused stop (RefusesOctets origin octets)
 refused_pushing origin octets z _ short states (printing.large long) = read ZoneTooLarge Whole short (large_read origin octets z states long)

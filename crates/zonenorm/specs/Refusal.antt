@@ -1,9 +1,9 @@
 -- Why an input is refused, and where: its first fault (RFC 1035 5; the order of faults is this project's choice).
-use Rattle.std.specs.Prelude.{◌≡◌, ℕ, ◌<◌, ◌≤◌, List, length, Option, Some, None, IfNone}
+use Rattle.std.specs.Prelude.{◌≡◌, ℕ, ◌<◌, ◌≤◌, ◌+◌, List, [], ◌++◌, length, count_by, ◌==◌, Option, Some, None, IfSome}
 use Rattle.zone_rdata.specs.declared.fault.Fault.{Fault}
 use Rattle.zone_rdata.specs.declared.fault.Fault.TheVariants.{ZoneTooLarge, InputTooLong}
 use Rattle.zone_rdata.specs.declared.fault.Place.{Place}
-use Rattle.zone_rdata.specs.declared.fault.Place.TheVariants.{Whole}
+use Rattle.zone_rdata.specs.declared.fault.Place.TheVariants.{Line, Whole}
 use Rattle.zone_rdata.specs.declared.fault.Stop.{Stop}
 use Rattle.zone_rdata.specs.declared.fault.Stop.TheVariants.{Refused, Read, Write, Memory}
 use Rattle.zone_rdata.specs.declared.record.Placed.{Placed}
@@ -34,12 +34,17 @@ pub data IsRefusal (origin : List (List ℕ)) (octets : List ℕ) : Fault → Pl
   too_long : text_limit < length octets → IsRefusal origin octets InputTooLong Whole
   reading : (placed : List Placed) (ending : Option (Fault × Place)) (fault : Fault) (place : Place) → length octets ≤ text_limit → FileReads origin octets placed ending → RefusesReading placed ending fault place → IsRefusal origin octets fault place
 
--- The records of octets up to the first fault of reading, and that fault, are refused. Where no fault of reading stands
--- after the records, they are those that the octets state.
+-- The records of a front of the octets and the fault that stands behind it, at the line that begins there, are refused.
+-- The front is all of the octets where no fault stands behind it.
 pub record RefusesRead (origin : List (List ℕ)) (octets : List ℕ) (fault : Fault) (place : Place) : Type 0 where
+  pub front : List ℕ
+  pub rest : List ℕ
   pub placed : List Placed
   pub ending : Option (Fault × Place)
-  pub stated : IfNone ending (FileStates origin octets placed)
+  pub whole : octets ≡ front ++ rest
+  pub states : FileStates origin front placed
+  pub all : ending ≡ None → rest ≡ []
+  pub behind : IfSome ending (λ e. e.1 ≡ Line (1 + count_by (λ c. c == 10) front))
   pub refuses : RefusesReading placed ending fault place
 
 -- octets are refused: for their length where they are longer than the limit, and else as they were read

@@ -1,5 +1,6 @@
 ghost use Rattle.std.specs.Prelude.{IfOk, IfErr, IfSome, IfNone};
 ghost use Rattle.zone_text.specs.File.{FileStates};
+ghost use Rattle.zone_text.specs.Lines.{ReadsFront};
 ghost use Rattle.zonenorm.specs.Form.{origin_of};
 ghost use Rattle.zonenorm.specs.Normalise.{Normalises, NormalisesTo, StatesZone, WritesNothing, WritesFront, IsOfBytes};
 ghost use Rattle.zonenorm.specs.Refusal.{IfRefused, RefusesOctets, RefusesRead};
@@ -80,7 +81,8 @@ fn zone_of(alloc: Global, form: Form<'_>, octets: &[u8]) -> Result<Zone, Stop>
 
 /// What an input of this form states: its records, and the fault after them if there is one.
 fn reading_of(alloc: Global, form: Form<'_>, octets: &[u8]) -> Result<Reading, AllocError>
-    ensures { IfOk result (λ reading. IfNone reading.ending (FileStates (origin_of form.entry) octets.now reading.placed.items)) }
+    ensures stated { IfOk result (λ reading. IfNone reading.ending (FileStates (origin_of form.entry) octets.now reading.placed.items)) }
+    ensures front { IfOk result (ReadsFront (origin_of form.entry) octets.now) }
 {
     match form {
         Form::File(origin) => read_file(alloc, origin, octets),
