@@ -1,13 +1,20 @@
 -- No part of a line has a line feed.
-use Rattle.std.proofs.Common.{◌≡◌, ◌≢◌, ℕ, zero, suc, ◌+◌, ◌/◌, ◌%◌, ◌==◌, ◌≤◌, List, [], ◌∷◌, ◌++◌, map, Bool, true, false, if◌then◌else◌, IsTrue, IsSome, Option, None, Some, refl, sym, ap, ◌∙◌, codes, decimal, nat_lt, eq-eqb, arith}
+use Rattle.std.proofs.Common.{◌≡◌, ◌≢◌, ℕ, zero, suc, ◌+◌, ◌/◌, ◌%◌, ◌==◌, ◌≤◌, List, [], ◌∷◌, ◌++◌, length, take, drop, map, ◌||◌, Bool, true, false, if◌then◌else◌, IsTrue, Option, None, Some, refl, sym, ap, ◌∙◌, codes, decimal, nat_lt, eq-eqb, arith}
 use Rattle.std.specs.List.{flat_map, join_with_byte}
+use Rattle.std.specs.Prelude.{slice_index}
+use Rattle.std.specs.Char.{digit_char}
+use Rattle.std.specs.Net.Addr.{segments_of}
+use Rattle.std.specs.Net.Text.{hex, leading_zero_digits, compressed_text, longest_zero_run}
+use Rattle.hex.specs.Hex.{lower_digits, encode_with, encode_lower}
 use Rattle.std.specs.Fmt.{digit_glyph, digits, digits_onto}
 use Rattle.zone_name.specs.Text.{is_special, is_printed, decimal_escape, octet_text, label_text, name_text}
 use Rattle.zone_rdata.specs.declared.layout.Field.{Field}
-use Rattle.zone_rdata.specs.Field.{FieldValue, name, long, two_octets, values_of}
+use Rattle.zone_rdata.specs.Field.{FieldValue, name, long, two_octets, fixed, string, strings, values_of}
 use Rattle.zone_rdata.specs.Layout.{layout}
 use Rattle.zone_rdata.specs.Record.{Record, data_of}
-use Rattle.zone_rdata.specs.Text.{field_text, laid_out_text, data_text}
+use Rattle.zone_rdata.specs.Address.{four_text, groups_text, parted_groups}
+use Rattle.zone_rdata.specs.Strings.{is_shown, unit_text, inside_text, string_text}
+use Rattle.zone_rdata.specs.Text.{field_text, generic_text, laid_out_text, data_text}
 use Rattle.zone_rdata.specs.Words.{class_mnemonic, kind_mnemonic, laid_out_mnemonic, word_or_numbered, class_text, kind_text}
 use Rattle.zone_print.specs.Canonical.{line}
 use Rattle.zone_print.specs.Laws.{HasNoFeed, EndsWithItsFeed}
@@ -128,19 +135,90 @@ none_laid_out_row (Some fields) n = none_kind_row n
 none_kind : (class n : ℕ) → HasNoFeed (kind_text class n)
 none_kind class n = none_word (laid_out_mnemonic (layout class n) n) (codes "TYPE") n (none_laid_out_row (layout class n) n) (none_tested (codes "TYPE") refl)
 
+none_dot : (xs : List ℕ) → HasNoFeed xs → HasNoFeed (xs ++ 46 ∷ [])
+none_dot xs h = none_append xs (46 ∷ []) h (high 46 46 refl (omega arith), tt)
+
+none_four : (octets : List ℕ) → HasNoFeed (four_text octets)
+none_four octets =
+    let a = none_dot (decimal (slice_index octets 0)) (none_decimal (slice_index octets 0)) in
+    let b = none_dot _ (none_append _ (decimal (slice_index octets 1)) a (none_decimal (slice_index octets 1))) in
+    let c = none_dot _ (none_append _ (decimal (slice_index octets 2)) b (none_decimal (slice_index octets 2))) in
+    none_append _ (decimal (slice_index octets 3)) c (none_decimal (slice_index octets 3))
+
+none_drop : (n : ℕ) (xs : List ℕ) → HasNoFeed xs → HasNoFeed (drop n xs)
+none_drop zero xs h = h
+none_drop (suc n) [] h = tt
+none_drop (suc n) (x ∷ xs) h = none_drop n xs h.1
+
+none_char : (d : ℕ) → digit_char d ≢ 10
+none_char d = glyph_if (nat_lt d 10) (48 + d) (87 + d) (high _ (48 + d) refl (omega arith)) (high _ (87 + d) refl (omega arith))
+
+none_hex : (n : ℕ) → HasNoFeed (hex n)
+unfolding hex
+none_hex n = none_drop (leading_zero_digits n) (digit_char (n / 0x1000) ∷ digit_char (n / 0x100 % 16) ∷ digit_char (n / 0x10 % 16) ∷ digit_char (n % 16) ∷ []) (none_char (n / 0x1000), (none_char (n / 0x100 % 16), (none_char (n / 0x10 % 16), (none_char (n % 16), tt))))
+
+none_groups : (groups : List ℕ) → HasNoFeed (parted_groups groups)
+none_groups [] = tt
+none_groups (s ∷ rest) = none_append (hex s) (flat_map (λ t. codes ":" ++ hex t) rest) (none_hex s) (none_flat (λ t. codes ":" ++ hex t) (λ t. (high 58 58 refl (omega arith), none_hex t)) rest)
+
+none_run : (segments : List ℕ) (run : ℕ × ℕ) → HasNoFeed (compressed_text segments run)
+none_run segments run =
+    none_if (nat_lt 1 run.1) (parted_groups (take run.0 segments) ++ codes "::" ++ parted_groups (drop (run.0 + run.1) segments)) (parted_groups segments)
+    (λ h. none_append (parted_groups (take run.0 segments) ++ codes "::") (parted_groups (drop (run.0 + run.1) segments)) (none_append (parted_groups (take run.0 segments)) (codes "::") (none_groups (take run.0 segments)) (high 58 58 refl (omega arith), (high 58 58 refl (omega arith), tt))) (none_groups (drop (run.0 + run.1) segments)))
+    (λ h. none_groups segments)
+
+none_sixteen : (octets : List ℕ) → HasNoFeed (groups_text octets)
+none_sixteen octets = none_run (segments_of octets) (longest_zero_run (segments_of octets))
+
+none_unit : (c : ℕ) → HasNoFeed (unit_text c)
+none_unit c =
+    none_if (c == 34 || c == 92) (92 ∷ c ∷ []) (if is_shown c then c ∷ [] else decimal_escape c)
+    (λ h. (high 92 92 refl (omega arith), (not_in (λ d. d == 34 || d == 92) c h refl, tt)))
+    (λ h. none_if (is_shown c) (c ∷ []) (decimal_escape c)
+    (λ g. (not_in is_shown c g refl, tt))
+    (λ g. none_digits (48 + c / 100) (48 + c / 10 % 10) (48 + c % 10) (omega arith) (omega arith) (omega arith)))
+
+none_string : (octets : List ℕ) → HasNoFeed (string_text octets)
+none_string octets = (high 34 34 refl (omega arith), none_append (inside_text octets) (34 ∷ []) (none_flat unit_text none_unit octets) (none_tested (34 ∷ []) refl))
+
+none_strings : (many : List (List ℕ)) → HasNoFeed (join_with_byte 32 (map string_text many))
+none_strings [] = tt
+none_strings (octets ∷ []) = none_string octets
+none_strings (octets ∷ other ∷ many) = none_append (string_text octets) (32 ∷ join_with_byte 32 (map string_text (other ∷ many))) (none_string octets) (high 32 32 refl (omega arith), none_strings (other ∷ many))
+
+none_digit : (l : List ℕ) (i : ℕ) → HasNoFeed l → slice_index l i ≢ 10
+none_digit [] i h = λ e. cc
+none_digit (x ∷ l) zero h = h.0
+none_digit (x ∷ l) (suc i) h = none_digit l i h.1
+
+none_encoded : (octets : List ℕ) → HasNoFeed (encode_lower octets)
+unfolding encode_with
+none_encoded [] = tt
+none_encoded (c ∷ octets) = (none_digit lower_digits (c / 16) (none_tested lower_digits refl), (none_digit lower_digits (c % 16) (none_tested lower_digits refl), none_encoded octets))
+
+none_generic : (octets : List ℕ) → HasNoFeed (generic_text octets)
+none_generic [] = none_tested (codes "\\# 0") refl
+none_generic (c ∷ octets) =
+    none_append (codes "\\# " ++ decimal (length (c ∷ octets))) (32 ∷ encode_lower (c ∷ octets))
+    (none_append (codes "\\# ") (decimal (length (c ∷ octets))) (none_tested (codes "\\# ") refl) (none_decimal (length (c ∷ octets))))
+    (high 32 32 refl (omega arith), none_encoded (c ∷ octets))
+
 none_field : (v : FieldValue) → HasNoFeed (field_text v)
 none_field (name labels) = none_name labels
 none_field (long n) = none_decimal n
 none_field (two_octets n) = none_decimal n
+none_field (fixed octets) = none_if (length octets == 4) (four_text octets) (groups_text octets) (λ h. none_four octets) (λ h. none_sixteen octets)
+none_field (string octets) = none_string octets
+none_field (strings many) = none_strings many
 
 none_join : (values : List FieldValue) → HasNoFeed (join_with_byte 32 (map field_text values))
 none_join [] = tt
 none_join (v ∷ []) = none_field v
 none_join (v ∷ w ∷ values) = none_append (field_text v) (32 ∷ join_with_byte 32 (map field_text (w ∷ values))) (none_field v) (high 32 32 refl (omega arith), none_join (w ∷ values))
 
-none_laid_out : (fields : Option (List Field)) (octets : List ℕ) → IsSome fields → HasNoFeed (laid_out_text fields octets)
-none_laid_out None octets h = let clash : false ≡ true = h in absurd cc
-none_laid_out (Some fields) octets h = none_join (values_of fields octets)
+none_laid_out : (fields : Option (List Field)) (octets : List ℕ) → HasNoFeed (laid_out_text fields octets)
+none_laid_out None octets = none_generic octets
+none_laid_out (Some fields) octets = none_join (values_of fields octets)
 
 -- ---- the line
 
@@ -153,10 +231,10 @@ none_line owner ttl class kind rdata p q r s t =
     none_spaced (owner ++ 32 ∷ ttl ++ 32 ∷ class ++ 32 ∷ kind) rdata
     (none_spaced (owner ++ 32 ∷ ttl ++ 32 ∷ class) kind (none_spaced (owner ++ 32 ∷ ttl) class (none_spaced owner ttl p q) r) s) t
 
-pub line_ends_with_feed : (r : Record) → IsSome (layout r.class r.kind) → EndsWithItsFeed (line r)
-line_ends_with_feed r laid_out = record {
+pub line_ends_with_feed : (r : Record) → EndsWithItsFeed (line r)
+line_ends_with_feed r = record {
   front = name_text r.owner ++ 32 ∷ decimal r.ttl ++ 32 ∷ class_text r.class ++ 32 ∷ kind_text r.class r.kind ++ 32 ∷ data_text (data_of r);
   split = refl;
   others = none_line (name_text r.owner) (decimal r.ttl) (class_text r.class) (kind_text r.class r.kind) (data_text (data_of r))
-      (none_name r.owner) (none_decimal r.ttl) (none_class r.class) (none_kind r.class r.kind) (none_laid_out (layout r.class r.kind) r.octets laid_out);
+      (none_name r.owner) (none_decimal r.ttl) (none_class r.class) (none_kind r.class r.kind) (none_laid_out (layout r.class r.kind) r.octets);
 }

@@ -2,3 +2,4 @@ pub mod Feeds
 pub mod Front
 pub mod Lines
 pub mod Stops
+pub mod OneZone

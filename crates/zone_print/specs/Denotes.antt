@@ -1,13 +1,10 @@
 -- Which zone an input denotes.
-use Rattle.std.specs.Prelude.{ℕ, ◌≤◌, List, length, map}
-use Rattle.zone_rdata.specs.Record.{Record}
+use Rattle.std.specs.Prelude.{ℕ, ◌≤◌, List, length}
 use Rattle.zone_rdata.specs.declared.record.Placed.{Placed}
 use Rattle.zone_text.specs.File.{FileStates}
+use Rattle.zone_set.specs.Refusal.{records_of}
 use Rattle.zone_set.specs.Zone.{Zone, IsZone, SameRecords}
 use Rattle.zone_print.specs.Canonical.{canon, text_limit}
-
-abbrev pub records_of : List Placed → List Record
-records_of placed = map (λ p. p.rr) placed
 
 -- A master file with its origin denotes a zone: it is no longer than the limit, the records that it states are those
 -- of the zone, as a set, and the zone's canonical text is within the limit.

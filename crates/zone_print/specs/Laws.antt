@@ -1,7 +1,6 @@
 -- What holds of every canonical line.
-use Rattle.std.specs.Prelude.{◌≡◌, ◌≢◌, ℕ, List, [], ◌∷◌, ◌++◌, IsSome}
+use Rattle.std.specs.Prelude.{◌≡◌, ◌≢◌, ℕ, List, [], ◌∷◌, ◌++◌}
 use Rattle.std.specs.List.{AllByRecursion}
-use Rattle.zone_rdata.specs.Layout.{layout}
 use Rattle.zone_rdata.specs.Record.{Record}
 use Rattle.zone_print.specs.Canonical.{line}
 
@@ -15,6 +14,6 @@ pub record EndsWithItsFeed (octets : List ℕ) : Type 0 where
   pub split : octets ≡ front ++ 10 ∷ []
   pub others : HasNoFeed front
 
--- the line of a record whose type has a layout in its class has one line feed, its last octet
+-- the line of a record has one line feed, its last octet
 abbrev pub EachLineEnds : Type 0
-EachLineEnds = (r : Record) → IsSome (layout r.class r.kind) → EndsWithItsFeed (line r)
+EachLineEnds = (r : Record) → EndsWithItsFeed (line r)

@@ -1,17 +1,28 @@
 -- Octets of the values of a layout hold those values.
-use Rattle.std.proofs.Common.{◌≡◌, ℕ, zero, suc, ◌+◌, ◌*◌, ◌^◌, ◌<◌, ◌≤◌, List, [], ◌∷◌, ◌++◌, length, get_or, take, drop, refl, sym, ap, ◌∙◌, subst, arith, append_assoc, length-append, Bool, true, false, cond, Option, Some, None, ◌==◌}
+use Rattle.std.proofs.Common.{◌≡◌, ◌≢◌, ℕ, zero, suc, ◌+◌, ◌*◌, ◌^◌, ◌<◌, ◌≤◌, List, [], ◌∷◌, ◌++◌, length, get_or, take, drop, map, refl, sym, ap, ◌∙◌, subst, arith, append_assoc, length-append, Bool, true, false, cond, Option, Some, None, ◌==◌, ◌&&◌, inl, inr}
+use Rattle.std.specs.Prelude.{if◌then◌else◌, MatchOption}
 use Rattle.std.specs.Int.{w16, w32, to_be_bytes, from_be_bytes}
 use Rattle.std.specs.List.{flat_map, AllByRecursion}
 use Rattle.std.proofs.lemmas.List.{take_at, drop_at, append-nil}
+use Rattle.std.proofs.lemmas.List.Concat.{flat_map-append}
 use Rattle.std.proofs.lemmas.Nat.{from_be_bytes-to_be_bytes_2, from_be_bytes-to_be_bytes_4}
-use Rattle.zone_name.specs.Name.{IsName, wire, labels_of}
+use Rattle.zone_name.specs.Name.{IsName, frame, wire, labels_of}
 use Rattle.zone_rdata.specs.declared.layout.Field.{Field}
 use Rattle.zone_rdata.specs.declared.layout.Field.TheVariants as fields
-use Rattle.zone_rdata.specs.Field.{FieldValue, name, long, two_octets, field_octets, octets_of, Holds, HoldEach, field_at, values_of}
-use Rattle.zone_rdata.specs.Layout.{AreLaidOut, layout, IsData}
+use Rattle.zone_rdata.specs.Field.{FieldValue, name, long, two_octets, fixed, string, strings, AreFixed, AreStrings, field_octets, octets_of, Holds, HoldEach, field_at, strings_of, values_of}
+use Rattle.zone_rdata.specs.Layout.{AreLaidOut, IsData, IsLayout, StringsLast, layout}
 use Rattle.zone_rdata.specs.Reading.{AreSpelt}
-use Rattle.zone_rdata.specs.Spelling.{RawItem, bare, quoted, SpellsField, SpellEach, IsGeneric, States, in_words}
+use Rattle.zone_rdata.specs.Item.{RawItem, bare, quoted, IsGeneric}
+use Rattle.zone_rdata.specs.Spelling.{IsCanonicalOf, SpellsField, SpellEach, States, StatesFor, ends_with_strings, item_fields, in_words, in_octets}
+use Rattle.zone_rdata.specs.DataFault.{IsDataFault, IsFaultFor}
+use Rattle.zone_rdata.specs.Generic.{StatesGeneric}
+use Rattle.zone_rdata.specs.declared.fault.Fault.{Fault}
+use Rattle.zone_rdata.specs.Strings.{IsString}
+use Rattle.zone_rdata.proofs.AddressFields.{address_fixed}
+use Rattle.zone_rdata.proofs.StringFields.{strings_back}
+use Rattle.zone_rdata.proofs.StringSteps.{AllByRecursion-append}
 use Rattle.zone_rdata.proofs.Names.{name_back}
+use Rattle.zone_rdata.proofs.SentLengths.{uncompressed_length}
 
 number_back : (n : ℕ) (rest : List ℕ) → n < 2 ^ 32 → from_be_bytes w32 (take 4 (to_be_bytes w32 n ++ rest)) ≡ n
 number_back n rest short = ap (from_be_bytes w32) (take_at (to_be_bytes w32 n) rest 4 refl) ∙ from_be_bytes-to_be_bytes_4 n short
@@ -20,41 +31,34 @@ two_octets_back : (n : ℕ) (rest : List ℕ) → n < 2 ^ 16 → from_be_bytes w
 two_octets_back n rest short = ap (from_be_bytes w16) (take_at (to_be_bytes w16 n) rest 2 refl) ∙ from_be_bytes-to_be_bytes_2 n short
 
 -- the field at the front of its octets is the value that was written
-field_back : (f : Field) (v : FieldValue) (rest : List ℕ) → Holds f v → field_at f (field_octets v ++ rest) ≡ v
-field_back fields.Name (name labels) rest h = ap name (name_back labels rest h.each)
-field_back fields.Serial (long n) rest h = ap long (number_back n rest h)
-field_back fields.Time (long n) rest h = ap long (number_back n rest h)
-field_back fields.U16 (two_octets n) rest h = ap two_octets (two_octets_back n rest h)
-field_back f v rest h = absurd h
+pub field_back : (f : Field) (v : FieldValue) (rest : List ℕ) → Holds f v → (f ≡ fields.Strings → rest ≡ []) → field_at f (field_octets v ++ rest) ≡ v
+field_back fields.Name (name labels) rest h last = ap name (name_back labels rest h.each)
+field_back fields.Serial (long n) rest h last = ap long (number_back n rest h)
+field_back fields.Time (long n) rest h last = ap long (number_back n rest h)
+field_back fields.U16 (two_octets n) rest h last = ap two_octets (two_octets_back n rest h)
+field_back (fields.Octets n) (fixed octets) rest h last = ap fixed (take_at octets rest n h.size)
+field_back fields.OneString (string octets) rest h last = ap string (take_at octets rest (length octets) refl)
+field_back fields.Strings (strings many) rest h last = ap (λ (r : List ℕ). strings (strings_of (flat_map frame many ++ r))) (last refl) ∙ ap (λ (o : List ℕ). strings (strings_of o)) (append-nil (flat_map frame many)) ∙ ap strings (strings_back many)
+field_back f v rest h last = absurd h
 
-pub values_back : (row : List Field) (values : List FieldValue) (rest : List ℕ) → HoldEach row values → values_of row (octets_of values ++ rest) ≡ values
-values_back [] [] rest h = refl
-values_back [] (v ∷ values) rest h = absurd h
-values_back (f ∷ row) [] rest h = absurd h
-values_back (f ∷ row) (v ∷ values) rest h =
-    let parts : octets_of (v ∷ values) ++ rest ≡ field_octets v ++ (octets_of values ++ rest) = append_assoc (field_octets v) (octets_of values) rest in
-    let first : field_at f (octets_of (v ∷ values) ++ rest) ≡ v = ap (field_at f) parts ∙ field_back f v (octets_of values ++ rest) h.0 in
-    let after : drop (length (field_octets v)) (octets_of (v ∷ values) ++ rest) ≡ octets_of values ++ rest = ap (drop (length (field_octets v))) parts ∙ drop_at (field_octets v) (octets_of values ++ rest) (length (field_octets v)) refl in
-    ap (λ (x : FieldValue). x ∷ values_of row (drop (length (field_octets x)) (octets_of (v ∷ values) ++ rest))) first ∙ ap (λ (o : List ℕ). v ∷ values_of row o) after ∙ ap (λ (vs : List FieldValue). v ∷ vs) (values_back row values rest h.1)
+-- the first field of octets, and the fields behind it
+values_next : (f : Field) (row : List Field) (v : FieldValue) (octets : List ℕ) → Holds f v → (f ≡ fields.Strings → octets ≡ []) → values_of (f ∷ row) (field_octets v ++ octets) ≡ v ∷ values_of row octets
+values_next f row v octets h last =
+    let first : field_at f (field_octets v ++ octets) ≡ v = field_back f v octets h last in
+    ap (λ (x : FieldValue). x ∷ values_of row (drop (length (field_octets x)) (field_octets v ++ octets))) first ∙ ap (λ (o : List ℕ). v ∷ values_of row o) (drop_at (field_octets v) octets (length (field_octets v)) refl)
 
-pub laid_out : (row : List Field) (values : List FieldValue) → HoldEach row values → AreLaidOut row (octets_of values)
-laid_out row values h =
-    let back : values_of row (octets_of values) ≡ values = ap (values_of row) (sym (append-nil (octets_of values))) ∙ values_back row values [] h in
+pub values_back : (row : List Field) (values : List FieldValue) → StringsLast row → HoldEach row values → values_of row (octets_of values) ≡ values
+values_back [] [] last h = refl
+values_back [] (v ∷ values) last h = absurd h
+values_back (f ∷ row) [] last h = absurd h
+values_back (f ∷ []) (v ∷ []) last h = values_next f [] v [] h.0 (λ e. refl)
+values_back (f ∷ []) (v ∷ w ∷ values) last h = absurd h.1
+values_back (f ∷ g ∷ row) (v ∷ values) last h = values_next f (g ∷ row) v (octets_of values) h.0 (λ e. absurd (last.0 e)) ∙ ap (λ vs. v ∷ vs) (values_back (g ∷ row) values last.1 h.1)
+
+pub laid_out : (row : List Field) (values : List FieldValue) → StringsLast row → HoldEach row values → AreLaidOut row (octets_of values)
+laid_out row values last h =
+    let back : values_of row (octets_of values) ≡ values = values_back row values last h in
     record { held = subst (HoldEach row) (sym back) h; whole = ap octets_of back }
-
-field_short : (f : Field) (v : FieldValue) → Holds f v → length (field_octets v) ≤ 255
-field_short fields.Name (name labels) h = h.short
-field_short fields.Serial (long n) h = omega arith
-field_short fields.Time (long n) h = omega arith
-field_short fields.U16 (two_octets n) h = omega arith
-field_short f v h = absurd h
-
--- a field has at most 255 octets
-pub fields_short : (row : List Field) (values : List FieldValue) → HoldEach row values → length (octets_of values) ≤ 255 * length row
-fields_short [] [] h = omega arith
-fields_short [] (v ∷ values) h = absurd h
-fields_short (f ∷ row) [] h = absurd h
-fields_short (f ∷ row) (v ∷ values) h = omega (arith, length-append (field_octets v) (octets_of values), field_short f v h.0, fields_short row values h.1)
 
 -- octets, element by element
 pub bytes_each : (octets : List ℕ) → ((i : ℕ) → get_or octets i 0 < 256) → AllByRecursion (λ c. c < 256) octets
@@ -67,6 +71,9 @@ spelt_holds origin fields.Name (bare text) (name labels) h = h.name
 spelt_holds origin fields.Serial (bare text) (long n) h = h.1
 spelt_holds origin fields.Time (bare text) (long n) h = h.1
 spelt_holds origin fields.U16 (bare text) (two_octets n) h = h.1
+spelt_holds origin (fields.Octets n) (bare text) (fixed octets) h = address_fixed n text octets h
+spelt_holds origin fields.OneString item (string octets) h = h.string
+spelt_holds origin fields.Strings item (strings (octets ∷ [])) h = record { some = omega arith; each = (h.string, tt) }
 spelt_holds origin f item v h = absurd h
 
 pub spelt_hold : (origin : List (List ℕ)) (row : List Field) (items : List RawItem) (values : List FieldValue) → SpellEach origin row items values → HoldEach row values
@@ -77,31 +84,112 @@ spelt_hold origin (f ∷ row) [] values h = absurd h
 spelt_hold origin (f ∷ row) (i ∷ items) [] h = absurd h
 spelt_hold origin (f ∷ row) (i ∷ items) (v ∷ values) h = (spelt_holds origin f i v h.0, spelt_hold origin row items values h.1)
 
--- a layout of the table has at most seven fields
-row_short : (b : Bool) (x y : Option (List Field)) (row : List Field) → cond b x y ≡ Some row → (x ≡ Some row → length row ≤ 7) → (y ≡ Some row → length row ≤ 7) → length row ≤ 7
-row_short true x y row e f g = f e
-row_short false x y row e f g = g e
+-- values that one field of strings and more of them hold, as the value of one field
+record OneOfStrings (values : List FieldValue) : Type 0 where
+  pub many : List (List ℕ)
+  pub are : AreStrings many
+  pub same : flat_map frame many ≡ octets_of values
 
-some_short : (a b : List Field) → length a ≤ 7 → Some a ≡ Some b → length b ≤ 7
-some_short a b h e = let is : a ≡ b = cc in subst (λ l. length l ≤ 7) is h
+join_strings : (items : List RawItem) (values : List FieldValue) → HoldEach (fields.Strings ∷ map (λ _. fields.Strings) items) values → OneOfStrings values
+join_strings [] (strings many ∷ []) h = record { many = many; are = h.0; same = sym (append-nil (flat_map frame many)) }
+join_strings (item ∷ items) (strings many ∷ values) h =
+    let rest = join_strings items values h.1 in
+    record {
+      many = many ++ rest.many;
+      are = record { some = let s : 0 < length many = h.0.some in omega (arith, length-append many rest.many); each = AllByRecursion-append IsString many rest.many h.0.each rest.are.each };
+      same = flat_map-append frame many rest.many ∙ ap (λ o. flat_map frame many ++ o) rest.same;
+    }
+join_strings [] [] h = absurd h
+join_strings [] (strings many ∷ v ∷ values) h = absurd h.1
+join_strings (item ∷ items) [] h = absurd h
+join_strings items (v ∷ values) h = absurd h.0
 
-pub layout_short : (class kind : ℕ) (row : List Field) → layout class kind ≡ Some row → length row ≤ 7
-layout_short class kind row e =
-    row_short (kind == 2) _ _ row e (some_short _ row (omega arith)) (λ e.
-    row_short (kind == 5) _ _ row e (some_short _ row (omega arith)) (λ e.
-    row_short (kind == 6) _ _ row e (some_short _ row (omega arith)) (λ e.
-    row_short (kind == 12) _ _ row e (some_short _ row (omega arith)) (λ e.
-    row_short (kind == 15) _ _ row e (some_short _ row (omega arith)) (λ e.
-    row_short (kind == 33) _ _ row e (some_short _ row (omega arith)) (λ e. absurd cc))))))
+-- the values that the items of a row spell, as one value for each field of the layout
+record OneEach (row : List Field) (values : List FieldValue) : Type 0 where
+  pub own : List FieldValue
+  pub held : HoldEach row own
+  pub same : octets_of own ≡ octets_of values
 
--- the octets that items spell are data of the class and type
-pub spelt_data : (origin : List (List ℕ)) (class kind : ℕ) (row : List Field) (items : List RawItem) (octets : List ℕ) → layout class kind ≡ Some row → AreSpelt origin row items octets → AllByRecursion (λ c. c < 256) octets → IsData class kind octets
-spelt_data origin class kind row items octets e spelt each =
-    let held = spelt_hold origin row items spelt.values spelt.spelt in
-    let short : length octets ≤ 65535 = rw spelt.written (omega (arith, fields_short row spelt.values held, layout_short class kind row e)) in
-    let laid : AreLaidOut row octets = subst (AreLaidOut row) (sym spelt.written) (laid_out row spelt.values held) in
-    record { short = short; each = each; value = rw e laid }
+split_strings : (row : List Field) (more : List RawItem) (values : List FieldValue) → ends_with_strings row ≡ true → HoldEach (row ++ map (λ _. fields.Strings) more) values → OneEach row values
+split_strings [] more values ends h = absurd cc
+split_strings (fields.Strings ∷ []) more values ends h =
+    let one = join_strings more values h in
+    record { own = strings one.many ∷ []; held = (one.are, tt); same = append-nil (flat_map frame one.many) ∙ one.same }
+split_strings (f ∷ []) more values ends h = absurd cc
+split_strings (f ∷ g ∷ row) more [] ends h = absurd h
+split_strings (f ∷ g ∷ row) more (v ∷ values) ends h =
+    let rest = split_strings (g ∷ row) more values ends h.1 in
+    record { own = v ∷ rest.own; held = (h.0, rest.held); same = ap (λ o. field_octets v ++ o) rest.same }
 
--- items that are spelt state their octets
-pub spelt_states : (origin : List (List ℕ)) (class kind : ℕ) (row : List Field) (items : List RawItem) (octets : List ℕ) → layout class kind ≡ Some row → (IsGeneric items → ⊥) → AreSpelt origin row items octets → States origin class kind items octets
-spelt_states origin class kind row items octets e words spelt = in_words row spelt.values e words spelt.spelt spelt.written
+one_each_by : (b : Bool) (row : List Field) (items : List RawItem) (values : List FieldValue) → ends_with_strings row ≡ b → HoldEach (if b then row ++ map (λ _. fields.Strings) (drop (length row) items) else row) values → OneEach row values
+one_each_by true row items values ends h = split_strings row (drop (length row) items) values ends h
+one_each_by false row items values ends h = record { own = values; held = h; same = refl }
+
+one_each : (row : List Field) (items : List RawItem) (values : List FieldValue) → HoldEach (item_fields row items) values → OneEach row values
+one_each row items values h = one_each_by (ends_with_strings row) row items values refl h
+
+-- what every layout of the table is
+table_step : (b : Bool) (x y : Option (List Field)) (row : List Field) → cond b x y ≡ Some row → (x ≡ Some row → IsLayout row) → (y ≡ Some row → IsLayout row) → IsLayout row
+table_step true x y row e f g = f e
+table_step false x y row e f g = g e
+
+is_row : (a b : List Field) → IsLayout a → Some a ≡ Some b → IsLayout b
+is_row a b h e = let is : a ≡ b = cc in subst IsLayout is h
+
+abbrev IsOneName : IsLayout (fields.Name ∷ [])
+IsOneName = record { few = omega arith; last = tt; sized = (tt, tt) }
+
+other : (f : Field) → (f ≡ fields.Strings → ⊥) → f ≢ fields.Strings
+other f h = h
+
+pub table_row : (class kind : ℕ) (row : List Field) → layout class kind ≡ Some row → IsLayout row
+table_row class kind row e =
+    table_step (kind == 1 && class == 1) _ _ row e (is_row _ row (record { few = omega arith; last = tt; sized = (inl refl, tt) })) (λ e.
+    table_step (kind == 2) _ _ row e (is_row _ row IsOneName) (λ e.
+    table_step (kind == 5) _ _ row e (is_row _ row IsOneName) (λ e.
+    table_step (kind == 6) _ _ row e (is_row _ row (record { few = omega arith; last = (λ h. cc, (λ h. cc, (λ h. cc, (λ h. cc, (λ h. cc, (λ h. cc, tt)))))); sized = (tt, (tt, (tt, (tt, (tt, (tt, (tt, tt))))))) })) (λ e.
+    table_step (kind == 12) _ _ row e (is_row _ row IsOneName) (λ e.
+    table_step (kind == 15) _ _ row e (is_row _ row (record { few = omega arith; last = (λ h. cc, tt); sized = (tt, (tt, tt)) })) (λ e.
+    table_step (kind == 16) _ _ row e (is_row _ row (record { few = omega arith; last = tt; sized = (tt, tt) })) (λ e.
+    table_step (kind == 28 && class == 1) _ _ row e (is_row _ row (record { few = omega arith; last = tt; sized = (inr refl, tt) })) (λ e.
+    table_step (kind == 33) _ _ row e (is_row _ row (record { few = omega arith; last = (λ h. cc, (λ h. cc, (λ h. cc, tt))); sized = (tt, (tt, (tt, (tt, tt)))) })) (λ e.
+    table_step (kind == 35) _ _ row e (is_row _ row (record { few = omega arith; last = (λ h. cc, (λ h. cc, (λ h. cc, (λ h. cc, (λ h. cc, tt))))); sized = (tt, (tt, (tt, (tt, (tt, (tt, tt)))))) })) (λ e. absurd cc))))))))))
+
+-- octets that items spell for a layout are one value of it
+spelt_laid : (origin : List (List ℕ)) (row : List Field) (items : List RawItem) (octets : List ℕ) → StringsLast row → AreSpelt origin (item_fields row items) items octets → AreLaidOut row octets
+spelt_laid origin row items octets last spelt =
+    let one = one_each row items spelt.values (spelt_hold origin (item_fields row items) items spelt.values spelt.spelt) in
+    subst (AreLaidOut row) (one.same ∙ sym spelt.written) (laid_out row one.own last one.held)
+
+-- data for a layout, if there is one: octets that are one value
+abbrev pub AreFor : Option (List Field) → List ℕ → Type 0
+AreFor laid octets = MatchOption laid (Unit {0}) (λ fields. AreLaidOut fields octets)
+
+-- the octets that items state for a layout of the table are data
+pub stated_laid : (origin : List (List ℕ)) (laid : Option (List Field)) (items : List RawItem) (octets : List ℕ) → ((row : List Field) → laid ≡ Some row → IsLayout row) → StatesFor origin laid items octets → AreFor laid octets
+stated_laid origin None items octets table stated = tt
+stated_laid origin (Some row) items octets table (in_words own values e words spelt written short) =
+    let same : own ≡ row = cc in
+    subst (λ r. AreLaidOut r octets) same (spelt_laid origin own items octets (subst StringsLast (sym same) (table row refl).last) (record { values = values; spelt = spelt; written = written }))
+stated_laid origin (Some row) items octets table (in_octets stated marked form canonical) =
+    subst (AreLaidOut row) (sym canonical.whole) (laid_out row canonical.values (table row refl).last canonical.held)
+
+short_form : (laid : Option (List Field)) (items : List RawItem) (stated octets : List ℕ) → StatesGeneric items stated → IsCanonicalOf laid stated octets → length octets ≤ 65535
+short_form None items stated octets form e = rw e form.short
+short_form (Some row) items stated octets form canonical = rw (uncompressed_length row stated octets canonical) form.short
+
+pub stated_short : (origin : List (List ℕ)) (laid : Option (List Field)) (items : List RawItem) (octets : List ℕ) → StatesFor origin laid items octets → length octets ≤ 65535
+stated_short origin laid items octets (in_words own values e words spelt written short) = short
+stated_short origin laid items octets (in_octets stated marked form canonical) = short_form laid items stated octets form canonical
+
+-- what items state for the layout of a class and type is their data
+pub stated_data : (origin : List (List ℕ)) (class kind : ℕ) (laid : Option (List Field)) (items : List RawItem) (octets : List ℕ) → laid ≡ layout class kind → StatesFor origin laid items octets → AllByRecursion (λ c. c < 256) octets → IsData class kind octets
+stated_data origin class kind laid items octets e stated each =
+    let table : (row : List Field) → laid ≡ Some row → IsLayout row = λ row is. table_row class kind row (sym e ∙ is) in
+    record { short = stated_short origin laid items octets stated; each = each; value = subst (λ l. AreFor l octets) e (stated_laid origin laid items octets table stated) }
+
+pub states_for : (origin : List (List ℕ)) (class kind : ℕ) (laid : Option (List Field)) (items : List RawItem) (octets : List ℕ) → laid ≡ layout class kind → StatesFor origin laid items octets → States origin class kind items octets
+states_for origin class kind laid items octets e stated = record { stated = subst (λ l. StatesFor origin l items octets) e stated }
+
+pub first_for : (origin : List (List ℕ)) (class kind : ℕ) (laid : Option (List Field)) (items : List RawItem) (fault : Fault) → laid ≡ layout class kind → IsFaultFor origin laid items fault → IsDataFault origin class kind items fault
+first_for origin class kind laid items fault e first = record { first = subst (λ l. IsFaultFor origin l items fault) e first }

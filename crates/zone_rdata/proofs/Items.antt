@@ -1,65 +1,89 @@
 -- Items read from the left, field after field.
-use Rattle.std.proofs.Common.{◌≡◌, ℕ, ◌+◌, ◌<◌, ◌≤◌, List, [], ◌∷◌, ◌++◌, length, get_or, drop, map, refl, sym, ap, ◌∙◌, subst, arith, append_assoc, ◌⊎◌, inl, inr, Bor, Result, Bool, IsTrue, ◌↔◌}
+use Rattle.std.proofs.Common.{◌≡◌, ℕ, zero, suc, ◌+◌, ◌<◌, ◌≤◌, List, [], ◌∷◌, ◌++◌, length, get_or, take, drop, map, refl, sym, ap, ◌∙◌, subst, arith, append_assoc, length-append, Bor, Result, Ok, Err, Bool, true, false, IsTrue, ◌↔◌, Option, Some, None}
+use Rattle.std.specs.Prelude.{OnOk, IfErr, slice_get, if◌then◌else◌}
+use Rattle.std.specs.Option.{option_or}
 use Rattle.std.specs.Str.{bytes_eq}
 use Rattle.std.proofs.lemmas.Slice.Eq.{bytes_eq-Decides}
-use Rattle.std.specs.Prelude.{OnOk}
 use Rattle.std.proofs.lemmas.Result.{on_ok_weaker}
-use Rattle.zone_rdata.specs.declared.fault.Failing.{Failing}
-use Rattle.zone_rdata.specs.declared.item.Item.TheVariants.{Bare}
-use Rattle.std.proofs.lemmas.List.{drop_more, drop_all, append-nil}
+use Rattle.std.proofs.lemmas.List.{take_more, take_all, drop_more, take-append-drop, append-nil, length-map}
 use Rattle.std.proofs.lemmas.List.Concat.{flat_map-append}
-use Rattle.zone_rdata.specs.declared.layout.Field.{Field}
-use Rattle.zone_rdata.specs.Field.{FieldValue, long, two_octets, field_octets, octets_of}
-use Rattle.zone_rdata.specs.declared.layout.Field.TheVariants as fields
+use Rattle.zone_rdata.specs.declared.fault.Failing.{Failing}
+use Rattle.zone_rdata.specs.declared.fault.Fault.{Fault}
+use Rattle.zone_rdata.specs.declared.fault.Fault.TheVariants.{BadRdata, RdataTooLong}
 use Rattle.zone_rdata.specs.declared.item.Item.{Item}
-use Rattle.zone_rdata.specs.Reading.{AppendsField, AppendsDecimal, AppendsTime, AppendsTwoOctets, AreSpelt}
-use Rattle.zone_rdata.specs.Spelling.{RawItem, bare, raw, generic_mark, IsGeneric, SpellsField, SpellEach}
+use Rattle.zone_rdata.specs.declared.item.Item.TheVariants.{Bare}
+use Rattle.zone_rdata.specs.declared.layout.Field.{Field}
+use Rattle.zone_rdata.specs.declared.layout.Field.TheVariants as fields
+use Rattle.zone_rdata.specs.DataFault.{IsItemFault, IsWordsFault, unspelt, missing, left_over, too_long}
+use Rattle.zone_rdata.specs.Field.{FieldValue, field_octets, octets_of}
+use Rattle.zone_rdata.specs.Item.{RawItem, bare, raw, generic_mark, IsGeneric}
+use Rattle.zone_rdata.specs.Reading.{AppendsField, AreSpelt, item_field}
+use Rattle.zone_rdata.specs.Spelling.{SpellsField, SpellEach, ends_with_strings, item_fields}
 
--- the octets are those of values such that whatever the rest spells goes on from them
-pub record HaveRead (origin : List (List ℕ)) (fields : List Field) (items : List RawItem) (at : ℕ) (rest : List RawItem) (octets : List ℕ) : Type 0 where
+-- the first items spell the first fields, and the octets are those of their values
+pub record HaveRead (origin : List (List ℕ)) (row : List Field) (items : List RawItem) (i : ℕ) (octets : List ℕ) : Type 0 where
   pub values : List FieldValue
+  pub spelt : SpellEach origin (take i row) (take i items) values
   pub written : octets ≡ octets_of values
-  pub leads : (more : List FieldValue) → SpellEach origin (drop at fields) rest more → SpellEach origin fields items (values ++ more)
 
-pub read_none : (origin : List (List ℕ)) (fields : List Field) (items : List RawItem) (octets : List ℕ) → octets ≡ [] → HaveRead origin fields items 0 items octets
-read_none origin fields items octets e = record { values = []; written = e; leads = λ more h. h }
+pub read_none : (origin : List (List ℕ)) (row : List Field) (items : List RawItem) (octets : List ℕ) → octets ≡ [] → HaveRead origin row items 0 octets
+read_none origin row items octets e = record { values = []; spelt = tt; written = e }
 
-pub read_more : (origin : List (List ℕ)) (fields : List Field) (items : List RawItem) (at : ℕ) (item : RawItem) (rest : List RawItem) (octets new : List ℕ) (f d : Field) → at < length fields → f ≡ get_or fields at d → HaveRead origin fields items at (item ∷ rest) octets → AppendsField origin f item octets new → HaveRead origin fields items (at + 1) rest new
-read_more origin fields items at item rest octets new f d lt found read grows =
-    let value = grows.value in
+-- one more item at the end
+spell_push : (origin : List (List ℕ)) (row : List Field) (items : List RawItem) (values : List FieldValue) (f : Field) (item : RawItem) (v : FieldValue) → SpellEach origin row items values → SpellsField origin f item v → SpellEach origin (row ++ f ∷ []) (items ++ item ∷ []) (values ++ v ∷ [])
+spell_push origin [] [] [] f item v each h = (h, tt)
+spell_push origin [] [] (w ∷ values) f item v each h = absurd each
+spell_push origin [] (i ∷ items) values f item v each h = absurd each
+spell_push origin (g ∷ row) [] values f item v each h = absurd each
+spell_push origin (g ∷ row) (i ∷ items) [] f item v each h = absurd each
+spell_push origin (g ∷ row) (i ∷ items) (w ∷ values) f item v each h = (each.0, spell_push origin row items values f item v each.1 h)
+
+-- a list up to a place, what stands there, and the rest
+pub parted_at : {X : Type 0} (l : List X) (i : ℕ) (d : X) → i < length l → l ≡ take i l ++ get_or l i d ∷ drop (i + 1) l
+parted_at l i d lt = sym (take-append-drop i l) ∙ ap (λ r. take i l ++ r) (drop_more l i d lt)
+
+pub read_more : (origin : List (List ℕ)) (row : List Field) (items : List RawItem) (i : ℕ) (f d : Field) (item e : RawItem) (octets new : List ℕ) → i < length row → f ≡ get_or row i d → i < length items → item ≡ get_or items i e → HaveRead origin row items i octets → AppendsField origin f item octets new → HaveRead origin row items (i + 1) new
+read_more origin row items i f d item e octets new inside at within is read grows =
+    let row_more : take (i + 1) row ≡ take i row ++ f ∷ [] = take_more row i d inside ∙ ap (λ x. take i row ++ x ∷ []) (sym at) in
+    let items_more : take (i + 1) items ≡ take i items ++ item ∷ [] = take_more items i e within ∙ ap (λ x. take i items ++ x ∷ []) (sym is) in
+    let spelt = spell_push origin (take i row) (take i items) read.values f item grows.value read.spelt grows.spelt in
     record {
-      values = read.values ++ value ∷ [];
-      written = grows.written ∙ ap (λ o. o ++ field_octets value) read.written ∙ sym (flat_map-append field_octets read.values (value ∷ []) ∙ ap (λ o. octets_of read.values ++ o) (append-nil (field_octets value)));
-      leads = λ more h.
-          let here : drop at fields ≡ f ∷ drop (at + 1) fields = drop_more fields at d lt ∙ ap (λ x. x ∷ drop (at + 1) fields) (sym found) in
-          let whole : SpellEach origin fields items (read.values ++ value ∷ more) = read.leads (value ∷ more) (subst (λ fs. SpellEach origin fs (item ∷ rest) (value ∷ more)) (sym here) (grows.spelt, h)) in
-          subst (λ vs. SpellEach origin fields items vs) (sym (append_assoc read.values (value ∷ []) more)) whole;
+      values = read.values ++ grows.value ∷ [];
+      spelt = subst (λ r. SpellEach origin r (take (i + 1) items) (read.values ++ grows.value ∷ [])) (sym row_more) (subst (λ x. SpellEach origin (take i row ++ f ∷ []) x (read.values ++ grows.value ∷ [])) (sym items_more) spelt);
+      written = grows.written ∙ ap (λ o. o ++ field_octets grows.value) read.written ∙ sym (flat_map-append field_octets read.values (grows.value ∷ []) ∙ ap (λ o. octets_of read.values ++ o) (append-nil (field_octets grows.value)));
     }
 
--- an item that is read by its place
-pub read_at : (origin : List (List ℕ)) (fields : List Field) (items : List Item) (at taken : ℕ) (item : Item) (octets new : List ℕ) (f d : Field) → at < length fields → f ≡ get_or fields at d → taken < length items → item ≡ get_or items taken item → HaveRead origin fields (map raw items) at (map raw (drop taken items)) octets → AppendsField origin f (raw item) octets new → HaveRead origin fields (map raw items) (at + 1) (map raw (drop (taken + 1) items)) new
-read_at origin fields items at taken item octets new f d lt found within is read grows =
-    let here : drop taken items ≡ item ∷ drop (taken + 1) items = drop_more items taken item within ∙ ap (λ x. x ∷ drop (taken + 1) items) (sym is) in
-    read_more origin fields (map raw items) at (raw item) (map raw (drop (taken + 1) items)) octets new f d lt found (subst (λ r. HaveRead origin fields (map raw items) at (map raw r) octets) here read) grows
+-- the next item spells no value of its field
+pub read_stops : (origin : List (List ℕ)) (row : List Field) (items : List RawItem) (i : ℕ) (f d : Field) (item e : RawItem) (octets : List ℕ) (fault : Fault) → i < length row → f ≡ get_or row i d → i < length items → item ≡ get_or items i e → HaveRead origin row items i octets → IsItemFault origin f item fault → IsWordsFault origin row items fault
+read_stops origin row items i f d item e octets fault inside at within is read bad =
+    unspelt (take i row) (drop (i + 1) row) f (take i items) (drop (i + 1) items) item read.values fault
+    (parted_at row i d inside ∙ ap (λ x. take i row ++ x ∷ drop (i + 1) row) (sym at))
+    (parted_at items i e within ∙ ap (λ x. take i items ++ x ∷ drop (i + 1) items) (sym is))
+    read.spelt bad
 
-pub read_all : (origin : List (List ℕ)) (fields : List Field) (items : List RawItem) (at : ℕ) (rest : List RawItem) (octets : List ℕ) → length fields ≤ at → rest ≡ [] → HaveRead origin fields items at rest octets → AreSpelt origin fields items octets
-read_all origin fields items at rest octets past none read =
-    let nothing : drop at fields ≡ [] = drop_all at fields past in
-    let ends : SpellEach origin (drop at fields) rest [] = subst (λ fs. SpellEach origin fs rest []) (sym nothing) (subst (λ r. SpellEach origin [] r []) (sym none) tt) in
-    record { values = read.values; spelt = subst (λ vs. SpellEach origin fields items vs) (append-nil read.values) (read.leads [] ends); written = read.written }
+-- no field is left for the next item
+pub read_over : (origin : List (List ℕ)) (row : List Field) (items : List RawItem) (i : ℕ) (e : RawItem) (octets : List ℕ) → length row ≤ i → i < length items → HaveRead origin row items i octets → IsWordsFault origin row items BadRdata
+read_over origin row items i e octets past within read =
+    left_over (take i items) (drop (i + 1) items) (get_or items i e) read.values (parted_at items i e within) (subst (λ r. SpellEach origin r (take i items) read.values) (take_all i row past) read.spelt)
 
--- the octets of a number are those of its field
-on_appended : (origin : List (List ℕ)) (field f : Field) (item : Item) (text : Bor (List ℕ)) (old new : List ℕ) (r : Result (Unit {0}) Failing) → item ≡ Bare text → field ≡ f → OnOk r (AppendsField origin f (bare text.now) old new) → OnOk r (AppendsField origin field (raw item) old new)
-on_appended origin field f item text old new r is which done = on_ok_weaker r (λ h. subst (λ i. AppendsField origin field (raw i) old new) (sym is) (subst (λ g. AppendsField origin g (bare text.now) old new) (sym which) h)) done
+-- no item is left for the next field
+pub read_short : (origin : List (List ℕ)) (row : List Field) (items : List RawItem) (i : ℕ) (d : Field) (octets : List ℕ) → i < length row → length items ≤ i → HaveRead origin row items i octets → IsWordsFault origin row items BadRdata
+read_short origin row items i d octets inside past read =
+    missing (take i row) (drop (i + 1) row) (get_or row i d) read.values (parted_at row i d inside) (subst (λ x. SpellEach origin (take i row) x read.values) (take_all i items past) read.spelt)
 
-pub on_serial : (origin : List (List ℕ)) (field : Field) (item : Item) (text : Bor (List ℕ)) (old new : List ℕ) (r : Result (Unit {0}) Failing) → item ≡ Bare text → field ≡ fields.Serial → OnOk r (AppendsDecimal text.now old new) → OnOk r (AppendsField origin field (raw item) old new)
-on_serial origin field item text old new r is which done = on_appended origin field fields.Serial item text old new r is which (on_ok_weaker r (λ h. record { value = long h.number; spelt = (h.digits, h.short); written = h.written }) done)
+pub read_all : (origin : List (List ℕ)) (row : List Field) (items : List RawItem) (i : ℕ) (octets : List ℕ) → length row ≤ i → length items ≤ i → HaveRead origin row items i octets → AreSpelt origin row items octets
+read_all origin row items i octets past none read =
+    record {
+      values = read.values;
+      spelt = subst (λ r. SpellEach origin r items read.values) (take_all i row past) (subst (λ x. SpellEach origin (take i row) x read.values) (take_all i items none) read.spelt);
+      written = read.written;
+    }
 
-pub on_time : (origin : List (List ℕ)) (field : Field) (item : Item) (text : Bor (List ℕ)) (old new : List ℕ) (r : Result (Unit {0}) Failing) → item ≡ Bare text → field ≡ fields.Time → OnOk r (AppendsTime text.now old new) → OnOk r (AppendsField origin field (raw item) old new)
-on_time origin field item text old new r is which done = on_appended origin field fields.Time item text old new r is which (on_ok_weaker r (λ h. record { value = long h.number; spelt = (h.time, h.short); written = h.written }) done)
-
-pub on_two_octets : (origin : List (List ℕ)) (field : Field) (item : Item) (text : Bor (List ℕ)) (old new : List ℕ) (r : Result (Unit {0}) Failing) → item ≡ Bare text → field ≡ fields.U16 → OnOk r (AppendsTwoOctets text.now old new) → OnOk r (AppendsField origin field (raw item) old new)
-on_two_octets origin field item text old new r is which done = on_appended origin field fields.U16 item text old new r is which (on_ok_weaker r (λ h. record { value = two_octets h.number; spelt = (h.digits, h.short); written = h.written }) done)
+-- all is spelled, and takes too many octets
+pub read_long : (origin : List (List ℕ)) (row : List Field) (items : List RawItem) (i : ℕ) (octets : List ℕ) → length row ≤ i → length items ≤ i → 65535 < length octets → HaveRead origin row items i octets → IsWordsFault origin row items RdataTooLong
+read_long origin row items i octets past none long read =
+    let all = read_all origin row items i octets past none read in
+    too_long all.values all.spelt (subst (λ o. 65535 < length o) all.written long)
 
 -- a first item that is bare is the mark exactly where its text is
 pub generic_first : (items : List Item) (first : Item) (text : Bor (List ℕ)) (mark : List ℕ) (r : Bool) → 0 < length items → first ≡ get_or items 0 first → first ≡ Bare text → mark ≡ 92 ∷ 35 ∷ [] → r ≡ bytes_eq text.now mark → IsTrue r ↔ IsGeneric (map raw items)

@@ -20,7 +20,7 @@ labels_back ((c ∷ label) ∷ labels) rest (suc m) fuel each =
     labels_cut (length label) m (c ∷ label ++ flat_map frame labels ++ 0 ∷ rest) (c ∷ label) more (ap (λ t. c ∷ t) (append_assoc label (flat_map frame labels) (0 ∷ rest))) refl ∙ ap (λ t. (c ∷ label) ∷ t) (labels_back labels rest m left each.1)
 
 -- frames are no fewer octets than labels
-length-frames : (labels : List (List ℕ)) → length labels ≤ length (flat_map frame labels)
+pub length-frames : (labels : List (List ℕ)) → length labels ≤ length (flat_map frame labels)
 length-frames [] = omega arith
 length-frames (label ∷ labels) = omega (arith, length-append label (flat_map frame labels), length-frames labels)
 

@@ -1,10 +1,10 @@
 -- The text of data, field after field.
-use Rattle.std.proofs.Common.{◌≡◌, ℕ, zero, suc, ◌+◌, ◌*◌, ◌^◌, ◌<◌, ◌≤◌, List, [], ◌∷◌, ◌++◌, length, get_or, take, drop, map, refl, sym, ap, ◌∙◌, subst, arith, append_assoc, length-append, codes, decimal, Some, ◌/◌, ◌%◌, inl, inr}
+use Rattle.std.proofs.Common.{◌≡◌, ℕ, zero, suc, ◌+◌, ◌-◌, ◌*◌, ◌^◌, ◌<◌, ◌≤◌, List, [], ◌∷◌, ◌++◌, length, get_or, take, drop, map, refl, sym, ap, ◌∙◌, subst, arith, append_assoc, length-append, codes, decimal, Some, ◌/◌, ◌%◌, inl, inr}
 use Rattle.std.specs.Prelude.{slice_index, Result, Ok, Err, OnErr, OnOk, IsOk}
 use Rattle.hex.specs.Hex.{lower_digits, encode_with, encode_lower}
 use Rattle.std.specs.List.{flat_map, AllByRecursion, join_with_byte}
 use Rattle.std.proofs.lemmas.Bool.{cases_lt}
-use Rattle.std.proofs.lemmas.List.{take_at, drop_at, drop_more, drop_all, append-nil, take_more, take_all}
+use Rattle.std.proofs.lemmas.List.{take_at, drop_at, drop_more, drop_all, append-nil, take_more, take_all, length-drop}
 use Rattle.zone_rdata.specs.declared.layout.Field.{Field}
 use Rattle.zone_rdata.specs.Field.{FieldValue, field_octets, octets_of, Holds, HoldEach, field_at, values_of}
 use Rattle.zone_rdata.specs.Layout.{AreLaidOut}
@@ -25,7 +25,7 @@ abbrev pub still : ℕ → List (List ℕ) → List ℕ
 still zero texts = join_with_byte 32 texts
 still (suc i) texts = flat_map (λ t. 32 ∷ t) texts
 
-joined_more : (text : List ℕ) (texts : List (List ℕ)) → join_with_byte 32 (text ∷ texts) ≡ text ++ flat_map (λ t. 32 ∷ t) texts
+pub joined_more : (text : List ℕ) (texts : List (List ℕ)) → join_with_byte 32 (text ∷ texts) ≡ text ++ flat_map (λ t. 32 ∷ t) texts
 joined_more text [] = sym (append-nil text)
 joined_more text (next ∷ texts) = ap (λ t. text ++ 32 ∷ t) (joined_more next texts)
 
@@ -112,16 +112,17 @@ pub record HaveCounted (row : List Field) (whole : List ℕ) (i : ℕ) (rest : L
   pub printed : List ℕ
   pub so_far : HavePrinted row whole i rest [] printed
   pub count : len ≡ length printed
-  pub short : len ≤ 1022 * i
+  pub short : len + 4 * length rest ≤ 1023 * i + 4 * length whole
+  pub within : length rest ≤ length whole
 
 pub counted_none : (row : List Field) (whole : List ℕ) → AreLaidOut row whole → HaveCounted row whole 0 whole 0
-counted_none row whole laid = record { printed = []; so_far = printed_none row whole [] laid; count = refl; short = omega arith }
+counted_none row whole laid = record { printed = []; so_far = printed_none row whole [] laid; count = refl; short = omega arith; within = omega arith }
 
 spaced_len : (i space : ℕ) (text : List ℕ) → (i ≡ 0 → space ≡ 0) → (0 < i → space ≡ 1) → length (spaced i text) ≡ space + length text
 spaced_len zero space text none one = omega (arith, none refl)
 spaced_len (suc i) space text none one = let h : space ≡ 1 = one (omega arith) in omega arith
 
-pub counted_more : (row : List Field) (whole rest after : List ℕ) (i len space text : ℕ) (f d : Field) → i < length row → f ≡ get_or row i d → HaveCounted row whole i rest len → (i ≡ 0 → space ≡ 0) → (0 < i → space ≡ 1) → text ≡ length (field_text (field_at f rest)) → text ≤ 1021 → after ≡ after_field f rest → HaveCounted row whole (i + 1) after (len + (space + text))
+pub counted_more : (row : List Field) (whole rest after : List ℕ) (i len space text : ℕ) (f d : Field) → i < length row → f ≡ get_or row i d → HaveCounted row whole i rest len → (i ≡ 0 → space ≡ 0) → (0 < i → space ≡ 1) → text ≡ length (field_text (field_at f rest)) → text + 4 * length after ≤ 1022 + 4 * length rest → after ≡ after_field f rest → HaveCounted row whole (i + 1) after (len + (space + text))
 counted_more row whole rest after i len space text f d lt at counted none one is short goes =
     let t = field_text (field_at f rest) in
     let next = counted.printed ++ spaced i t in
@@ -132,11 +133,18 @@ counted_more row whole rest after i len space text f d lt at counted none one is
       printed = next;
       so_far = subst (λ r. HavePrinted row whole (i + 1) r [] next) (sym goes) more;
       count = omega (arith, counted.count, is, spaces, length-append counted.printed (spaced i t));
-      short = omega (arith, counted.short);
+      short = omega (arith, counted.short, short, few);
+      within = let l = length-drop (length (field_octets (field_at f rest))) rest in rw goes (omega (arith, l, counted.within));
     }
 
 pub counted_all : (row : List Field) (whole rest : List ℕ) (i len : ℕ) → length row ≤ i → HaveCounted row whole i rest len → len ≡ length (laid_out_text (Some row) whole)
 counted_all row whole rest i len past counted = counted.count ∙ ap length (printed_all row whole rest [] counted.printed i past counted.so_far)
+
+-- the field at a place is sized, and the rest begins with it
+pub each_at : {X : Type 0} (P : X → Type 0) (l : List X) (i : ℕ) (d : X) → i < length l → AllByRecursion P l → P (get_or l i d)
+each_at P [] i d lt each = absurd (omega arith)
+each_at P (x ∷ l) zero d lt each = each.0
+each_at P (x ∷ l) (suc i) d lt each = each_at P l i d (omega arith) each.1
 
 pub hex_len : (octets : List ℕ) → length (encode_lower octets) ≡ 2 * length octets
 unfolding encode_with

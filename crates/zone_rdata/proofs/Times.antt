@@ -39,7 +39,7 @@ no_run (a ∷ as_) c r (b ∷ bs) each p e = let t : as_ ++ c ∷ r ≡ bs = cc 
 pub unit_no_digit : (c u : ℕ) → unit_seconds c ≡ Some u → is_digit c ≡ false
 unit_no_digit c u e = grind (arith, nat_tests)
 
-run_nil : (a : List ℕ) (c : ℕ) (r : List ℕ) → a ++ c ∷ r ≡ [] → ⊥
+pub run_nil : (a : List ℕ) (c : ℕ) (r : List ℕ) → a ++ c ∷ r ≡ [] → ⊥
 run_nil [] c r e = cc
 run_nil (a ∷ as_) c r e = cc
 
@@ -127,7 +127,7 @@ no_groups : (groups : List Group) → (0 < length groups → ⊥) → groups ≡
 no_groups [] h = refl
 no_groups (g ∷ groups) h = absurd (h (omega arith))
 
-first_unit : (groups : List Group) (digits text : List ℕ) → AllByRecursion IsGroup groups → 0 < length groups → AreDigits text → text ≡ flat_map group_text groups ++ digits → ⊥
+pub first_unit : (groups : List Group) (digits text : List ℕ) → AllByRecursion IsGroup groups → 0 < length groups → AreDigits text → text ≡ flat_map group_text groups ++ digits → ⊥
 first_unit [] digits text each some all e = omega arith
 first_unit (g ∷ groups) digits text each some all e = no_run g.digits g.letter (flat_map group_text groups ++ digits) text all (unit_no_digit g.letter g.unit each.0.lasts) (sym (e ∙ ap (λ t. t ++ digits) (append_assoc g.digits (g.letter ∷ []) (flat_map group_text groups)) ∙ append_assoc g.digits (g.letter ∷ flat_map group_text groups) digits))
 

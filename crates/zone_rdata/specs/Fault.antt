@@ -1,6 +1,9 @@
--- The faults of names among those of an input.
+-- The faults of names among those of an input, and what is said of a fault.
+use Rattle.std.specs.Prelude.{⊤}
 use Rattle.zone_name.specs.declared.fault.NameFault.{NameFault}
 use Rattle.zone_name.specs.declared.fault.NameFault.TheVariants as names
+use Rattle.zone_rdata.specs.declared.fault.Failing.{Failing}
+use Rattle.zone_rdata.specs.declared.fault.Failing.TheVariants as failings
 use Rattle.zone_rdata.specs.declared.fault.Fault.{Fault}
 use Rattle.zone_rdata.specs.declared.fault.Fault.TheVariants.{EmptyLabel, LabelTooLong, NameTooLong, BadEscape, RelativeName}
 
@@ -10,3 +13,8 @@ fault_of names.LabelTooLong = LabelTooLong
 fault_of names.NameTooLong = NameTooLong
 fault_of names.BadEscape = BadEscape
 fault_of names.RelativeName = RelativeName
+
+-- the fault, if it is one and not want of memory, is as said
+abbrev pub IfFault : (Fault → Type 0) → Failing → Type 0
+IfFault Is (failings.Fault fault) = Is fault
+IfFault Is failings.Memory = ⊤

@@ -1,18 +1,24 @@
 -- The canonical text of record data.
-use Rattle.std.specs.Prelude.{◌≡◌, ℕ, zero, suc, take, drop, List, [], ◌∷◌, ◌++◌, length, map, codes, decimal, Option, Some, None}
+use Rattle.std.specs.Prelude.{◌≡◌, ℕ, zero, suc, take, drop, List, [], ◌∷◌, ◌++◌, length, map, codes, decimal, ◌==◌, if◌then◌else◌, Option, Some, None}
 use Rattle.std.specs.List.{join_with_byte}
 use Rattle.hex.specs.Hex.{encode_lower}
 use Rattle.zone_name.specs.Text.{name_text}
 use Rattle.zone_rdata.specs.declared.layout.Field.{Field}
-use Rattle.zone_rdata.specs.Field.{FieldValue, name, long, two_octets, Holds, field_octets, field_at, values_of}
+use Rattle.zone_rdata.specs.Field.{FieldValue, name, long, two_octets, fixed, string, strings, Holds, field_octets, field_at, values_of}
+use Rattle.zone_rdata.specs.Address.{four_text, groups_text}
 use Rattle.zone_rdata.specs.Layout.{layout}
+use Rattle.zone_rdata.specs.Strings.{string_text}
 use Rattle.zone_rdata.specs.Record.{Data}
 
--- a name absolute and in lower case, a number in decimal digits
+-- A name absolute and in lower case, a number in decimal digits, an address of 4 or 16 octets, strings in quotes and
+-- parted by single spaces
 abbrev pub field_text : FieldValue → List ℕ
 field_text (name labels) = name_text labels
 field_text (long n) = decimal n
 field_text (two_octets n) = decimal n
+field_text (fixed octets) = if length octets == 4 then four_text octets else groups_text octets
+field_text (string octets) = string_text octets
+field_text (strings many) = join_with_byte 32 (map string_text many)
 
 -- the generic form before its digits
 abbrev pub generic_head : List ℕ → List ℕ

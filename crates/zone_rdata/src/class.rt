@@ -2,7 +2,7 @@ ghost use Rattle.std.specs.Prelude.{◌≡◌, ◌≤◌, length, ◌↔◌, ◌
 ghost use Rattle.zone_rdata.specs.Words.{IsClass, IsClassWord, IsMnemonic, class_mnemonic, class_text};
 
 use crate::fault::Fault;
-use crate::printing::decimal_len;
+use crate::lengths::decimal_len;
 use crate::word::{is_word, numbered, push_numbered};
 use std::alloc::AllocError;
 use std::marker::Model;

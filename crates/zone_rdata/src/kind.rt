@@ -5,7 +5,7 @@ ghost use Rattle.zone_rdata.specs.Layout.{layout};
 use crate::class::Class;
 use crate::fault::Fault;
 use crate::layout::layout_of;
-use crate::printing::decimal_len;
+use crate::lengths::decimal_len;
 use crate::word::{is_word, numbered, push_numbered};
 use std::alloc::AllocError;
 use std::marker::Model;

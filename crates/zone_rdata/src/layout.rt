@@ -1,5 +1,7 @@
 ghost use Rattle.std.specs.Prelude.{◌≡◌, option_map, slice_get};
 ghost use Rattle.zone_rdata.specs.Layout.{layout, fields_of};
+ghost use Rattle.zone_rdata.specs.Reading.{item_field};
+ghost use Rattle.zone_rdata.specs.Spelling.{ends_with_strings, is_strings};
 
 use crate::class::Class;
 use crate::kind::Kind;
@@ -15,6 +17,20 @@ pub enum Field {
     Time,
     /// A number of 16 bits, written in digits.
     U16,
+    /// An address of this number of octets.
+    Octets(usize),
+    /// A character-string.
+    OneString,
+    /// One or more character-strings, up to the end of the data.
+    Strings,
+}
+
+impl Field {
+    fn is_strings(self) -> bool
+        ensures { result ≡ is_strings self }
+    {
+        matches!(self, Field::Strings)
+    }
 }
 
 /// The fields of one type's data, in order.
@@ -22,6 +38,8 @@ pub enum Field {
 pub struct Layout {
     fields: &'static [Field],
 }
+
+static A: [Field; 1] = [Field::Octets(4)];
 
 static NAME: [Field; 1] = [Field::Name];
 
@@ -37,18 +55,34 @@ static SOA: [Field; 7] = [
 
 static MX: [Field; 2] = [Field::U16, Field::Name];
 
+static TXT: [Field; 1] = [Field::Strings];
+
+static AAAA: [Field; 1] = [Field::Octets(16)];
+
 static SRV: [Field; 4] = [Field::U16, Field::U16, Field::U16, Field::Name];
+
+static NAPTR: [Field; 6] = [
+    Field::U16,
+    Field::U16,
+    Field::OneString,
+    Field::OneString,
+    Field::OneString,
+    Field::Name,
+];
 
 /// The layout of a type's data in a class. `None`: the data is opaque.
 pub fn layout_of(class: Class, kind: Kind) -> Option<Layout>
     ensures { option_map fields_of result ≡ layout class kind }
 {
-    let _ = class;
     match kind.number() {
+        1 if class.number() == 1 => Some(Layout { fields: &A }),
         2 | 5 | 12 => Some(Layout { fields: &NAME }),
         6 => Some(Layout { fields: &SOA }),
         15 => Some(Layout { fields: &MX }),
+        16 => Some(Layout { fields: &TXT }),
+        28 if class.number() == 1 => Some(Layout { fields: &AAAA }),
         33 => Some(Layout { fields: &SRV }),
+        35 => Some(Layout { fields: &NAPTR }),
         _ => None,
     }
 }
@@ -66,5 +100,26 @@ impl Layout {
         ensures { result ≡ slice_get (fields_of self) i }
     {
         self.fields.get(i).copied()
+    }
+
+    /// Whether the last field is strings.
+    fn ends_with_strings(self) -> bool
+        ensures { result ≡ ends_with_strings (fields_of self) }
+    {
+        match self.fields.last() {
+            Some(field) => field.is_strings(),
+            None => false,
+        }
+    }
+
+    /// The field that the item at a place from 0 is to spell. `None`: no item stands there.
+    pub(crate) fn item_field(self, place: usize) -> Option<Field>
+        ensures { result ≡ item_field (fields_of self) place }
+    {
+        match self.fields.get(place) {
+            Some(field) => Some(*field),
+            None if self.ends_with_strings() => Some(Field::Strings),
+            None => None,
+        }
     }
 }

@@ -1,11 +1,16 @@
 //! Record data: classes, types, layouts, the records themselves, and why an input is refused (RFC 1035 3, RFC 3597).
 #![tactic(auto)]
 
+mod address;
 mod class;
 mod fault;
+mod front;
+mod generic;
 mod item;
 mod kind;
+pub mod laws;
 mod layout;
+mod lengths;
 mod minimum;
 mod number;
 mod order;
@@ -14,7 +19,9 @@ mod rdata;
 mod reading;
 mod record;
 mod source;
+mod string;
 mod time;
+mod uncompressed;
 mod word;
 
 pub use class::Class;

@@ -4,8 +4,8 @@ ghost use Rattle.zone_rdata.specs.Layout.{AreLaidOut, fields_of};
 ghost use Rattle.zone_rdata.specs.Minimum.{number_in, last_number};
 ghost use Rattle.zone_rdata.specs.Text.{BeginsWithField, after_field};
 
+use crate::front::{after_front, split_long};
 use crate::layout::{Field, Layout};
-use crate::printing::{split_long, split_name, split_short};
 
 /// The field at the front of octets, if it is a number of 32 bits, and the octets after it.
 fn split_number(field: Field, octets: &[u8]) -> (Option<u32>, &[u8])
@@ -14,12 +14,11 @@ fn split_number(field: Field, octets: &[u8]) -> (Option<u32>, &[u8])
     ensures rest { result.1.now ≡ after_field field octets.now }
 {
     match field {
-        Field::Name => (None, split_name(octets).1),
-        Field::U16 => (None, split_short(octets).1),
         Field::Serial | Field::Time => {
             let (number, rest) = split_long(octets);
             (Some(number), rest)
         }
+        _ => (None, after_front(field, octets)),
     }
 }
 

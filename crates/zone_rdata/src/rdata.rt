@@ -1,17 +1,27 @@
-ghost use Rattle.std.specs.Prelude.{◌≡◌, ◌++◌, ◌+◌, ◌*◌, ◌≤◌, ℕ, List, length, map, IfOk, IfErr, OnOk, OnErr};
+ghost use Rattle.std.specs.Prelude.{◌≡◌, ◌++◌, ◌+◌, ◌*◌, ◌≤◌, ℕ, List, length, map, IfOk, IfErr, IfSome, OnOk, OnErr, option_map};
+ghost use Rattle.zone_rdata.specs.DataFault.{IsDataFault, IsFaultFor, IsFormFault};
+ghost use Rattle.zone_rdata.specs.Fault.{IfFault};
+ghost use Rattle.zone_rdata.specs.Generic.{StatesGeneric};
+ghost use Rattle.zone_rdata.specs.Item.{IsGeneric, raw};
+ghost use Rattle.zone_rdata.specs.Layout.{StringsLast, fields_of, layout};
 ghost use Rattle.zone_rdata.specs.Minimum.{minimum};
 ghost use Rattle.zone_rdata.specs.Record.{Data, IsRdata};
-ghost use Rattle.zone_rdata.specs.Spelling.{States, raw};
+ghost use Rattle.zone_rdata.specs.Spelling.{IsCanonicalOf, States, StatesFor};
 ghost use Rattle.zone_rdata.specs.Text.{data_text};
+ghost use Rattle.zone_rdata.specs.Wire.{IsWireFault};
 
 use crate::class::Class;
 use crate::fault::{Failing, Fault};
+use crate::generic::octets_of_generic;
 use crate::item::Item;
 use crate::kind::Kind;
-use crate::layout::layout_of;
+use crate::laws::items::{data_is_unique, faulty_items_state_none};
+use crate::layout::{Layout, layout_of};
+use crate::lengths::data_len;
 use crate::minimum::last_number_of;
-use crate::printing::{data_len, push_data};
+use crate::printing::push_data;
 use crate::reading::{are_octets, is_generic, octets_of_items};
+use crate::uncompressed::{canonical_for, canonical_of};
 use std::alloc::{AllocError, Global};
 use std::marker::Model;
 use zone_name::Name;
@@ -34,8 +44,42 @@ impl Model for Rdata {
     ghost invariant = { λ d. IsRdata (record { class = d.class; kind = d.kind; octets = d.octets.items }) };
 }
 
+/// The canonical octets that items in the generic form state for a layout.
+fn octets_in_form(alloc: Global, layout: Option<Layout>, items: &[Item]) -> Result<Vec<u8>, Failing>
+    requires marked { IsGeneric (map raw items.now) }
+    requires last { IfSome layout (λ l. StringsLast (fields_of l)) }
+    ensures found { IfOk result (λ octets. (stated : List ℕ) × StatesGeneric (map raw items.now) stated × IsCanonicalOf (option_map fields_of layout) stated octets.items) }
+    ensures fault { IfErr result (IfFault (IsFormFault (option_map fields_of layout) (map raw items.now))) }
+{
+    let stated = octets_of_generic(alloc, items)?;
+    match layout {
+        Some(layout) => canonical_of(alloc, layout, &stated),
+        None => Ok(stated),
+    }
+}
+
+/// The canonical octets that items state for a layout, in words or in the generic form.
+fn octets_for(
+    alloc: Global,
+    layout: Option<Layout>,
+    items: &[Item],
+    origin: &Name,
+) -> Result<Vec<u8>, Failing>
+    requires { IfSome layout (λ l. StringsLast (fields_of l)) }
+    ensures found { IfOk result (λ octets. StatesFor origin.now (option_map fields_of layout) (map raw items.now) octets.items) }
+    ensures fault { IfErr result (IfFault (IsFaultFor origin.now (option_map fields_of layout) (map raw items.now))) }
+{
+    if is_generic(items) {
+        return octets_in_form(alloc, layout, items);
+    }
+    match layout {
+        Some(layout) => octets_of_items(alloc, layout, items, origin),
+        None => Err(Failing::Fault(Fault::BadGeneric)),
+    }
+}
+
 impl Rdata {
-    /// The data that the items state under the origin (RFC 1035 5.1).
+    /// The data that the items state under the origin (RFC 1035 5.1; RFC 3597 5).
     ///
     /// # Errors
     ///
@@ -50,14 +94,45 @@ impl Rdata {
         ensures class { IfOk result (λ d. d.class ≡ class) }
         ensures kind { IfOk result (λ d. d.kind ≡ kind) }
         ensures found { IfOk result (λ d. States origin.now class kind (map raw items.now) d.octets) }
+        ensures only { (octets : List ℕ) → States origin.now class kind (map raw items.now) octets → IfOk result (λ d. d.octets ≡ octets) × IfErr result (λ e. e ≡ Failing.Memory) }
+        ensures fault { IfErr result (IfFault (IsDataFault origin.now class kind (map raw items.now))) }
     {
-        let Some(layout) = layout_of(class, kind) else {
-            return Err(Failing::Fault(Fault::NotYet));
-        };
-        if is_generic(items) {
-            return Err(Failing::Fault(Fault::NotYet));
+        data_is_unique();
+        faulty_items_state_none();
+        let octets = octets_for(alloc, layout_of(class, kind), items, origin)?;
+        class.known();
+        kind.known();
+        are_octets(&octets);
+        Ok(Rdata {
+            class,
+            kind,
+            octets,
+        })
+    }
+
+    /// The data whose octets are these, names uncompressed and in any letter case (RFC 1035 3.3; RFC 4343 3). Data
+    /// without a layout takes any octets.
+    ///
+    /// # Errors
+    ///
+    /// `RdataTooLong` over 65,535 octets, `BadRdata` where they aren't exactly one value of the layout, and want of
+    /// memory.
+    pub fn from_wire(
+        alloc: Global,
+        class: Class,
+        kind: Kind,
+        octets: &[u8],
+    ) -> Result<Rdata, Failing>
+        ensures class { IfOk result (λ d. d.class ≡ class) }
+        ensures kind { IfOk result (λ d. d.kind ≡ kind) }
+        ensures found { IfOk result (λ d. IsCanonicalOf (layout class kind) octets.now d.octets) }
+        ensures only { IfOk result (λ d. (canonical : List ℕ) → IsCanonicalOf (layout class kind) octets.now canonical → d.octets ≡ canonical) }
+        ensures fault { IfErr result (IfFault (IsWireFault (layout class kind) octets.now)) }
+    {
+        if octets.len() > 65535 {
+            return Err(Failing::Fault(Fault::RdataTooLong));
         }
-        let octets = octets_of_items(alloc, layout, items, origin)?;
+        let octets = canonical_for(alloc, layout_of(class, kind), octets)?;
         class.known();
         kind.known();
         are_octets(&octets);

@@ -1,21 +1,27 @@
-ghost use Rattle.std.specs.Prelude.{◌≡◌, ◌↔◌, ◌++◌, IsTrue, ◌<◌, ◌^◌, List, map, IfOk, OnOk};
+ghost use Rattle.std.specs.Prelude.{◌≡◌, ◌↔◌, ◌++◌, IsTrue, ◌<◌, ◌≤◌, ◌^◌, ℕ, List, length, map, IfOk, IfErr, OnOk};
 ghost use Rattle.std.specs.List.{AllByRecursion};
+ghost use Rattle.zone_rdata.specs.DataFault.{IsItemFault, IsNameFault, IsWordsFault};
+ghost use Rattle.zone_rdata.specs.Fault.{IfFault};
+ghost use Rattle.zone_rdata.specs.Item.{bare, raw, IsGeneric};
 ghost use Rattle.zone_rdata.specs.Layout.{fields_of};
 ghost use Rattle.zone_rdata.specs.Number.{IsDecimal, IsTime};
-ghost use Rattle.zone_rdata.specs.Reading.{AppendsDecimal, AppendsTime, AppendsTwoOctets, AppendsField, AreSpelt};
-ghost use Rattle.zone_rdata.specs.Spelling.{bare, raw, IsGeneric};
+ghost use Rattle.zone_rdata.specs.Reading.{AppendsAddress, AppendsDecimal, AppendsTime, AppendsTwoOctets, AppendsField, AreSpelt};
+ghost use Rattle.zone_rdata.specs.Spelling.{IsAddress, item_fields};
 
+use crate::address::{four_octets_of, sixteen_octets_of};
 use crate::fault::{Failing, Fault};
 use crate::item::Item;
 use crate::layout::{Field, Layout};
 use crate::number::decimal_of;
+use crate::string::push_string;
 use crate::time::seconds_of;
 use std::alloc::Global;
 use zone_name::Name;
 
 /// The number of 32 bits that decimal digits stand for.
 fn long_of(text: &[u8]) -> Result<u32, Fault>
-    ensures { IfOk result (λ n. IsDecimal text.now n) }
+    ensures found { IfOk result (λ n. IsDecimal text.now n) }
+    ensures fault { IfErr result (λ f. (f ≡ Fault.BadNumber) × ((n : ℕ) → IsDecimal text.now n → n < 2 ^ 32 → ⊥)) }
 {
     match decimal_of(text) {
         Some(number) if number <= u64::from(u32::MAX) => Ok(number as u32),
@@ -25,7 +31,8 @@ fn long_of(text: &[u8]) -> Result<u32, Fault>
 
 /// The number of 32 bits that a time stands for.
 fn time_of(text: &[u8]) -> Result<u32, Fault>
-    ensures { IfOk result (λ n. IsTime text.now n × (n < 2 ^ 32)) }
+    ensures found { IfOk result (λ n. IsTime text.now n × (n < 2 ^ 32)) }
+    ensures fault { IfErr result (λ f. (f ≡ Fault.BadNumber) × ((n : ℕ) → IsTime text.now n → n < 2 ^ 32 → ⊥)) }
 {
     match seconds_of(text) {
         Some(number) if number <= u64::from(u32::MAX) => Ok(number as u32),
@@ -35,7 +42,8 @@ fn time_of(text: &[u8]) -> Result<u32, Fault>
 
 /// The number of 16 bits that decimal digits stand for.
 fn short_of(text: &[u8]) -> Result<u16, Fault>
-    ensures { IfOk result (λ n. IsDecimal text.now n) }
+    ensures found { IfOk result (λ n. IsDecimal text.now n) }
+    ensures fault { IfErr result (λ f. (f ≡ Fault.BadNumber) × ((n : ℕ) → IsDecimal text.now n → n < 2 ^ 16 → ⊥)) }
 {
     match decimal_of(text) {
         Some(number) if number <= u64::from(u16::MAX) => Ok(number as u16),
@@ -44,7 +52,8 @@ fn short_of(text: &[u8]) -> Result<u16, Fault>
 }
 
 fn push_name(text: &[u8], origin: &Name, octets: &mut Vec<u8>) -> Result<(), Failing>
-    ensures { OnOk result (AppendsField origin.now Field.Name (bare text.now) octets.old.items octets.new.items) }
+    ensures found { OnOk result (AppendsField origin.now Field.Name (bare text.now) octets.old.items octets.new.items) }
+    ensures fault { IfErr result (IfFault (IsNameFault origin.now text.now)) }
 {
     let name = Name::from_text(text, Some(origin))?;
     octets.extend_from_slice(name.wire())?;
@@ -52,7 +61,8 @@ fn push_name(text: &[u8], origin: &Name, octets: &mut Vec<u8>) -> Result<(), Fai
 }
 
 fn push_serial(text: &[u8], octets: &mut Vec<u8>) -> Result<(), Failing>
-    ensures { OnOk result (AppendsDecimal text.now octets.old.items octets.new.items) }
+    ensures found { OnOk result (AppendsDecimal text.now octets.old.items octets.new.items) }
+    ensures fault { IfErr result (IfFault (λ f. (f ≡ Fault.BadNumber) × ((n : ℕ) → IsDecimal text.now n → n < 2 ^ 32 → ⊥))) }
 {
     let number = long_of(text)?;
     octets.extend_from_slice(&number.to_be_bytes())?;
@@ -60,7 +70,8 @@ fn push_serial(text: &[u8], octets: &mut Vec<u8>) -> Result<(), Failing>
 }
 
 fn push_time(text: &[u8], octets: &mut Vec<u8>) -> Result<(), Failing>
-    ensures { OnOk result (AppendsTime text.now octets.old.items octets.new.items) }
+    ensures found { OnOk result (AppendsTime text.now octets.old.items octets.new.items) }
+    ensures fault { IfErr result (IfFault (λ f. (f ≡ Fault.BadNumber) × ((n : ℕ) → IsTime text.now n → n < 2 ^ 32 → ⊥))) }
 {
     let number = time_of(text)?;
     octets.extend_from_slice(&number.to_be_bytes())?;
@@ -68,24 +79,86 @@ fn push_time(text: &[u8], octets: &mut Vec<u8>) -> Result<(), Failing>
 }
 
 fn push_short(text: &[u8], octets: &mut Vec<u8>) -> Result<(), Failing>
-    ensures { OnOk result (AppendsTwoOctets text.now octets.old.items octets.new.items) }
+    ensures found { OnOk result (AppendsTwoOctets text.now octets.old.items octets.new.items) }
+    ensures fault { IfErr result (IfFault (λ f. (f ≡ Fault.BadNumber) × ((n : ℕ) → IsDecimal text.now n → n < 2 ^ 16 → ⊥))) }
 {
     let number = short_of(text)?;
     octets.extend_from_slice(&number.to_be_bytes())?;
     Ok(())
 }
 
+/// Appends the address of four octets.
+fn push_four(text: &[u8], octets: &mut Vec<u8>) -> Result<(), Failing>
+    ensures found { OnOk result (AppendsAddress 4 text.now octets.old.items octets.new.items) }
+    ensures fault { IfErr result (IfFault (λ f. (f ≡ Fault.BadRdata) × ((found : List ℕ) → IsAddress 4 text.now found → ⊥))) }
+{
+    match four_octets_of(text) {
+        Some(address) => {
+            octets.extend_from_slice(&address)?;
+            Ok(())
+        }
+        None => Err(Failing::Fault(Fault::BadRdata)),
+    }
+}
+
+/// Appends the address of sixteen octets.
+fn push_sixteen(text: &[u8], octets: &mut Vec<u8>) -> Result<(), Failing>
+    ensures found { OnOk result (AppendsAddress 16 text.now octets.old.items octets.new.items) }
+    ensures fault { IfErr result (IfFault (λ f. (f ≡ Fault.BadRdata) × ((found : List ℕ) → IsAddress 16 text.now found → ⊥))) }
+{
+    match sixteen_octets_of(text) {
+        Some(address) => {
+            octets.extend_from_slice(&address)?;
+            Ok(())
+        }
+        None => Err(Failing::Fault(Fault::BadRdata)),
+    }
+}
+
+/// Appends the address of so many octets.
+fn push_address(count: usize, text: &[u8], octets: &mut Vec<u8>) -> Result<(), Failing>
+    ensures found { OnOk result (AppendsAddress count text.now octets.old.items octets.new.items) }
+    ensures fault { IfErr result (IfFault (λ f. (f ≡ Fault.BadRdata) × ((found : List ℕ) → IsAddress count text.now found → ⊥))) }
+{
+    match count {
+        4 => push_four(text, octets),
+        16 => push_sixteen(text, octets),
+        _ => Err(Failing::Fault(Fault::BadRdata)),
+    }
+}
+
+/// Appends the octets of the value that a bare item spells for the field.
+fn push_bare(
+    field: Field,
+    item: Item,
+    text: &[u8],
+    origin: &Name,
+    octets: &mut Vec<u8>,
+) -> Result<(), Failing>
+    requires { raw item ≡ bare text.now }
+    ensures found { OnOk result (AppendsField origin.now field (raw item.entry) octets.old.items octets.new.items) }
+    ensures fault { IfErr result (IfFault (IsItemFault origin.now field (raw item.entry))) }
+{
+    match field {
+        Field::Name => push_name(text, origin, octets),
+        Field::Serial => push_serial(text, octets),
+        Field::Time => push_time(text, octets),
+        Field::U16 => push_short(text, octets),
+        Field::Octets(count) => push_address(count, text, octets),
+        Field::OneString | Field::Strings => push_string(item, octets),
+    }
+}
+
 /// Appends the octets of the value that the item spells for the field.
 fn push_field(field: Field, item: Item, origin: &Name, octets: &mut Vec<u8>) -> Result<(), Failing>
-    ensures { OnOk result (AppendsField origin.now field (raw item.entry) octets.old.items octets.new.items) }
+    ensures found { OnOk result (AppendsField origin.now field (raw item.entry) octets.old.items octets.new.items) }
+    ensures fault { IfErr result (IfFault (IsItemFault origin.now field (raw item.entry))) }
 {
     match item {
-        Item::Quoted(_) => Err(Failing::Fault(Fault::BadRdata)),
-        Item::Bare(text) => match field {
-            Field::Name => push_name(text, origin, octets),
-            Field::Serial => push_serial(text, octets),
-            Field::Time => push_time(text, octets),
-            Field::U16 => push_short(text, octets),
+        Item::Bare(text) => push_bare(field, item, text, origin, octets),
+        Item::Quoted(_) => match field {
+            Field::OneString | Field::Strings => push_string(item, octets),
+            _ => Err(Failing::Fault(Fault::BadRdata)),
         },
     }
 }
@@ -107,26 +180,32 @@ pub(crate) fn is_generic(items: &[Item]) -> bool
     }
 }
 
-/// The octets of the values that the items spell, one item for each field.
+/// The most octets that data can have.
+pub(crate) const GREATEST: usize = 65535;
+
+/// The octets of the values that the items spell, field by field.
 pub(crate) fn octets_of_items(
     alloc: Global,
     layout: Layout,
     items: &[Item],
     origin: &Name,
 ) -> Result<Vec<u8>, Failing>
-    ensures { IfOk result (λ octets. AreSpelt origin.now (fields_of layout) (map raw items.now) octets.items) }
+    ensures found { IfOk result (λ octets. AreSpelt origin.now (item_fields (fields_of layout) (map raw items.now)) (map raw items.now) octets.items) }
+    ensures short { IfOk result (λ octets. length octets.items ≤ 65535) }
+    ensures fault { IfErr result (IfFault (IsWordsFault origin.now (item_fields (fields_of layout) (map raw items.now)) (map raw items.now))) }
 {
     let mut octets = Vec::new(alloc);
-    let mut taken = 0;
-    for field in layout.fields() {
-        let Some(item) = items.get(taken) else {
+    for (place, item) in items.iter().enumerate() {
+        let Some(field) = layout.item_field(place) else {
             return Err(Failing::Fault(Fault::BadRdata));
         };
-        push_field(*field, *item, origin, &mut octets)?;
-        taken += 1;
+        push_field(field, *item, origin, &mut octets)?;
     }
-    if taken < items.len() {
+    if items.len() < layout.fields().len() {
         return Err(Failing::Fault(Fault::BadRdata));
+    }
+    if octets.len() > GREATEST {
+        return Err(Failing::Fault(Fault::RdataTooLong));
     }
     Ok(octets)
 }

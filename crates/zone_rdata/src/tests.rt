@@ -4,6 +4,9 @@ use std::collections::VecDeque;
 use std::test::Fail;
 use zone_name::{Name, NameFault};
 
+mod items;
+mod wire;
+
 fn name_of(text: &[u8]) -> Result<Name, NameFault> {
     Name::from_text(text, None)
 }
@@ -126,7 +129,7 @@ fn refused(rt: HostRuntime) -> Result<(), Fail> {
     assert!(rt;
         matches!(
             refuse(ns, &[Item::Bare(b"\\#")]),
-            Some(Failing::Fault(Fault::NotYet))
+            Some(Failing::Fault(Fault::BadGeneric))
         )
     );
     let over = [

@@ -7,8 +7,7 @@ use Rattle.zone_rdata.specs.Record.{Record, Data, IsRecord}
 use Rattle.zone_rdata.specs.Spelling.{RawItem, States, bare, raw}
 use Rattle.zone_rdata.specs.Words.{IsClassWord, IsKindWord}
 use Rattle.zone_rdata.specs.declared.item.Item.{Item}
-use Rattle.zone_text.specs.File.{Parts}
-use Rattle.zone_text.specs.Lines.{ItemsState}
+use Rattle.zone_text.specs.Lines.{ItemsState, LineParts}
 
 -- what a test on an option found
 pub found_some : {A : Type 0} (P : A → Type 0) (o : Option A) (x : A) → IfSome o P → o ≡ Some x → P x
@@ -25,7 +24,7 @@ four_bare (x ∷ y ∷ z ∷ w ∷ items) d0 d1 d2 d3 owner ttl class kind some 
     rw (a, b, c, d, n, take-length) refl
 
 -- the record of what the parts state
-pub items_state : (origin : List (List ℕ)) (raws : List RawItem) (r : Record) (parts : Parts) (owner : List (List ℕ)) (seconds class kind : ℕ) (d : Data) → raws ≡ bare parts.owner ∷ bare parts.ttl ∷ bare parts.class ∷ bare parts.kind ∷ parts.rdata → Spells (Some origin) parts.owner owner → IsTime parts.ttl seconds → IsClassWord parts.class class → IsKindWord parts.kind kind → States origin class kind parts.rdata d.octets → d.class ≡ class → d.kind ≡ kind → r ≡ record { owner = owner; class = d.class; kind = d.kind; ttl = seconds; octets = d.octets } → IsRecord r → ItemsState origin raws r
+pub items_state : (origin : List (List ℕ)) (raws : List RawItem) (r : Record) (parts : LineParts) (owner : List (List ℕ)) (seconds class kind : ℕ) (d : Data) → raws ≡ bare parts.owner ∷ bare parts.ttl ∷ bare parts.class ∷ bare parts.kind ∷ parts.rdata → Spells (Some origin) parts.owner owner → IsTime parts.ttl seconds → IsClassWord parts.class class → IsKindWord parts.kind kind → States origin class kind parts.rdata d.octets → d.class ≡ class → d.kind ≡ kind → r ≡ record { owner = owner; class = d.class; kind = d.kind; ttl = seconds; octets = d.octets } → IsRecord r → ItemsState origin raws r
 items_state origin raws r parts owner seconds class kind d items spells ttl is_class is_kind states class_is kind_is e fits =
     subst (λ s. IsRecord s → ItemsState origin raws s) (sym e) (λ fits. record {
       parts = parts;

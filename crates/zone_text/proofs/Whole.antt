@@ -11,9 +11,10 @@ use Rattle.zone_rdata.specs.declared.fault.Fault.{Fault}
 use Rattle.zone_rdata.specs.declared.fault.Place.{Place}
 use Rattle.zone_rdata.specs.declared.fault.Place.TheVariants.{Line}
 use Rattle.zone_text.specs.Pieces.{Piece, blank, opening, closing, line_feed, comment, bare, quoted, piece_text, text, IsPiece, AllFollow, MayFollow, depth_after}
-use Rattle.zone_text.specs.Entries.{Entry, entry_of, cut_entries, numbered, in_front}
-use Rattle.zone_text.specs.File.{StatesRecord, StateEach, FileStates}
-use Rattle.zone_text.specs.Lines.{IsPlain, AreLine, IsLineThen, ended, LineStates, ReadsFront}
+use Rattle.zone_text.specs.Entries.{Entry, entry_of, Cut, cut_from, numbered, in_front_of}
+use Rattle.zone_text.specs.Records.{StatesRecord}
+use Rattle.zone_text.specs.File.{states_none, states_one, StateEach, FileStates}
+use Rattle.zone_text.specs.Lines.{IsPlain, AreLine, IsLineThen, ended, LineStates, ReadsFront, KeepsOrigin}
 use Rattle.zone_text.proofs.Stated.{text_ended}
 
 -- the line feeds of a text
@@ -24,10 +25,13 @@ line_feeds_append : (xs ys : List ℕ) → line_feeds (xs ++ ys) ≡ line_feeds 
 line_feeds_append xs ys = sum_by-append _ xs ys
 
 -- the pieces of a line and its line feed are an entry
-cut_line : (pieces rest : List Piece) → AllByRecursion IsPlain pieces → cut_entries zero (pieces ++ line_feed ∷ rest) ≡ ended pieces ∷ cut_entries zero rest
+abbrev and_entry : List Piece → Cut → Cut
+and_entry pieces behind = record { ended = pieces ∷ behind.ended; open_pieces = behind.open_pieces }
+
+cut_line : (pieces rest : List Piece) → AllByRecursion IsPlain pieces → cut_from zero (pieces ++ line_feed ∷ rest) ≡ and_entry (ended pieces) (cut_from zero rest)
 cut_line [] rest each = refl
-cut_line (blank c ∷ pieces) rest each = ap (in_front (blank c)) (cut_line pieces rest each.1)
-cut_line (bare units ∷ pieces) rest each = ap (in_front (bare units)) (cut_line pieces rest each.1)
+cut_line (blank c ∷ pieces) rest each = ap (in_front_of (blank c)) (cut_line pieces rest each.1)
+cut_line (bare units ∷ pieces) rest each = ap (in_front_of (bare units)) (cut_line pieces rest each.1)
 cut_line (opening ∷ pieces) rest each = absurd each.0
 cut_line (closing ∷ pieces) rest each = absurd each.0
 cut_line (line_feed ∷ pieces) rest each = absurd each.0
@@ -38,9 +42,9 @@ ended_then : (pieces rest : List Piece) → ended pieces ++ rest ≡ pieces ++ l
 ended_then pieces rest = append_assoc pieces (line_feed ∷ []) rest
 
 -- the entries of lines are the lines
-cut_lines : (lines : List (List Piece)) → AllByRecursion AreLine lines → cut_entries zero (flat_map ended lines) ≡ map ended lines
+cut_lines : (lines : List (List Piece)) → AllByRecursion AreLine lines → cut_from zero (flat_map ended lines) ≡ record { ended = map ended lines; open_pieces = [] }
 cut_lines [] each = refl
-cut_lines (pieces ∷ lines) each = rw (ended_then) (cut_line pieces (flat_map ended lines) each.0.each ∙ ap (λ t. ended pieces ∷ t) (cut_lines lines each.1))
+cut_lines (pieces ∷ lines) each = rw (ended_then) (cut_line pieces (flat_map ended lines) each.0.each ∙ ap (and_entry (ended pieces)) (cut_lines lines each.1))
 
 -- each piece of a line is one of a file
 each_of_line : (pieces rest : List Piece) → AllByRecursion IsPlain pieces → AllByRecursion IsPiece rest → AllByRecursion IsPiece (pieces ++ line_feed ∷ rest)
@@ -101,12 +105,17 @@ numbered_more n [] pieces = rw (add-zero) refl
 numbered_more n (first ∷ entries) pieces =
     rw (line_feeds_append, ← add_assoc) (ap (λ t. entry_of n first ∷ t) (numbered_more (n + line_feeds (text first)) entries pieces))
 
-state_more : (origin : List (List ℕ)) (before entries : List Entry) (placed : List Placed) (entry : Entry) (p : Placed) → StateEach origin before entries placed → ((b : List Entry) → StatesRecord origin b entry p.rr) → p.place ≡ Line entry.line → StateEach origin before (entries ++ entry ∷ []) (placed ++ p ∷ [])
-state_more origin before [] [] entry p each states place = (states before, place, tt)
-state_more origin before [] (q ∷ placed) entry p each states place = absurd each
-state_more origin before (e ∷ entries) [] entry p each states place = absurd each
-state_more origin before (e ∷ entries) (q ∷ placed) entry p each states place =
-    (each.0, each.1, state_more origin (before ++ e ∷ []) entries placed entry p each.2 states place)
+state_more : (origin : List (List ℕ)) (before entries : List Entry) (placed : List Placed) (entry : Entry) (p : Placed) → AllByRecursion KeepsOrigin before → AllByRecursion KeepsOrigin entries → StateEach origin before entries placed → ((b : List Entry) → AllByRecursion KeepsOrigin b → StatesRecord origin b entry p.rr) → p.place ≡ Line entry.line → StateEach origin before (entries ++ entry ∷ []) (placed ++ p ∷ [])
+state_more origin before [] placed entry p keep keeps each states place = states_one p [] (states before keep) place (rw each refl) refl
+state_more origin before (e ∷ entries) placed entry p keep keeps each states place =
+    elim each [
+      | states_none none others ↦ states_none none (state_more origin (e ∷ before) entries placed entry p (keeps.0, keep) keeps.1 others states place)
+      | states_one q more one at is others ↦ states_one q (more ++ p ∷ []) one at (ap (λ t. t ++ p ∷ []) is) (state_more origin (e ∷ before) entries more entry p (keeps.0, keep) keeps.1 others states place)
+    ]
+
+keep_more : (entries : List Entry) (entry : Entry) → AllByRecursion KeepsOrigin entries → KeepsOrigin entry → AllByRecursion KeepsOrigin (entries ++ entry ∷ [])
+keep_more [] entry keeps one = (one, tt)
+keep_more (e ∷ entries) entry keeps one = (keeps.0, keep_more entries entry keeps.1 one)
 
 lines_more : (lines : List (List Piece)) (pieces : List Piece) → AllByRecursion AreLine lines → AreLine pieces → AllByRecursion AreLine (lines ++ pieces ∷ [])
 lines_more [] pieces each one = (one, tt)
@@ -117,6 +126,7 @@ pub record LinesState (origin : List (List ℕ)) (octets : List ℕ) (placed : L
   pub lines : List (List Piece)
   pub each : AllByRecursion AreLine lines
   pub whole : octets ≡ flat_map text (map ended lines)
+  pub keeps : AllByRecursion KeepsOrigin (numbered 1 (map ended lines))
   pub states : StateEach origin [] (numbered 1 (map ended lines)) placed
 
 text_more : (front line : List ℕ) (entries : List (List Piece)) (pieces : List Piece) → front ≡ flat_map text entries → line ≡ text pieces → front ++ line ≡ flat_map text (entries ++ pieces ∷ [])
@@ -127,7 +137,7 @@ text_of_lines [] = refl
 text_of_lines (pieces ∷ lines) = ap (λ t. text (ended pieces) ++ t) (text_of_lines lines) ∙ sym (flat_map-append piece_text (ended pieces) (flat_map ended lines))
 
 pub no_lines : (origin : List (List ℕ)) → LinesState origin [] []
-no_lines origin = record { lines = []; each = tt; whole = refl; states = tt }
+no_lines origin = record { lines = []; each = tt; whole = refl; keeps = tt; states = refl }
 
 -- one line more
 pub line_more : (origin : List (List ℕ)) (front line : List ℕ) (placed : List Placed) (p : Placed) → LinesState origin front placed → LineStates origin line p.rr → p.place ≡ Line (1 + line_feeds front) → LinesState origin (front ++ (line ++ 10 ∷ [])) (placed ++ p ∷ [])
@@ -138,7 +148,8 @@ line_more origin front line placed p before found place =
       lines = before.lines ++ pieces ∷ [];
       each = lines_more before.lines pieces before.each found.line;
       whole = rw one_more (text_more front (line ++ 10 ∷ []) (map ended before.lines) (ended pieces) before.whole (ap (λ t. t ++ 10 ∷ []) found.whole ∙ sym (text_ended pieces)));
-      states = rw (one_more, numbered_more) (state_more origin [] (numbered 1 (map ended before.lines)) placed (entry_of (1 + line_feeds (flat_map text (map ended before.lines))) (ended pieces)) p before.states (λ b. found.states _ b) (rw (← before.whole) place));
+      keeps = rw (one_more, numbered_more) (keep_more (numbered 1 (map ended before.lines)) (entry_of (1 + line_feeds (flat_map text (map ended before.lines))) (ended pieces)) before.keeps (found.keeps (1 + line_feeds (flat_map text (map ended before.lines)))));
+      states = rw (one_more, numbered_more) (state_more origin [] (numbered 1 (map ended before.lines)) placed (entry_of (1 + line_feeds (flat_map text (map ended before.lines))) (ended pieces)) p tt before.keeps before.states (λ b keep. found.states _ b keep) (rw (← before.whole) place));
     }
 
 -- lines that state records are a file that does

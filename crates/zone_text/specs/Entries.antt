@@ -1,22 +1,40 @@
 -- The entries of a master file (RFC 1035 5.1): its pieces, cut after each line feed outside parentheses.
-use Rattle.std.specs.Prelude.{◌≡◌, ℕ, zero, suc, ◌+◌, ◌-◌, List, [], ◌∷◌, ◌++◌, length, ◌==◌, count_by, Option, Some, None}
+use Rattle.std.specs.Prelude.{ℕ, zero, suc, ◌+◌, List, [], ◌∷◌, ◌++◌, ◌==◌, count_by, Option, Some, None}
 use Rattle.std.specs.List.{flat_map}
 use Rattle.zone_rdata.specs.Spelling.{RawItem}
 use Rattle.zone_rdata.specs.Spelling as raw
-use Rattle.zone_text.specs.Pieces.{Piece, blank, opening, closing, line_feed, comment, bare, quoted, text, written_text}
+use Rattle.zone_text.specs.Pieces.{Piece, opening, closing, line_feed, bare, quoted, text, written_text}
 
--- a piece in front of the first of the entries after it
-abbrev pub in_front : Piece → List (List Piece) → List (List Piece)
-in_front p [] = (p ∷ []) ∷ []
-in_front p (entry ∷ entries) = (p ∷ entry) ∷ entries
+-- pieces cut into entries: those that a line feed outside parentheses ends, and the pieces behind the last of them
+pub record Cut : Type 0 where
+  pub ended : List (List Piece)
+  pub open_pieces : List Piece
 
--- the pieces of each entry, from a depth on
-abbrev pub cut_entries : ℕ → List Piece → List (List Piece)
-cut_entries depth [] = []
-cut_entries zero (line_feed ∷ pieces) = (line_feed ∷ []) ∷ cut_entries zero pieces
-cut_entries depth (opening ∷ pieces) = in_front opening (cut_entries (suc depth) pieces)
-cut_entries depth (closing ∷ pieces) = in_front closing (cut_entries (depth - 1) pieces)
-cut_entries depth (p ∷ pieces) = in_front p (cut_entries depth pieces)
+-- a piece in front of the first entry
+abbrev pub in_front : Piece → List (List Piece) → List Piece → Cut
+in_front p [] open_pieces = record { ended = []; open_pieces = p ∷ open_pieces }
+in_front p (entry ∷ ended) open_pieces = record { ended = (p ∷ entry) ∷ ended; open_pieces = open_pieces }
+
+abbrev pub in_front_of : Piece → Cut → Cut
+in_front_of p behind = in_front p behind.ended behind.open_pieces
+
+-- a line feed outside parentheses ends an entry
+abbrev pub ending_one : Cut → Cut
+ending_one behind = record { ended = (line_feed ∷ []) ∷ behind.ended; open_pieces = behind.open_pieces }
+
+-- the entries of pieces, from a depth on
+abbrev pub cut_from : ℕ → List Piece → Cut
+cut_from depth [] = record { ended = []; open_pieces = [] }
+cut_from zero (line_feed ∷ pieces) = ending_one (cut_from zero pieces)
+cut_from depth (opening ∷ pieces) = in_front_of opening (cut_from (suc depth) pieces)
+cut_from zero (closing ∷ pieces) = in_front_of closing (cut_from zero pieces)
+cut_from (suc depth) (closing ∷ pieces) = in_front_of closing (cut_from depth pieces)
+cut_from depth (p ∷ pieces) = in_front_of p (cut_from depth pieces)
+
+-- the input's end ends the last entry too
+abbrev pub and_last : List (List Piece) → List Piece → List (List Piece)
+and_last ended [] = ended
+and_last ended (p ∷ pieces) = ended ++ (p ∷ pieces) ∷ []
 
 -- an entry: its line, the first octet of its text, and its items as they stand in the file
 pub record Entry : Type 0 where
@@ -41,5 +59,14 @@ abbrev pub numbered : ℕ → List (List Piece) → List Entry
 numbered line [] = []
 numbered line (pieces ∷ entries) = entry_of line pieces ∷ numbered (line + count_by (λ c. c == 10) (text pieces)) entries
 
+-- the entries of pieces that are a whole text
 abbrev pub entries_of : List Piece → List Entry
-entries_of pieces = numbered 1 (cut_entries zero pieces)
+entries_of pieces = let cut = cut_from zero pieces in numbered 1 (and_last cut.ended cut.open_pieces)
+
+-- the entries that a line feed has ended
+abbrev pub ended_entries : List Piece → List Entry
+ended_entries pieces = numbered 1 (cut_from zero pieces).ended
+
+-- the line of the entry that is open behind them
+abbrev pub open_line : List Piece → ℕ
+open_line pieces = 1 + count_by (λ c. c == 10) (flat_map text (cut_from zero pieces).ended)

@@ -1,4 +1,16 @@
 pub mod Pieces
+pub mod Breaks
+pub mod Lasting
+pub mod Cutting
+pub mod ExamplePieces
 pub mod Entries
+pub mod Forms
+pub mod Inherited
+pub mod Records
+pub mod EntryFault
 pub mod File
+pub mod FileReads
+pub mod Decided
+pub mod Lower
 pub mod Lines
+pub mod ExampleEntries

@@ -11,7 +11,9 @@ use Rattle.zone_rdata.specs.declared.source.Reading.{Reading}
 use Rattle.zone_rdata.specs.declared.fault.Place.TheVariants.{Line}
 use Rattle.zone_text.specs.Pieces.{Piece, blank, bare, line_feed, text, written_text, is_blank, IsBareUnit, IsPiece, AllFollow}
 use Rattle.zone_text.specs.Entries.{Entry, entry_of, item_of}
-use Rattle.zone_text.specs.File.{FileStates, Parts, StatesRecord}
+use Rattle.zone_text.specs.Inherited.{origin_text}
+use Rattle.zone_text.specs.Records.{StatesRecord}
+use Rattle.zone_text.specs.File.{FileStates}
 
 -- the text is a line, its line feed and what follows it
 pub record IsLineThen (octets line rest : List ℕ) : Type 0 where
@@ -72,9 +74,17 @@ pub record HoldsItems (octets : List ℕ) (raws : List RawItem) : Type 0 where
   pub whole : octets ≡ text pieces
   pub items : raws ≡ flat_map item_of pieces
 
+-- the items of an entry that states everything itself: owner, TTL, class, type and data
+pub record LineParts : Type 0 where
+  pub owner : List ℕ
+  pub ttl : List ℕ
+  pub class : List ℕ
+  pub kind : List ℕ
+  pub rdata : List RawItem
+
 -- the items state the record: owner, TTL, class, type and data
 pub record ItemsState (origin : List (List ℕ)) (raws : List RawItem) (r : Record) : Type 0 where
-  pub parts : Parts
+  pub parts : LineParts
   pub items : raws ≡ raw.bare parts.owner ∷ raw.bare parts.ttl ∷ raw.bare parts.class ∷ raw.bare parts.kind ∷ parts.rdata
   pub owner : Spells (Some origin) parts.owner r.owner
   pub ttl : IsTime parts.ttl r.ttl
@@ -87,12 +97,18 @@ pub record ItemsState (origin : List (List ℕ)) (raws : List RawItem) (r : Reco
 abbrev pub ended : List Piece → List Piece
 ended pieces = pieces ++ line_feed ∷ []
 
--- the line, without its line feed, states the record, whichever its number and whatever stands before it
+-- the entry leaves the origin as it is
+abbrev pub KeepsOrigin : Entry → Type 0
+KeepsOrigin entry = origin_text entry ≡ None
+
+-- The line, without its line feed, states the record, whichever its number and whatever stands before it that leaves
+-- the origin as it is; and it leaves the origin too
 pub record LineStates (origin : List (List ℕ)) (octets : List ℕ) (r : Record) : Type 0 where
   pub pieces : List Piece
   pub line : AreLine pieces
   pub whole : octets ≡ text pieces
-  pub states : (n : ℕ) (before : List Entry) → StatesRecord origin before (entry_of n (ended pieces)) r
+  pub keeps : (n : ℕ) → KeepsOrigin (entry_of n (ended pieces))
+  pub states : (n : ℕ) (before : List Entry) → AllByRecursion KeepsOrigin before → StatesRecord origin before (entry_of n (ended pieces)) r
 
 -- What was read is a front of the text that states the records, the whole text if nothing was refused. A refusal
 -- stands at the line on which the rest begins.

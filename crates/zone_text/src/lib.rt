@@ -2,6 +2,8 @@
 #![tactic(auto)]
 
 mod entry;
+pub mod examples;
+pub mod laws;
 mod line;
 mod reader;
 mod ttl;

@@ -12,8 +12,8 @@ use Rattle.zone_name.specs.declared.fault.NameFault.TheVariants.{EmptyLabel, Lab
 use Rattle.zone_wire.specs.Name.{label_at}
 use Rattle.zone_wire.specs.Walk.{walk, outset, past_label, past_pointer, place_of}
 use Rattle.zone_wire.specs.Reading.{Outcome, named, refused, outcome, behind_label, behind_pointer}
-use Rattle.zone_wire.specs.declared.fault.WireFault.{WireFault}
-use Rattle.zone_wire.specs.declared.fault.WireFault.TheVariants.{ShortMessage}
+use Rattle.zone_rdata.specs.declared.fault.Fault.{Fault}
+use Rattle.zone_rdata.specs.declared.fault.Fault.TheVariants.{ShortMessage}
 use Rattle.zone_wire.specs.declared.place.Spot.{Spot}
 use Rattle.zone_wire.specs.declared.place.Standing.{Standing}
 use Rattle.zone_wire.specs.declared.place.Standing.TheVariants.{Outside, Root, Label, Pointer, Bad}
@@ -117,7 +117,7 @@ carries_root {message} {offset} {spot} {labels} {end} {steps} c e =
     cc (r.whole)
 
 -- at a fault
-pub carries_bad : {message : List ℕ} {offset : ℕ} {spot : Spot} {labels : List (List ℕ)} {end : Option ℕ} {steps : ℕ} (fault : WireFault) → Carries message offset spot labels end steps → place_of message spot ≡ Bad fault → outcome message (walk message offset) ≡ refused fault (steps + 1)
+pub carries_bad : {message : List ℕ} {offset : ℕ} {spot : Spot} {labels : List (List ℕ)} {end : Option ℕ} {steps : ℕ} (fault : Fault) → Carries message offset spot labels end steps → place_of message spot ≡ Bad fault → outcome message (walk message offset) ≡ refused fault (steps + 1)
 carries_bad fault c e = (reaches (Bad fault) c e).whole
 
 -- outside the message

@@ -1,7 +1,14 @@
 -- Names and walks that compute.
-use Rattle.std.proofs.Common.{◌≡◌, ℕ, zero, suc, ◌<◌, Bool, true, false, ◌&&◌, nat_lt, List, [], ◌∷◌, lit<, refl}
+use Rattle.std.proofs.Common.{◌≡◌, ℕ, zero, suc, ◌+◌, ◌<◌, ◌≤◌, ◌++◌, length, nat_le, Bool, true, false, ◌&&◌, nat_lt, List, [], ◌∷◌, lit<, refl, ap, sym}
 use Rattle.std.specs.Prelude.{get_or}
-use Rattle.std.proofs.lemmas.Bool.{ltb-true}
+use Rattle.std.specs.List.{flat_map, AllByRecursion, list_all}
+use Rattle.std.proofs.lemmas.Bool.{ltb-true, leb-true}
+use Rattle.zone_rdata.specs.declared.fault.Fault.{Fault}
+use Rattle.zone_rdata.specs.declared.fault.Place.{Place}
+use Rattle.zone_wire.specs.Answers.{Answered}
+use Rattle.zone_wire.specs.Message.{word_at}
+use Rattle.zone_wire.specs.Stream.{records_of, handed_on, ending_of, StreamReads}
+use Rattle.zone_wire.specs.Transfer.{frame}
 use Rattle.zone_wire.specs.Name.{Found, IsNameAt}
 use Rattle.zone_wire.specs.Reading.{named, outcome}
 use Rattle.zone_wire.specs.Walk.{walk}
@@ -23,3 +30,11 @@ octets_below (c ∷ octets) e (suc k) = octets_below octets (both (nat_lt c 256)
 -- a name that the walk finds by computing
 pub name_computes : (message : List ℕ) (offset : ℕ) (found : Found) → all_octets message ≡ true → outcome message (walk message offset) ≡ named found → IsNameAt message offset found
 name_computes message offset found octets e = walk_names message offset found (octets_below message octets) e
+
+all_short : (messages : List (List ℕ)) → list_all (λ octets. nat_le (length octets) 65535) messages ≡ true → AllByRecursion (λ octets. length octets ≤ 65535) messages
+all_short [] e = tt
+all_short (octets ∷ messages) e = let parts = both (nat_le (length octets) 65535) (list_all (λ octets. nat_le (length octets) 65535) messages) e in (leb-true (length octets) 65535 parts.0, all_short messages parts.1)
+
+-- what a stream is read as, by computing
+pub reads : (messages : List (List ℕ)) (rest : List ℕ) (answered : Answered (Fault × Place)) → list_all (λ octets. nat_le (length octets) 65535) messages ≡ true → nat_lt (length rest) (2 + word_at rest 0) ≡ true → records_of [] [] messages ≡ answered → StreamReads (flat_map frame messages ++ rest) (handed_on answered.placed) (ending_of (length messages + 1) answered rest)
+reads messages rest answered short cut e = record { messages = messages; rest = rest; framed = record { whole = refl; short = all_short messages short; cut = ltb-true _ _ cut }; stated = ap (λ a. handed_on a.placed) (sym e); ends = ap (λ a. ending_of (length messages + 1) a rest) (sym e) }

@@ -4,34 +4,34 @@ use Rattle.std.specs.Prelude.{get_or, Result, Ok, Err, Some, IfOk, IfErr, IsOk, 
 use Rattle.zone_wire.specs.Name.{Found, IsNameAt, found_by}
 use Rattle.zone_wire.specs.Walk.{walk, ending}
 use Rattle.zone_wire.specs.Reading.{Outcome, refused, outcome, Says}
-use Rattle.zone_wire.specs.declared.fault.WireFault.{WireFault}
+use Rattle.zone_rdata.specs.declared.fault.Fault.{Fault}
 use Rattle.zone_wire.specs.declared.name.Decoded.{Decoded}
 use Rattle.zone_wire.proofs.Walking.{Measures, name_walks, walk_names, walk_measures, walk_is_short, name_bounds}
 
 module _ (message : List ℕ) (offset : ℕ) (each : (k : ℕ) → get_or message k 0 < 256) where
-  pub says_found : (r : Result Decoded (WireFault × ℕ)) → Says r (outcome message (walk message offset)) → IfOk r (λ d. (pointers : ℕ) × IsNameAt message offset (found_by d pointers))
+  pub says_found : (r : Result Decoded (Fault × ℕ)) → Says r (outcome message (walk message offset)) → IfOk r (λ d. (pointers : ℕ) × IsNameAt message offset (found_by d pointers))
   says_found (Ok d) says = (says.0, walk_names message offset (found_by d says.0) each says.1)
   says_found (Err e) says = tt
 
-  pub says_only : (r : Result Decoded (WireFault × ℕ)) → Says r (outcome message (walk message offset)) → (found : Found) → IsNameAt message offset found → IsOk r
+  pub says_only : (r : Result Decoded (Fault × ℕ)) → Says r (outcome message (walk message offset)) → (found : Found) → IsNameAt message offset found → IsOk r
   says_only (Ok d) says found is = refl
   says_only (Err e) says found is = let e = name_walks message offset found is in cc
 
-  pub says_within : (r : Result Decoded (WireFault × ℕ)) → Says r (outcome message (walk message offset)) → IfOk r (λ d. (offset < d.end) × (d.end ≤ length message))
+  pub says_within : (r : Result Decoded (Fault × ℕ)) → Says r (outcome message (walk message offset)) → IfOk r (λ d. (offset < d.end) × (d.end ≤ length message))
   says_within (Ok d) says = let bounds = name_bounds message offset _ (walk_names message offset (found_by d says.0) each says.1) in (bounds.start, bounds.end)
   says_within (Err e) says = tt
 
   measured : (o : Outcome) → outcome message (walk message offset) ≡ o → Measures o (walk message offset)
   measured o e = subst (λ (p : Outcome). Measures p (walk message offset)) e (walk_measures message offset)
 
-  pub says_fault : (r : Result Decoded (WireFault × ℕ)) → Says r (outcome message (walk message offset)) → IfErr r (λ e. ending (walk message offset) ≡ Some e.0)
+  pub says_fault : (r : Result Decoded (Fault × ℕ)) → Says r (outcome message (walk message offset)) → IfErr r (λ e. ending (walk message offset) ≡ Some e.0)
   says_fault (Ok d) says = tt
   says_fault (Err e) says = (measured (refused e.0 e.1) says).1
 
-  pub says_places : (r : Result Decoded (WireFault × ℕ)) → Says r (outcome message (walk message offset)) → IfErr r (λ e. e.1 ≡ length (walk message offset))
+  pub says_places : (r : Result Decoded (Fault × ℕ)) → Says r (outcome message (walk message offset)) → IfErr r (λ e. e.1 ≡ length (walk message offset))
   says_places (Ok d) says = tt
   says_places (Err e) says = sym (measured (refused e.0 e.1) says).0
 
-  pub says_few : (r : Result Decoded (WireFault × ℕ)) → Says r (outcome message (walk message offset)) → MatchResult r (λ d. d.steps ≤ 256) (λ e. e.1 ≤ 256)
+  pub says_few : (r : Result Decoded (Fault × ℕ)) → Says r (outcome message (walk message offset)) → MatchResult r (λ d. d.steps ≤ 256) (λ e. e.1 ≤ 256)
   says_few (Ok d) says = (name_bounds message offset _ (walk_names message offset (found_by d says.0) each says.1)).steps
   says_few (Err e) says = rw (measured (refused e.0 e.1) says).0 at (walk_is_short message offset)

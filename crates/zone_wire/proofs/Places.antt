@@ -1,11 +1,11 @@
 -- What stands at a place, read off the octets, and back.
-use Rattle.std.proofs.Common.{◌≡◌, ℕ, ◌+◌, ◌-◌, ◌<◌, ◌≤◌, ◌≢◌, ◌||◌, false, nat_eq, nat_le, nat_lt, List, length, refl, sym, ap, ◌∙◌, arith}
+use Rattle.std.proofs.Common.{◌≡◌, ℕ, ◌+◌, ◌<◌, ◌≤◌, ◌≢◌, ◌||◌, false, nat_eq, nat_le, nat_lt, List, length, refl, sym, ap, ◌∙◌, arith}
 use Rattle.std.specs.Prelude.{slice_index, if◌then◌else◌}
 use Rattle.std.proofs.lemmas.Bool.{cond_both, cond-true, cond-false, leb-true, eqb-true, le-leb, eq-eqb}
 use Rattle.std.proofs.lemmas.Bool.Decides.{nat_tests}
 use Rattle.zone_wire.specs.Name.{target_at}
 use Rattle.zone_wire.specs.Walk.{label_of, pointer_of, place_of}
-use Rattle.zone_wire.specs.declared.fault.WireFault.TheVariants.{BadPointer, TooManyPointers}
+use Rattle.zone_rdata.specs.declared.fault.Fault.TheVariants.{BadPointer, TooManyPointers}
 use Rattle.zone_wire.specs.declared.place.Spot.{Spot}
 use Rattle.zone_wire.specs.declared.place.Standing.{Standing}
 use Rattle.zone_wire.specs.declared.place.Standing.TheVariants.{Outside, Root, Label, Pointer, Bad}

@@ -1,5 +1,5 @@
 -- A transfer of an SOA alone states it.
-use Rattle.std.proofs.Common.{ℕ, ◌≤◌, List, [], ◌∷◌, refl, arith, lit<, lit≤}
+use Rattle.std.proofs.Common.{ℕ, List, [], ◌∷◌, refl, arith, lit<, lit≤}
 use Rattle.zone_rdata.specs.Field.{FieldValue, name, long}
 use Rattle.zone_rdata.specs.Record.{IsRecord}
 use Rattle.zone_name.specs.Name.{IsName}

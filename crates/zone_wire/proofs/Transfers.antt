@@ -1,21 +1,12 @@
 -- At most one list of records of a stream.
-use Rattle.std.proofs.Common.{◌≡◌, ℕ, ◌+◌, ◌-◌, ◌/◌, ◌%◌, ◌≤◌, ◌^◌, ◌<◌, List, [], ◌∷◌, ◌++◌, length, refl, ap, sym, ◌∙◌, subst, arith, length-append}
-use Rattle.std.specs.Prelude.{drop, Option, Some, None, MatchOption}
-use Rattle.std.specs.Int.{w16, w32, to_be_bytes, from_be_bytes}
+use Rattle.std.proofs.Common.{◌≡◌, ℕ, ◌+◌, ◌/◌, ◌%◌, ◌≤◌, List, [], ◌∷◌, ◌++◌, length, refl, ap, sym, ◌∙◌, subst, arith, length-append}
 use Rattle.std.specs.List.{flat_map}
-use Rattle.std.proofs.lemmas.Nat.{from_be_bytes-to_be_bytes_2, from_be_bytes-to_be_bytes_4}
-use Rattle.std.proofs.lemmas.List.{length-take-le, length-drop}
-use Rattle.zone_rdata.specs.Field.{FieldValue, name, long, two_octets, octets_of, Holds, HoldEach}
-use Rattle.zone_rdata.specs.Layout.{layout}
 use Rattle.zone_rdata.specs.Record.{Record}
-use Rattle.zone_rdata.specs.declared.layout.Field.{Field}
-use Rattle.zone_rdata.specs.declared.layout.Field.TheVariants.{Name, Serial, Time, U16}
 use Rattle.zone_rdata.specs.declared.record.Placed.{Placed}
 use Rattle.zone_wire.specs.Message.{RecordAt, Sections, AreRecordsAt, IsMessage}
-use Rattle.zone_wire.specs.Name.{Found}
-use Rattle.zone_wire.specs.Transfer.{part, StandsAt, StandEach, AreFieldsAt, StatesRecord, StateEach, Part, IsPart, AreParts, frame, StreamStates}
+use Rattle.zone_wire.specs.Transfer.{IsDataAt, StatesRecord, StateEach, Part, IsPart, AreParts, frame, StreamStates}
+use Rattle.zone_wire.proofs.Fielding.{data_reads}
 use Rattle.zone_wire.proofs.Messages.{one_message}
-use Rattle.zone_wire.proofs.Walking.{one_name}
 
 -- two lists, each with more behind it, where the first are as long
 pub front_unique : {X : Type 0} (a b c d : List X) → length a ≡ length b → a ++ c ≡ b ++ d → (a ≡ b) × (c ≡ d)
@@ -36,7 +27,7 @@ init_unique a b x y e =
     (front_unique a b (x ∷ []) (y ∷ []) len e).0
 
 -- a frame at the front of a stream
-frame_unique : (a b c d : List ℕ) → frame a ++ c ≡ frame b ++ d → (a ≡ b) × (c ≡ d)
+pub frame_unique : (a b c d : List ℕ) → frame a ++ c ≡ frame b ++ d → (a ≡ b) × (c ≡ d)
 frame_unique a b c d e =
     let high : length a / 256 ≡ length b / 256 = cc in
     let low : length a % 256 ≡ length b % 256 = cc in
@@ -47,73 +38,17 @@ frame_unique a b c d e =
 placed_same : (p q : Placed) → p.rr ≡ q.rr → p.place ≡ q.place → p ≡ q
 placed_same p q rr place = ap (λ x. record p { rr = x }) rr ∙ ap (λ x. record q { place = x }) place
 
--- a part of octets that is a text
-part_text : (octets : List ℕ) (start end : ℕ) (text : List ℕ) → start ≤ end → end ≤ length octets → part octets start end ≡ text → end ≡ start + length text
-part_text octets start end text order inside e =
-    let len : length (part octets start end) ≡ end - start = length-take-le (end - start) (drop start octets) (omega (arith, length-drop start octets)) in
-    let same : length (part octets start end) ≡ length text = ap length e in
-    omega arith
-
-same_long : (m n : ℕ) → m < 2 ^ 32 → n < 2 ^ 32 → to_be_bytes w32 m ≡ to_be_bytes w32 n → m ≡ n
-same_long m n small short e = sym (from_be_bytes-to_be_bytes_4 m small) ∙ ap (from_be_bytes w32) e ∙ from_be_bytes-to_be_bytes_4 n short
-
-same_two : (m n : ℕ) → m < 2 ^ 16 → n < 2 ^ 16 → to_be_bytes w16 m ≡ to_be_bytes w16 n → m ≡ n
-same_two m n small short e = sym (from_be_bytes-to_be_bytes_2 m small) ∙ ap (from_be_bytes w16) e ∙ from_be_bytes-to_be_bytes_2 n short
-
--- a number that stands at an offset, and where it ends
-long_unique : (octets : List ℕ) (start end past m n : ℕ) → m < 2 ^ 32 → n < 2 ^ 32 → end ≤ length octets → past ≤ length octets → (start ≤ end) × (part octets start end ≡ to_be_bytes w32 m) → (start ≤ past) × (part octets start past ≡ to_be_bytes w32 n) → (long m ≡ long n) × (end ≡ past)
-long_unique octets start end past m n small short inside within v w =
-    let same : end ≡ past = part_text octets start end (to_be_bytes w32 m) v.0 inside v.1 ∙ sym (part_text octets start past (to_be_bytes w32 n) w.0 within w.1) in
-    let texts : to_be_bytes w32 m ≡ to_be_bytes w32 n = sym v.1 ∙ ap (part octets start) same ∙ w.1 in
-    (ap long (same_long m n small short texts), same)
-
-two_unique : (octets : List ℕ) (start end past m n : ℕ) → m < 2 ^ 16 → n < 2 ^ 16 → end ≤ length octets → past ≤ length octets → (start ≤ end) × (part octets start end ≡ to_be_bytes w16 m) → (start ≤ past) × (part octets start past ≡ to_be_bytes w16 n) → (two_octets m ≡ two_octets n) × (end ≡ past)
-two_unique octets start end past m n small short inside within v w =
-    let same : end ≡ past = part_text octets start end (to_be_bytes w16 m) v.0 inside v.1 ∙ sym (part_text octets start past (to_be_bytes w16 n) w.0 within w.1) in
-    let texts : to_be_bytes w16 m ≡ to_be_bytes w16 n = sym v.1 ∙ ap (part octets start) same ∙ w.1 in
-    (ap two_octets (same_two m n small short texts), same)
-
--- the value of a field that stands at an offset, and where it ends
-field_unique : (octets : List ℕ) (start end past : ℕ) (field : Field) (v w : FieldValue) → Holds field v → Holds field w → end ≤ length octets → past ≤ length octets → StandsAt octets start end v → StandsAt octets start past w → (v ≡ w) × (end ≡ past)
-field_unique octets start end past Name (name a) (name b) h k inside within s t =
-    let same : s.0 ≡ t.0 = one_name octets start s.0 t.0 s.1 t.1 in
-    let labels : a ≡ b = sym s.2 ∙ ap (λ (x : Found). x.labels) same ∙ t.2 in
-    let ends : end ≡ past = sym s.3 ∙ ap (λ (x : Found). x.end) same ∙ t.3 in
-    (ap name labels, ends)
-field_unique octets start end past Name (name a) w h k inside within s t = absurd k
-field_unique octets start end past Name v w h k inside within s t = absurd h
-field_unique octets start end past Serial (long m) (long n) h k inside within s t = long_unique octets start end past m n h k inside within s t
-field_unique octets start end past Serial (long m) w h k inside within s t = absurd k
-field_unique octets start end past Serial v w h k inside within s t = absurd h
-field_unique octets start end past Time (long m) (long n) h k inside within s t = long_unique octets start end past m n h k inside within s t
-field_unique octets start end past Time (long m) w h k inside within s t = absurd k
-field_unique octets start end past Time v w h k inside within s t = absurd h
-field_unique octets start end past U16 (two_octets m) (two_octets n) h k inside within s t = two_unique octets start end past m n h k inside within s t
-field_unique octets start end past U16 (two_octets m) w h k inside within s t = absurd k
-field_unique octets start end past U16 v w h k inside within s t = absurd h
-
-values_unique : (octets : List ℕ) (fields : List Field) (vs ws : List FieldValue) (start end : ℕ) → end ≤ length octets → HoldEach fields vs → HoldEach fields ws → StandEach octets start end vs → StandEach octets start end ws → vs ≡ ws
-values_unique octets [] [] [] start end inside h k s t = refl
-values_unique octets [] [] (w ∷ ws) start end inside h k s t = absurd k
-values_unique octets [] (v ∷ vs) ws start end inside h k s t = absurd h
-values_unique octets (f ∷ fields) [] ws start end inside h k s t = absurd h
-values_unique octets (f ∷ fields) (v ∷ vs) [] start end inside h k s t = absurd k
-values_unique octets (f ∷ fields) (v ∷ vs) (w ∷ ws) start end inside h k s t =
-    let one = field_unique octets start s.0 t.0 f v w h.0 k.0 (omega (arith, s.1)) (omega (arith, t.1)) s.2 t.2 in
-    let rest = values_unique octets fields vs ws s.0 end inside h.1 k.1 s.3 (subst (λ (x : ℕ). StandEach octets x end ws) (sym one.1) t.3) in
-    ap (λ x. x ∷ vs) one.0 ∙ ap (λ xs. w ∷ xs) rest
-
-data_unique : (o : Option (List Field)) (octets : List ℕ) (start end : ℕ) (c d : List ℕ) → end ≤ length octets → MatchOption o (c ≡ part octets start end) (λ fields. AreFieldsAt octets start end fields c) → MatchOption o (d ≡ part octets start end) (λ fields. AreFieldsAt octets start end fields d) → c ≡ d
-data_unique None octets start end c d inside x y = x ∙ sym y
-data_unique (Some fields) octets start end c d inside x y = x.whole ∙ ap octets_of (values_unique octets fields x.values y.values start end inside x.held y.held x.stand y.stand) ∙ sym y.whole
-
 same_record : (r t : Record) → r.owner ≡ t.owner → r.class ≡ t.class → r.kind ≡ t.kind → r.ttl ≡ t.ttl → r.octets ≡ t.octets → r ≡ t
 same_record r t owner class kind ttl octets =
     ap (λ x. record r { owner = x }) owner ∙ ap (λ x. record r { owner = t.owner; class = x }) class ∙ ap (λ x. record r { owner = t.owner; class = t.class; kind = x }) kind ∙ ap (λ x. record t { ttl = x; octets = r.octets }) ttl ∙ ap (λ x. record t { octets = x }) octets
 
+-- the data of a record
+one_data : (octets : List ℕ) (a : RecordAt) (c d : List ℕ) → a.end ≤ length octets → IsDataAt octets a c → IsDataAt octets a d → c ≡ d
+one_data octets a c d inside is too = let e = data_reads octets a c inside is in let k = data_reads octets a d inside too in cc
+
 record_unique : (octets : List ℕ) (a : RecordAt) (r t : Record) → a.end ≤ length octets → StatesRecord octets a r → StatesRecord octets a t → r ≡ t
 record_unique octets a r t inside x y =
-    same_record r t (x.owner ∙ sym y.owner) (x.class ∙ sym y.class) (x.kind ∙ sym y.kind) (x.ttl ∙ sym y.ttl) (data_unique (layout a.class a.kind) octets a.start a.end r.octets t.octets inside x.rdata y.rdata)
+    same_record r t (x.owner ∙ sym y.owner) (x.class ∙ sym y.class) (x.kind ∙ sym y.kind) (x.ttl ∙ sym y.ttl) (one_data octets a r.octets t.octets inside x.rdata y.rdata)
 
 -- the records that the answers of a message state
 placed_unique : (number : ℕ) (octets : List ℕ) (offset end : ℕ) (answers : List RecordAt) (ps qs : List Placed) → AreRecordsAt octets offset answers end → StateEach number octets answers ps → StateEach number octets answers qs → ps ≡ qs

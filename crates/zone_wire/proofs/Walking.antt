@@ -1,5 +1,5 @@
 -- The walk and the relation of names agree.
-use Rattle.std.proofs.Common.{◌≡◌, ℕ, zero, suc, ◌+◌, ◌-◌, ◌*◌, ◌<◌, ◌≤◌, List, [], ◌∷◌, length, refl, ap, sym, ◌∙◌, subst, arith, length-append, get_or-drop, lit<, lit≤}
+use Rattle.std.proofs.Common.{◌≡◌, ℕ, zero, suc, ◌+◌, ◌*◌, ◌<◌, ◌≤◌, List, [], ◌∷◌, length, refl, ap, sym, ◌∙◌, subst, arith, length-append, get_or-drop, lit<, lit≤}
 use Rattle.std.specs.Prelude.{take, drop, map, get_or, Some, None}
 use Rattle.std.specs.List.{flat_map, AllByRecursion}
 use Rattle.std.proofs.lemmas.List.{length-map, length-take-le, length-drop}
@@ -8,7 +8,7 @@ use Rattle.zone_name.specs.Name.{IsLabel, IsFoldedOctet, folded_octet, frame, wi
 use Rattle.zone_wire.specs.Name.{At, root, label, pointer, Found, IsNameAt, label_at}
 use Rattle.zone_wire.specs.Walk.{Visit, visit, walk_on, walk_by, walk, ending, outset, past_label, past_pointer, place_of}
 use Rattle.zone_wire.specs.Reading.{Outcome, named, refused, outcome, behind_label, behind_pointer}
-use Rattle.zone_wire.specs.declared.fault.WireFault.TheVariants.{ShortMessage}
+use Rattle.zone_rdata.specs.declared.fault.Fault.TheVariants.{ShortMessage}
 use Rattle.zone_wire.specs.declared.place.Spot.{Spot}
 use Rattle.zone_wire.specs.declared.place.Standing.{Standing}
 use Rattle.zone_wire.specs.declared.place.Standing.TheVariants.{Outside, Root, Label, Pointer, Bad}
@@ -187,10 +187,10 @@ folded_each : (octets : List ℕ) → ((k : ℕ) → get_or octets k 0 < 256) �
 folded_each [] each = tt
 folded_each (c ∷ octets) each = (is_folded c (each 0), folded_each octets (λ k. each (suc k)))
 
-drop_each : (n : ℕ) (octets : List ℕ) → ((k : ℕ) → get_or octets k 0 < 256) → (k : ℕ) → get_or (drop n octets) k 0 < 256
+pub drop_each : (n : ℕ) (octets : List ℕ) → ((k : ℕ) → get_or octets k 0 < 256) → (k : ℕ) → get_or (drop n octets) k 0 < 256
 drop_each n octets each k = rw get_or-drop (each (n + k))
 
-take_each : (n : ℕ) (octets : List ℕ) → ((k : ℕ) → get_or octets k 0 < 256) → (k : ℕ) → get_or (take n octets) k 0 < 256
+pub take_each : (n : ℕ) (octets : List ℕ) → ((k : ℕ) → get_or octets k 0 < 256) → (k : ℕ) → get_or (take n octets) k 0 < 256
 take_each zero octets each k = lit< tt
 take_each (suc n) [] each k = lit< tt
 take_each (suc n) (c ∷ octets) each zero = each 0

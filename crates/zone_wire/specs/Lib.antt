@@ -1,6 +1,10 @@
+pub mod Answers
+pub mod Data
 pub mod Examples
 pub mod Message
 pub mod Name
 pub mod Reading
+pub mod Sections
+pub mod Stream
 pub mod Transfer
 pub mod Walk

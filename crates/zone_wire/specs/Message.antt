@@ -62,14 +62,16 @@ pub record IsRecordAt (octets : List ℕ) (offset : ℕ) (r : RecordAt) : Type 0
   pub stands : r ≡ record_by octets offset found
   pub inside : r.end ≤ length octets
 
--- questions, and records, one after another from an offset to another
+-- parts of a message, one after another from an offset to another
+abbrev pub AreAt : {X : Type 0} → (ℕ → X → Type 0) → (X → ℕ) → ℕ → List X → ℕ → Type 0
+AreAt Is end_of offset [] end = offset ≡ end
+AreAt Is end_of offset (x ∷ parts) end = Is offset x × AreAt Is end_of (end_of x) parts end
+
 abbrev pub AreQuestionsAt : List ℕ → ℕ → List QuestionAt → ℕ → Type 0
-AreQuestionsAt octets offset [] end = offset ≡ end
-AreQuestionsAt octets offset (q ∷ questions) end = IsQuestionAt octets offset q × AreQuestionsAt octets q.end questions end
+AreQuestionsAt octets offset questions end = AreAt (IsQuestionAt octets) (λ q. q.end) offset questions end
 
 abbrev pub AreRecordsAt : List ℕ → ℕ → List RecordAt → ℕ → Type 0
-AreRecordsAt octets offset [] end = offset ≡ end
-AreRecordsAt octets offset (r ∷ records) end = IsRecordAt octets offset r × AreRecordsAt octets r.end records end
+AreRecordsAt octets offset records end = AreAt (IsRecordAt octets) (λ r. r.end) offset records end
 
 -- what stands in a message
 pub record Sections : Type 0 where

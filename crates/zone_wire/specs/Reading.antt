@@ -2,15 +2,15 @@
 use Rattle.std.specs.Prelude.{◌≡◌, ℕ, suc, ◌+◌, List, [], ◌∷◌, Result, Ok, Err}
 use Rattle.zone_wire.specs.Name.{Found, label_at, found_by}
 use Rattle.zone_wire.specs.Walk.{Visit}
-use Rattle.zone_wire.specs.declared.fault.WireFault.{WireFault}
-use Rattle.zone_wire.specs.declared.fault.WireFault.TheVariants.{ShortMessage}
+use Rattle.zone_rdata.specs.declared.fault.Fault.{Fault}
+use Rattle.zone_rdata.specs.declared.fault.Fault.TheVariants.{ShortMessage}
 use Rattle.zone_wire.specs.declared.name.Decoded.{Decoded}
 use Rattle.zone_wire.specs.declared.place.Standing.TheVariants.{Outside, Root, Label, Pointer, Bad}
 
 -- a name, or a fault with the number of places
 pub data Outcome : Type 0 where
   named : Found → Outcome
-  refused : WireFault → ℕ → Outcome
+  refused : Fault → ℕ → Outcome
 
 abbrev pub behind_label : List ℕ → Outcome → Outcome
 behind_label label (named found) = named (record found { labels = label ∷ found.labels; steps = suc found.steps })
@@ -25,6 +25,6 @@ outcome message [] = refused ShortMessage 0
 outcome message (first ∷ visits) = elim first.standing [ Outside ↦ refused ShortMessage 1 | Root ↦ named (record { labels = []; end = first.offset + 1; steps = 1; pointers = 0 }) | Label size ↦ behind_label (label_at message first.offset size) (outcome message visits) | Pointer target ↦ behind_pointer (first.offset + 2) (outcome message visits) | Bad fault ↦ refused fault 1 ]
 
 -- a result says what a walk finds
-abbrev pub Says : Result Decoded (WireFault × ℕ) → Outcome → Type 0
+abbrev pub Says : Result Decoded (Fault × ℕ) → Outcome → Type 0
 Says (Ok d) o = (pointers : ℕ) × (o ≡ named (found_by d pointers))
 Says (Err e) o = o ≡ refused e.0 e.1

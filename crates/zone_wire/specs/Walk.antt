@@ -1,8 +1,8 @@
 -- The walk along a name in a message, place by place, to its root or its first fault (RFC 1035 3.1, 4.1.4).
 use Rattle.std.specs.Prelude.{ℕ, zero, suc, ◌+◌, List, [], ◌∷◌, length, slice_index, nat_le, nat_lt, nat_eq, ◌||◌, if◌then◌else◌, Option, Some, None}
 use Rattle.zone_wire.specs.Name.{target_at}
-use Rattle.zone_wire.specs.declared.fault.WireFault.{WireFault}
-use Rattle.zone_wire.specs.declared.fault.WireFault.TheVariants.{ShortMessage, NameTooLong, ReservedLabel, BadPointer, TooManyPointers}
+use Rattle.zone_rdata.specs.declared.fault.Fault.{Fault}
+use Rattle.zone_rdata.specs.declared.fault.Fault.TheVariants.{ShortMessage, NameTooLong, ReservedLabel, BadPointer, TooManyPointers}
 use Rattle.zone_wire.specs.declared.place.Spot.{Spot}
 use Rattle.zone_wire.specs.declared.place.Standing.{Standing}
 use Rattle.zone_wire.specs.declared.place.Standing.TheVariants.{Outside, Root, Label, Pointer, Bad}
@@ -77,6 +77,6 @@ walk message offset = walk_by 256 message (outset offset)
 
 -- The fault with which a walk ends, none where it ends at the root. One that ends at no fault and no root ends before a
 -- place outside the message.
-unfoldable pub ending : List Visit → Option WireFault
+unfoldable pub ending : List Visit → Option Fault
 ending [] = Some ShortMessage
 ending (last ∷ visits) = elim last.standing [ Outside ↦ Some ShortMessage | Root ↦ None | Label size ↦ ending visits | Pointer target ↦ ending visits | Bad fault ↦ Some fault ]

@@ -1,10 +1,13 @@
 //! Names in messages, computed from the definitions.
-ghost use Rattle.std.specs.Prelude.{◌∷◌, [], Some, None};
-ghost use Rattle.zone_wire.specs.Examples.{behind_header, chain, root_soa, soa_message, placed_soa, WalkEnds};
+ghost use Rattle.std.specs.Prelude.{◌∷◌, ◌++◌, [], Some, None};
+ghost use Rattle.zone_wire.specs.Examples.{behind_header, chain, longest_walk, root_soa, soa_message, placed_soa, WalkEnds};
+ghost use Rattle.zone_wire.specs.Examples.{answer_header, question_x, opening_x, server_x, record_x, closing_x, message_with, small_body, small_message, first_message, second_message, soa_x, ns_x, srv_x, naptr_x, address_n, placed_at, small_records};
 ghost use Rattle.zone_rdata.specs.Record.{IsRecord};
 ghost use Rattle.zone_wire.specs.Name.{IsNameAt};
+ghost use Rattle.zone_wire.specs.Stream.{StreamReads};
+ghost use Rattle.zone_rdata.specs.declared.fault.Place.TheVariants.{Message};
 ghost use Rattle.zone_wire.specs.Transfer.{frame, StreamStates};
-ghost use Rattle.zone_wire.specs.declared.fault.WireFault.TheVariants.{ShortMessage, ReservedLabel, BadPointer, TooManyPointers};
+ghost use Rattle.zone_rdata.specs.declared.fault.Fault.TheVariants.{NameTooLong, BadRdata, ShortFrame, ShortMessage, NotAResponse, Truncated, ErrorCode, BadCounts, IdMismatch, BadQuestion, ReservedLabel, BadPointer, TooManyPointers, CompressibleType, TrailingOctets, NoOpeningSoa, SoaMismatch, AfterClosing, NoClosingSoa};
 
 /// `A.x.` by a pointer from behind `X.`: letters are folded, and the name ends after the pointer.
 pub fn a_compressed_name()
@@ -42,4 +45,58 @@ pub fn chains_of_pointers()
 /// A transfer of a zone with no record but its SOA, in one message.
 pub fn a_transfer()
     ensures { IsRecord root_soa → StreamStates (frame soa_message) (placed_soa 12 ∷ []) }
+{}
+
+/// The longest walk has 256 places: 127 labels, 128 pointers and the root. A label before those 127 is one too many.
+pub fn long_names()
+    ensures longest { WalkEnds longest_walk 521 None 256 }
+    ensures too_long { WalkEnds (longest_walk ++ 1 ∷ 97 ∷ 192 ∷ 12 ∷ []) 523 (Some NameTooLong) 129 }
+{}
+
+/// Transfers in one message with compressed names, and one in two.
+pub fn transfers_without_a_fault()
+    ensures small { StreamReads (frame small_message) small_records None }
+    ensures service { StreamReads (frame (message_with (record_x 33 (0 ∷ 0 ∷ 0 ∷ 5 ∷ 19 ∷ 196 ∷ 192 ∷ 31 ∷ [])))) (placed_at 1 19 soa_x ∷ placed_at 1 59 srv_x ∷ []) None }
+    ensures strings { StreamReads (frame (message_with (record_x 35 (0 ∷ 100 ∷ 0 ∷ 10 ∷ 1 ∷ 85 ∷ 0 ∷ 0 ∷ 192 ∷ 31 ∷ [])))) (placed_at 1 19 soa_x ∷ placed_at 1 59 naptr_x ∷ []) None }
+    ensures two_messages { StreamReads (frame first_message ++ frame second_message) (placed_at 1 19 soa_x ∷ placed_at 1 59 ns_x ∷ placed_at 2 12 address_n ∷ placed_at 2 31 ns_x ∷ []) None }
+{}
+
+/// Streams that end before the transfer does, or inside a frame.
+pub fn streams_cut_short()
+    ensures empty { StreamReads [] [] (Some (NoClosingSoa, Message 1 0)) }
+    ensures no_answers { StreamReads (frame (0 ∷ 1 ∷ 132 ∷ 0 ∷ 0 ∷ 0 ∷ 0 ∷ 0 ∷ 0 ∷ 0 ∷ 0 ∷ 0 ∷ [])) [] (Some (NoClosingSoa, Message 2 0)) }
+    ensures first_of_two { StreamReads (frame first_message) small_records (Some (NoClosingSoa, Message 2 0)) }
+    ensures one_octet_more { StreamReads (frame small_message ++ 0 ∷ []) small_records (Some (ShortFrame, Message 2 0)) }
+    ensures half_a_length { StreamReads (0 ∷ []) [] (Some (ShortFrame, Message 1 0)) }
+    ensures half_a_message { StreamReads (0 ∷ 109 ∷ answer_header 1 3 0) [] (Some (ShortFrame, Message 1 0)) }
+{}
+
+/// Faults in the structure of a message: none of its records is read.
+pub fn faults_of_messages()
+    ensures no_octets { StreamReads (0 ∷ 0 ∷ []) [] (Some (ShortMessage, Message 1 0)) }
+    ensures query { StreamReads (frame ((0 ∷ 1 ∷ 4 ∷ 0 ∷ 0 ∷ 1 ∷ 0 ∷ 3 ∷ 0 ∷ 0 ∷ 0 ∷ 0 ∷ []) ++ small_body)) [] (Some (NotAResponse, Message 1 0)) }
+    ensures opcode { StreamReads (frame ((0 ∷ 1 ∷ 140 ∷ 0 ∷ 0 ∷ 1 ∷ 0 ∷ 3 ∷ 0 ∷ 0 ∷ 0 ∷ 0 ∷ []) ++ small_body)) [] (Some (NotAResponse, Message 1 0)) }
+    ensures truncated { StreamReads (frame ((0 ∷ 1 ∷ 134 ∷ 0 ∷ 0 ∷ 1 ∷ 0 ∷ 3 ∷ 0 ∷ 0 ∷ 0 ∷ 0 ∷ []) ++ small_body)) [] (Some (Truncated, Message 1 0)) }
+    ensures error { StreamReads (frame ((0 ∷ 1 ∷ 132 ∷ 5 ∷ 0 ∷ 1 ∷ 0 ∷ 3 ∷ 0 ∷ 0 ∷ 0 ∷ 0 ∷ []) ++ small_body)) [] (Some (ErrorCode 5, Message 1 0)) }
+    ensures two_questions { StreamReads (frame (answer_header 2 3 0 ++ small_body)) [] (Some (BadCounts, Message 1 0)) }
+    ensures too_many_answers { StreamReads (frame (answer_header 1 4 0 ++ small_body)) [] (Some (ShortMessage, Message 1 109)) }
+    ensures trailing { StreamReads (frame (answer_header 1 3 0 ++ small_body ++ 0 ∷ [])) [] (Some (TrailingOctets, Message 1 0)) }
+    ensures question_type { StreamReads (frame (answer_header 1 3 0 ++ (1 ∷ 120 ∷ 0 ∷ 0 ∷ 1 ∷ 0 ∷ 1 ∷ []) ++ opening_x ++ server_x ++ closing_x 1)) [] (Some (BadQuestion, Message 1 12)) }
+    ensures reserved_owner { StreamReads (frame (message_with (64 ∷ 12 ∷ 0 ∷ 2 ∷ 0 ∷ 1 ∷ 0 ∷ 0 ∷ 14 ∷ 16 ∷ 0 ∷ 2 ∷ 192 ∷ 31 ∷ []))) [] (Some (ReservedLabel, Message 1 59)) }
+    ensures second_id { StreamReads (frame small_message ++ frame ((0 ∷ 2 ∷ 132 ∷ 0 ∷ 0 ∷ 1 ∷ 0 ∷ 3 ∷ 0 ∷ 0 ∷ 0 ∷ 0 ∷ []) ++ small_body)) small_records (Some (IdMismatch, Message 2 0)) }
+    ensures later_question { StreamReads (frame first_message ++ frame (answer_header 1 0 0 ++ 1 ∷ 121 ∷ 0 ∷ 0 ∷ 252 ∷ 0 ∷ 1 ∷ [])) small_records (Some (BadQuestion, Message 2 12)) }
+{}
+
+/// Faults of answers: the answers before are read.
+pub fn faults_of_answers()
+    ensures no_opening { StreamReads (frame (answer_header 1 1 0 ++ question_x ++ record_x 2 (192 ∷ 12 ∷ []))) [] (Some (NoOpeningSoa, Message 1 19)) }
+    ensures question_class { StreamReads (frame (answer_header 1 3 0 ++ (1 ∷ 120 ∷ 0 ∷ 0 ∷ 252 ∷ 0 ∷ 3 ∷ []) ++ opening_x ++ server_x ++ closing_x 1)) [] (Some (BadQuestion, Message 1 19)) }
+    ensures other_serial { StreamReads (frame (answer_header 1 3 0 ++ question_x ++ opening_x ++ server_x ++ closing_x 2)) small_records (Some (SoaMismatch, Message 1 73)) }
+    ensures after_closing { StreamReads (frame (answer_header 1 4 0 ++ small_body ++ server_x)) small_records (Some (AfterClosing, Message 1 109)) }
+    ensures given_twice { StreamReads (frame small_message ++ frame small_message) small_records (Some (AfterClosing, Message 2 19)) }
+    ensures compressible { StreamReads (frame (message_with (record_x 7 (192 ∷ 31 ∷ [])))) (placed_at 1 19 soa_x ∷ []) (Some (CompressibleType, Message 1 59)) }
+    ensures left_over { StreamReads (frame (message_with (record_x 2 (192 ∷ 31 ∷ 0 ∷ [])))) (placed_at 1 19 soa_x ∷ []) (Some (BadRdata, Message 1 59)) }
+    ensures no_string { StreamReads (frame (message_with (record_x 16 []))) (placed_at 1 19 soa_x ∷ []) (Some (BadRdata, Message 1 59)) }
+    ensures short_service { StreamReads (frame (message_with (record_x 33 (192 ∷ 31 ∷ [])))) (placed_at 1 19 soa_x ∷ []) (Some (BadRdata, Message 1 59)) }
+    ensures points_to_itself { StreamReads (frame (message_with (record_x 2 (192 ∷ 71 ∷ [])))) (placed_at 1 19 soa_x ∷ []) (Some (BadPointer, Message 1 59)) }
 {}

@@ -1,9 +1,15 @@
 //! Laws over the definitions alone.
-ghost use Rattle.std.specs.Prelude.{◌≡◌, ◌+◌, ◌≤◌, ◌<◌, ℕ, List, length, slice_index, None};
+ghost use Rattle.std.specs.Prelude.{◌++◌, Some, Ok, ◌≡◌, ◌+◌, ◌≤◌, ◌<◌, ℕ, List, length, slice_index, Option, None};
 ghost use Rattle.std.specs.List.{AllByRecursion};
-ghost use Rattle.zone_wire.specs.Message.{Sections, IsMessage};
+ghost use Rattle.zone_wire.specs.Message.{RecordAt, Sections, IsMessage};
 ghost use Rattle.zone_wire.specs.Name.{Found, IsNameAt};
-ghost use Rattle.zone_wire.specs.Transfer.{StreamStates};
+ghost use Rattle.zone_wire.specs.Transfer.{IsDataAt, StreamStates};
+ghost use Rattle.zone_wire.specs.Data.{data_at};
+ghost use Rattle.zone_wire.specs.Sections.{sections_of};
+ghost use Rattle.zone_wire.specs.Stream.{StreamReads, Decided};
+ghost use Rattle.zone_rdata.specs.Record.{IsRecord};
+ghost use Rattle.zone_rdata.specs.declared.fault.Fault.{Fault};
+ghost use Rattle.zone_rdata.specs.declared.fault.Place.{Place};
 ghost use Rattle.zone_rdata.specs.declared.record.Placed.{Placed};
 ghost use Rattle.zone_wire.specs.Walk.{walk, walk_by, outset, ending};
 
@@ -47,4 +53,46 @@ pub fn one_message_of_octets()
 /// A stream states at most one list of records.
 pub fn one_list_of_a_stream()
     ensures { (stream : List ℕ) (placed other : List Placed) → StreamStates stream placed → StreamStates stream other → placed ≡ other }
+{}
+
+/// A stream is read in at most one way, and one thing is decided for it.
+pub fn one_reading_of_a_stream()
+    ensures whole { (stream : List ℕ) (placed other : List Placed) (ending late : Option (Fault × Place)) → StreamReads stream placed ending → StreamReads stream other late → (placed ≡ other) × (ending ≡ late) }
+    ensures decided { (stream : List ℕ) (placed other : List Placed) (ending late : Option (Fault × Place)) → Decided stream placed ending → Decided stream other late → (placed ≡ other) × (ending ≡ late) }
+{}
+
+/// Each stream of octets is read in some way, and something is decided for it.
+pub fn each_stream_is_read()
+    ensures whole { (stream : List ℕ) → ((i : ℕ) → slice_index stream i < 256) → (placed : List Placed) × (ending : Option (Fault × Place)) × StreamReads stream placed ending }
+    ensures decided { (stream : List ℕ) → ((i : ℕ) → slice_index stream i < 256) → (placed : List Placed) × (ending : Option (Fault × Place)) × Decided stream placed ending }
+{}
+
+/// The records that are decided for a stream begin those of every longer one, and a decided fault stays.
+pub fn what_is_decided_stays()
+    ensures records { (stream more : List ℕ) (placed other : List Placed) (ending late : Option (Fault × Place)) → Decided stream placed ending → Decided (stream ++ more) other late → (rest : List Placed) × (other ≡ placed ++ rest) }
+    ensures fault { (stream more : List ℕ) (placed other : List Placed) (e : Fault × Place) (late : Option (Fault × Place)) → Decided stream placed (Some e) → Decided (stream ++ more) other late → (other ≡ placed) × (late ≡ Some e) }
+{}
+
+/// The records that are decided for a stream begin those that every longer one is read as, and a decided fault is its fault.
+pub fn what_is_decided_is_read()
+    ensures records { (stream more : List ℕ) (placed other : List Placed) (ending late : Option (Fault × Place)) → Decided stream placed ending → StreamReads (stream ++ more) other late → (rest : List Placed) × (other ≡ placed ++ rest) }
+    ensures fault { (stream more : List ℕ) (placed other : List Placed) (e : Fault × Place) (late : Option (Fault × Place)) → Decided stream placed (Some e) → StreamReads (stream ++ more) other late → (other ≡ placed) × (late ≡ Some e) }
+{}
+
+/// A message is read as its sections, and octets that are read as sections are that message.
+pub fn a_message_is_read()
+    ensures found { (octets : List ℕ) (sections : Sections) → ((i : ℕ) → slice_index octets i < 256) → sections_of octets ≡ Ok sections → IsMessage octets sections }
+    ensures only { (octets : List ℕ) (sections : Sections) → IsMessage octets sections → sections_of octets ≡ Ok sections }
+{}
+
+/// The data that is read for a record is its data.
+pub fn the_data_of_a_record()
+    ensures found { (octets canonical : List ℕ) (a : RecordAt) → ((i : ℕ) → slice_index octets i < 256) → a.end ≤ length octets → data_at octets a ≡ Ok canonical → IsDataAt octets a canonical }
+    ensures only { (octets canonical : List ℕ) (a : RecordAt) → a.end ≤ length octets → IsDataAt octets a canonical → data_at octets a ≡ Ok canonical }
+{}
+
+/// A transfer is read as its records, without a fault, and a stream that is read without a fault is that transfer.
+pub fn a_transfer_is_read()
+    ensures found { (stream : List ℕ) (placed : List Placed) → ((i : ℕ) → slice_index stream i < 256) → AllByRecursion (λ p. IsRecord p.rr) placed → StreamReads stream placed None → StreamStates stream placed }
+    ensures only { (stream : List ℕ) (placed : List Placed) → StreamStates stream placed → StreamReads stream placed None }
 {}

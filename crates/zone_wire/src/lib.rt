@@ -2,11 +2,12 @@
 #![tactic(auto)]
 
 pub mod examples;
-mod fault;
 pub mod laws;
 mod name;
 mod place;
 mod ticks;
 
-pub use fault::WireFault;
 pub use name::{Decoded, name_at};
+
+#[cfg(test)]
+mod tests;

@@ -3,10 +3,10 @@ ghost use Rattle.zone_wire.specs.Name.{Found, IsNameAt, found_by};
 ghost use Rattle.zone_wire.specs.Reading.{Says, outcome};
 ghost use Rattle.zone_wire.specs.Walk.{walk, ending};
 
-use crate::fault::WireFault;
 use crate::place::{Spot, Standing, place_at};
 use crate::ticks::Ticks;
 use zone_name::{Name, NameBuilder};
+use zone_rdata::Fault;
 
 /// A name that was read from a message.
 #[derive(Debug, Drop)]
@@ -23,7 +23,7 @@ pub struct Decoded {
 /// # Errors
 ///
 /// The fault at the first place of the name that has one, and how many places were looked at.
-pub fn name_at(message: &[u8], offset: usize) -> Result<Decoded, (WireFault, u16)>
+pub fn name_at(message: &[u8], offset: usize) -> Result<Decoded, (Fault, u16)>
     ensures found { IfOk result (λ d. (pointers : ℕ) × IsNameAt message.now offset (found_by d pointers)) }
     ensures only { (found : Found) → IsNameAt message.now offset found → IsOk result }
     ensures within { IfOk result (λ d. (offset < d.end) × (d.end ≤ length message.now)) }
@@ -35,7 +35,7 @@ pub fn name_at(message: &[u8], offset: usize) -> Result<Decoded, (WireFault, u16
 }
 
 /// What the walk of the name at an offset finds.
-fn walked(message: &[u8], offset: usize) -> Result<Decoded, (WireFault, u16)>
+fn walked(message: &[u8], offset: usize) -> Result<Decoded, (Fault, u16)>
     ensures { Says result (outcome message.now (walk message.now offset)) }
 {
     let mut ticks = Ticks::new();
@@ -44,7 +44,7 @@ fn walked(message: &[u8], offset: usize) -> Result<Decoded, (WireFault, u16)>
     let mut spot = Spot::outset(offset);
     'places: loop {
         match place_at(message, spot, &mut ticks) {
-            Standing::Outside => return Err((WireFault::ShortMessage, ticks.count())),
+            Standing::Outside => return Err((Fault::ShortMessage, ticks.count())),
             Standing::Bad(fault) => return Err((fault, ticks.count())),
             Standing::Root => {
                 return Ok(Decoded {

@@ -2,8 +2,8 @@ ghost use Rattle.std.specs.Prelude.{◌≡◌, ◌+◌, ◌^◌, ◌<◌, ◌≤
 ghost use Rattle.zone_wire.specs.Name.{target_at};
 ghost use Rattle.zone_wire.specs.Walk.{place_of, label_of, pointer_of, outset, past_label, past_pointer, ticks_at};
 
-use crate::fault::WireFault;
 use crate::ticks::Ticks;
+use zone_rdata::Fault;
 
 /// Where the walk along a name stands, and what it met before.
 #[derive(Clone, Copy, Debug)]
@@ -17,7 +17,7 @@ pub(crate) struct Spot {
 }
 
 /// What stands at one place of a name.
-#[derive(Clone, Copy, Debug)]
+#[derive(Debug, Drop)]
 pub(crate) enum Standing {
     /// No octet of the message.
     Outside,
@@ -26,7 +26,7 @@ pub(crate) enum Standing {
     Label(usize),
     /// A pointer, and where it leads.
     Pointer(usize),
-    Bad(WireFault),
+    Bad(Fault),
 }
 
 /// What stands at a place, by its first octet. Where there is one, it ticks before it looks at it.
@@ -45,7 +45,7 @@ pub(crate) fn place_at(message: &[u8], spot: Spot, ticks: &mut Ticks) -> Standin
     match first {
         0 => Standing::Root,
         1..=63 => label_at(message, spot, first as usize),
-        64..=191 => Standing::Bad(WireFault::ReservedLabel),
+        64..=191 => Standing::Bad(Fault::ReservedLabel),
         _ => pointer_at(message, spot),
     }
 }
@@ -58,9 +58,9 @@ fn label_at(message: &[u8], spot: Spot, size: usize) -> Standing
     ensures { result ≡ label_of message.now spot size }
 {
     if size >= message.len() - spot.offset {
-        Standing::Bad(WireFault::ShortMessage)
+        Standing::Bad(Fault::ShortMessage)
     } else if spot.octets + size + 2 > 255 {
-        Standing::Bad(WireFault::NameTooLong)
+        Standing::Bad(Fault::NameTooLong)
     } else {
         Standing::Label(size)
     }
@@ -73,14 +73,14 @@ fn pointer_at(message: &[u8], spot: Spot) -> Standing
     ensures { result ≡ pointer_of message.now spot (target_at message.now spot.offset) }
 {
     if message.len() - spot.offset < 2 {
-        return Standing::Bad(WireFault::ShortMessage);
+        return Standing::Bad(Fault::ShortMessage);
     }
     let high = message[spot.offset] as usize - 192;
     let target = high * 256 + message[spot.offset + 1] as usize;
     if target < 12 || target >= spot.bound {
-        Standing::Bad(WireFault::BadPointer)
+        Standing::Bad(Fault::BadPointer)
     } else if spot.pointers >= 128 {
-        Standing::Bad(WireFault::TooManyPointers)
+        Standing::Bad(Fault::TooManyPointers)
     } else {
         Standing::Pointer(target)
     }

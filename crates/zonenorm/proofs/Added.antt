@@ -1,6 +1,6 @@
 -- The records that a builder holds after it took records one after another.
 use Rattle.std.proofs.Common.{◌≡◌, ℕ, List, [], ◌∷◌, inl, inr, ⊎_elim, false}
-use Rattle.std.specs.Prelude.{◌⊎◌, ◌↔◌, Option, None, IfNone, Result, Ok, Err, IfOk}
+use Rattle.std.specs.Prelude.{◌⊎◌, ◌↔◌, IfNone, Result, Ok, Err, IfOk}
 use Rattle.zone_rdata.specs.Record.{Record}
 use Rattle.zone_rdata.specs.declared.record.Placed.{Placed}
 use Rattle.zone_rdata.specs.declared.source.Reading.{Reading}
@@ -8,7 +8,7 @@ use Rattle.zone_rdata.specs.declared.fault.Stop.{Stop}
 use Rattle.zone_text.specs.File.{FileStates}
 use Rattle.zone_set.specs.Zone.{Zone, IsZone, Has, SameRecords}
 use Rattle.zone_set.specs.Builder.{AddsEach, TakesAll}
-use Rattle.zone_print.specs.Denotes.{records_of}
+use Rattle.zone_set.specs.Refusal.{records_of}
 use Rattle.zonenorm.specs.Normalise.{StatesZone}
 
 -- what is held is what was taken and what was held before

@@ -2,3 +2,10 @@ pub mod Known
 pub mod Added
 pub mod Stopped
 pub mod Asked
+pub mod Parting
+pub mod Refusing
+pub mod Deciding
+pub mod Making
+pub mod Small
+pub mod Refused
+pub mod Inputs

@@ -1,4 +1,6 @@
 pub mod Form
 pub mod Reading
 pub mod Normalise
+pub mod Refusal
+pub mod Examples
 pub mod Order

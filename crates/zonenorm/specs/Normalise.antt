@@ -5,9 +5,10 @@ use Rattle.zone_rdata.specs.declared.fault.Stop.{Stop}
 use Rattle.zone_rdata.specs.declared.fault.Stop.TheVariants.{Refused, Read, Write, Memory}
 use Rattle.zone_rdata.specs.declared.record.Placed.{Placed}
 use Rattle.zone_text.specs.File.{FileStates}
+use Rattle.zone_set.specs.Refusal.{records_of}
 use Rattle.zone_set.specs.Zone.{Zone, IsZone, SameRecords}
 use Rattle.zone_print.specs.Canonical.{canon}
-use Rattle.zone_print.specs.Denotes.{Denotes, records_of}
+use Rattle.zone_print.specs.Denotes.{Denotes}
 use Rattle.zone_print.specs.Writing.{AppendsFront}
 
 -- The octets denote a zone under the origin, its canonical text and nothing else was written, and the answer is the

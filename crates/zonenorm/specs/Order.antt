@@ -1,5 +1,5 @@
 -- What a command line asks for, and what a run of it leaves.
-use Rattle.std.specs.Prelude.{◌≡◌, ℕ, List, codes, Option, Some, None, ◌⊎◌, true, false}
+use Rattle.std.specs.Prelude.{◌≡◌, ℕ, List, codes, string_bytes, Option, Some, None, ◌⊎◌, true, false}
 use Rattle.clap.specs.Words.{App, Row, Rule, Shape, Text, new_rule, new_app, with_rule, with_subcommand, subcommand_of, first_of, takes}
 use Rattle.zone_name.specs.Spelling.{Spells}
 use Rattle.zone_rdata.specs.declared.fault.Stop.{Stop}
@@ -53,6 +53,12 @@ abbrev pub line_status : LineFault → ℕ
 line_status line_faults.BadOrigin = 2
 line_status (line_faults.Clap told) = 2
 line_status line_faults.Memory = 4
+
+-- what the user is told of it
+abbrev pub line_text : LineFault → List ℕ
+line_text line_faults.BadOrigin = codes "F46 BadOrigin: an origin is an absolute name or the word transfer"
+line_text (line_faults.Clap told) = string_bytes told
+line_text line_faults.Memory = codes "out of memory"
 
 -- the origin of the input that is to be normalised
 abbrev pub order_origin : Order → List (List ℕ)

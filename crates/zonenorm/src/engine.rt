@@ -1,7 +1,9 @@
 ghost use Rattle.std.specs.Prelude.{IfOk, IfErr, IfSome, IfNone};
 ghost use Rattle.zone_text.specs.File.{FileStates};
+ghost use Rattle.zone_text.specs.Lines.{ReadsFront};
 ghost use Rattle.zonenorm.specs.Form.{origin_of};
 ghost use Rattle.zonenorm.specs.Normalise.{Normalises, NormalisesTo, StatesZone, WritesNothing, WritesFront, IsOfBytes};
+ghost use Rattle.zonenorm.specs.Refusal.{IfRefused, RefusesOctets, RefusesRead};
 
 use crate::form::Form;
 use crate::input::read_input;
@@ -19,7 +21,9 @@ const INPUT_LIMIT: u64 = 1_073_741_824;
 ///
 /// # Errors
 ///
-/// `Refused` where they denote none; `Read`, `Write` and `Memory`. A refused input writes nothing.
+/// `Refused` where they denote none: `InputTooLong` where there are more than 1,073,741,824; else the first fault of
+/// their records in order, of reading or of `ZoneBuilder::add`; else `NoSoa`, `OutOfZone` or `ZoneTooLarge`. `Read`,
+/// `Write` and `Memory`. A refused input writes nothing.
 pub fn normalise<R: Read, W: Write>(
     alloc: Global,
     form: Form<'_>,
@@ -31,6 +35,8 @@ pub fn normalise<R: Read, W: Write>(
     ensures refused { IfErr result (λ stop. WritesNothing stop (W.contents writer.old) (W.contents writer.new)) }
     ensures front { IfErr result (λ _. IfSome (R.remaining reader.old) (λ octets.
         WritesFront (origin_of form.entry) octets (W.contents writer.old) (W.contents writer.new))) }
+    ensures fault { IfErr result (λ stop. IfSome (R.remaining reader.old) (λ octets.
+        IfRefused stop (RefusesOctets (origin_of form.entry) octets))) }
 {
     let octets = read_input(alloc, reader, INPUT_LIMIT)?;
     let zone = zone_of(alloc, form, &octets)?;
@@ -46,6 +52,7 @@ pub fn normalise<R: Read, W: Write>(
 pub fn normalise_bytes(alloc: Global, form: Form<'_>, octets: &[u8]) -> Result<Vec<u8>, Stop>
     ensures accepted { IfOk result (λ text. NormalisesTo (origin_of form.entry) octets.now text.items) }
     ensures stopped { IfErr result IsOfBytes }
+    ensures fault { IfErr result (λ stop. IfRefused stop (RefusesOctets (origin_of form.entry) octets.now)) }
 {
     if octets.len() as u64 > INPUT_LIMIT {
         return Err(Stop::Refused(Fault::InputTooLong, Place::Whole));
@@ -62,6 +69,7 @@ pub fn normalise_bytes(alloc: Global, form: Form<'_>, octets: &[u8]) -> Result<V
 fn zone_of(alloc: Global, form: Form<'_>, octets: &[u8]) -> Result<Zone, Stop>
     ensures stated { IfOk result (StatesZone (origin_of form.entry) octets.now) }
     ensures stopped { IfErr result IsOfBytes }
+    ensures fault { IfErr result (λ stop. IfRefused stop (RefusesRead (origin_of form.entry) octets.now)) }
 {
     let Ok(mut reading) = reading_of(alloc, form, octets) else {
         return Err(Stop::Memory);
@@ -73,7 +81,8 @@ fn zone_of(alloc: Global, form: Form<'_>, octets: &[u8]) -> Result<Zone, Stop>
 
 /// What an input of this form states: its records, and the fault after them if there is one.
 fn reading_of(alloc: Global, form: Form<'_>, octets: &[u8]) -> Result<Reading, AllocError>
-    ensures { IfOk result (λ reading. IfNone reading.ending (FileStates (origin_of form.entry) octets.now reading.placed.items)) }
+    ensures stated { IfOk result (λ reading. IfNone reading.ending (FileStates (origin_of form.entry) octets.now reading.placed.items)) }
+    ensures front { IfOk result (ReadsFront (origin_of form.entry) octets.now) }
 {
     match form {
         Form::File(origin) => read_file(alloc, origin, octets),

@@ -2,9 +2,11 @@
 #![tactic(auto)]
 
 mod engine;
+pub mod examples;
 mod explain;
 mod form;
 mod input;
+pub mod laws;
 mod order;
 mod run;
 

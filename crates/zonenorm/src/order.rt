@@ -1,7 +1,7 @@
 ghost use Rattle.std.specs.Prelude.{◌≡◌, ℕ, List, codes, None, map, IfOk, IfErr, IfSome, string_bytes};
 ghost use Rattle.clap.specs.Words.{app_of, subcommand_rows_of};
 ghost use Rattle.zone_name.specs.Spelling.{Spells};
-ghost use Rattle.zonenorm.specs.Order.{program_app, order_origin, AsksFor, Orders, IsLineFault, IsClapFault, line_status};
+ghost use Rattle.zonenorm.specs.Order.{program_app, order_origin, AsksFor, Orders, IsLineFault, IsClapFault, line_status, line_text};
 
 use clap::error::ErrorKind;
 use clap::{Arg, ArgMatches, Command, Error};
@@ -28,7 +28,9 @@ pub enum LineFault {
 
 impl LineFault {
     /// The text for the user, without a line feed at its end.
-    pub fn text(&self) -> &str {
+    pub fn text(&self) -> &str
+        ensures { result.now ≡ line_text self.now }
+    {
         match self {
             LineFault::BadOrigin => {
                 "F46 BadOrigin: an origin is an absolute name or the word transfer"

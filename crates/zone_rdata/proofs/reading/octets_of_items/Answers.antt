@@ -1,16 +1,19 @@
-use Rattle.std.proofs.Common.{refl, subst, map, ap}
-use Rattle.std.proofs.lemmas.List.{drop_all}
-use Rattle.zone_rdata.specs.Spelling.{raw}
-use Rattle.zone_rdata.specs.Reading.{AreSpelt}
-use Rattle.zone_rdata.proofs.Items.{read_at, read_all}
+use Rattle.std.proofs.Common.{arith, refl, sym, ◌∙◌, ◌<◌, ◌≤◌, length, subst}
+use Rattle.zone_rdata.proofs.Faults.{fault_handed}
+use Rattle.zone_rdata.proofs.Walks.{reads_more, stops_at, over_at, short_at, long_at}
 use Rattle.zone_rdata.proofs.reading.octets_of_items.Goals as goal
 
-pub loop-field-preserved : goal.loop-field-preserved
-loop-field-preserved c =
-    let found = c.in-Some.ensures.lookup in
-    read_at _ _ c.args.items.now c.loop-field.field-index c.loop-field.taken c.in-Some.item.now _ _ _ _ c.loop-field-test.true refl found.3.0 found.1 c.loop-field.invariant c.in_ok-push_field.ensures
+pub returns-in_default-clause-fault : goal.returns-in_default-clause-fault
+returns-in_default-clause-fault c = over_at _ _ _ _ _ c.loop-place-test.true (sym c.in_default.is ∙ c.item_field.ensures) c.loop-place.invariant
 
-pub returns : goal.returns
-returns c =
-    let whole = read_all _ _ _ c.loop-field.field-index _ _ c.loop-field-test.false (ap (map raw) (drop_all c.loop-field.taken c.args.items.now c.if-taken-items.false)) c.loop-field.invariant in
-    subst (λ fields. AreSpelt c.args.origin.now fields (map raw c.args.items.now) c.loop-field.octets.items) c.fields-field-items.ensures whole
+pub returns-in_err-push_field-clause-fault : goal.returns-in_err-push_field-clause-fault
+returns-in_err-push_field-clause-fault c = fault_handed c.from_residual.result c.in_err-push_field.field-0.0 _ _ c.from_residual.ensures.1 (λ fault bad. stops_at _ _ _ _ _ _ _ refl _ fault c.loop-place-test.true (sym c.in-Some.is ∙ c.item_field.ensures) c.loop-place.invariant bad) c.in_err-push_field.ensures.fault
+
+pub loop-place-preserved : goal.loop-place-preserved
+loop-place-preserved c = reads_more _ _ _ _ _ _ _ refl _ _ c.loop-place-test.true (sym c.in-Some.is ∙ c.item_field.ensures) c.loop-place.invariant c.in_ok-push_field.ensures.found
+
+pub returns-then-items-fields-clause-fault : goal.returns-then-items-fields-clause-fault
+returns-then-items-fields-clause-fault c = short_at _ _ _ _ _ (omega (arith, c.loop-place-test.false, c.loop-place.auto.place-end)) (subst (λ fields. length c.args.items.now < length fields) c.fields.ensures c.if-items-fields.true) c.loop-place.invariant
+
+pub returns-then-len-gt-GREATEST-clause-fault : goal.returns-then-len-gt-GREATEST-clause-fault
+returns-then-len-gt-GREATEST-clause-fault c = long_at _ _ _ _ _ (omega (arith, c.loop-place-test.false, c.loop-place.auto.place-end)) (subst (λ fields. length fields ≤ length c.args.items.now) c.fields.ensures c.if-items-fields.false) (omega (arith, c.len.ensures, c.if-len-gt-GREATEST.true)) c.loop-place.invariant

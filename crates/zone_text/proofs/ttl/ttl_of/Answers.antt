@@ -1,4 +1,4 @@
-use Rattle.std.proofs.Common.{◌≤◌, arith}
+use Rattle.std.proofs.Common.{arith}
 use Rattle.zone_text.proofs.Seconds.{time_within}
 use Rattle.zone_text.proofs.ttl.ttl_of.Goals as goal
 

@@ -1,14 +1,25 @@
 use Rattle.std.proofs.Common.{sym, subst, ◌<◌}
 use Rattle.std.specs.List.{AllByRecursion}
-use Rattle.zone_rdata.proofs.Fields.{spelt_data, spelt_states}
+use Rattle.zone_rdata.proofs.Fields.{stated_data, states_for, first_for}
+use Rattle.zone_rdata.proofs.Wire.{table_last}
+use Rattle.zone_rdata.proofs.Forms.{only_memory}
 use Rattle.zone_rdata.proofs.rdata.Rdata.from_items.Goals as goal
 
 pub invariant_of-result : goal.invariant_of-result
 invariant_of-result c = record {
   class = c.known.ensures;
   kind = c.known-2.ensures;
-  octets = spelt_data _ _ _ _ _ _ (sym c.in-Some.ensures) c.in_ok-octets.ensures (subst (AllByRecursion (λ c. c < 256)) c.deref.ensures.value c.are_octets.ensures);
+  octets = stated_data _ _ _ _ _ _ c.layout_of.ensures c.in_ok-octets.ensures.found (subst (AllByRecursion (λ c. c < 256)) c.deref.ensures.value c.are_octets.ensures);
 }
 
 pub returns-clause-found : goal.returns-clause-found
-returns-clause-found c = spelt_states _ _ _ _ _ _ (sym c.in-Some.ensures) (λ h. let t = c.if-is_generic.ensures.1 h in cc t) c.in_ok-octets.ensures
+returns-clause-found c = states_for _ _ _ _ _ _ c.layout_of.ensures c.in_ok-octets.ensures.found
+
+pub octets_for-requires : goal.octets_for-requires
+octets_for-requires c = table_last c.args.class c.args.kind _ c.layout_of.ensures
+
+pub returns-clause-only : goal.returns-clause-only
+returns-clause-only c = λ octets stated. (c.data_is_unique.ensures _ _ _ _ _ _ (states_for _ _ _ _ _ _ c.layout_of.ensures c.in_ok-octets.ensures.found) stated, tt)
+
+pub returns-in_err-octets-clause-only : goal.returns-in_err-octets-clause-only
+returns-in_err-octets-clause-only c = λ octets stated. only_memory c.from_residual.result c.in_err-octets.field-0.0 _ _ c.from_residual.ensures.1 c.in_err-octets.ensures.fault (λ fault bad. c.faulty_items_state_none.ensures _ _ _ _ octets fault stated (first_for _ _ _ _ _ _ c.layout_of.ensures bad))

@@ -1,0 +1,101 @@
+-- A zone is fixed by its set of records: a strictly ascending list is the only one of its set.
+use Rattle.std.proofs.Common.{◌≡◌, ℕ, List, [], ◌∷◌, reverse, Ordering, Less, Equal, Greater, refl, sym, ap, ap₂, ◌∙◌, subst, inl, inr, ⊎_elim}
+use Rattle.std.proofs.lemmas.Cmp.{on_total, then_total, lists_total, nat_cmp_total, nat_list_cmp_total, tied_itself}
+use Rattle.std.proofs.lemmas.Map.Lookups.{exact_unsigned, exact_bytes}
+use Rattle.std.specs.Cmp.{IsTotalOrder}
+use Rattle.std.specs.List.{AllByRecursion}
+use Rattle.std.specs.Ordering.{ordering_then, ordering_reverse}
+use Rattle.zone_name.specs.Order.{name_cmp}
+use Rattle.zone_rdata.specs.Order.{data_cmp}
+use Rattle.zone_rdata.specs.Record.{Record, data_of}
+use Rattle.zone_rdata.specs.declared.record.Placed.{Placed}
+use Rattle.zone_text.specs.File.{FileStates}
+use Rattle.zone_set.specs.Order.{soa_rank, canonical_cmp, Ascends}
+use Rattle.zone_set.specs.Refusal.{records_of}
+use Rattle.zone_set.specs.Zone.{Has, SameRecords, Zone, IsZone}
+use Rattle.zone_print.specs.Denotes.{Denotes}
+
+names_total : IsTotalOrder name_cmp
+names_total = on_total (reverse {A = List ℕ}) (lists_total nat_list_cmp_total)
+
+data_total : IsTotalOrder data_cmp
+data_total = then_total (on_total (λ d. d.class) nat_cmp_total) (then_total (on_total (λ d. d.kind) nat_cmp_total) (on_total (λ d. d.octets) nat_list_cmp_total))
+
+pub canonical_total : IsTotalOrder canonical_cmp
+canonical_total = then_total (on_total soa_rank nat_cmp_total) (then_total (on_total (λ r. r.owner) names_total) (on_total data_of data_total))
+
+both_equal : (o p : Ordering) → ordering_then o p ≡ Equal → (o ≡ Equal) × (p ≡ Equal)
+both_equal Less p h = cc
+both_equal Equal p h = (refl, h)
+both_equal Greater p h = cc
+
+-- records that the order doesn't tell apart have one owner and one data
+pub canonical_exact : ((a b : List (List ℕ)) → name_cmp a b ≡ Equal → a ≡ b) → (r s : Record) → canonical_cmp r s ≡ Equal → (r.owner ≡ s.owner) × (data_of r ≡ data_of s)
+canonical_exact exact r s tied =
+    let others = both_equal _ _ (both_equal _ _ tied).1 in
+    let of_class = both_equal _ _ others.1 in
+    let of_kind = both_equal _ _ of_class.1 in
+    let class : r.class ≡ s.class = exact_unsigned _ _ of_class.0 in
+    let kind : r.kind ≡ s.kind = exact_unsigned _ _ of_kind.0 in
+    let octets : r.octets ≡ s.octets = exact_bytes _ _ of_kind.1 in
+    (exact r.owner s.owner others.0, λ i. record { class = class i; kind = kind i; octets = octets i })
+
+each_Has : (P : Record → Type 0) (records : List Record) (r : Record) → AllByRecursion P records → Has records r → P r
+each_Has P [] r each has = absurd has
+each_Has P (s ∷ records) r each has = ⊎_elim (λ same. subst P (sym same) each.0) (λ more. each_Has P records r each.1 more) has
+
+-- no record goes before itself, and no two go each before the other
+not_itself : (r s : Record) → r ≡ s → canonical_cmp r s ≡ Less → ⊥
+not_itself r s same less =
+    let tied = tied_itself canonical_total r in
+    let less_itself : canonical_cmp r r ≡ Less = subst (λ t. canonical_cmp r t ≡ Less) (sym same) less in cc
+
+not_both : (r s : Record) → canonical_cmp r s ≡ Less → canonical_cmp s r ≡ Less → ⊥
+not_both r s less back = let turned = sym less ∙ canonical_total.antisymm r s ∙ ap ordering_reverse back in cc
+
+-- the first of two ascending lists of the same records
+same_first : (r s : Record) (records others : List Record) → Ascends (r ∷ records) → Ascends (s ∷ others) → SameRecords (r ∷ records) (s ∷ others) → r ≡ s
+same_first r s records others up up_others same =
+    ⊎_elim (λ is. is) (λ later.
+    ⊎_elim (λ is. sym is) (λ later_s. absurd (not_both r s
+    (each_Has (λ t. canonical_cmp r t ≡ Less) records s up.0 later_s)
+    (each_Has (λ t. canonical_cmp s t ≡ Less) others r up_others.0 later)))
+    ((same s).1 (inl refl)))
+    ((same r).0 (inl refl))
+
+-- what stands behind the first of one list stands behind the first of the other
+behind : (r s : Record) (records others : List Record) → Ascends (r ∷ records) → r ≡ s → ((t : Record) → Has (r ∷ records) t → Has (s ∷ others) t) → (t : Record) → Has records t → Has others t
+behind r s records others up first same t has =
+    ⊎_elim (λ is. absurd (not_itself r t (first ∙ sym is) (each_Has (λ u. canonical_cmp r u ≡ Less) records t up.0 has))) (λ later. later) (same t (inr has))
+
+pub one_ascending : (records others : List Record) → Ascends records → Ascends others → SameRecords records others → records ≡ others
+one_ascending [] [] up up_others same = refl
+one_ascending [] (s ∷ others) up up_others same = absurd ((same s).1 (inl refl))
+one_ascending (r ∷ records) [] up up_others same = absurd ((same r).0 (inl refl))
+one_ascending (r ∷ records) (s ∷ others) up up_others same =
+    let first : r ≡ s = same_first r s records others up up_others same in
+    ap₂ (λ (t : Record) (ts : List Record). t ∷ ts) first
+    (one_ascending records others up.1 up_others.1 (λ t. (
+      behind r s records others up first (λ u. (same u).0) t,
+      behind s r others records up_others (sym first) (λ u. (same u).1) t,
+    )))
+
+pub one_zone : (z w : Zone) → IsZone z → IsZone w → SameRecords z.records w.records → z ≡ w
+one_zone z w is_z is_w same =
+    let records : z.records ≡ w.records = one_ascending z.records w.records is_z.compatible.ascend is_w.compatible.ascend same in
+    let (r, has_r, soa_r, at_r) = is_z.soa in
+    let (s, has_s, soa_s, at_s) = is_w.soa in
+    let has : Has z.records s = (same s).1 has_s in
+    let one : r ≡ s = is_z.compatible.one_soa r s has_r has soa_r soa_s in
+    let apex : z.apex ≡ w.apex = sym at_r ∙ ap (λ t. t.owner) one ∙ at_s in
+    let class : z.class ≡ w.class = sym (each_Has (λ t. t.class ≡ z.class) z.records s is_z.class has) ∙ each_Has (λ t. t.class ≡ w.class) w.records s is_w.class has_s in
+    λ i. record { apex = apex i; class = class i; records = records i }
+
+-- a file that states one list of records denotes one zone
+pub one_zone_of_file : (origin : List (List ℕ)) (octets : List ℕ) → ((a b : List Placed) → FileStates origin octets a → FileStates origin octets b → a ≡ b) → (z w : Zone) → Denotes origin octets z → Denotes origin octets w → z ≡ w
+one_zone_of_file origin octets one z w denotes other =
+    let placed : denotes.placed ≡ other.placed = one denotes.placed other.placed denotes.states other.states in
+    one_zone z w denotes.zone other.zone (λ r. (
+      λ has. (other.same r).1 (subst (λ ps. Has (records_of ps) r) placed ((denotes.same r).0 has)),
+      λ has. (denotes.same r).1 (subst (λ ps. Has (records_of ps) r) (sym placed) ((other.same r).0 has)),
+    ))

@@ -1,0 +1,272 @@
+-- What is printed for an address is read back, and is of the form that RFC 5952 recommends.
+use Rattle.std.proofs.Common.{◌≡◌, ℕ, zero, suc, ◌+◌, ◌-◌, ◌*◌, ◌/◌, ◌%◌, ◌^◌, ◌<◌, ◌≤◌, Bool, true, false, inl, inr, List, [], ◌∷◌, ◌++◌, length, get_or, take, drop, map, replicate, decimal, refl, sym, ap, ◌∙◌, subst, arith, append_assoc, le-leb, lt-ltb, le-ltb, rules}
+use Rattle.std.specs.Prelude.{fold, slice_index}
+use Rattle.std.specs.Char.{digit_char}
+use Rattle.std.specs.List.{AllByRecursion}
+use Rattle.std.specs.Net.Addr.{segments_of}
+use Rattle.std.specs.Net.Text.{hex, longest_zero_run, hex_groups_text}
+use Rattle.std.proofs.NetLemmas.Texts.{AllSegments, IsZeroRun-longest_zero_run, longest_zero_run_first}
+use Rattle.std.proofs.NetLemmas.Alphabet.{IsDigitOrDot, IsHexOrColon, All-ipv4_text, All-hex_groups_text}
+use Rattle.std.proofs.lemmas.Bool.{cases_lt, lt-leb}
+use Rattle.std.proofs.lemmas.Fmt.{decimal_nonempty, digits_decimal, digits_value-decimal}
+use Rattle.std.proofs.lemmas.List.{append-nil, take-append-drop, length-take-le, length-drop, drop-drop}
+use Rattle.std.proofs.lemmas.List.Elements.{All-weaker, recursion_from_All}
+use Rattle.std.proofs.lemmas.Str.Parse.{IsNumeralModel, IsDigitsTest, FoldsDigits, numerals_by_fold}
+use Rattle.hex.specs.Hex.{decode_sized}
+use Rattle.hex.proofs.HexLemmas.{decode_sized-encode_lower}
+use Rattle.zone_name.specs.Spelling.{is_digit}
+use Rattle.zone_rdata.specs.Number.{decimal_value}
+use Rattle.zone_rdata.specs.Address.{IsOctetNumber, IsFourNumbers, Part, IsGroup, AreParts, parts_text, parts_octets, ArePartsOf, IsGroups, eight, fewer, four_text, groups_text, parted_groups, shortened_groups, IsZeroRun, IsShortenedRun, IsAddressOctet}
+use Rattle.zone_rdata.proofs.AddressTexts.{four_digits, four_encoded}
+
+-- ---- four octets
+
+abbrev AreDigits : List ℕ → Type 0
+AreDigits text = AllByRecursion (λ c. is_digit c ≡ true) text
+
+digits_test : IsDigitsTest AreDigits
+digits_test = search rules
+
+digits_fold : FoldsDigits (λ n text. fold (λ n c. n * 10 + (c - 48)) n text)
+digits_fold = record { empty = λ n. refl; more = λ n c cs h. refl }
+
+own : IsNumeralModel AreDigits decimal_value
+own = numerals_by_fold AreDigits digits_test (λ n text. fold (λ n c. n * 10 + (c - 48)) n text) digits_fold
+
+number_printed : (n : ℕ) → n < 256 → IsOctetNumber (decimal n) n
+number_printed n fits = record {
+  number = record { some = decimal_nonempty n (omega arith); digits = digits_decimal own n (omega arith); value = sym (digits_value-decimal own n (omega arith)) };
+  short = omega arith;
+}
+
+pub four_printed : (octets : List ℕ) → length octets ≡ 4 → AllByRecursion (λ c. c < 256) octets → IsFourNumbers (four_text octets) octets
+four_printed [] len each = absurd (omega arith)
+four_printed (a ∷ []) len each = absurd (omega arith)
+four_printed (a ∷ b ∷ []) len each = absurd (omega arith)
+four_printed (a ∷ b ∷ c ∷ []) len each = absurd (omega arith)
+four_printed (a ∷ b ∷ c ∷ d ∷ e ∷ octets) len each = absurd (omega arith)
+four_printed (a ∷ b ∷ c ∷ d ∷ []) len each = record {
+  numbers = decimal a ∷ decimal b ∷ decimal c ∷ decimal d ∷ [];
+  counted = refl;
+  parted = simp append_assoc;
+  each = (number_printed a each.0, (number_printed b each.1.0, (number_printed c each.1.1.0, (number_printed d each.1.1.1.0, tt))));
+}
+
+-- ---- groups
+
+-- zeros before a group's text make it four digits
+abbrev IsFilled : ℕ → List ℕ → Type 0
+IsFilled n text = (0 < length text) × (length text ≤ 4) × (replicate (4 - length text) 48 ++ text ≡ four_digits n)
+
+hex_filled : (n : ℕ) → n < 2 ^ 16 → IsFilled n (hex n)
+unfolding hex
+hex_filled n fits = elim (cases_lt n 0x1000) [
+  | inr four ↦ rw (le-leb _ n four) (omega arith, omega arith, refl)
+  | inl h₃ ↦
+      let a : digit_char (n / 0x1000) ≡ 48 = let e : n / 0x1000 ≡ 0 = omega arith in ap digit_char e in
+      elim (cases_lt n 0x100) [
+        | inr three ↦ rw (lt-leb _ n h₃, le-leb _ n three) (omega arith, omega arith, cc)
+        | inl h₂ ↦
+            let b : digit_char (n / 0x100 % 16) ≡ 48 = let e : n / 0x100 % 16 ≡ 0 = omega arith in ap digit_char e in
+            elim (cases_lt n 0x10) [
+              | inr two ↦ rw (lt-leb _ n h₃, lt-leb _ n h₂, le-leb _ n two) (omega arith, omega arith, cc)
+              | inl h₁ ↦
+                  let d : digit_char (n / 0x10 % 16) ≡ 48 = let e : n / 0x10 % 16 ≡ 0 = omega arith in ap digit_char e in
+                  rw (lt-leb _ n h₃, lt-leb _ n h₂, lt-leb _ n h₁) (omega arith, omega arith, cc)
+            ]
+      ]
+]
+
+abbrev pair : ℕ → List ℕ
+pair n = n / 256 ∷ n % 256 ∷ []
+
+abbrev part : ℕ → Part
+part n = record { text = hex n; octets = pair n }
+
+pair_bytes : (a b : ℕ) → a < 256 → b < 256 → (i : ℕ) → slice_index (a ∷ b ∷ []) i < 256
+pair_bytes a b h k zero = h
+pair_bytes a b h k (suc zero) = k
+pair_bytes a b h k (suc (suc i)) = omega arith
+
+group_printed : (n : ℕ) → n < 2 ^ 16 → IsGroup (part n)
+group_printed n fits =
+    let filled = hex_filled n fits in
+    record {
+      some = filled.0;
+      few = filled.1;
+      value = ap (λ t. decode_sized t 2) (filled.2 ∙ sym (four_encoded n fits)) ∙ decode_sized-encode_lower (pair n) 2 refl (pair_bytes (n / 256) (n % 256) (omega arith) (omega arith));
+    }
+
+abbrev AllGroups : List ℕ → Type 0
+AllGroups groups = AllByRecursion (λ n. n < 2 ^ 16) groups
+
+parts_printed : (ends : Bool) (groups : List ℕ) → AllGroups groups → AreParts ends (map part groups)
+parts_printed ends [] each = tt
+parts_printed ends (g ∷ []) each = inl (group_printed g each.0)
+parts_printed ends (g ∷ h ∷ groups) each = (group_printed g each.0, parts_printed ends (h ∷ groups) each.1)
+
+groups_parted : (groups : List ℕ) → parted_groups groups ≡ parts_text (map part groups)
+groups_parted [] = refl
+groups_parted (g ∷ []) = append-nil (hex g)
+groups_parted (g ∷ h ∷ groups) = ap (λ t. hex g ++ 58 ∷ t) (groups_parted (h ∷ groups))
+
+abbrev pairs : List ℕ → List ℕ
+pairs groups = parts_octets (map part groups)
+
+groups_printed : (ends : Bool) (groups : List ℕ) → AllGroups groups → ArePartsOf ends (parted_groups groups) (pairs groups)
+groups_printed ends groups each = record { parts = map part groups; each = parts_printed ends groups each; parted = groups_parted groups; value = refl }
+
+groups_take : (n : ℕ) (groups : List ℕ) → AllGroups groups → AllGroups (take n groups)
+groups_take zero groups each = tt
+groups_take (suc n) [] each = tt
+groups_take (suc n) (g ∷ groups) each = (each.0, groups_take n groups each.1)
+
+groups_drop : (n : ℕ) (groups : List ℕ) → AllGroups groups → AllGroups (drop n groups)
+groups_drop zero groups each = each
+groups_drop (suc n) [] each = tt
+groups_drop (suc n) (g ∷ groups) each = groups_drop n groups each.1
+
+pairs-append : (xs ys : List ℕ) → pairs (xs ++ ys) ≡ pairs xs ++ pairs ys
+pairs-append [] ys = refl
+pairs-append (x ∷ xs) ys = ap (λ o. x / 256 ∷ x % 256 ∷ o) (pairs-append xs ys)
+
+length-pairs : (groups : List ℕ) → length (pairs groups) ≡ 2 * length groups
+length-pairs [] = refl
+length-pairs (g ∷ groups) = omega (arith, length-pairs groups)
+
+zero_pairs : (n : ℕ) → pairs (replicate n 0) ≡ replicate (2 * n) 0
+zero_pairs zero = refl
+zero_pairs (suc n) =
+    let twice : 2 * suc n ≡ suc (suc (2 * n)) = omega arith in
+    ap (λ o. 0 ∷ 0 ∷ o) (zero_pairs n) ∙ ap (λ k. replicate k 0) (sym twice)
+
+-- the groups of octets
+segments_each : (octets : List ℕ) → AllByRecursion (λ c. c < 256) octets → AllGroups (segments_of octets)
+segments_each [] each = tt
+segments_each (a ∷ []) each = tt
+segments_each (a ∷ b ∷ octets) each = (let h = each.0 in let l = each.1.0 in omega arith, segments_each octets each.1.1)
+
+segments_count : (count : ℕ) (octets : List ℕ) → length octets ≡ 2 * count → length (segments_of octets) ≡ count
+segments_count zero [] len = refl
+segments_count (suc count) [] len = absurd (omega arith)
+segments_count count (a ∷ []) len = absurd (omega arith)
+segments_count zero (a ∷ b ∷ octets) len = absurd (omega arith)
+segments_count (suc count) (a ∷ b ∷ octets) len = ap suc (segments_count count octets (omega arith))
+
+segments_back : (count : ℕ) (octets : List ℕ) → length octets ≡ 2 * count → AllByRecursion (λ c. c < 256) octets → pairs (segments_of octets) ≡ octets
+segments_back zero [] len each = refl
+segments_back (suc count) [] len each = refl
+segments_back count (a ∷ []) len each = absurd (omega arith)
+segments_back zero (a ∷ b ∷ octets) len each = absurd (omega arith)
+segments_back (suc count) (a ∷ b ∷ octets) len each =
+    let low : b < 256 = each.1.0 in
+    let high_is : (a * 256 + b) / 256 ≡ a = omega arith in
+    let low_is : (a * 256 + b) % 256 ≡ b = omega arith in
+    ap (λ c. c ∷ (a * 256 + b) % 256 ∷ pairs (segments_of octets)) high_is ∙ ap (λ c. a ∷ c ∷ pairs (segments_of octets)) low_is ∙ ap (λ o. a ∷ b ∷ o) (segments_back count octets (omega arith) each.1.1)
+
+-- groups around a run of zeros
+around_printed : (groups octets : List ℕ) (start len : ℕ) → length groups ≡ 8 → AllGroups groups → pairs groups ≡ octets → IsZeroRun groups start len → 1 < len → IsGroups (shortened_groups groups start len) octets
+around_printed groups octets start len count each value run long =
+    let front = take start groups in
+    let back = drop (start + len) groups in
+    let front_len : length front ≡ start = length-take-le start groups (omega (arith, run.0)) in
+    let back_len = length-drop (start + len) groups in
+    let middle : drop start groups ≡ replicate len 0 ++ back = sym (take-append-drop len (drop start groups)) ∙ ap (λ t. t ++ drop len (drop start groups)) run.1 ∙ ap (λ t. replicate len 0 ++ t) (drop-drop len start groups) in
+    let whole : groups ≡ front ++ (replicate len 0 ++ back) = sym (take-append-drop start groups) ∙ ap (λ t. front ++ t) middle in
+    let gap : 16 - length (pairs front) - length (pairs back) ≡ 2 * len = omega (arith, length-pairs front, length-pairs back, front_len, back_len, run.0) in
+    let zeros : pairs (replicate len 0 ++ back) ≡ replicate (16 - length (pairs front) - length (pairs back)) 0 ++ pairs back = pairs-append (replicate len 0) back ∙ ap (λ o. o ++ pairs back) (zero_pairs len ∙ ap (λ k. replicate k 0) (sym gap)) in
+    fewer (parted_groups front) (parted_groups back) (append_assoc (parted_groups front) (58 ∷ 58 ∷ []) (parted_groups back)) (record {
+      before = pairs front;
+      after = pairs back;
+      front_parts = groups_printed false front (groups_take start groups each);
+      back_parts = groups_printed true back (groups_drop (start + len) groups each);
+      room = omega (arith, length-pairs front, length-pairs back, front_len, back_len, run.0);
+      value = sym value ∙ ap pairs whole ∙ pairs-append front (replicate len 0 ++ back) ∙ ap (λ o. pairs front ++ o) zeros;
+    })
+
+pub sixteen_printed : (octets : List ℕ) → length octets ≡ 16 → AllByRecursion (λ c. c < 256) octets → IsGroups (groups_text octets) octets
+sixteen_printed octets len each =
+    let groups = segments_of octets in
+    let start = (longest_zero_run groups).0 in
+    let zeros = (longest_zero_run groups).1 in
+    let back = segments_back 8 octets (omega arith) each in
+    let fits = segments_each octets each in
+    let count = segments_count 8 octets (omega arith) in
+    elim (cases_lt 1 zeros) [
+      | inl long ↦ rw (lt-ltb 1 zeros long) (around_printed groups octets start zeros count fits back (IsZeroRun-longest_zero_run groups) long)
+      | inr short ↦ rw (le-ltb 1 zeros short) (eight (subst (ArePartsOf true (parted_groups groups)) back (groups_printed true groups fits)) len)
+    ]
+
+-- ---- the run that is shortened
+
+run_is : (groups : List ℕ) (start len : ℕ) → IsShortenedRun groups start len → ((longest_zero_run groups).0 ≡ start) × ((longest_zero_run groups).1 ≡ len)
+run_is groups start len run =
+    let own_run = IsZeroRun-longest_zero_run groups in
+    let most = longest_zero_run_first groups start len run.zeros in
+    let least = run.longest (longest_zero_run groups).0 (longest_zero_run groups).1 own_run in
+    let same : (longest_zero_run groups).1 ≡ len = omega (arith, most.0, least) in
+    let before = run.first (longest_zero_run groups).0 (subst (λ l. IsZeroRun groups (longest_zero_run groups).0 l) same own_run) in
+    let after = most.1 (sym same) in
+    (omega arith, same)
+
+longest_is : (groups : List ℕ) → 1 < (longest_zero_run groups).1 → IsShortenedRun groups (longest_zero_run groups).0 (longest_zero_run groups).1
+longest_is groups long = record {
+  zeros = IsZeroRun-longest_zero_run groups;
+  two = omega arith;
+  longest = λ s l run. (longest_zero_run_first groups s l run).0;
+  first = λ s run. (longest_zero_run_first groups s (longest_zero_run groups).1 run).1 refl;
+}
+
+pub run_shortened : (octets : List ℕ) (start len : ℕ) → IsShortenedRun (segments_of octets) start len → groups_text octets ≡ shortened_groups (segments_of octets) start len
+run_shortened octets start len run =
+    let groups = segments_of octets in
+    let same = run_is groups start len run in
+    let long : 1 < (longest_zero_run groups).1 = omega (arith, same.1, run.two) in
+    rw (lt-ltb 1 (longest_zero_run groups).1 long) (ap (λ s. shortened_groups groups s (longest_zero_run groups).1) same.0 ∙ ap (λ l. shortened_groups groups start l) same.1)
+
+pub none_shortened : (octets : List ℕ) → ((start len : ℕ) → IsShortenedRun (segments_of octets) start len → ⊥) → groups_text octets ≡ parted_groups (segments_of octets)
+none_shortened octets none =
+    let groups = segments_of octets in
+    elim (cases_lt 1 (longest_zero_run groups).1) [
+      | inl long ↦ absurd (none (longest_zero_run groups).0 (longest_zero_run groups).1 (longest_is groups long))
+      | inr short ↦ rw (le-ltb 1 (longest_zero_run groups).1 short) refl
+    ]
+
+pub run_exists : (groups : List ℕ) (start len : ℕ) → IsZeroRun groups start len → 2 ≤ len → (first longest : ℕ) × IsShortenedRun groups first longest
+run_exists groups start len run two = ((longest_zero_run groups).0, (longest_zero_run groups).1, longest_is groups (omega (arith, (longest_zero_run_first groups start len run).0)))
+
+pub run_unique : (groups : List ℕ) (start len other_start other_len : ℕ) → IsShortenedRun groups start len → IsShortenedRun groups other_start other_len → (start ≡ other_start) × (len ≡ other_len)
+run_unique groups start len other_start other_len x y =
+    let a = run_is groups start len x in
+    let b = run_is groups other_start other_len y in
+    (sym a.0 ∙ b.0, sym a.1 ∙ b.1)
+
+-- ---- the octets of texts
+
+bytes_at : (octets : List ℕ) → AllByRecursion (λ c. c < 256) octets → (k : ℕ) → get_or octets k 0 < 2 ^ 8
+bytes_at [] each k = omega arith
+bytes_at (c ∷ octets) each zero = each.0
+bytes_at (c ∷ octets) each (suc k) = bytes_at octets each.1 k
+
+groups_at : (groups : List ℕ) → AllGroups groups → AllSegments groups
+groups_at [] each k = omega arith
+groups_at (g ∷ groups) each zero = each.0
+groups_at (g ∷ groups) each (suc k) = groups_at groups each.1 k
+
+digit_or_dot : (c : ℕ) → IsDigitOrDot c → IsAddressOctet c
+digit_or_dot c (inl range) = inl (range.0, range.1)
+digit_or_dot c (inr dot) = inr (inr (inl dot))
+
+hex_or_colon : (c : ℕ) → IsHexOrColon c → IsAddressOctet c
+hex_or_colon c (inl range) = elim (cases_lt c 58) [
+  | inl digit ↦ inl (range.0, omega arith)
+  | inr colon ↦ inr (inr (inr (let high = range.1 in omega arith)))
+]
+hex_or_colon c (inr range) = inr (inl (range.0, range.1))
+
+pub four_plain : (octets : List ℕ) → length octets ≡ 4 → AllByRecursion (λ c. c < 256) octets → AllByRecursion IsAddressOctet (four_text octets)
+four_plain octets len each = recursion_from_All IsAddressOctet (four_text octets) (All-weaker IsDigitOrDot IsAddressOctet digit_or_dot (four_text octets) (All-ipv4_text octets (bytes_at octets each)))
+
+pub sixteen_plain : (octets : List ℕ) → length octets ≡ 16 → AllByRecursion (λ c. c < 256) octets → AllByRecursion IsAddressOctet (groups_text octets)
+unfolding hex_groups_text
+sixteen_plain octets len each = recursion_from_All IsAddressOctet (groups_text octets) (All-weaker IsHexOrColon IsAddressOctet hex_or_colon (groups_text octets) (All-hex_groups_text (segments_of octets) (groups_at (segments_of octets) (segments_each octets each))))

@@ -1,0 +1,194 @@
+-- The parts of an address between its colons.
+use Rattle.std.proofs.Common.{◌≡◌, ℕ, ◌+◌, ◌<◌, ◌≤◌, Bool, inl, inr, List, [], ◌∷◌, ◌++◌, length, refl, sym, ap, ◌∙◌, subst, arith, append_assoc, length-append, IsTrue, Option, Some, None}
+use Rattle.std.specs.Prelude.{IfNone}
+use Rattle.std.specs.List.{AllByRecursion, join_with_byte}
+use Rattle.std.proofs.lemmas.List.{append-nil}
+use Rattle.std.proofs.lemmas.List.Concat.{flat_map-append}
+use Rattle.zone_rdata.specs.Address.{IsFourNumbers, Part, IsGroup, IsLastPart, AreParts, parts_text, parts_octets, ArePartsOf}
+use Rattle.zone_rdata.specs.AddressReading.{Lacks, IsCut}
+use Rattle.zone_rdata.proofs.Addresses.{cut_same, not_cut, group_lacks, group_same, last_lacks, last_same}
+
+some_numbers : (text : List ℕ) (numbers : List (List ℕ)) → length numbers ≡ 4 → text ≡ join_with_byte 46 numbers → 0 < length text
+some_numbers text [] counted parted = absurd (omega arith)
+some_numbers text (a ∷ []) counted parted = absurd (omega arith)
+some_numbers text (a ∷ b ∷ numbers) counted parted = omega (arith, ap length parted, length-append a (46 ∷ join_with_byte 46 (b ∷ numbers)))
+
+last_some : (ends : Bool) (p : Part) → IsLastPart ends p → 0 < length p.text
+last_some ends p (inl is) = is.some
+last_some ends p (inr are) = some_numbers p.text are.1.numbers are.1.counted are.1.parted
+
+parts_some : (ends : Bool) (p : Part) (parts : List Part) → AreParts ends (p ∷ parts) → 0 < length (parts_text (p ∷ parts))
+parts_some ends p [] is = last_some ends p is
+parts_some ends p (q ∷ parts) are = omega (arith, are.0.some, length-append p.text (58 ∷ parts_text (q ∷ parts)))
+
+-- ---- a text's parts are its own
+
+parts_same : (ends : Bool) (ps qs : List Part) → AreParts ends ps → AreParts ends qs → parts_text ps ≡ parts_text qs → parts_octets ps ≡ parts_octets qs
+parts_same ends [] [] x y e = refl
+parts_same ends [] (q ∷ qs) x y e = absurd (omega (arith, parts_some ends q qs y, ap length e))
+parts_same ends (p ∷ ps) [] x y e = absurd (omega (arith, parts_some ends p ps x, ap length e))
+parts_same ends (p ∷ []) (q ∷ []) x y e = ap (λ o. o ++ []) (last_same ends p q x y e)
+parts_same ends (p ∷ []) (q ∷ r ∷ qs) x y e = absurd (not_cut 58 p.text q.text (parts_text (r ∷ qs)) (last_lacks ends p x) e)
+parts_same ends (p ∷ r ∷ ps) (q ∷ []) x y e = absurd (not_cut 58 q.text p.text (parts_text (r ∷ ps)) (last_lacks ends q y) (sym e))
+parts_same ends (p ∷ r ∷ ps) (q ∷ s ∷ qs) x y e =
+    let same = cut_same 58 p.text (parts_text (r ∷ ps)) q.text (parts_text (s ∷ qs)) (group_lacks 58 p refl x.0) (group_lacks 58 q refl y.0) e in
+    let first : p.octets ≡ q.octets = group_same p.text p.octets q.octets x.0 (subst (λ t. IsGroup (record { text = t; octets = q.octets })) (sym same.0) y.0) in
+    ap (λ o. o ++ parts_octets (r ∷ ps)) first ∙ ap (λ o. q.octets ++ o) (parts_same ends (r ∷ ps) (s ∷ qs) x.1 y.1 same.1)
+
+pub parts_unique : (ends : Bool) (text a b : List ℕ) → ArePartsOf ends text a → ArePartsOf ends text b → a ≡ b
+parts_unique ends text a b x y = x.value ∙ parts_same ends x.parts y.parts x.each y.each (sym x.parted ∙ y.parted) ∙ sym y.value
+
+-- ---- reading part after part
+
+-- one part or more
+pub record AreSomeParts (ends : Bool) (text octets : List ℕ) : Type 0 where
+  pub are : ArePartsOf ends text octets
+  pub some : 0 < length are.parts
+
+text_some : (ends : Bool) (text octets : List ℕ) (parts : List Part) → 0 < length text → AreParts ends parts → text ≡ parts_text parts → octets ≡ parts_octets parts → AreSomeParts ends text octets
+text_some ends text octets [] some each parted value = absurd (omega (arith, ap length parted))
+text_some ends text octets (p ∷ parts) some each parted value = record { are = record { parts = p ∷ parts; each = each; parted = parted; value = value }; some = omega arith }
+
+-- the first part and the others
+pub record PartsCut (ends : Bool) (group rest octets : List ℕ) : Type 0 where
+  pub added : List ℕ
+  pub more : List ℕ
+  pub is : IsGroup (record { text = group; octets = added })
+  pub are : AreSomeParts ends rest more
+  pub value : octets ≡ added ++ more
+
+cut_parts : (ends : Bool) (text group rest octets : List ℕ) (parts : List Part) → IsCut 58 text group rest → 0 < length parts → AreParts ends parts → text ≡ parts_text parts → octets ≡ parts_octets parts → PartsCut ends group rest octets
+cut_parts ends text group rest octets [] cut some each parted value = absurd (omega arith)
+cut_parts ends text group rest octets (p ∷ []) cut some each parted value = absurd (not_cut 58 p.text group rest (last_lacks ends p each) (sym parted ∙ cut.parted))
+cut_parts ends text group rest octets (p ∷ q ∷ parts) cut some each parted value =
+    let same = cut_same 58 p.text (parts_text (q ∷ parts)) group rest (group_lacks 58 p refl each.0) cut.lacks (sym parted ∙ cut.parted) in
+    record {
+      added = p.octets;
+      more = parts_octets (q ∷ parts);
+      is = subst (λ t. IsGroup (record { text = t; octets = p.octets })) same.0 each.0;
+      are = record { are = record { parts = q ∷ parts; each = each.1; parted = sym same.1; value = refl }; some = omega arith };
+      value = value;
+    }
+
+parts_cut : (ends : Bool) (text group rest octets : List ℕ) → IsCut 58 text group rest → AreSomeParts ends text octets → PartsCut ends group rest octets
+parts_cut ends text group rest octets cut h = cut_parts ends text group rest octets h.are.parts cut h.some h.are.each h.are.parted h.are.value
+
+only_part : (ends : Bool) (text octets : List ℕ) (parts : List Part) → Lacks 58 text → 0 < length parts → AreParts ends parts → text ≡ parts_text parts → octets ≡ parts_octets parts → IsLastPart ends (record { text = text; octets = octets })
+only_part ends text octets [] lacks some each parted value = absurd (omega arith)
+only_part ends text octets (p ∷ []) lacks some each parted value =
+    let own : octets ≡ p.octets = value ∙ append-nil p.octets in
+    subst (λ t. IsLastPart ends (record { text = t; octets = octets })) (sym parted) (subst (λ o. IsLastPart ends (record { text = p.text; octets = o })) (sym own) each)
+only_part ends text octets (p ∷ q ∷ parts) lacks some each parted value = absurd (not_cut 58 text p.text (parts_text (q ∷ parts)) lacks parted)
+
+-- groups, each with its colon, and what stands behind them
+pub behind : List Part → List ℕ → List ℕ
+behind [] rest = rest
+behind (p ∷ parts) rest = p.text ++ 58 ∷ behind parts rest
+
+behind_push : (parts : List Part) (p : Part) (rest : List ℕ) → behind (parts ++ p ∷ []) rest ≡ behind parts (p.text ++ 58 ∷ rest)
+unfolding behind
+behind_push [] p rest = refl
+behind_push (q ∷ parts) p rest = ap (λ t. q.text ++ 58 ∷ t) (behind_push parts p rest)
+
+groups_push : (parts : List Part) (p : Part) → AllByRecursion IsGroup parts → IsGroup p → AllByRecursion IsGroup (parts ++ p ∷ [])
+groups_push [] p each is = (is, tt)
+groups_push (q ∷ parts) p each is = (each.0, groups_push parts p each.1 is)
+
+parts_end : (ends : Bool) (parts : List Part) (p : Part) → AllByRecursion IsGroup parts → IsLastPart ends p → AreParts ends (parts ++ p ∷ [])
+parts_end ends [] p each is = is
+parts_end ends (q ∷ []) p each is = (each.0, is)
+parts_end ends (q ∷ r ∷ parts) p each is = (each.0, parts_end ends (r ∷ parts) p each.1 is)
+
+text_end : (parts : List Part) (p : Part) → parts_text (parts ++ p ∷ []) ≡ behind parts p.text
+unfolding behind
+text_end [] p = refl
+text_end (q ∷ []) p = refl
+text_end (q ∷ r ∷ parts) p = ap (λ t. q.text ++ 58 ∷ t) (text_end (r ∷ parts) p)
+
+octets_push : (parts : List Part) (p : Part) → parts_octets (parts ++ p ∷ []) ≡ parts_octets parts ++ p.octets
+octets_push parts p = flat_map-append (λ (p : Part). p.octets) parts (p ∷ []) ∙ ap (λ o. parts_octets parts ++ o) (append-nil p.octets)
+
+-- groups are read up to a place: whatever the text stands for, the rest stands for what is missing
+pub record HaveReadParts (ends : Bool) (text rest octets : List ℕ) : Type 0 where
+  pub front : List Part
+  pub groups : AllByRecursion IsGroup front
+  pub parted : text ≡ behind front rest
+  pub value : octets ≡ parts_octets front
+  pub only : (others : List ℕ) → ArePartsOf ends text others → (more : List ℕ) × (AreSomeParts ends rest more × (others ≡ octets ++ more))
+
+pub parts_started : (ends : Bool) (text : List ℕ) → 0 < length text → HaveReadParts ends text text []
+unfolding behind
+parts_started ends text some = record {
+  front = [];
+  groups = tt;
+  parted = refl;
+  value = refl;
+  only = λ others are. (others, (text_some ends text others are.parts some are.each are.parted are.value, refl));
+}
+
+pub parts_more : (ends : Bool) (text rest group after octets added : List ℕ) → IsCut 58 rest group after → IsGroup (record { text = group; octets = added }) → HaveReadParts ends text rest octets → HaveReadParts ends text after (octets ++ added)
+parts_more ends text rest group after octets added cut is reads =
+    let p : Part = record { text = group; octets = added } in
+    record {
+      front = reads.front ++ p ∷ [];
+      groups = groups_push reads.front p reads.groups is;
+      parted = reads.parted ∙ ap (behind reads.front) cut.parted ∙ sym (behind_push reads.front p after);
+      value = ap (λ o. o ++ added) reads.value ∙ sym (octets_push reads.front p);
+      only = λ others are.
+          let was = reads.only others are in
+          let split = parts_cut ends rest group after was.0 cut was.1.0 in
+          let same : split.added ≡ added = group_same group split.added added split.is is in
+          (split.more, (split.are, was.1.1 ∙ ap (λ o. octets ++ o) (split.value ∙ ap (λ o. o ++ split.more) same) ∙ sym (append_assoc octets added split.more)));
+    }
+
+-- where no group goes on
+pub parts_stop : (ends : Bool) (text rest group after octets : List ℕ) → IsCut 58 rest group after → HaveReadParts ends text rest octets → ((added : List ℕ) → IsGroup (record { text = group; octets = added }) → 16 < length octets + length added) → (others : List ℕ) → ArePartsOf ends text others → length others ≤ 16 → ⊥
+parts_stop ends text rest group after octets cut reads stops others are short =
+    let was = reads.only others are in
+    let split = parts_cut ends rest group after was.0 cut was.1.0 in
+    let long = stops split.added split.is in
+    omega (arith, ap length was.1.1, ap length split.value, length-append octets was.0, length-append split.added split.more)
+
+pub parts_ended : (ends : Bool) (text rest octets added : List ℕ) → HaveReadParts ends text rest octets → IsLastPart ends (record { text = rest; octets = added }) → ArePartsOf ends text (octets ++ added)
+parts_ended ends text rest octets added reads is =
+    let p : Part = record { text = rest; octets = added } in
+    record {
+      parts = reads.front ++ p ∷ [];
+      each = parts_end ends reads.front p reads.groups is;
+      parted = reads.parted ∙ sym (text_end reads.front p);
+      value = ap (λ o. o ++ added) reads.value ∙ sym (octets_push reads.front p);
+    }
+
+pub parts_unended : (ends : Bool) (text rest octets : List ℕ) → Lacks 58 rest → HaveReadParts ends text rest octets → ((added : List ℕ) → IsLastPart ends (record { text = rest; octets = added }) → 16 < length octets + length added) → (others : List ℕ) → ArePartsOf ends text others → length others ≤ 16 → ⊥
+parts_unended ends text rest octets lacks reads stops others are short =
+    let was = reads.only others are in
+    let left = was.1.0 in
+    let long = stops was.0 (only_part ends rest was.0 left.are.parts lacks left.some left.are.each left.are.parted left.are.value) in
+    omega (arith, ap length was.1.1, length-append octets was.0)
+
+pub no_parts : (ends : Bool) → ArePartsOf ends [] []
+no_parts ends = record { parts = []; each = tt; parted = refl; value = refl }
+
+-- where there is no room for the last part, or it is none
+pub group_full : (ends : Bool) (text own : List ℕ) (len : ℕ) → IsGroup (record { text = text; octets = own }) → 16 < len + length own → (added : List ℕ) → IsLastPart ends (record { text = text; octets = added }) → 16 < len + length added
+group_full ends text own len is long added last =
+    let same = last_same ends (record { text = text; octets = added }) (record { text = text; octets = own }) last (inl is) refl in
+    omega (arith, ap length same)
+
+pub numbers_full : (ends : Bool) (text own : List ℕ) (len : ℕ) → IsTrue ends → IsFourNumbers text own → 16 < len + length own → (added : List ℕ) → IsLastPart ends (record { text = text; octets = added }) → 16 < len + length added
+numbers_full ends text own len may are long added last =
+    let same = last_same ends (record { text = text; octets = added }) (record { text = text; octets = own }) last (inr (may, are)) refl in
+    omega (arith, ap length same)
+
+pub part_refused : (ends : Bool) (text : List ℕ) (len : ℕ) → ((octets : List ℕ) → IsGroup (record { text = text; octets = octets }) → ⊥) → ((octets : List ℕ) → IsFourNumbers text octets → ⊥) → (added : List ℕ) → IsLastPart ends (record { text = text; octets = added }) → 16 < len + length added
+part_refused ends text len none none' added (inl is) = absurd (none added is)
+part_refused ends text len none none' added (inr are) = absurd (none' added are.1)
+
+-- what holds after any answer
+pub if_none_any : {T : Type 0} (o : Option T) (P : Type 0) → P → IfNone o P
+if_none_any None P p = p
+if_none_any (Some x) P p = tt
+
+pub if_none_weaker : {T : Type 0} (o : Option T) (P Q : Type 0) → (P → Q) → IfNone o P → IfNone o Q
+if_none_weaker None P Q f p = f p
+if_none_weaker (Some x) P Q f p = tt

@@ -1,0 +1,40 @@
+-- A fault that is passed on, and one that is not.
+use Rattle.std.proofs.Common.{◌≡◌, Result, Ok, Err, refl, sym, ap, ◌∙◌, subst}
+use Rattle.std.specs.Prelude.{IfErr, IsErrAnd}
+use Rattle.std.proofs.lemmas.Result.{err_from_is_err_and}
+use Rattle.zone_rdata.specs.declared.fault.Fault.{Fault}
+use Rattle.zone_rdata.specs.declared.fault.Failing.{Failing}
+use Rattle.zone_rdata.specs.declared.fault.Failing.TheVariants as failings
+use Rattle.zone_rdata.specs.Fault.{IfFault}
+
+same_fault : {T : Type 0} (r : Result T Failing) (e : Failing) (a b : Fault) → r ≡ Err e → e ≡ failings.Fault a → r ≡ Err (failings.Fault b) → a ≡ b
+same_fault r e a b is was h = cc
+
+-- what holds of the fault of a callee holds of the fault that is answered
+pub fault_passed : {T : Type 0} (r : Result T Failing) (found : Fault) (P : Fault → Type 0) → IsErrAnd r (λ e. e ≡ failings.Fault found) → P found → (fault : Fault) → r ≡ Err (failings.Fault fault) → P fault
+fault_passed r found P is holds fault h =
+    let p = err_from_is_err_and r is in
+    subst P (same_fault r p.0 found fault p.1 p.2 h) holds
+
+memory_only : {T : Type 0} (r : Result T Failing) (e : Failing) (b : Fault) → r ≡ Err e → e ≡ failings.Memory → r ≡ Err (failings.Fault b) → ⊥
+memory_only r e b is was h = cc
+
+-- want of memory is no fault
+pub memory_passed : {T : Type 0} (r : Result T Failing) (P : Fault → Type 0) → IsErrAnd r (λ e. e ≡ failings.Memory) → (fault : Fault) → r ≡ Err (failings.Fault fault) → P fault
+memory_passed r P is fault h =
+    let p = err_from_is_err_and r is in
+    absurd (memory_only r p.0 fault p.1 p.2 h)
+
+pub IfFault-weaker : (P Q : Fault → Type 0) (e : Failing) → ((fault : Fault) → P fault → Q fault) → IfFault P e → IfFault Q e
+IfFault-weaker P Q (failings.Fault fault) goes h = goes fault h
+IfFault-weaker P Q failings.Memory goes h = tt
+
+pub IfErr-fault : {T : Type 0} (r : Result T Failing) (P Q : Fault → Type 0) → ((fault : Fault) → P fault → Q fault) → IfErr r (IfFault P) → IfErr r (IfFault Q)
+IfErr-fault (Ok x) P Q goes h = tt
+IfErr-fault (Err e) P Q goes h = IfFault-weaker P Q e goes h
+
+-- the answer of a `?` on a failing
+pub if_fault_passed : {T : Type 0} (r : Result T Failing) (e : Failing) (P Q : Fault → Type 0) → IsErrAnd r (λ y. y ≡ e) → ((fault : Fault) → P fault → Q fault) → IfFault P e → IfErr r (IfFault Q)
+if_fault_passed r e P Q is goes h =
+    let p = err_from_is_err_and r is in
+    subst (λ t. IfErr t (IfFault Q)) (sym p.1) (subst (IfFault Q) (sym p.2) (IfFault-weaker P Q e goes h))

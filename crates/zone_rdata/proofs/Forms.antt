@@ -1,0 +1,58 @@
+-- What items state for a layout, if there is one, and why they state nothing.
+use Rattle.std.proofs.Common.{◌≡◌, ℕ, ◌≤◌, List, length, refl, sym, ap, ◌∙◌, subst, Bool, true, false, IsTrue, ◌↔◌, Option, Some, None, Result, Ok, Err}
+use Rattle.std.specs.Prelude.{IfOk, IfErr, IsErrAnd, option_map}
+use Rattle.zone_rdata.specs.declared.fault.Failing.TheVariants as failings
+use Rattle.zone_rdata.specs.declared.fault.Failing.{Failing}
+use Rattle.zone_rdata.specs.declared.fault.Fault.{Fault}
+use Rattle.zone_rdata.specs.declared.fault.Fault.TheVariants.{BadRdata, BadGeneric}
+use Rattle.zone_rdata.specs.declared.layout.Field.{Field}
+use Rattle.zone_rdata.specs.declared.layout.Layout.{Layout}
+use Rattle.zone_rdata.specs.DataFault.{IsFaultFor, IsFormFault, IsWordsFault, no_value, in_form, opaque_words}
+use Rattle.zone_rdata.specs.DataFault as faults
+use Rattle.zone_rdata.specs.Fault.{IfFault}
+use Rattle.zone_rdata.specs.Generic.{StatesGeneric}
+use Rattle.zone_rdata.specs.Item.{RawItem, IsGeneric}
+use Rattle.zone_rdata.specs.Layout.{fields_of}
+use Rattle.zone_rdata.specs.Reading.{AreSpelt}
+use Rattle.zone_rdata.specs.Spelling.{IsCanonicalOf, StatesFor, in_words, in_octets, item_fields}
+use Rattle.zone_rdata.specs.Uncompressed.{IsUncompressed}
+use Rattle.zone_rdata.proofs.Faults.{fault_more, if_ok_more}
+
+-- octets in the generic form that are no value of the layout
+pub form_value : {T : Type 0} (laid : Option Layout) (own : Layout) (items : List RawItem) (stated octets : List ℕ) (r : Result T Failing) → laid ≡ Some own → StatesGeneric items stated → octets ≡ stated → IfErr r (IfFault (λ f. (f ≡ BadRdata) × ((canonical : List ℕ) → IsUncompressed (fields_of own) octets canonical → ⊥))) → IfErr r (IfFault (IsFormFault (option_map fields_of laid) items))
+form_value laid own items stated octets r e form is h =
+    let laid_is : option_map fields_of laid ≡ Some (fields_of own) = ap (option_map fields_of) e in
+    fault_more r _ _ (λ fault bad. subst (IsFormFault (option_map fields_of laid) items) (sym bad.0) (no_value (fields_of own) stated laid_is form (λ canonical u. bad.1 canonical (subst (λ o. IsUncompressed (fields_of own) o canonical) (sym is) u)))) h
+
+-- octets in the generic form
+pub in_form_found : (origin : List (List ℕ)) (laid : Option (List Field)) (items : List RawItem) (b : Bool) (octets : List ℕ) → b ≡ true → (IsTrue b ↔ IsGeneric items) → (stated : List ℕ) × StatesGeneric items stated × IsCanonicalOf laid stated octets → StatesFor origin laid items octets
+in_form_found origin laid items b octets marked test h = in_octets h.0 (test.0 marked) h.1 h.2
+
+pub in_form_fault : (origin : List (List ℕ)) (laid : Option (List Field)) (items : List RawItem) (b : Bool) (fault : Fault) → b ≡ true → (IsTrue b ↔ IsGeneric items) → IsFormFault laid items fault → IsFaultFor origin laid items fault
+in_form_fault origin laid items b fault marked test h = in_form fault (test.0 marked) h
+
+not_marked : (items : List RawItem) (b : Bool) → b ≡ false → (IsTrue b ↔ IsGeneric items) → IsGeneric items → ⊥
+not_marked items b plain_items test g = let marked = test.1 g in cc (sym plain_items ∙ marked)
+
+-- items in words
+pub words_found : (origin : List (List ℕ)) (laid : Option Layout) (own : Layout) (items : List RawItem) (b : Bool) (octets : List ℕ) → laid ≡ Some own → b ≡ false → (IsTrue b ↔ IsGeneric items) → AreSpelt origin (item_fields (fields_of own) items) items octets → length octets ≤ 65535 → StatesFor origin (option_map fields_of laid) items octets
+words_found origin laid own items b octets e plain_items test spelt short = in_words (fields_of own) spelt.values (ap (option_map fields_of) e) (not_marked items b plain_items test) spelt.spelt spelt.written short
+
+pub words_fault : (origin : List (List ℕ)) (laid : Option Layout) (own : Layout) (items : List RawItem) (b : Bool) (fault : Fault) → laid ≡ Some own → b ≡ false → (IsTrue b ↔ IsGeneric items) → IsWordsFault origin (item_fields (fields_of own) items) items fault → IsFaultFor origin (option_map fields_of laid) items fault
+words_fault origin laid own items b fault e plain_items test bad = faults.in_words (fields_of own) fault (ap (option_map fields_of) e) (not_marked items b plain_items test) bad
+
+pub opaque_fault : (origin : List (List ℕ)) (laid : Option Layout) (items : List RawItem) (b : Bool) → laid ≡ None → b ≡ false → (IsTrue b ↔ IsGeneric items) → IsFaultFor origin (option_map fields_of laid) items BadGeneric
+opaque_fault origin laid items b e plain_items test = opaque_words (ap (option_map fields_of) e) (not_marked items b plain_items test)
+
+pub if_ok_both : {T E : Type 0} (r : Result T E) (P Q R : T → Type 0) → ((x : T) → P x → Q x → R x) → IfOk r P → IfOk r Q → IfOk r R
+if_ok_both (Ok x) P Q R more p q = more x p q
+if_ok_both (Err e) P Q R more p q = tt
+
+-- items that state a value are refused for want of memory alone
+memory_left : (e : Failing) (P : Fault → Type 0) → IfFault P e → ((fault : Fault) → P fault → ⊥) → e ≡ failings.Memory
+memory_left (failings.Fault fault) P bad none = absurd (none fault bad)
+memory_left failings.Memory P bad none = refl
+
+pub only_memory : {T : Type 0} (r : Result T Failing) (e : Failing) (P : Fault → Type 0) (Q : T → Type 0) → IsErrAnd r (λ x. x ≡ e) → IfFault P e → ((fault : Fault) → P fault → ⊥) → IfOk r Q × IfErr r (λ x. x ≡ failings.Memory)
+only_memory (Ok x) e P Q is bad none = absurd is
+only_memory (Err x) e P Q is bad none = (tt, is ∙ memory_left e P bad none)

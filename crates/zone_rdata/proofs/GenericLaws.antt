@@ -1,0 +1,152 @@
+-- The laws of the generic form.
+use Rattle.std.proofs.Common.{◌≡◌, ◌≢◌, ℕ, zero, suc, ◌+◌, ◌-◌, ◌*◌, ◌/◌, ◌%◌, ◌<◌, ◌≤◌, ◌^◌, Bool, true, false, List, [], ◌∷◌, ◌++◌, length, get_or, map, codes, Result, Ok, Err, ◌⊎◌, inl, inr, refl, sym, ap, ◌∙◌, subst, arith, append_assoc, length-append}
+use Rattle.std.specs.Prelude.{decimal, slice_index}
+use Rattle.std.specs.List.{AllByRecursion, join_with_byte}
+use Rattle.std.proofs.lemmas.Bool.{cases_lt, cases_eq, false≢true}
+use Rattle.std.proofs.lemmas.Bool.Decides.{nat_tests}
+use Rattle.std.proofs.lemmas.Fmt.{decimal_digit, decimal_by_steps}
+use Rattle.std.proofs.lemmas.List.{append-nil}
+use Rattle.hex.specs.Hex.{decode_of, encode_lower, IsBytes}
+use Rattle.hex.specs.declared.error.FromHexError.{FromHexError}
+use Rattle.hex.proofs.HexLemmas.{decode_of-encode_lower}
+use Rattle.zone_name.specs.Spelling.{is_digit}
+use Rattle.zone_rdata.specs.declared.fault.Fault.{Fault}
+use Rattle.zone_rdata.specs.declared.fault.Fault.TheVariants.{BadGeneric, RdataTooLong}
+use Rattle.zone_rdata.specs.Item.{RawItem, bare, quoted, generic_mark, IsGeneric}
+use Rattle.zone_rdata.specs.Number.{IsDecimal, decimal_value}
+use Rattle.zone_rdata.specs.Generic.{StatesLength, IsGenericForm, JoinTo, StatesGeneric, LengthFault, no_number, beyond, GenericFault, no_length, long_length, bad_digits, digit_items, generic_items}
+use Rattle.zone_rdata.specs.Strings.{item_text}
+use Rattle.zone_rdata.specs.Text.{generic_text}
+use Rattle.zone_rdata.proofs.Decimal.{value_push, digits_push}
+use Rattle.zone_rdata.proofs.GenericForm.{JoinTo-once, StatesLength-once, form_faults, form_missing, form_states}
+
+-- two forms of the same items
+forms_digits : (items : List RawItem) (m n : ℕ) (a b : List RawItem) → IsGenericForm items m a → IsGenericForm items n b → a ≡ b
+forms_digits items m n a b f g = let e = sym f.parts ∙ g.parts in cc
+
+forms_length : (items : List RawItem) (m n : ℕ) (a b : List RawItem) → IsGenericForm items m a → IsGenericForm items n b → m ≡ n
+forms_length items m n a b f g =
+    let same : f.item ≡ g.item = cc (sym f.parts ∙ g.parts) in
+    StatesLength-once g.item m n (subst (λ i. StatesLength i m) same f.states) g.states
+
+pub generic-once : (items : List RawItem) (a b : List ℕ) → StatesGeneric items a → StatesGeneric items b → a ≡ b
+generic-once items a b x y =
+    let same = forms_digits items (length a) (length b) x.digits y.digits x.form y.form in
+    JoinTo-once y.digits a b (subst (λ d. JoinTo d a) same x.joined) y.joined
+
+pub generic-never_both : (items : List RawItem) (octets : List ℕ) (fault : Fault) → StatesGeneric items octets → GenericFault items fault → ⊥
+generic-never_both items octets _ x (no_length marked none) = none (length octets) x.digits x.form
+generic-never_both items octets _ x (long_length n digits form over) = absurd (omega (arith, x.short, forms_length items (length octets) n x.digits digits x.form form))
+generic-never_both items octets _ x (bad_digits n digits form short bad) =
+    bad octets (subst (λ d. JoinTo d octets) (forms_digits items (length octets) n x.digits digits x.form form) x.joined) (forms_length items (length octets) n x.digits digits x.form form)
+
+pub generic_fault-once : (items : List RawItem) (a b : Fault) → GenericFault items a → GenericFault items b → a ≡ b
+generic_fault-once items _ _ (no_length marked none) (no_length _ _) = refl
+generic_fault-once items _ _ (no_length marked none) (long_length n digits form over) = absurd (none n digits form)
+generic_fault-once items _ _ (no_length marked none) (bad_digits n digits form short bad) = refl
+generic_fault-once items _ _ (long_length n digits form over) (no_length marked none) = absurd (none n digits form)
+generic_fault-once items _ _ (long_length n digits form over) (long_length _ _ _ _) = refl
+generic_fault-once items _ _ (long_length n digits form over) (bad_digits m more form' short bad) = absurd (omega (arith, forms_length items n m digits more form form'))
+generic_fault-once items _ _ (bad_digits n digits form short bad) (no_length marked none) = refl
+generic_fault-once items _ _ (bad_digits m more form' short bad) (long_length n digits form over) = absurd (omega (arith, forms_length items n m digits more form form'))
+generic_fault-once items _ _ (bad_digits n digits form short bad) (bad_digits _ _ _ _ _) = refl
+
+-- ---- a text is a decimal number or none
+abbrev AreDigits : List ℕ → Type 0
+AreDigits text = AllByRecursion (λ c. is_digit c ≡ true) text
+
+digit_by : (c : ℕ) (text : List ℕ) (b : Bool) → is_digit c ≡ b → AreDigits text ⊎ (AreDigits text → ⊥) → AreDigits (c ∷ text) ⊎ (AreDigits (c ∷ text) → ⊥)
+digit_by c text true e (inl each) = inl (e, each)
+digit_by c text true e (inr none) = inr (λ h. none h.1)
+digit_by c text false e rest = inr (λ h. false≢true (sym e ∙ h.0))
+
+digits_or_not : (text : List ℕ) → AreDigits text ⊎ (AreDigits text → ⊥)
+digits_or_not [] = inl tt
+digits_or_not (c ∷ text) = digit_by c text (is_digit c) refl (digits_or_not text)
+
+decimal_by : (text : List ℕ) → 0 < length text → AreDigits text ⊎ (AreDigits text → ⊥) → ((n : ℕ) × IsDecimal text n) ⊎ ((n : ℕ) → IsDecimal text n → ⊥)
+decimal_by text some (inl each) = inl (decimal_value text, record { some = some; digits = each; value = refl })
+decimal_by text some (inr none) = inr (λ n h. none h.digits)
+
+pub decimal_or_not : (text : List ℕ) → ((n : ℕ) × IsDecimal text n) ⊎ ((n : ℕ) → IsDecimal text n → ⊥)
+decimal_or_not [] = inr (λ n h. absurd (omega (arith, h.some)))
+decimal_or_not (c ∷ text) = decimal_by (c ∷ text) (omega arith) (digits_or_not (c ∷ text))
+
+length_by : (text : List ℕ) → ((n : ℕ) × IsDecimal text n) ⊎ ((n : ℕ) → IsDecimal text n → ⊥) → ((n : ℕ) × StatesLength (bare text) n × (n ≤ 65535)) ⊎ ((fault : Fault) × LengthFault (bare text) fault)
+length_by text (inl found) = elim (cases_lt 65535 found.0) [
+  | inl over ↦ inr (RdataTooLong, beyond found.0 found.1 over)
+  | inr short ↦ inl (found.0, found.1, short)
+]
+length_by text (inr none) = inr (BadGeneric, no_number none)
+
+length_or_fault : (item : RawItem) → ((n : ℕ) × StatesLength item n × (n ≤ 65535)) ⊎ ((fault : Fault) × LengthFault item fault)
+length_or_fault (bare text) = length_by text (decimal_or_not text)
+length_or_fault (quoted text) = inr (BadGeneric, no_number (λ n h. h))
+
+-- ---- items join to octets or to none
+joins_by : (text : List ℕ) (items : List RawItem) (found : Result (List ℕ) FromHexError) → decode_of text ≡ found → ((octets : List ℕ) × JoinTo items octets) ⊎ ((octets : List ℕ) → JoinTo items octets → ⊥) → ((octets : List ℕ) × JoinTo (bare text ∷ items) octets) ⊎ ((octets : List ℕ) → JoinTo (bare text ∷ items) octets → ⊥)
+joins_by text items (Ok front) e (inl rest) = inl (front ++ rest.0, (front, rest.0, e, refl, rest.1))
+joins_by text items (Ok front) e (inr none) = inr (λ octets h. none h.1 h.4)
+joins_by text items (Err error) e rest = inr (λ octets h. absurd (let f : Err error ≡ Ok h.0 = sym e ∙ h.2 in cc))
+
+joins_or_not : (items : List RawItem) → ((octets : List ℕ) × JoinTo items octets) ⊎ ((octets : List ℕ) → JoinTo items octets → ⊥)
+joins_or_not [] = inl ([], refl)
+joins_or_not (bare text ∷ items) = joins_by text items (decode_of text) refl (joins_or_not items)
+joins_or_not (quoted text ∷ items) = inr (λ octets h. h)
+
+digits_by : (items digits : List RawItem) (item : RawItem) (n : ℕ) → items ≡ generic_mark ∷ item ∷ digits → StatesLength item n → n ≤ 65535 → ((octets : List ℕ) × JoinTo digits octets) ⊎ ((octets : List ℕ) → JoinTo digits octets → ⊥) → ((octets : List ℕ) × StatesGeneric items octets) ⊎ ((fault : Fault) × GenericFault items fault)
+digits_by items digits item n e states short (inl joined) = elim (cases_eq (length joined.0) n) [
+  | inl count ↦ inl (joined.0, form_states items digits item joined.0 n e states short joined.1 count)
+  | inr other ↦ inr (BadGeneric, bad_digits n digits (record { item = item; parts = e; states = states }) short (λ octets h count. other (ap length (JoinTo-once digits joined.0 octets joined.1 h) ∙ count)))
+]
+digits_by items digits item n e states short (inr none) =
+    inr (BadGeneric, bad_digits n digits (record { item = item; parts = e; states = states }) short (λ octets h count. none octets h))
+
+form_by : (items digits : List RawItem) (item : RawItem) → items ≡ generic_mark ∷ item ∷ digits → ((n : ℕ) × StatesLength item n × (n ≤ 65535)) ⊎ ((fault : Fault) × LengthFault item fault) → ((octets : List ℕ) × StatesGeneric items octets) ⊎ ((fault : Fault) × GenericFault items fault)
+form_by items digits item e (inl found) = digits_by items digits item found.0 e found.1 found.2 (joins_or_not digits)
+form_by items digits item e (inr fault) = inr (fault.0, form_faults items digits item fault.0 e fault.1)
+
+either_by : (items rest : List RawItem) → items ≡ generic_mark ∷ rest → ((octets : List ℕ) × StatesGeneric items octets) ⊎ ((fault : Fault) × GenericFault items fault)
+either_by items [] e = inr (BadGeneric, form_missing items ([], e) (omega (arith, ap length e)))
+either_by items (item ∷ digits) e = form_by items digits item e (length_or_fault item)
+
+pub generic-or_fault : (items : List RawItem) → IsGeneric items → ((octets : List ℕ) × StatesGeneric items octets) ⊎ ((fault : Fault) × GenericFault items fault)
+generic-or_fault items marked = either_by items marked.0 marked.1
+
+-- ---- what is printed
+digit_test : (d : ℕ) → d < 10 → is_digit (48 + d) ≡ true
+digit_test d h = grind (arith, nat_tests)
+
+one_digit : (n : ℕ) → n < 10 → IsDecimal ((48 + n) ∷ []) n
+one_digit n h = record { some = omega arith; digits = (digit_test n h, tt); value = omega arith }
+
+more_digits : (n : ℕ) (digits : List ℕ) → 10 ≤ n → IsDecimal digits (n / 10) → IsDecimal (digits ++ (48 + n % 10) ∷ []) n
+more_digits n digits h is = record {
+  some = omega (arith, is.some, length-append digits ((48 + n % 10) ∷ []));
+  digits = digits_push digits (48 + n % 10) is.digits (digit_test (n % 10) (omega arith));
+  value = omega (arith, is.value, value_push digits (48 + n % 10) 0);
+}
+
+pub decimal-is : (n : ℕ) → n < 2 ^ 64 → IsDecimal (decimal n) n
+decimal-is n h = decimal_by_steps (λ n text. IsDecimal text n) one_digit more_digits n h
+
+bytes_of : (octets : List ℕ) → AllByRecursion (λ c. c < 256) octets → IsBytes octets
+bytes_of [] each i = omega arith
+bytes_of (c ∷ octets) each zero = each.0
+bytes_of (c ∷ octets) each (suc i) = bytes_of octets each.1 i
+
+printed_joins : (octets : List ℕ) → AllByRecursion (λ c. c < 256) octets → JoinTo (digit_items octets) octets
+printed_joins [] each = refl
+printed_joins (c ∷ octets) each = (c ∷ octets, [], decode_of-encode_lower (c ∷ octets) (bytes_of (c ∷ octets) each), sym (append-nil (c ∷ octets)), refl)
+
+pub printed-stated : (octets : List ℕ) → AllByRecursion (λ c. c < 256) octets → length octets ≤ 65535 → StatesGeneric (generic_items octets) octets
+printed-stated octets each short = record {
+  digits = digit_items octets;
+  form = record { item = bare (decimal (length octets)); parts = refl; states = decimal-is (length octets) (omega arith) };
+  short = short;
+  joined = printed_joins octets each;
+}
+
+pub printed-text : (octets : List ℕ) → generic_text octets ≡ join_with_byte 32 (map item_text (generic_items octets))
+printed-text [] = ap (λ t. 92 ∷ 35 ∷ 32 ∷ t) (sym (decimal_digit 0 (omega arith)))
+printed-text (c ∷ octets) = refl

@@ -1,0 +1,187 @@
+-- Uncompressed octets: what stands at their front, and that it is one thing.
+use Rattle.std.proofs.Common.{◌≡◌, ◌≢◌, ℕ, zero, suc, ◌+◌, ◌-◌, ◌*◌, ◌^◌, ◌<◌, ◌≤◌, List, [], ◌∷◌, ◌++◌, length, get_or, take, drop, map, Result, Ok, Err, refl, sym, ap, ◌∙◌, subst, arith, append_assoc, length-append, length-drop}
+use Rattle.std.specs.Prelude.{◌↔◌}
+use Rattle.std.specs.Int.{w16, w32, to_be_bytes, from_be_bytes}
+use Rattle.std.specs.List.{flat_map, AllByRecursion}
+use Rattle.std.proofs.lemmas.List.{append-nil, take_all, drop_all, take-append-drop, length-map, length-take, map-append}
+use Rattle.std.proofs.lemmas.List.Concat.{flat_map-append}
+use Rattle.std.proofs.lemmas.Nat.{be_bytes_2, be_bytes_4, from_be_bytes-to_be_bytes_2, from_be_bytes-to_be_bytes_4}
+use Rattle.zone_name.specs.Name.{IsLabel, IsName, folded_octet, folded_label, folded, frame, wire}
+use Rattle.zone_name.specs.Spelling.{IsLabelFault}
+use Rattle.zone_name.specs.declared.fault.NameFault.{NameFault}
+use Rattle.zone_name.specs.declared.fault.NameFault.TheVariants.{EmptyLabel, LabelTooLong, NameTooLong, BadEscape, RelativeName}
+use Rattle.zone_rdata.specs.Uncompressed.{BeginsWithSent}
+
+-- ---- lists one behind another
+-- lists of one length are cut off alike
+pub append_same : (x y a b : List ℕ) → length x ≡ length y → x ++ a ≡ y ++ b → (x ≡ y) × (a ≡ b)
+append_same [] [] a b count e = (refl, e)
+append_same [] (d ∷ y) a b count e = absurd (omega arith)
+append_same (c ∷ x) [] a b count e = absurd (omega arith)
+append_same (c ∷ x) (d ∷ y) a b count e =
+    let heads : c ≡ d = cc in
+    let tails : x ++ a ≡ y ++ b = cc in
+    let rest = append_same x y a b (omega arith) tails in
+    (ap (λ h. h ∷ x) heads ∙ ap (λ t. d ∷ t) rest.0, rest.1)
+
+-- what stands behind its length is cut off alike
+pub frame_same : (x y a b : List ℕ) → frame x ++ a ≡ frame y ++ b → (x ≡ y) × (a ≡ b)
+frame_same x y a b e =
+    let counts : length x ≡ length y = cc in
+    let tails : x ++ a ≡ y ++ b = cc in
+    append_same x y a b counts tails
+
+pub frames_same : (many more : List (List ℕ)) → flat_map frame many ≡ flat_map frame more → many ≡ more
+frames_same [] [] e = refl
+frames_same [] (y ∷ more) e = absurd (omega (arith, ap length e))
+frames_same (x ∷ many) [] e = absurd (omega (arith, ap length e))
+frames_same (x ∷ many) (y ∷ more) e =
+    let cut = frame_same x y (flat_map frame many) (flat_map frame more) e in
+    ap (λ h. h ∷ many) cut.0 ∙ ap (λ t. y ∷ t) (frames_same many more cut.1)
+
+-- octets up to a place, where the number there and so many octets are one frame
+pub frame_at : (c : ℕ) (behind : List ℕ) → c ≤ length behind → c ∷ behind ≡ frame (take c behind) ++ drop c behind
+frame_at c behind fits =
+    let count : length (take c behind) ≡ c = omega (arith, length-take c behind) in
+    ap (λ t. c ∷ t) (sym (take-append-drop c behind)) ∙ ap (λ n. n ∷ (take c behind ++ drop c behind)) (sym count)
+
+pub frames_push : (many : List (List ℕ)) (x a : List ℕ) → flat_map frame many ++ (frame x ++ a) ≡ flat_map frame (many ++ x ∷ []) ++ a
+frames_push many x a =
+    sym (append_assoc (flat_map frame many) (frame x) a)
+    ∙ ap (λ t. t ++ a) (ap (λ t. flat_map frame many ++ t) (sym (append-nil (frame x))) ∙ sym (flat_map-append frame many (x ∷ [])))
+
+-- ---- names
+abbrev pub AreSome : List (List ℕ) → Type 0
+AreSome labels = AllByRecursion (λ label. 0 < length label) labels
+
+folded_some : (sent : List (List ℕ)) → AllByRecursion IsLabel (folded sent) → AreSome sent
+folded_some [] each = tt
+folded_some (label ∷ sent) each = (omega (arith, each.0.some, length-map label folded_octet), folded_some sent each.1)
+
+-- labels that were cut off stand first in every name there
+pub labels_first : (sent whole : List (List ℕ)) (rest tail : List ℕ) → AreSome sent → flat_map frame sent ++ rest ≡ wire whole ++ tail → (more : List (List ℕ)) × (whole ≡ sent ++ more) × (rest ≡ wire more ++ tail)
+labels_first [] whole rest tail some e = (whole, refl, e)
+labels_first ([] ∷ sent) whole rest tail some e = absurd (omega (arith, some.0))
+labels_first ((c ∷ label) ∷ sent) [] rest tail some e = absurd (let bad : suc (length label) ≡ 0 = cc in omega arith)
+labels_first ((c ∷ label) ∷ sent) (l ∷ whole) rest tail some e =
+    let shape : frame (c ∷ label) ++ (flat_map frame sent ++ rest) ≡ frame l ++ (wire whole ++ tail) =
+    sym (append_assoc (frame (c ∷ label)) (flat_map frame sent) rest) ∙ e ∙ ap (λ t. t ++ tail) (append_assoc (frame l) (flat_map frame whole) (0 ∷ [])) ∙ append_assoc (frame l) (wire whole) tail in
+    let cut = frame_same (c ∷ label) l (flat_map frame sent ++ rest) (wire whole ++ tail) shape in
+    let next = labels_first sent whole rest tail some.1 cut.1 in
+    (next.0, ap (λ h. h ∷ whole) (sym cut.0) ∙ ap (λ t. (c ∷ label) ∷ t) next.1, next.2)
+
+-- the labels that were cut off so far
+pub record HasCut (octets : List ℕ) (labels : List (List ℕ)) (rest : List ℕ) : Type 0 where
+  pub sent : List (List ℕ)
+  pub folds : folded sent ≡ labels
+  pub some : AreSome sent
+  pub parts : octets ≡ flat_map frame sent ++ rest
+
+pub cut_none : (octets : List ℕ) (labels : List (List ℕ)) → labels ≡ [] → HasCut octets labels octets
+cut_none octets labels e = record { sent = []; folds = sym e; some = tt; parts = refl }
+
+some_push : (sent : List (List ℕ)) (label : List ℕ) → AreSome sent → 0 < length label → AreSome (sent ++ label ∷ [])
+some_push [] label some h = (h, tt)
+some_push (l ∷ sent) label some h = (some.0, some_push sent label some.1 h)
+
+pub cut_more : (octets rest : List ℕ) (labels new : List (List ℕ)) (c : ℕ) (behind label after : List ℕ) → HasCut octets labels rest → rest ≡ c ∷ behind → 0 < c → c ≤ length behind → label ≡ take c behind → after ≡ drop c behind → new ≡ labels ++ folded_label label ∷ [] → HasCut octets new after
+cut_more octets rest labels new c behind label after cut e some fits front back grown =
+    let count : length label ≡ c = omega (arith, length-take c behind, ap length front) in
+    record {
+      sent = cut.sent ++ label ∷ [];
+      folds = map-append folded_label cut.sent (label ∷ []) ∙ ap (λ t. t ++ folded_label label ∷ []) cut.folds ∙ sym grown;
+      some = some_push cut.sent label cut.some (omega arith);
+      parts = cut.parts ∙ ap (λ t. flat_map frame cut.sent ++ t) (e ∙ frame_at c behind fits ∙ ap (λ l. frame l ++ drop c behind) (sym front) ∙ ap (λ t. frame label ++ t) (sym back)) ∙ frames_push cut.sent label after;
+    }
+
+pub cut_name : (octets rest : List ℕ) (labels name : List (List ℕ)) (c : ℕ) (behind : List ℕ) → HasCut octets labels rest → rest ≡ c ∷ behind → c ≡ 0 → name ≡ labels → IsName name → BeginsWithSent octets name behind
+cut_name octets rest labels name c behind cut e nothing same is = record {
+  is_name = is;
+  sent = cut.sent;
+  folds = cut.folds ∙ sym same;
+  parts = cut.parts ∙ ap (λ t. flat_map frame cut.sent ++ t) (e ∙ ap (λ n. n ∷ behind) nothing) ∙ sym (append_assoc (flat_map frame cut.sent) (0 ∷ []) behind);
+}
+
+-- a name there goes on from what was cut off
+goes_on : (octets rest tail : List ℕ) (labels name : List (List ℕ)) (cut : HasCut octets labels rest) (b : BeginsWithSent octets name tail) → (more : List (List ℕ)) × (b.sent ≡ cut.sent ++ more) × (rest ≡ wire more ++ tail)
+goes_on octets rest tail labels name cut b = labels_first cut.sent b.sent rest tail cut.some (sym cut.parts ∙ b.parts)
+
+pub no_first : (octets rest : List ℕ) (labels : List (List ℕ)) → HasCut octets labels rest → length rest ≡ 0 → (name : List (List ℕ)) (tail : List ℕ) → BeginsWithSent octets name tail → ⊥
+no_first octets rest labels cut none name tail b =
+    let next = goes_on octets rest tail labels name cut b in
+    omega (arith, ap length next.2, length-append (wire next.0) tail, length-append (flat_map frame next.0) (0 ∷ []))
+
+-- a label there, where the number isn't 0
+next_label : (more : List (List ℕ)) (tail behind : List ℕ) (c : ℕ) → 0 < c → c ∷ behind ≡ wire more ++ tail → (label : List ℕ) × (others : List (List ℕ)) × (more ≡ label ∷ others) × (length label ≡ c) × (behind ≡ label ++ (wire others ++ tail))
+next_label [] tail behind c some e = absurd (let bad : c ≡ 0 = cc in omega arith)
+next_label (l ∷ others) tail behind c some e =
+    let shape : c ∷ behind ≡ length l ∷ (l ++ (wire others ++ tail)) = e ∙ ap (λ t. t ++ tail) (append_assoc (frame l) (flat_map frame others) (0 ∷ [])) ∙ append_assoc (frame l) (wire others) tail in
+    (l, others, refl, (cc), (cc))
+
+pub no_room : (octets rest : List ℕ) (labels : List (List ℕ)) (c : ℕ) (behind : List ℕ) → HasCut octets labels rest → rest ≡ c ∷ behind → 0 < c → length behind < c → (name : List (List ℕ)) (tail : List ℕ) → BeginsWithSent octets name tail → ⊥
+no_room octets rest labels c behind cut e some few name tail b =
+    let next = goes_on octets rest tail labels name cut b in
+    let label = next_label next.0 tail behind c some (sym e ∙ next.2) in
+    omega (arith, ap length label.4, length-append label.0 (wire label.1 ++ tail), label.3)
+
+-- what a name there says of the next label
+record Fits (labels : List (List ℕ)) (label : List ℕ) : Type 0 where
+  short : length label ≤ 63
+  room : length (wire (labels ++ label ∷ [])) ≤ 255
+
+each_label : (before : List (List ℕ)) (label : List ℕ) (others : List (List ℕ)) → AllByRecursion IsLabel (before ++ label ∷ others) → IsLabel label
+each_label [] label others each = each.0
+each_label (l ∷ before) label others each = each_label before label others each.1
+
+fits_by : (before : List (List ℕ)) (label : List ℕ) (others : List (List ℕ)) → IsName (folded (before ++ label ∷ others)) → Fits (folded before) label
+fits_by before label others name =
+    let whole : folded (before ++ label ∷ others) ≡ folded before ++ folded_label label ∷ folded others = map-append folded_label before (label ∷ others) in
+    let each = each_label (folded before) (folded_label label) (folded others) (subst (AllByRecursion IsLabel) whole name.each) in
+    let count = length-map label folded_octet in
+    let frames = flat_map-append frame (folded before) (folded_label label ∷ folded others) in
+    let mine = flat_map-append frame (folded before) (label ∷ []) in
+    record {
+      short = omega (arith, each.short, count);
+      room = omega (arith, name.short, ap (λ t. length (wire t)) whole, length-append (flat_map frame (folded before ++ folded_label label ∷ folded others)) (0 ∷ []), ap length frames, length-append (flat_map frame (folded before)) (flat_map frame (folded_label label ∷ folded others)), length-append (frame (folded_label label)) (flat_map frame (folded others)), count, length-append (flat_map frame (folded before ++ label ∷ [])) (0 ∷ []), ap length mine, length-append (flat_map frame (folded before)) (flat_map frame (label ∷ [])), length-append (frame label) []);
+    }
+
+next_fits : (octets rest : List ℕ) (labels : List (List ℕ)) (c : ℕ) (behind : List ℕ) → HasCut octets labels rest → rest ≡ c ∷ behind → 0 < c → c ≤ length behind → (name : List (List ℕ)) (tail : List ℕ) → BeginsWithSent octets name tail → Fits labels (take c behind)
+next_fits octets rest labels c behind cut e some fits name tail b =
+    let next = goes_on octets rest tail labels name cut b in
+    let label = next_label next.0 tail behind c some (sym e ∙ next.2) in
+    let whole : b.sent ≡ cut.sent ++ label.0 ∷ label.1 = next.1 ∙ ap (λ t. cut.sent ++ t) label.2 in
+    let count : length (take c behind) ≡ c = omega (arith, length-take c behind) in
+    let same : take c behind ≡ label.0 = (append_same (take c behind) label.0 (drop c behind) (wire label.1 ++ tail) (count ∙ sym label.3) (take-append-drop c behind ∙ label.4)).0 in
+    let is : IsName (folded (cut.sent ++ label.0 ∷ label.1)) = subst IsName (sym b.folds ∙ ap folded whole) b.is_name in
+    subst (λ l. Fits labels l) (sym same) (subst (λ ls. Fits ls label.0) cut.folds (fits_by cut.sent label.0 label.1 is))
+
+refused_by : (fault : NameFault) (labels : List (List ℕ)) (label : List ℕ) (r : Result (Unit {0}) NameFault) → r ≡ Err fault → IsLabelFault fault → ((r ≡ Err EmptyLabel) ↔ (length label ≡ 0)) → ((r ≡ Err LabelTooLong) ↔ (63 < length label)) → ((r ≡ Err NameTooLong) ↔ ((0 < length label) × (length label ≤ 63) × (255 < length (wire (labels ++ label ∷ []))))) → 0 < length label → Fits labels label → ⊥
+refused_by EmptyLabel labels label r is only empty long too_long some fits = absurd (omega (arith, empty.0 is))
+refused_by LabelTooLong labels label r is only empty long too_long some fits = absurd (omega (arith, long.0 is, fits.short))
+refused_by NameTooLong labels label r is only empty long too_long some fits = absurd (omega (arith, (too_long.0 is).2, fits.room))
+refused_by BadEscape labels label r is only empty long too_long some fits = only
+refused_by RelativeName labels label r is only empty long too_long some fits = only
+
+pub no_label : (octets rest : List ℕ) (labels : List (List ℕ)) (c : ℕ) (behind label : List ℕ) (fault : NameFault) (r : Result (Unit {0}) NameFault) → HasCut octets labels rest → rest ≡ c ∷ behind → 0 < c → c ≤ length behind → label ≡ take c behind → r ≡ Err fault → IsLabelFault fault → ((r ≡ Err EmptyLabel) ↔ (length label ≡ 0)) → ((r ≡ Err LabelTooLong) ↔ (63 < length label)) → ((r ≡ Err NameTooLong) ↔ ((0 < length label) × (length label ≤ 63) × (255 < length (wire (labels ++ label ∷ []))))) → (name : List (List ℕ)) (tail : List ℕ) → BeginsWithSent octets name tail → ⊥
+no_label octets rest labels c behind label fault r cut e some fits same is only empty long too_long name tail b =
+    let count : 0 < length label = omega (arith, length-take c behind, ap length same) in
+    refused_by fault labels label r is only empty long too_long count (subst (λ l. Fits labels l) (sym same) (next_fits octets rest labels c behind cut e some fits name tail b))
+
+-- ---- a name at the front is one name
+name_by : (more : List (List ℕ)) (rest tail : List ℕ) → AreSome more → 0 ∷ rest ≡ wire more ++ tail → (more ≡ []) × (rest ≡ tail)
+name_by [] rest tail some e = (refl, (cc))
+name_by ([] ∷ more) rest tail some e = absurd (omega (arith, some.0))
+name_by ((c ∷ l) ∷ more) rest tail some e = absurd (let bad : 0 ≡ suc (length l) = cc in omega arith)
+
+some_behind : (before more : List (List ℕ)) → AreSome (before ++ more) → AreSome more
+some_behind [] more some = some
+some_behind (l ∷ before) more some = some_behind before more some.1
+
+pub sent_once : (octets rest tail : List ℕ) (a b : List (List ℕ)) → BeginsWithSent octets a rest → BeginsWithSent octets b tail → (a ≡ b) × (rest ≡ tail)
+sent_once octets rest tail a b x y =
+    let open_x : octets ≡ flat_map frame x.sent ++ 0 ∷ rest = x.parts ∙ append_assoc (flat_map frame x.sent) (0 ∷ []) rest in
+    let some_x = folded_some x.sent (subst (AllByRecursion IsLabel) (sym x.folds) x.is_name.each) in
+    let some_y = folded_some y.sent (subst (AllByRecursion IsLabel) (sym y.folds) y.is_name.each) in
+    let next = labels_first x.sent y.sent (0 ∷ rest) tail some_x (sym open_x ∙ y.parts) in
+    let same = name_by next.0 rest tail (some_behind x.sent next.0 (subst AreSome next.1 some_y)) next.2 in
+    (sym x.folds ∙ ap folded (sym (next.1 ∙ ap (λ t. x.sent ++ t) same.0 ∙ append-nil x.sent)) ∙ y.folds, same.1)

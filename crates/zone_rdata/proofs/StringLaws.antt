@@ -1,0 +1,182 @@
+-- The laws of strings.
+use Rattle.std.proofs.Common.{◌≡◌, ◌≢◌, ℕ, ◌+◌, ◌/◌, ◌%◌, ◌<◌, ◌≤◌, Bool, true, false, ◌||◌, ◌&&◌, ◌==◌, nat_le, if◌then◌else◌, List, [], ◌∷◌, ◌++◌, length, Result, Ok, Err, ◌⊎◌, inl, inr, div-add-mod', refl, sym, ap, ◌∙◌, subst, arith}
+use Rattle.std.specs.Prelude.{map}
+use Rattle.std.specs.List.{flat_map, AllByRecursion}
+use Rattle.std.proofs.lemmas.Bool.{false≢true}
+use Rattle.std.proofs.lemmas.Bool.Decides.{nat_tests}
+use Rattle.zone_name.specs.Spelling.{Written, plain, escaped, decimal, text_of, octet_of, IsWritten, written_text, written_octets, is_digit}
+use Rattle.zone_name.specs.Text.{decimal_escape}
+use Rattle.zone_rdata.specs.declared.fault.Fault.{Fault}
+use Rattle.zone_rdata.specs.Item.{RawItem, quoted}
+use Rattle.zone_rdata.specs.Strings.{IsString, SpellsString, StringFault, StandsInQuotes, IsUnit, IsQuotedUnit, inside_text, is_shown, item_text, unit_text}
+use Rattle.zone_rdata.specs.StringReading.{reading}
+use Rattle.zone_rdata.proofs.StringSteps.{AllByRecursion-append, FindsUnits, Says, reading-says}
+use Rattle.zone_rdata.proofs.Strings.{string_found, fault_found, string_reads, fault_reads}
+
+pub string-once : (item : RawItem) (a b : List ℕ) → SpellsString item a → SpellsString item b → a ≡ b
+string-once item a b s t = let e = sym (string_reads item a s) ∙ string_reads item b t in cc
+
+pub string-never_both : (item : RawItem) (octets : List ℕ) (fault : Fault) → SpellsString item octets → StringFault item fault → ⊥
+string-never_both item octets fault s f = let e = sym (string_reads item octets s) ∙ fault_reads item fault f in cc
+
+pub fault-once : (item : RawItem) (a b : Fault) → StringFault item a → StringFault item b → a ≡ b
+fault-once item a b f g = let e = sym (fault_reads item a f) ∙ fault_reads item b g in cc
+
+octets_each : (units : List Written) → AllByRecursion IsUnit units → AllByRecursion (λ c. c < 256) (written_text units) → AllByRecursion (λ c. c < 256) (written_octets units)
+octets_each [] each low = tt
+octets_each (plain c ∷ units) each low = (low.0, octets_each units each.1 low.1)
+octets_each (escaped c ∷ units) each low = (low.1.0, octets_each units each.1 low.1.1)
+octets_each (decimal x y z ∷ units) each low = (omega (arith, each.0.3), octets_each units each.1 low.1.1.1.1)
+
+either_by : (item : RawItem) (found : Result (List ℕ) Fault) → reading (item_text item) ≡ found → ((octets : List ℕ) → reading (item_text item) ≡ Ok octets → AllByRecursion (λ c. c < 256) octets) → ((octets : List ℕ) × SpellsString item octets) ⊎ ((fault : Fault) × StringFault item fault)
+either_by item (Ok octets) e low = inl (octets, string_found item (item_text item) octets refl e (low octets e))
+either_by item (Err fault) e low = inr (fault, fault_found item (item_text item) fault refl e)
+
+low_octets : (text octets : List ℕ) → AllByRecursion (λ c. c < 256) text → reading text ≡ Ok octets → AllByRecursion (λ c. c < 256) octets
+low_octets text octets low e =
+    let finds : FindsUnits text octets = subst (Says text) e (reading-says text) in
+    subst (AllByRecursion (λ c. c < 256)) (sym finds.value) (octets_each finds.units finds.each (subst (AllByRecursion (λ c. c < 256)) finds.parts low))
+
+pub string-or_fault : (item : RawItem) → AllByRecursion (λ c. c < 256) (item_text item) → ((octets : List ℕ) × SpellsString item octets) ⊎ ((fault : Fault) × StringFault item fault)
+string-or_fault item low = either_by item (reading (item_text item)) refl (λ octets e. low_octets (item_text item) octets low e)
+
+-- ---- what is printed
+written_by : (special shown : Bool) → ℕ → Written
+written_by true shown c = escaped c
+written_by false true c = plain c
+written_by false false c = decimal (48 + c / 100) (48 + c / 10 % 10) (48 + c % 10)
+
+is_special : ℕ → Bool
+is_special c = c == 34 || c == 92
+
+printed_unit : ℕ → Written
+printed_unit c = written_by (is_special c) (is_shown c) c
+
+text_by : (special shown : Bool) (c : ℕ) → text_of (written_by special shown c) ≡ (if special then 92 ∷ c ∷ [] else (if shown then c ∷ [] else decimal_escape c))
+unfolding written_by
+text_by true shown c = refl
+text_by false true c = refl
+text_by false false c = refl
+
+text_of-printed : (c : ℕ) → text_of (printed_unit c) ≡ unit_text c
+unfolding printed_unit is_special
+text_of-printed c = text_by (is_special c) (is_shown c) c
+
+decimal_value : (c : ℕ) → octet_of (decimal (48 + c / 100) (48 + c / 10 % 10) (48 + c % 10)) ≡ c
+decimal_value c = omega (arith, div-add-mod' c 100, div-add-mod' c 10, div-add-mod' (c / 10) 10)
+
+value_by : (special shown : Bool) (c : ℕ) → octet_of (written_by special shown c) ≡ c
+unfolding written_by
+value_by true shown c = refl
+value_by false true c = refl
+value_by false false c = decimal_value c
+
+octet_of-printed : (c : ℕ) → octet_of (printed_unit c) ≡ c
+unfolding printed_unit
+octet_of-printed c = value_by (is_special c) (is_shown c) c
+
+or_parts : (a b : Bool) → (a || b) ≡ false → (a ≡ false) × (b ≡ false)
+or_parts true b e = absurd (false≢true (sym e))
+or_parts false b e = (refl, e)
+
+or_either : (a b : Bool) → (a || b) ≡ true → (a ≡ true) ⊎ (b ≡ true)
+or_either true b e = inl refl
+or_either false b e = inr e
+
+and_first : (a b : Bool) → (a && b) ≡ true → a ≡ true
+and_first true b e = refl
+and_first false b e = absurd (false≢true e)
+
+eq_test : (m n : ℕ) → (m == n) ≡ true → m ≡ n
+eq_test m n e = grind (arith, nat_tests)
+
+ne_test : (m n : ℕ) → (m == n) ≡ false → m ≢ n
+ne_test m n e = grind (arith, nat_tests)
+
+le_test : (m n : ℕ) → nat_le m n ≡ true → m ≤ n
+le_test m n e = grind (arith, nat_tests)
+
+digit_test : (d : ℕ) → d < 10 → is_digit (48 + d) ≡ true
+digit_test d h = grind (arith, nat_tests)
+
+no_digit : (c : ℕ) → (c ≡ 34) ⊎ (c ≡ 92) → is_digit c ≡ false
+no_digit c (inl e) = rw e refl
+no_digit c (inr e) = rw e refl
+
+special_is : (c : ℕ) → is_special c ≡ true → (c ≡ 34) ⊎ (c ≡ 92)
+unfolding is_special
+special_is c e = elim (or_either (c == 34) (c == 92) e) [ inl h ↦ inl (eq_test c 34 h) | inr h ↦ inr (eq_test c 92 h) ]
+
+special_not : (c n : ℕ) → (c ≡ 34) ⊎ (c ≡ 92) → n < 34 → c ≢ n
+special_not c n (inl e) low h = absurd (omega arith)
+special_not c n (inr e) low h = absurd (omega arith)
+
+quoted_by : (special shown : Bool) (c : ℕ) → is_special c ≡ special → is_shown c ≡ shown → c < 256 → IsQuotedUnit (written_by special shown c)
+unfolding written_by is_special
+quoted_by true shown c e s low = let is = special_is c e in (no_digit c is, special_not c 10 is (omega arith), special_not c 13 is (omega arith))
+quoted_by false true c e s low = let parts = or_parts (c == 34) (c == 92) e in (ne_test c 34 parts.0, ne_test c 92 parts.1)
+quoted_by false false c e s low =
+    (digit_test (c / 100) (omega (arith, div-add-mod' c 100)), digit_test (c / 10 % 10) (omega (arith, div-add-mod' (c / 10) 10)), digit_test (c % 10) (omega (arith, div-add-mod' c 10)), omega (arith, decimal_value c))
+
+quoted_unit : (c : ℕ) → c < 256 → IsQuotedUnit (printed_unit c)
+unfolding printed_unit
+quoted_unit c low = quoted_by (is_special c) (is_shown c) c refl refl low
+
+line_by : (special shown : Bool) (c : ℕ) → is_special c ≡ special → is_shown c ≡ shown → AllByRecursion (λ d. d ≢ 10) (text_of (written_by special shown c))
+unfolding written_by
+line_by true shown c e s = (λ h. absurd (omega (arith, h)), (special_not c 10 (special_is c e) (omega arith), tt))
+line_by false true c e s = let low = le_test 32 c (and_first (nat_le 32 c) (nat_le c 126) s) in (λ h. absurd (omega (arith, h)), tt)
+line_by false false c e s = (λ h. absurd (omega (arith, h)), (λ h. absurd (omega (arith, h)), (λ h. absurd (omega (arith, h)), (λ h. absurd (omega (arith, h)), tt))))
+
+line_unit : (c : ℕ) → AllByRecursion (λ d. d ≢ 10) (text_of (printed_unit c))
+unfolding printed_unit
+line_unit c = line_by (is_special c) (is_shown c) c refl refl
+
+printed_units : List ℕ → List Written
+printed_units octets = map printed_unit octets
+
+quoted_units : (octets : List ℕ) → AllByRecursion (λ c. c < 256) octets → AllByRecursion IsQuotedUnit (printed_units octets)
+unfolding printed_units
+quoted_units [] each = tt
+quoted_units (c ∷ octets) each = (quoted_unit c each.0, quoted_units octets each.1)
+
+units_text : (octets : List ℕ) → inside_text octets ≡ written_text (printed_units octets)
+unfolding printed_units
+units_text [] = refl
+units_text (c ∷ octets) = ap (λ t. t ++ inside_text octets) (sym (text_of-printed c)) ∙ ap (λ t. text_of (printed_unit c) ++ t) (units_text octets)
+
+units_octets : (octets : List ℕ) → octets ≡ written_octets (printed_units octets)
+unfolding printed_units
+units_octets [] = refl
+units_octets (c ∷ octets) = ap (λ d. d ∷ octets) (sym (octet_of-printed c)) ∙ ap (λ t. octet_of (printed_unit c) ∷ t) (units_octets octets)
+
+units_line : (octets : List ℕ) → AllByRecursion (λ d. d ≢ 10) (written_text (printed_units octets))
+unfolding printed_units
+units_line [] = tt
+units_line (c ∷ octets) = AllByRecursion-append (λ d. d ≢ 10) (text_of (printed_unit c)) (written_text (printed_units octets)) (line_unit c) (units_line octets)
+
+unit_of_quoted : (w : Written) → IsQuotedUnit w → IsUnit w
+unit_of_quoted (plain c) is = is.1
+unit_of_quoted (escaped c) is = is
+unit_of_quoted (decimal x y z) is = is
+
+units_of_quoted : (units : List Written) → AllByRecursion IsQuotedUnit units → AllByRecursion IsUnit units
+units_of_quoted [] each = tt
+units_of_quoted (w ∷ units) each = (unit_of_quoted w each.0, units_of_quoted units each.1)
+
+pub printed-spells : (octets : List ℕ) → IsString octets → SpellsString (quoted (inside_text octets)) octets
+printed-spells octets is = record {
+  units = printed_units octets;
+  each = units_of_quoted (printed_units octets) (quoted_units octets is.each);
+  text = units_text octets;
+  value = units_octets octets;
+  string = is;
+}
+
+pub printed-stands : (octets : List ℕ) → IsString octets → StandsInQuotes (inside_text octets)
+printed-stands octets is = record {
+  units = printed_units octets;
+  each = quoted_units octets is.each;
+  parts = units_text octets;
+  one_line = subst (AllByRecursion (λ d. d ≢ 10)) (sym (units_text octets)) (units_line octets);
+}

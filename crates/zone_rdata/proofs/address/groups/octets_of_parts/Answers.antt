@@ -1,0 +1,25 @@
+use Rattle.std.proofs.Common.{◌<◌, length, sym, subst, arith}
+use Rattle.zone_rdata.specs.Address.{ArePartsOf}
+use Rattle.zone_rdata.proofs.AddressParts.{HaveReadParts, if_none_any, parts_started, parts_more, parts_stop, parts_ended, parts_unended}
+use Rattle.zone_rdata.proofs.address.groups.octets_of_parts.Goals as goal
+
+pub loop-group-init : goal.loop-group-init
+loop-group-init c =
+    let some : 0 < length c.args.text.now = grind (arith, c.if-is_empty.ensures) in
+    subst (HaveReadParts c.args.ends c.args.text.now c.args.text.now) (sym c.new-octets.ensures) (parts_started c.args.ends c.args.text.now some)
+
+pub returns-in_err-push_group-clause-none : goal.returns-in_err-push_group-clause-none
+returns-in_err-push_group-clause-none c = if_none_any _ _ (parts_stop c.args.ends c.args.text.now _ _ _ _ c.in-Some.ensures.some c.loop-group.invariant c.in_err-push_group.ensures.none)
+
+pub loop-group-preserved : goal.loop-group-preserved
+loop-group-preserved c =
+    let added = c.in_ok-push_group.ensures.some in
+    subst (HaveReadParts c.args.ends c.args.text.now c.in-Some.after.now) (sym added.1.1) (parts_more c.args.ends c.args.text.now _ _ _ _ added.0 c.in-Some.ensures.some added.1.0 c.loop-group.invariant)
+
+pub returns-in_err-push_last-clause-none : goal.returns-in_err-push_last-clause-none
+returns-in_err-push_last-clause-none c = if_none_any _ _ (parts_unended c.args.ends c.args.text.now _ _ c.in_default.ensures.none c.loop-group.invariant c.in_err-push_last.ensures.none)
+
+pub returns-clause-found : goal.returns-clause-found
+returns-clause-found c =
+    let added = c.in_ok-push_last.ensures.some in
+    subst (ArePartsOf c.args.ends c.args.text.now) (sym added.1.1) (parts_ended c.args.ends c.args.text.now _ _ added.0 c.loop-group.invariant added.1.0)

@@ -1,0 +1,7 @@
+use Rattle.std.proofs.Common.{sym, ap, ◌∙◌, drop}
+use Rattle.std.proofs.lemmas.List.{drop_all}
+use Rattle.zone_rdata.proofs.StringFields.{nothing_after}
+use Rattle.zone_rdata.proofs.front.after_front.Goals as goal
+
+pub returns-in-Strings : goal.returns-in-Strings
+returns-in-Strings c = nothing_after _ _ _ c.in-Strings.is c.split_at-in-Strings.ensures.back

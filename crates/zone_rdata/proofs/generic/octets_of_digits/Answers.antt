@@ -1,0 +1,26 @@
+use Rattle.std.proofs.Common.{◌≡◌, refl, sym, ap, ◌∙◌, subst, arith, length-append, length}
+use Rattle.zone_rdata.specs.Item.{raw}
+use Rattle.zone_rdata.proofs.Failings.{if_fault_passed}
+use Rattle.zone_rdata.proofs.GenericForm.{joined_more, joined_over, joined_bad, joined_all, half_length}
+use Rattle.zone_rdata.proofs.generic.octets_of_digits.Goals as goal
+
+pub returns-then-text-len-clause-fault : goal.returns-then-text-len-clause-fault
+returns-then-text-len-clause-fault c =
+    (refl, joined_over c.args.items.now c.loop-item.item-index _ _ c.in-Bare.text.now c.loop-item.octets.items c.args.len c.loop-item-test.true refl (ap raw c.in-Bare.is) c.loop-item.invariant.0 c.loop-item.invariant.1 (omega (arith, c.len.ensures, c.if-text-len.true)))
+
+pub returns-in_err-push_digits-clause-fault : goal.returns-in_err-push_digits-clause-fault
+returns-in_err-push_digits-clause-fault c =
+    if_fault_passed c.from_residual-in_err-push_digits.result c.in_err-push_digits.field-0.0 _ _ c.from_residual-in_err-push_digits.ensures.1
+    (λ fault bad. (bad.0, λ whole h e. joined_bad c.args.items.now c.loop-item.item-index _ _ c.in-Bare.text.now c.loop-item.octets.items c.loop-item-test.true refl (ap raw c.in-Bare.is) c.loop-item.invariant.0 bad.1 whole h))
+    c.in_err-push_digits.ensures.fault
+
+pub loop-item-preserved : goal.loop-item-preserved
+loop-item-preserved c =
+    let grows = c.in_ok-push_digits.ensures.found in (
+      joined_more c.args.items.now c.loop-item.item-index _ _ c.in-Bare.text.now c.loop-item.octets.items _ c.loop-item-test.true refl (ap raw c.in-Bare.is) c.loop-item.invariant.0 grows,
+      let count = half_length c.in-Bare.text.now grows.octets grows.stands in
+          omega (arith, c.len.ensures, c.if-text-len.false, ap length grows.written, length-append c.loop-item.octets.items grows.octets, count, c.loop-item.invariant.1),
+    )
+
+pub returns-clause-found : goal.returns-clause-found
+returns-clause-found c = joined_all c.args.items.now c.loop-item.item-index _ c.loop-item-test.false c.loop-item.invariant.0

@@ -1,0 +1,7 @@
+use Rattle.std.proofs.Common.{◌≤◌, length, drop, map}
+use Rattle.zone_rdata.specs.Item.{raw}
+use Rattle.zone_rdata.proofs.GenericForm.{HaveJoined}
+use Rattle.zone_rdata.proofs.generic.octets_of_digits.Given as goal
+
+abbrev pub invariant-loop-item : goal.invariant-loop-item
+invariant-loop-item l = HaveJoined (map raw l.items) (map raw (drop l.item-index l.items)) l.octets.items × (length l.octets.items ≤ l.len)

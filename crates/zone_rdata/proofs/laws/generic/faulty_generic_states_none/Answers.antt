@@ -1,0 +1,5 @@
+use Rattle.zone_rdata.proofs.GenericLaws.{generic-never_both}
+use Rattle.zone_rdata.proofs.laws.generic.faulty_generic_states_none.Goals as goal
+
+pub returns : goal.returns
+returns c = generic-never_both

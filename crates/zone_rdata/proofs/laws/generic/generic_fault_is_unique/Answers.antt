@@ -1,0 +1,5 @@
+use Rattle.zone_rdata.proofs.GenericLaws.{generic_fault-once}
+use Rattle.zone_rdata.proofs.laws.generic.generic_fault_is_unique.Goals as goal
+
+pub returns : goal.returns
+returns c = generic_fault-once

@@ -1,0 +1,5 @@
+use Rattle.zone_rdata.proofs.GenericLaws.{generic-or_fault}
+use Rattle.zone_rdata.proofs.laws.generic.generic_or_fault.Goals as goal
+
+pub returns : goal.returns
+returns c = generic-or_fault

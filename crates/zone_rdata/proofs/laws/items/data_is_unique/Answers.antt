@@ -1,0 +1,5 @@
+use Rattle.zone_rdata.proofs.ItemLaws.{data-once}
+use Rattle.zone_rdata.proofs.laws.items.data_is_unique.Goals as goal
+
+pub returns : goal.returns
+returns c = data-once c.spelling_is_unique.ensures

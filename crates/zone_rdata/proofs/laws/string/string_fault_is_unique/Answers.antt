@@ -1,0 +1,5 @@
+use Rattle.zone_rdata.proofs.StringLaws.{fault-once}
+use Rattle.zone_rdata.proofs.laws.string.string_fault_is_unique.Goals as goal
+
+pub returns : goal.returns
+returns c = fault-once

@@ -1,0 +1,5 @@
+use Rattle.zone_rdata.proofs.OneWord.{kind_word_once}
+use Rattle.zone_rdata.proofs.laws.word.kind_word_is_unique.Goals as goal
+
+pub returns : goal.returns
+returns c = kind_word_once

@@ -1,0 +1,29 @@
+use Rattle.std.proofs.Common.{◌<◌, ◌≤◌, length, sym, subst, arith}
+use Rattle.std.specs.List.{AllByRecursion}
+use Rattle.zone_rdata.specs.Wire.{beyond}
+use Rattle.zone_rdata.proofs.Failings.{if_fault_passed}
+use Rattle.zone_rdata.proofs.Wire.{canonical_data, canonical_is, canonical_only, table_last, wire_fault}
+use Rattle.zone_rdata.proofs.rdata.Rdata.from_wire.Goals as goal
+
+pub canonical_for-requires : goal.canonical_for-requires
+canonical_for-requires c = table_last c.args.class c.args.kind _ c.layout_of.ensures
+
+pub invariant_of-result : goal.invariant_of-result
+invariant_of-result c = record {
+  class = c.known.ensures;
+  kind = c.known-2.ensures;
+  octets = canonical_data c.args.class c.args.kind _ c.args.octets.now _ c.layout_of.ensures c.in_ok-octets.ensures.found (omega arith) (subst (AllByRecursion (λ c. c < 256)) c.deref.ensures.value c.are_octets.ensures);
+}
+
+pub returns-clause-found : goal.returns-clause-found
+returns-clause-found c = canonical_is c.args.class c.args.kind _ _ _ c.layout_of.ensures c.in_ok-octets.ensures.found
+
+pub returns-clause-only : goal.returns-clause-only
+returns-clause-only c = λ canonical is. canonical_only c.args.class c.args.kind _ _ _ _ c.layout_of.ensures c.in_ok-octets.ensures.found is
+
+pub returns-in_err-octets-clause-fault : goal.returns-in_err-octets-clause-fault
+returns-in_err-octets-clause-fault c =
+    if_fault_passed c.from_residual.result c.in_err-octets.field-0.0 _ _ c.from_residual.ensures.1 (λ fault bad. wire_fault c.args.class c.args.kind _ _ fault c.layout_of.ensures (omega arith) bad) c.in_err-octets.ensures.fault
+
+pub returns-then-octets-gt65535-clause-fault : goal.returns-then-octets-gt65535-clause-fault
+returns-then-octets-gt65535-clause-fault c = beyond (omega arith)

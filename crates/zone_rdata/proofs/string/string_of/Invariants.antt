@@ -1,0 +1,9 @@
+use Rattle.std.proofs.Common.{length}
+use Rattle.zone_rdata.proofs.StringSteps.{Reads}
+use Rattle.zone_rdata.proofs.string.string_of.Given as goal
+
+abbrev pub invariant-loop-octets : goal.invariant-loop-octets
+invariant-loop-octets l = Reads l.text l.octets.items l.rest
+
+abbrev pub decreases-loop-octets : goal.decreases-loop-octets
+decreases-loop-octets l = length l.rest

@@ -1,0 +1,6 @@
+use Rattle.std.proofs.Common.{drop}
+use Rattle.zone_rdata.proofs.Taken.{HaveTaken}
+use Rattle.zone_rdata.proofs.uncompressed.canonical_of.Given as goal
+
+abbrev pub invariant-loop-field : goal.invariant-loop-field
+invariant-loop-field l = HaveTaken l.field-items l.octets (drop l.field-index l.field-items) l.rest l.canonical.items

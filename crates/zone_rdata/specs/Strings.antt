@@ -1,0 +1,79 @@
+-- Character-strings (RFC 1035 3.3): the items that spell one (5.1), the first fault of an item that spells none, and
+-- the text that is printed.
+use Rattle.std.specs.Prelude.{◌≡◌, ◌≢◌, ℕ, ◌<◌, ◌≤◌, List, [], ◌∷◌, ◌++◌, length, nat_le, ◌==◌, ◌&&◌, ◌||◌, Bool, if◌then◌else◌}
+use Rattle.std.specs.List.{flat_map, AllByRecursion}
+use Rattle.zone_name.specs.Name.{frame}
+use Rattle.zone_name.specs.Spelling.{Written, plain, escaped, decimal, text_of, octet_of, IsWritten, written_text, written_octets, IsBadEscape}
+use Rattle.zone_name.specs.Text.{decimal_escape}
+use Rattle.zone_rdata.specs.declared.fault.Fault.{Fault}
+use Rattle.zone_rdata.specs.declared.fault.Fault.TheVariants.{BadEscape, StringTooLong}
+use Rattle.zone_rdata.specs.Item.{RawItem, bare, quoted}
+
+-- a character-string has at most 255 octets (RFC 1035 3.3)
+pub record IsString (octets : List ℕ) : Type 0 where
+  pub short : length octets ≤ 255
+  pub each : AllByRecursion (λ c. c < 256) octets
+
+-- the text of an item, bare or between its quotes
+abbrev pub item_text : RawItem → List ℕ
+item_text (bare text) = text
+item_text (quoted text) = text
+
+-- one octet of a string as it is written: as in a name, but that a dot stands for itself
+abbrev pub IsUnit : Written → Type 0
+IsUnit (plain c) = c ≢ 92
+IsUnit (escaped c) = IsWritten (escaped c)
+IsUnit (decimal x y z) = IsWritten (decimal x y z)
+
+-- the item spells the string
+pub record SpellsString (item : RawItem) (octets : List ℕ) : Type 0 where
+  pub units : List Written
+  pub each : AllByRecursion IsUnit units
+  pub text : item_text item ≡ written_text units
+  pub value : octets ≡ written_octets units
+  pub string : IsString octets
+
+-- a text up to a place: the units of at most 255 octets
+pub record ReachesUnit (text : List ℕ) (before : List Written) (rest : List ℕ) : Type 0 where
+  pub units : AllByRecursion IsUnit before
+  pub room : length before ≤ 255
+  pub parts : text ≡ written_text before ++ rest
+
+-- the leftmost fault of an item that spells no string: at a backslash that begins no escape, or at the 256th octet
+pub data StringFault (item : RawItem) : Fault → Type 0 where
+  bad_escape : (before : List Written) (rest : List ℕ) → ReachesUnit (item_text item) before rest → IsBadEscape rest → StringFault item BadEscape
+  long_string : (before : List Written) (w : Written) (rest : List ℕ) → ReachesUnit (item_text item) before (text_of w ++ rest) → length before ≡ 255 → IsUnit w → StringFault item StringTooLong
+
+-- the string's octets are appended behind their number (RFC 1035 3.3)
+pub record AppendsString (item : RawItem) (old new : List ℕ) : Type 0 where
+  pub octets : List ℕ
+  pub spelt : SpellsString item octets
+  pub written : new ≡ old ++ frame octets
+
+-- the octets that print as themselves inside quotes, a space and `!` to `~`
+abbrev pub is_shown : ℕ → Bool
+is_shown c = nat_le 32 c && nat_le c 126
+
+-- an octet between quotes: a quote and a backslash behind a backslash, others by themselves or by their value
+abbrev pub unit_text : ℕ → List ℕ
+unit_text c = if c == 34 || c == 92 then 92 ∷ c ∷ [] else (if is_shown c then c ∷ [] else decimal_escape c)
+
+-- what is printed between the quotes
+abbrev pub inside_text : List ℕ → List ℕ
+inside_text octets = flat_map unit_text octets
+
+abbrev pub string_text : List ℕ → List ℕ
+string_text octets = 34 ∷ inside_text octets ++ 34 ∷ []
+
+-- a unit that a quoted item can have: by itself neither a quote nor a backslash
+abbrev pub IsQuotedUnit : Written → Type 0
+IsQuotedUnit (plain c) = (c ≢ 34) × (c ≢ 92)
+IsQuotedUnit (escaped c) = IsWritten (escaped c)
+IsQuotedUnit (decimal x y z) = IsWritten (decimal x y z)
+
+-- a text that stands between the quotes of an item, in one line
+pub record StandsInQuotes (text : List ℕ) : Type 0 where
+  pub units : List Written
+  pub each : AllByRecursion IsQuotedUnit units
+  pub parts : text ≡ written_text units
+  pub one_line : AllByRecursion (λ c. c ≢ 10) text

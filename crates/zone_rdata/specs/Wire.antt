@@ -1,0 +1,11 @@
+-- Why octets are no data of a class and type (RFC 1035 3.2.1, 3.3).
+use Rattle.std.specs.Prelude.{ℕ, ◌<◌, ◌≤◌, List, length, Option}
+use Rattle.zone_rdata.specs.declared.fault.Fault.{Fault}
+use Rattle.zone_rdata.specs.declared.fault.Fault.TheVariants.{BadRdata, RdataTooLong}
+use Rattle.zone_rdata.specs.declared.layout.Field.{Field}
+use Rattle.zone_rdata.specs.Spelling.{IsCanonicalOf}
+
+-- more than 65,535 octets, or octets that aren't exactly one value of the layout
+pub data IsWireFault (laid : Option (List Field)) (octets : List ℕ) : Fault → Type 0 where
+  beyond : 65535 < length octets → IsWireFault laid octets RdataTooLong
+  no_value : length octets ≤ 65535 → ((canonical : List ℕ) → IsCanonicalOf laid octets canonical → ⊥) → IsWireFault laid octets BadRdata

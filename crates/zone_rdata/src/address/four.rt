@@ -1,0 +1,52 @@
+ghost use Rattle.std.specs.Prelude.{◌≡◌, ◌+◌, ◌≤◌, ℕ, List, suc, IfSome, IfNone};
+ghost use Rattle.zone_rdata.specs.Address.{AreNumbers, IsFourNumbers, IsOctetNumber};
+ghost use Rattle.zone_rdata.specs.AddressReading.{IsCut, Lacks};
+
+use crate::number::decimal_of;
+
+/// What stands before the first of an octet, and what stands after it. `None`: the text lacks the octet.
+pub(super) fn cut_at(text: &[u8], octet: u8) -> Option<(&[u8], &[u8])>
+    ensures some { IfSome result (λ parts. IsCut octet text.now parts.0.now parts.1.now) }
+    ensures none { IfNone result (Lacks octet text.now) }
+{
+    for (at, found) in text.iter().enumerate() {
+        if *found == octet {
+            return Some((&text[..at], &text[at + 1..]));
+        }
+    }
+    None
+}
+
+/// The octet that a decimal number stands for. `None`: the text is no number, or it is over 255.
+fn octet_of(text: &[u8]) -> Option<u8>
+    ensures found { IfSome result (λ n. IsOctetNumber text.now n) }
+    ensures none { IfNone result ((n : ℕ) → IsOctetNumber text.now n → ⊥) }
+{
+    let number = decimal_of(text)?;
+    if number > 255 {
+        return None;
+    }
+    Some(number as u8)
+}
+
+/// The octet of the number before the first dot, and what stands after that dot.
+fn octet_before_dot(text: &[u8]) -> Option<(u8, &[u8])>
+    ensures found { IfSome result (λ parts. (front : List ℕ) × (IsCut 46 text.now front parts.1.now × IsOctetNumber front parts.0)) }
+    ensures none { IfNone result ((more : ℕ) (octets : List ℕ) → AreNumbers (suc (suc more)) text.now octets → ⊥) }
+{
+    let (number, rest) = cut_at(text, b'.')?;
+    let octet = octet_of(number)?;
+    Some((octet, rest))
+}
+
+/// The octets of an address in four decimal numbers (RFC 1035 3.4.1). `None`: the text is no such address.
+pub(crate) fn four_octets_of(text: &[u8]) -> Option<[u8; 4]>
+    ensures found { IfSome result (λ octets. IsFourNumbers text.now octets) }
+    ensures none { IfNone result ((octets : List ℕ) → IsFourNumbers text.now octets → ⊥) }
+{
+    let (first, rest) = octet_before_dot(text)?;
+    let (second, rest) = octet_before_dot(rest)?;
+    let (third, rest) = octet_before_dot(rest)?;
+    let fourth = octet_of(rest)?;
+    Some([first, second, third, fourth])
+}

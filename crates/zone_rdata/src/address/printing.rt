@@ -1,0 +1,203 @@
+ghost use Rattle.std.specs.Prelude.{◌≡◌, ◌+◌, ◌-◌, ◌*◌, ◌<◌, ◌≤◌, ◌++◌, decimal, length, slice_index, OnOk, OnErr};
+ghost use Rattle.std.specs.Net.Addr.{segments_of};
+ghost use Rattle.std.specs.Net.Text as std_text;
+ghost use Rattle.arrayvec.specs.ArrayVec.{array_vec_len};
+ghost use Rattle.zone_rdata.specs.Address.{four_text, groups_text, parted_groups};
+
+use arrayvec::ArrayVec;
+use hex::encode_to_slice;
+use itoa::Buffer;
+use std::alloc::AllocError;
+
+/// Room for the longest text of an address, which has 39 octets.
+const ROOM: usize = 40;
+
+/// Appends octets to a text.
+fn push_octets(text: &mut ArrayVec<u8, ROOM>, octets: &[u8])
+    requires { array_vec_len text.old + length octets.now ≤ ROOM }
+    ensures { text.new.items ≡ text.old.items ++ octets.now }
+{
+    let _ = text.try_extend_from_slice(octets);
+}
+
+/// Appends an octet in decimal.
+fn push_number(text: &mut ArrayVec<u8, ROOM>, octet: u8)
+    requires { array_vec_len text.old + 3 ≤ ROOM }
+    ensures written { text.new.items ≡ text.old.items ++ decimal octet }
+    ensures short { array_vec_len text.new ≤ array_vec_len text.old + 3 }
+{
+    let mut buffer = Buffer::new();
+    push_octets(text, buffer.format(octet).as_bytes());
+}
+
+/// The text of four octets (RFC 1035 3.4.1).
+fn text_of_four(octets: &[u8]) -> ArrayVec<u8, ROOM>
+    requires { length octets.now ≡ 4 }
+    ensures written { result.items ≡ four_text octets.now }
+    ensures short { array_vec_len result ≤ 15 }
+{
+    let mut text = ArrayVec::new();
+    push_number(&mut text, octets[0]);
+    text.push(b'.');
+    push_number(&mut text, octets[1]);
+    text.push(b'.');
+    push_number(&mut text, octets[2]);
+    text.push(b'.');
+    push_number(&mut text, octets[3]);
+    text
+}
+
+/// The zeros before a group's first digit; the last digit is never one of them.
+fn leading_zeros(group: u16) -> usize
+    ensures value { result ≡ std_text.leading_zero_digits group }
+    ensures within { result < 4 }
+{
+    match group {
+        0x1000.. => 0,
+        0x100.. => 1,
+        0x10.. => 2,
+        _ => 3,
+    }
+}
+
+/// Appends a group in lower case without leading zeros (RFC 5952 4.1, 4.3).
+fn push_group(text: &mut ArrayVec<u8, ROOM>, group: u16)
+    requires { array_vec_len text.old + 4 ≤ ROOM }
+    ensures written { text.new.items ≡ text.old.items ++ std_text.hex group }
+    ensures short { array_vec_len text.new ≤ array_vec_len text.old + 4 }
+{
+    let mut digits = [0; 4];
+    let _ = encode_to_slice(group.to_be_bytes(), &mut digits);
+    push_octets(text, &digits[leading_zeros(group)..]);
+}
+
+/// Appends groups parted by colons.
+fn push_groups(text: &mut ArrayVec<u8, ROOM>, groups: &[u16])
+    requires { array_vec_len text.old + 5 * length groups.now ≤ ROOM }
+    ensures written { text.new.items ≡ text.old.items ++ parted_groups groups.now }
+    ensures short { array_vec_len text.new ≤ array_vec_len text.old + (5 * length groups.now - 1) }
+{
+    if let [first, rest @ ..] = groups {
+        push_group(text, *first);
+        for group in rest {
+            text.push(b':');
+            push_group(text, *group);
+        }
+    }
+}
+
+/// Zero groups in a row.
+#[derive(Clone, Copy)]
+struct ZeroRun {
+    start: usize,
+    len: usize,
+}
+
+/// The longest run of zero groups, the first of equal ones (RFC 5952 4.2.3).
+fn longest_zero_run(groups: &[u16]) -> ZeroRun
+    ensures start { result.start ≡ (std_text.longest_zero_run groups.now).0 }
+    ensures len { result.len ≡ (std_text.longest_zero_run groups.now).1 }
+    ensures within { result.start + result.len ≤ length groups.now }
+{
+    let mut start = groups.len();
+    let mut len = 0;
+    let mut run = 0;
+    for i in (0..groups.len()).rev() {
+        run = if groups[i] == 0 { run + 1 } else { 0 };
+        if run >= len {
+            start = i;
+            len = run;
+        }
+    }
+    ZeroRun { start, len }
+}
+
+/// The group that begins at a place, its higher octet first.
+fn group_at(octets: &[u8], at: usize) -> u16
+    requires { at + 1 < length octets.now }
+    ensures { result ≡ slice_index octets.now at * 256 + slice_index octets.now (at + 1) }
+{
+    u16::from_be_bytes([octets[at], octets[at + 1]])
+}
+
+/// The groups of sixteen octets.
+fn groups_of(octets: &[u8]) -> [u16; 8]
+    requires { length octets.now ≡ 16 }
+    ensures { result ≡ segments_of octets.now }
+{
+    [
+        group_at(octets, 0),
+        group_at(octets, 2),
+        group_at(octets, 4),
+        group_at(octets, 6),
+        group_at(octets, 8),
+        group_at(octets, 10),
+        group_at(octets, 12),
+        group_at(octets, 14),
+    ]
+}
+
+/// The text of sixteen octets (RFC 5952 4).
+fn text_of_sixteen(octets: &[u8]) -> ArrayVec<u8, ROOM>
+    requires { length octets.now ≡ 16 }
+    ensures written { result.items ≡ groups_text octets.now }
+    ensures short { array_vec_len result ≤ 39 }
+{
+    let groups = groups_of(octets);
+    let run = longest_zero_run(&groups);
+    let mut text = ArrayVec::new();
+    if run.len < 2 {
+        push_groups(&mut text, &groups);
+        return text;
+    }
+    push_groups(&mut text, &groups[..run.start]);
+    push_octets(&mut text, b"::");
+    push_groups(&mut text, &groups[run.start + run.len..]);
+    text
+}
+
+/// Appends the text of four octets: four decimal numbers without leading zeros. Where memory is refused, `out` holds
+/// what it held.
+///
+/// # Errors
+///
+/// `AllocError` where memory is refused.
+pub(crate) fn push_four(octets: &[u8], out: &mut Vec<u8>) -> Result<(), AllocError>
+    requires { length octets.now ≡ 4 }
+    ensures ok { OnOk result (out.new.items ≡ out.old.items ++ four_text octets.now) }
+    ensures err { OnErr result (out.new.items ≡ out.old.items) }
+{
+    out.extend_from_slice(text_of_four(octets).as_slice())
+}
+
+/// The octets that `push_four` appends, at most 15.
+pub(crate) fn four_len(octets: &[u8]) -> usize
+    requires { length octets.now ≡ 4 }
+    ensures value { result ≡ length (four_text octets.now) }
+    ensures short { result ≤ 15 }
+{
+    text_of_four(octets).len()
+}
+
+/// Appends the text of sixteen octets, groups with `::` for their longest run of zeros (RFC 5952 4). Where memory is
+/// refused, `out` holds what it held.
+///
+/// # Errors
+///
+/// `AllocError` where memory is refused.
+pub(crate) fn push_sixteen(octets: &[u8], out: &mut Vec<u8>) -> Result<(), AllocError>
+    requires { length octets.now ≡ 16 }
+    ensures ok { OnOk result (out.new.items ≡ out.old.items ++ groups_text octets.now) }
+    ensures err { OnErr result (out.new.items ≡ out.old.items) }
+{
+    out.extend_from_slice(text_of_sixteen(octets).as_slice())
+}
+
+/// The octets that `push_sixteen` appends, at most 39.
+pub(crate) fn sixteen_len(octets: &[u8]) -> usize
+    requires { length octets.now ≡ 16 }
+    ensures value { result ≡ length (groups_text octets.now) }
+    ensures short { result ≤ 39 }
+{
+    text_of_sixteen(octets).len()
+}

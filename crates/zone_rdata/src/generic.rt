@@ -1,0 +1,89 @@
+ghost use Rattle.std.specs.Prelude.{◌≡◌, ◌≢◌, ◌≤◌, List, ℕ, length, map, IfOk, IfErr, OnOk, Ok, Err};
+ghost use Rattle.hex.specs.Hex.{decode_of};
+ghost use Rattle.zone_rdata.specs.Fault.{IfFault};
+ghost use Rattle.zone_rdata.specs.Generic.{AppendsDigits, GenericFault, JoinTo, LengthFault, StatesGeneric, StatesLength};
+ghost use Rattle.zone_rdata.specs.Item.{IsGeneric, raw};
+
+use crate::fault::{Failing, Fault};
+use crate::item::Item;
+use crate::number::decimal_of;
+use hex::decode_to_slice;
+use std::alloc::Global;
+
+/// The most octets that record data has.
+const LONGEST: u64 = 65535;
+
+/// The octets that items state in the generic form: `\#`, their number, and their hexadecimal digits (RFC 3597 5).
+///
+/// # Errors
+///
+/// The first of: `BadGeneric` for a length that is missing or no decimal number, `RdataTooLong` for one over 65,535,
+/// and `BadGeneric` for digits that aren't those of so many octets; besides want of memory.
+pub(crate) fn octets_of_generic(alloc: Global, items: &[Item]) -> Result<Vec<u8>, Failing>
+    requires { IsGeneric (map raw items.now) }
+    ensures found { IfOk result (λ octets. StatesGeneric (map raw items.now) octets.items) }
+    ensures fault { IfErr result (IfFault (GenericFault (map raw items.now))) }
+{
+    match items {
+        [_, first, digits @ ..] => {
+            let len = length_of(*first)?;
+            octets_of_digits(alloc, digits, len)
+        }
+        _ => Err(Failing::Fault(Fault::BadGeneric)),
+    }
+}
+
+/// The number of octets that an item states.
+fn length_of(item: Item) -> Result<usize, Fault>
+    ensures found { IfOk result (λ n. StatesLength (raw item.entry) n) }
+    ensures short { IfOk result (λ n. n ≤ 65535) }
+    ensures fault { IfErr result (LengthFault (raw item.entry)) }
+{
+    let Item::Bare(text) = item else {
+        return Err(Fault::BadGeneric);
+    };
+    match decimal_of(text) {
+        None => Err(Fault::BadGeneric),
+        Some(number) if number > LONGEST => Err(Fault::RdataTooLong),
+        Some(number) => Ok(number as usize),
+    }
+}
+
+/// The octets that the items' digits join to, which are so many.
+fn octets_of_digits(alloc: Global, items: &[Item], len: usize) -> Result<Vec<u8>, Failing>
+    requires { len ≤ 65535 }
+    ensures found { IfOk result (λ octets. JoinTo (map raw items.now) octets.items) }
+    ensures count { IfOk result (λ octets. length octets.items ≡ len) }
+    ensures fault { IfErr result (IfFault (λ f. (f ≡ Fault.BadGeneric) × ((octets : List ℕ) → JoinTo (map raw items.now) octets → length octets ≢ len))) }
+{
+    let mut octets = Vec::with_capacity(alloc, len)?;
+    for item in items {
+        let Item::Bare(text) = *item else {
+            return Err(Failing::Fault(Fault::BadGeneric));
+        };
+        if text.len() / 2 > len - octets.len() {
+            return Err(Failing::Fault(Fault::BadGeneric));
+        }
+        push_digits(text, &mut octets)?;
+    }
+    if octets.len() < len {
+        return Err(Failing::Fault(Fault::BadGeneric));
+    }
+    Ok(octets)
+}
+
+/// Appends the octets that hexadecimal digits stand for.
+fn push_digits(text: &[u8], octets: &mut Vec<u8>) -> Result<(), Failing>
+    requires few { length octets.old.items ≤ 65535 }
+    requires fits { length text.now ≤ 131071 }
+    ensures found { OnOk result (AppendsDigits text.now octets.old.items octets.new.items) }
+    ensures fault { IfErr result (IfFault (λ f. (f ≡ Fault.BadGeneric) × ((front : List ℕ) → decode_of text.now ≢ Ok front))) }
+{
+    let before = octets.len();
+    octets.resize(before + text.len() / 2, 0)?;
+    let (_, room) = octets.as_mut_slice().split_at_mut(before);
+    match decode_to_slice(text, room) {
+        Ok(()) => Ok(()),
+        Err(_) => Err(Failing::Fault(Fault::BadGeneric)),
+    }
+}

@@ -1,0 +1,37 @@
+//! Laws of the items that state record data (RFC 1035 5.1; RFC 3597 5).
+ghost use Rattle.std.specs.Prelude.{◌≡◌, List, ℕ, Some};
+ghost use Rattle.zone_rdata.specs.DataFault.{IsDataFault};
+ghost use Rattle.zone_rdata.specs.Item.{RawItem};
+ghost use Rattle.zone_rdata.specs.Layout.{IsLayout, layout};
+ghost use Rattle.zone_rdata.specs.Spelling.{States};
+ghost use Rattle.zone_rdata.specs.declared.fault.Fault.{Fault};
+ghost use Rattle.zone_rdata.specs.declared.layout.Field.{Field};
+
+use zone_name::laws::{spelling_is_unique, texts_have_one_verdict};
+
+/// A layout has at most seven fields, strings stand last in it, and its addresses have 4 or 16 octets.
+pub fn layouts_are_sound()
+    ensures { (class kind : ℕ) (fields : List Field) → layout class kind ≡ Some fields → IsLayout fields }
+{}
+
+/// Items state at most one value of a class and type under an origin.
+pub fn data_is_unique()
+    ensures { (origin : List (List ℕ)) (class kind : ℕ) (items : List RawItem) (a b : List ℕ) → States origin class kind items a → States origin class kind items b → a ≡ b }
+{
+    spelling_is_unique();
+}
+
+/// Items that have a first fault state no value.
+pub fn faulty_items_state_none()
+    ensures { (origin : List (List ℕ)) (class kind : ℕ) (items : List RawItem) (octets : List ℕ) (fault : Fault) → States origin class kind items octets → IsDataFault origin class kind items fault → ⊥ }
+{
+    spelling_is_unique();
+    texts_have_one_verdict();
+}
+
+/// Items have at most one first fault.
+pub fn data_fault_is_unique()
+    ensures { (origin : List (List ℕ)) (class kind : ℕ) (items : List RawItem) (a b : Fault) → IsDataFault origin class kind items a → IsDataFault origin class kind items b → a ≡ b }
+{
+    texts_have_one_verdict();
+}

@@ -1,0 +1,26 @@
+//! Laws of words and times in text (RFC 1035 5.1, RFC 3597 5).
+ghost use Rattle.std.specs.Prelude.{◌≡◌, List, ℕ};
+ghost use Rattle.zone_rdata.specs.Number.{IsTime};
+ghost use Rattle.zone_rdata.specs.Words.{IsClassWord, IsKind, IsKindWord, IsWordFault};
+ghost use Rattle.zone_rdata.specs.declared.fault.Fault.{Fault};
+
+/// A text states at most one time.
+pub fn time_is_unique()
+    ensures { (text : List ℕ) (a b : ℕ) → IsTime text a → IsTime text b → a ≡ b }
+{}
+
+/// A word is that of at most one class.
+pub fn class_word_is_unique()
+    ensures { (word : List ℕ) (a b : ℕ) → IsClassWord word a → IsClassWord word b → a ≡ b }
+{}
+
+/// A word is that of at most one type.
+pub fn kind_word_is_unique()
+    ensures { (word : List ℕ) (a b : ℕ) → IsKindWord word a → IsKindWord word b → a ≡ b }
+{}
+
+/// A word that has a fault at a type's place is that of no type of which records can be, and it has one fault.
+pub fn kind_word_has_one_verdict()
+    ensures never_both { (word : List ℕ) (n : ℕ) (fault : Fault) → IsKindWord word n → IsKind n → IsWordFault word fault → ⊥ }
+    ensures one_fault { (word : List ℕ) (f g : Fault) → IsWordFault word f → IsWordFault word g → f ≡ g }
+{}

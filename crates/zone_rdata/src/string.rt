@@ -1,0 +1,222 @@
+ghost use Rattle.std.specs.Prelude.{◌≡◌, ◌++◌, ◌+◌, ◌*◌, ◌≤◌, List, ℕ, length, true, IfOk, IfErr, OnOk, OnErr, Ok, Err};
+ghost use Rattle.zone_name.specs.Name.{frame};
+ghost use Rattle.zone_name.specs.Spelling.{is_digit};
+ghost use Rattle.zone_rdata.specs.Item.{raw};
+ghost use Rattle.zone_rdata.specs.StringReading.{digits_place, escape_place, place_of, reading, seen};
+ghost use Rattle.zone_rdata.specs.Strings.{AppendsString, StringFault, item_text, string_text, unit_text};
+ghost use Rattle.zone_rdata.specs.Text.{Extends};
+
+use crate::fault::{Failing, Fault};
+use crate::item::Item;
+use crate::reading::are_octets;
+use arrayvec::ArrayVec;
+use std::alloc::AllocError;
+
+/// What stands at the place of a string's next octet, and what is behind it.
+#[derive(Drop)]
+enum Next<'t> {
+    /// The text ends.
+    End,
+    /// An octet, by itself or by an escape.
+    Octet(u8, &'t [u8]),
+    /// A backslash that begins no escape.
+    BadEscape,
+}
+
+/// Appends the string that the item spells, its octets behind their number (RFC 1035 3.3, 5.1). Refused, `out` holds
+/// what it held.
+///
+/// # Errors
+///
+/// The leftmost `BadEscape` or `StringTooLong`, and want of memory.
+pub(crate) fn push_string(item: Item, out: &mut Vec<u8>) -> Result<(), Failing>
+    ensures found { OnOk result (AppendsString (raw item.entry) out.old.items out.new.items) }
+    ensures fault { (fault : Fault) → result ≡ Err (Failing.Fault fault) → StringFault (raw item.entry) fault }
+    ensures err { OnErr result (out.new.items ≡ out.old.items) }
+{
+    let octets = string_of(text_of(item))?;
+    are_octets(octets.as_slice());
+    push_framed(octets.as_slice(), out)?;
+    Ok(())
+}
+
+/// Appends a string's octets behind their number. Where memory is refused, `out` holds what it held.
+pub(crate) fn push_framed(octets: &[u8], out: &mut Vec<u8>) -> Result<(), AllocError>
+    requires { length octets.now ≤ 255 }
+    ensures ok { OnOk result (out.new.items ≡ out.old.items ++ frame octets.now) }
+    ensures err { OnErr result (out.new.items ≡ out.old.items) }
+{
+    let before = out.len();
+    out.extend_from_slice(&[octets.len() as u8])?;
+    let pushed = out.extend_from_slice(octets);
+    if pushed.is_err() {
+        out.truncate(before);
+    }
+    pushed
+}
+
+/// The text of an item, bare or between its quotes.
+fn text_of(item: Item<'_>) -> &[u8]
+    ensures { result.now ≡ item_text (raw item.entry) }
+{
+    match item {
+        Item::Bare(text) | Item::Quoted(text) => text,
+    }
+}
+
+/// The octets that a text stands for (RFC 1035 5.1).
+fn string_of(text: &[u8]) -> Result<ArrayVec<u8, 255>, Fault>
+    ensures found { IfOk result (λ octets. reading text.now ≡ Ok octets.items) }
+    ensures fault { IfErr result (λ fault. reading text.now ≡ Err fault) }
+{
+    let mut octets: ArrayVec<u8, 255> = ArrayVec::new();
+    let mut rest = text;
+    loop {
+        match next_at(rest) {
+            Next::End => return Ok(octets),
+            Next::Octet(octet, after) => {
+                if octets.is_full() {
+                    return Err(Fault::StringTooLong);
+                }
+                octets.push(octet);
+                rest = after;
+            }
+            Next::BadEscape => return Err(Fault::BadEscape),
+        }
+    }
+}
+
+/// What stands at the front of the rest of a text.
+fn next_at(rest: &[u8]) -> Next<'_>
+    ensures { seen result ≡ place_of rest.now }
+{
+    let Some((first, after)) = rest.split_first() else {
+        return Next::End;
+    };
+    if *first == b'\\' {
+        escape_at(after)
+    } else {
+        Next::Octet(*first, after)
+    }
+}
+
+/// What an escape stands for, behind its backslash (RFC 1035 5.1).
+fn escape_at(after: &[u8]) -> Next<'_>
+    ensures { seen result ≡ escape_place after.now }
+{
+    let Some((first, rest)) = after.split_first() else {
+        return Next::BadEscape;
+    };
+    if is_decimal_digit(*first) {
+        digits_at(*first, rest)
+    } else if *first == b'\n' || *first == b'\r' {
+        Next::BadEscape
+    } else {
+        Next::Octet(*first, rest)
+    }
+}
+
+/// The octet of three digits, of which the first was read.
+fn digits_at(first: u8, after: &[u8]) -> Next<'_>
+    requires { is_digit first ≡ true }
+    ensures { seen result ≡ digits_place first after.now }
+{
+    match after {
+        [second, third, rest @ ..] => {
+            if !is_decimal_digit(*second) || !is_decimal_digit(*third) {
+                return Next::BadEscape;
+            }
+            let value = 100 * (first - b'0') as u16
+                + 10 * (*second - b'0') as u16
+                + (*third - b'0') as u16;
+            if value <= 255 {
+                Next::Octet(value as u8, rest)
+            } else {
+                Next::BadEscape
+            }
+        }
+        _ => Next::BadEscape,
+    }
+}
+
+/// Whether the octet is a digit.
+fn is_decimal_digit(octet: u8) -> bool
+    ensures { result ≡ is_digit octet }
+{
+    octet >= b'0' && octet <= b'9'
+}
+
+/// The octets of a string's canonical text.
+pub(crate) fn string_text_len(octets: &[u8]) -> usize
+    requires { length octets.now ≤ 255 }
+    ensures value { result ≡ length (string_text octets.now) }
+    ensures short { result ≤ 4 * length octets.now + 2 }
+{
+    let mut len = 2;
+    for octet in octets {
+        len += unit_text_len(*octet);
+    }
+    len
+}
+
+/// The octets of an octet's text between quotes.
+fn unit_text_len(octet: u8) -> usize
+    ensures value { result ≡ length (unit_text octet) }
+    ensures short { result ≤ 4 }
+{
+    if octet == b'"' || octet == b'\\' {
+        2
+    } else if octet >= b' ' && octet <= b'~' {
+        1
+    } else {
+        4
+    }
+}
+
+/// Appends a string's canonical text: its octets in quotes. Where memory is refused, `out` holds what it held.
+///
+/// # Errors
+///
+/// `AllocError` where memory is refused.
+pub(crate) fn push_string_text(octets: &[u8], out: &mut Vec<u8>) -> Result<(), AllocError>
+    ensures ok { OnOk result (out.new.items ≡ out.old.items ++ string_text octets.now) }
+    ensures err { OnErr result (out.new.items ≡ out.old.items) }
+{
+    let before = out.len();
+    let pushed = push_quoted(octets, out);
+    if pushed.is_err() {
+        out.truncate(before);
+    }
+    pushed
+}
+
+/// Appends a string's octets in quotes.
+fn push_quoted(octets: &[u8], out: &mut Vec<u8>) -> Result<(), AllocError>
+    ensures ok { OnOk result (out.new.items ≡ out.old.items ++ string_text octets.now) }
+    ensures err { OnErr result (Extends out.old.items out.new.items) }
+{
+    out.extend_from_slice(b"\"")?;
+    for octet in octets {
+        push_unit(*octet, out)?;
+    }
+    out.extend_from_slice(b"\"")
+}
+
+/// Appends an octet's text between quotes.
+fn push_unit(octet: u8, out: &mut Vec<u8>) -> Result<(), AllocError>
+    ensures ok { OnOk result (out.new.items ≡ out.old.items ++ unit_text octet) }
+    ensures err { OnErr result (out.new.items ≡ out.old.items) }
+{
+    if octet == b'"' || octet == b'\\' {
+        out.extend_from_slice(&[b'\\', octet])
+    } else if octet >= b' ' && octet <= b'~' {
+        out.extend_from_slice(&[octet])
+    } else {
+        out.extend_from_slice(&[
+            b'\\',
+            b'0' + octet / 100,
+            b'0' + octet / 10 % 10,
+            b'0' + octet % 10,
+        ])
+    }
+}

@@ -1,0 +1,155 @@
+-- What is decided of a front stays, whatever octets come behind it.
+use Rattle.std.proofs.Common.{◌≡◌, ℕ, zero, List, [], ◌∷◌, ◌++◌, Some, None, inl, inr, sym, ◌∙◌, ap, subst, append_assoc}
+use Rattle.std.proofs.lemmas.List.{append-nil}
+use Rattle.zone_rdata.specs.declared.fault.Fault.{Fault}
+use Rattle.zone_rdata.specs.declared.fault.Place.TheVariants.{Line}
+use Rattle.zone_rdata.specs.declared.record.Placed.{Placed}
+use Rattle.zone_text.specs.Pieces.{Piece, Cuts, text}
+use Rattle.zone_text.specs.Breaks.{Breaks}
+use Rattle.zone_text.specs.Lasting.{BreaksForGood}
+use Rattle.zone_text.specs.Entries.{Entry, cut_from, and_last, entries_of, ended_entries, open_line}
+use Rattle.zone_text.specs.FileReads.{Ending, reads_none, reads_one, refused, ReadEach, FileReads, whole, broken}
+use Rattle.zone_text.specs.Decided.{ArePieces, Decided, decided, undecided, Stays}
+use Rattle.zone_text.specs.Lower.{Lower}
+use Rattle.zone_text.proofs.Cuttings.{one_cut, one_break, cut_not_broken, cut_or_broken}
+use Rattle.zone_text.proofs.Lasting.{cut_joined, break_joined, cut_parted, break_parted, breaks_for_good}
+use Rattle.zone_text.proofs.CutAgain.{joined, cut_whole, cut_ended, cut_again, ended_at_zero, and_last_behind, numbered_front}
+use Rattle.zone_text.proofs.Entered.{record_once, fault_once, record_or_fault, nothing_or_record, nothing_or_fault}
+use Rattle.zone_text.proofs.Files.{reads_once, one_more}
+
+-- ---- the readings of entries and of the same with others behind them
+
+one_front : (p q : Placed) (a b more others rest : List Placed) → p.rr ≡ q.rr → p.place ≡ q.place → a ≡ p ∷ more → b ≡ q ∷ others → others ≡ more ++ rest → b ≡ a ++ rest
+one_front p q a b more others rest rr place x y e =
+    let left : a ++ rest ≡ p ∷ (more ++ rest) = ap (λ t. t ++ rest) x in
+    one_more q p b (a ++ rest) others (more ++ rest) (sym rr) (sym place) y left e
+
+stays_on : (p q : Placed) (a b more others : List Placed) (e f : Ending) → p.rr ≡ q.rr → p.place ≡ q.place → a ≡ p ∷ more → b ≡ q ∷ others → Stays more e others f → Stays a e b f
+stays_on p q a b more others e f rr place x y stays = record {
+  others = stays.others;
+  first = one_front p q a b more others stays.others rr place x y stays.first;
+  fault = λ found is. let rest = stays.fault found is in (one_more q p b a others more (sym rr) (sym place) y x rest.0, rest.1);
+}
+
+same_end : (fault other : Fault) (line : ℕ) (e f : Ending) → fault ≡ other → e ≡ Some (fault, Line line) → f ≡ Some (other, Line line) → f ≡ e
+same_end fault other line e f same x y = y ∙ (ap (λ (z : Fault). let o : Ending = Some (z, Line line) in o) (sym same) ∙ sym x)
+
+pub reads_on : Lower → (origin : List (List ℕ)) (behind : Ending) (before entries others : List Entry) (a b : List Placed) (e f : Ending) → ReadEach origin None before entries a e → ReadEach origin behind before (entries ++ others) b f → Stays a e b f
+reads_on lower origin behind before [] others a b e f x y = record {
+  others = b;
+  first = ap (λ t. t ++ b) (sym x.0);
+  fault = λ found is. let end = x.1 in absurd (let t : ⊥ = cc in t);
+}
+reads_on lower origin behind before (entry ∷ entries) others a b e f (reads_none n xs) (reads_none m ys) = reads_on lower origin behind (entry ∷ before) entries others a b e f xs ys
+reads_on lower origin behind before (entry ∷ entries) others a b e f (reads_none n xs) (reads_one q more r at w ys) = absurd (nothing_or_record origin before entry q.rr n r)
+reads_on lower origin behind before (entry ∷ entries) others a b e f (reads_none n xs) (refused fault h u v) = absurd (nothing_or_fault lower origin before entry fault n h)
+reads_on lower origin behind before (entry ∷ entries) others a b e f (reads_one p more r at w xs) (reads_none m ys) = absurd (nothing_or_record origin before entry p.rr m r)
+reads_on lower origin behind before (entry ∷ entries) others a b e f (reads_one p more r at w xs) (reads_one q left s place v ys) =
+    stays_on p q a b more left e f (record_once lower origin before entry p.rr q.rr r s) (at ∙ sym place) w v (reads_on lower origin behind (entry ∷ before) entries others more left e f xs ys)
+reads_on lower origin behind before (entry ∷ entries) others a b e f (reads_one p more r at w xs) (refused fault h u v) = absurd (record_or_fault lower origin before entry p.rr fault r h)
+reads_on lower origin behind before (entry ∷ entries) others a b e f (refused fault h u v) (reads_none m ys) = absurd (nothing_or_fault lower origin before entry fault m h)
+reads_on lower origin behind before (entry ∷ entries) others a b e f (refused fault h u v) (reads_one q more s place w ys) = absurd (record_or_fault lower origin before entry q.rr fault s h)
+reads_on lower origin behind before (entry ∷ entries) others a b e f (refused fault h u v) (refused other k s t) = record {
+  others = [];
+  first = s ∙ (sym u ∙ sym (append-nil a));
+  fault = λ found is. (s ∙ sym u, same_end fault other entry.line e f (fault_once lower origin before entry fault other h k) v t);
+}
+
+-- ---- the pieces of a front and of a text that goes on
+
+-- the ended entries of a front stand by themselves before what is left of it
+record IsParted (octets : List ℕ) (pieces : List Piece) : Type 0 where
+  rest : List ℕ
+  parted : octets ≡ text (joined (cut_from zero pieces).ended) ++ rest
+  front : Cuts (text (joined (cut_from zero pieces).ended)) (joined (cut_from zero pieces).ended)
+
+parted_cut : (octets : List ℕ) (pieces : List Piece) → Cuts octets pieces → IsParted octets pieces
+parted_cut octets pieces cut =
+    let ended = joined (cut_from zero pieces).ended in
+    let found = cut_parted octets ended (cut_from zero pieces).open_pieces (ended_at_zero zero pieces cut.balanced) (rw (cut_whole) cut) in
+    record { rest = found.0; parted = found.1; front = found.2 }
+
+parted_break : (octets : List ℕ) (pieces : List Piece) (fault : Fault) → Breaks octets pieces fault → IsParted octets pieces
+parted_break octets pieces fault breaks =
+    let ended = joined (cut_from zero pieces).ended in
+    let found = break_parted octets ended (cut_from zero pieces).open_pieces fault (ended_at_zero breaks.depth pieces breaks.parentheses) (rw (cut_whole) breaks) in
+    record { rest = found.0; parted = found.1; front = found.2 }
+
+parted : (octets : List ℕ) (pieces : List Piece) → ArePieces octets pieces → IsParted octets pieces
+parted octets pieces (inl cut) = parted_cut octets pieces cut
+parted octets pieces (inr (fault, breaks)) = parted_break octets pieces fault breaks
+
+-- the pieces of a text that goes on are those of the ended entries of its front, and others
+abbrev GoesOn : List Piece → List Piece → Type 0
+GoesOn pieces all = (others : List Piece) × (all ≡ joined (cut_from zero pieces).ended ++ others)
+
+pieces_of : (octets : List ℕ) (all other : List Piece) → ArePieces octets all → ArePieces octets other → all ≡ other
+pieces_of octets all other (inl x) (inl y) = one_cut octets all other x y
+pieces_of octets all other (inl x) (inr (fault, y)) = absurd (cut_not_broken octets all other fault x y)
+pieces_of octets all other (inr (fault, x)) (inl y) = absurd (cut_not_broken octets other all fault y x)
+pieces_of octets all other (inr (fault, x)) (inr (another, y)) = (one_break octets all other fault another x y).0
+
+joined_pieces : (front rest : List ℕ) (pieces : List Piece) → Cuts front (joined (cut_from zero pieces).ended) → (others : List Piece) × ArePieces (front ++ rest) (joined (cut_from zero pieces).ended ++ others)
+joined_pieces front rest pieces cut =
+    elim (cut_or_broken rest) [
+      | inl found ↦ (found.0, inl (cut_joined front rest (joined (cut_from zero pieces).ended) found.0 cut (cut_ended zero pieces).ends found.1))
+      | inr found ↦ (found.0, inr (found.1, break_joined front rest (joined (cut_from zero pieces).ended) found.0 found.1 cut (cut_ended zero pieces).ends found.2))
+    ]
+
+goes_on : (octets more : List ℕ) (pieces all : List Piece) → ArePieces octets pieces → ArePieces (octets ++ more) all → GoesOn pieces all
+goes_on octets more pieces all x y =
+    let front = parted octets pieces x in
+    let behind = joined_pieces (text (joined (cut_from zero pieces).ended)) (front.rest ++ more) pieces front.front in
+    let split : octets ++ more ≡ text (joined (cut_from zero pieces).ended) ++ (front.rest ++ more) = ap (λ t. t ++ more) front.parted ∙ append_assoc (text (joined (cut_from zero pieces).ended)) front.rest more in
+    (behind.0, pieces_of (octets ++ more) all (joined (cut_from zero pieces).ended ++ behind.0) y (rw split (behind.1)))
+
+-- so its entries are the ended ones of the front, and others
+ended_on : (pieces all : List Piece) → GoesOn pieces all → (others : List Entry) × (ended_entries all ≡ ended_entries pieces ++ others)
+ended_on pieces all (others, e) =
+    let more = numbered_front 1 (cut_from zero pieces).ended (cut_from zero others).ended in
+    (more.0, rw (e, cut_again) (more.1))
+
+entries_on : (pieces all : List Piece) → GoesOn pieces all → (others : List Entry) × (entries_of all ≡ ended_entries pieces ++ others)
+entries_on pieces all (others, e) =
+    let more = numbered_front 1 (cut_from zero pieces).ended (and_last (cut_from zero others).ended (cut_from zero others).open_pieces) in
+    (more.0, rw (e, cut_again, and_last_behind) (more.1))
+
+-- ---- a front and a text that goes on
+
+-- the same reading stays
+same_stays : (a b : List Placed) (e f : Ending) → (a ≡ b) × (e ≡ f) → Stays a e b f
+same_stays a b e f same = record { others = []; first = sym same.0 ∙ sym (append-nil a); fault = λ found is. (sym same.0, sym same.1) }
+
+broken_once : Lower → (origin : List (List ℕ)) (octets : List ℕ) (pieces all : List Piece) (fault other : Fault) (a b : List Placed) (e f : Ending) → Breaks octets pieces fault → Breaks octets all other → ReadEach origin (Some (fault, Line (open_line pieces))) [] (ended_entries pieces) a e → ReadEach origin (Some (other, Line (open_line all))) [] (ended_entries all) b f → (a ≡ b) × (e ≡ f)
+broken_once lower origin octets pieces all fault other a b e f x y xs ys =
+    let same = one_break octets pieces all fault other x y in
+    let front : pieces ≡ all = same.0 in
+    let one : fault ≡ other = same.1 in
+    reads_once lower origin (Some (other, Line (open_line all))) [] (ended_entries all) a b e f (rw (← front, ← one) xs) ys
+
+pub decided_stays : Lower → (origin : List (List ℕ)) (octets more : List ℕ) (a b : List Placed) (e f : Ending) → Decided origin octets a e → Decided origin (octets ++ more) b f → Stays a e b f
+decided_stays lower origin octets more a b e f (undecided ps are absent xs) (undecided qs others none ys) =
+    let on = ended_on ps qs (goes_on octets more ps qs are others) in
+    reads_on lower origin None [] (ended_entries ps) on.0 a b e f xs (subst (λ es. ReadEach origin None [] es b f) on.1 ys)
+decided_stays lower origin octets more a b e f (undecided ps are absent xs) (decided qs fault good ys) =
+    let on = ended_on ps qs (goes_on octets more ps qs are (inr (fault, good.breaks))) in
+    reads_on lower origin (Some (fault, Line (open_line qs))) [] (ended_entries ps) on.0 a b e f xs (subst (λ es. ReadEach origin (Some (fault, Line (open_line qs))) [] es b f) on.1 ys)
+decided_stays lower origin octets more a b e f (decided ps fault good xs) (undecided qs others none ys) =
+    let still = breaks_for_good octets more ps fault good in
+    let same : ps ≡ qs = pieces_of (octets ++ more) ps qs (inr (fault, still.breaks)) others in
+    absurd (none fault (subst (λ p. BreaksForGood (octets ++ more) p fault) same still))
+decided_stays lower origin octets more a b e f (decided ps fault good xs) (decided qs other better ys) =
+    let still = breaks_for_good octets more ps fault good in
+    same_stays a b e f (broken_once lower origin (octets ++ more) ps qs fault other a b e f still.breaks better.breaks xs ys)
+
+pub decided_stays_at_end : Lower → (origin : List (List ℕ)) (octets more : List ℕ) (a b : List Placed) (e f : Ending) → Decided origin octets a e → FileReads origin (octets ++ more) b f → Stays a e b f
+decided_stays_at_end lower origin octets more a b e f (undecided ps are absent xs) (whole qs cut ys) =
+    let on = entries_on ps qs (goes_on octets more ps qs are (inl cut)) in
+    reads_on lower origin None [] (ended_entries ps) on.0 a b e f xs (subst (λ es. ReadEach origin None [] es b f) on.1 ys)
+decided_stays_at_end lower origin octets more a b e f (undecided ps are absent xs) (broken qs fault breaks ys) =
+    let on = ended_on ps qs (goes_on octets more ps qs are (inr (fault, breaks))) in
+    reads_on lower origin (Some (fault, Line (open_line qs))) [] (ended_entries ps) on.0 a b e f xs (subst (λ es. ReadEach origin (Some (fault, Line (open_line qs))) [] es b f) on.1 ys)
+decided_stays_at_end lower origin octets more a b e f (decided ps fault good xs) (whole qs cut ys) =
+    absurd (cut_not_broken (octets ++ more) qs ps fault cut (breaks_for_good octets more ps fault good).breaks)
+decided_stays_at_end lower origin octets more a b e f (decided ps fault good xs) (broken qs other breaks ys) =
+    same_stays a b e f (broken_once lower origin (octets ++ more) ps qs fault other a b e f (breaks_for_good octets more ps fault good).breaks breaks xs ys)

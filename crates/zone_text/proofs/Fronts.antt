@@ -1,0 +1,295 @@
+-- The piece at the front of a text: what is read is so, and what is so is read.
+use Rattle.std.proofs.Common.{◌≡◌, ◌≢◌, ℕ, zero, suc, ◌≤◌, ◌<◌, Bool, true, false, ◌||◌, ◌==◌, if◌then◌else◌, List, [], ◌∷◌, ◌++◌, length, Option, Some, None, refl, sym, ap, ◌∙◌, subst, arith, append_assoc, length-append}
+use Rattle.std.specs.List.{AllByRecursion}
+use Rattle.std.proofs.lemmas.Bool.{or_parts, eqb-true, eqb-false, ne_eqb, both_ways, cond_both}
+use Rattle.std.proofs.lemmas.List.{append-nil}
+use Rattle.zone_name.specs.Spelling.{Written, plain, escaped, decimal, text_of, IsBadEscape}
+use Rattle.zone_rdata.specs.declared.fault.Fault.{Fault}
+use Rattle.zone_rdata.specs.declared.fault.Fault.TheVariants.{BadEscape}
+use Rattle.zone_text.specs.Pieces.{Piece, blank, opening, closing, line_feed, comment, bare, quoted, piece_text, written_text, is_blank, ends_item, IsPiece, IsBareUnit, IsQuotedUnit}
+use Rattle.zone_text.specs.Breaks.{IsBroken, closes_nothing, no_escape, no_quoted_escape, no_quote, not_closed}
+use Rattle.zone_text.specs.Cutting.{Units, units_then, units_by, units_first, unit_first, before_line_feed, from_line_feed, Sign, a_blank, a_line_feed, an_opening, a_closing, a_semicolon, a_quote, of_item, sign_of, Front, takes, stops, is_quote, quoted_front, bare_front, front_by, end_front, front_of}
+use Rattle.zone_text.proofs.Octets.{IsUnit, NoUnit, at_end, at_octet, at_backslash, IsFirst, first_is, first_of_unit, first_of_none, bare_unit, unit_of_bare, quoted_unit, unit_of_quoted}
+
+each_so : {A : Type 0} {P Q : A → Type 0} (xs : List A) → ((x : A) → P x → Q x) → AllByRecursion P xs → AllByRecursion Q xs
+each_so [] more each = tt
+each_so (x ∷ xs) more each = (more x each.0, each_so xs more each.1)
+
+-- ---- written octets as long as they come
+
+pub record UnitsAre (ends : ℕ → Bool) (octets : List ℕ) (found : Units) : Type 0 where
+  pub whole : octets ≡ written_text found.units ++ found.rest
+  pub each : AllByRecursion (IsUnit ends) found.units
+  pub none : NoUnit ends found.rest
+
+some_text : (w : Written) → 0 < length (text_of w)
+some_text (plain c) = omega arith
+some_text (escaped c) = omega arith
+some_text (decimal x y z) = omega arith
+
+shorter : (w : Written) (octets rest : List ℕ) → octets ≡ text_of w ++ rest → length rest < length octets
+shorter w octets rest e = omega (arith, ap length e, length-append (text_of w) rest, some_text w)
+
+one_more : (ends : ℕ → Bool) (octets rest : List ℕ) (w : Written) (found : Units) → IsUnit ends w → octets ≡ text_of w ++ rest → UnitsAre ends rest found → UnitsAre ends octets (record { units = w ∷ found.units; rest = found.rest })
+one_more ends octets rest w found is e more = record {
+  whole = e ∙ ap (λ t. text_of w ++ t) more.whole ∙ sym (append_assoc (text_of w) (written_text found.units) found.rest);
+  each = (is, more.each);
+  none = more.none;
+}
+
+units_by_first : (ends : ℕ → Bool) (octets : List ℕ) (go_on : List ℕ → Units) (found : Option (Written × List ℕ)) → IsFirst ends octets found → ((rest : List ℕ) → length rest < length octets → UnitsAre ends rest (go_on rest)) → UnitsAre ends octets (units_then go_on octets found)
+units_by_first ends octets go_on None is more = record { whole = refl; each = tt; none = is }
+units_by_first ends octets go_on (Some (w, rest)) is more = one_more ends octets rest w (go_on rest) is.0 is.1 (more rest (shorter w octets rest is.1))
+
+units_are : (n : ℕ) (ends : ℕ → Bool) (octets : List ℕ) → length octets ≤ n → UnitsAre ends octets (units_by n ends octets)
+unfolding units_by
+units_are zero ends [] enough = record { whole = refl; each = tt; none = at_end refl }
+units_are zero ends (c ∷ octets) enough = absurd (omega arith)
+units_are (suc n) ends octets enough = units_by_first ends octets (units_by n ends) (unit_first ends octets) (first_is ends octets) (λ rest less. units_are n ends rest (omega arith))
+
+units_only : (n : ℕ) (ends : ℕ → Bool) (units : List Written) (rest : List ℕ) → ends 92 ≡ false → length (written_text units ++ rest) ≤ n → AllByRecursion (IsUnit ends) units → NoUnit ends rest → units_by n ends (written_text units ++ rest) ≡ record { units = units; rest = rest }
+unfolding units_by
+units_only zero ends [] rest backslash enough each none = refl
+units_only zero ends (w ∷ units) rest backslash enough each none =
+    absurd (omega (arith, length-append (written_text (w ∷ units)) rest, length-append (text_of w) (written_text units), some_text w))
+units_only (suc n) ends [] rest backslash enough each none = ap (units_then (units_by n ends) rest) (first_of_none ends rest backslash none)
+units_only (suc n) ends (w ∷ units) rest backslash enough each none =
+    let P : List ℕ → Type 0 = λ t. units_then (units_by n ends) t (unit_first ends t) ≡ record { units = w ∷ units; rest = rest } in
+    let less : length (written_text units ++ rest) ≤ n = omega (arith, length-append (written_text (w ∷ units)) rest, length-append (text_of w) (written_text units), some_text w, length-append (written_text units) rest) in
+    subst P (sym (append_assoc (text_of w) (written_text units) rest))
+    (ap (units_then (units_by n ends) (text_of w ++ (written_text units ++ rest))) (first_of_unit ends w (written_text units ++ rest) backslash each.0)
+    ∙ ap (λ (more : Units). record { units = w ∷ more.units; rest = more.rest }) (units_only n ends units rest backslash less each.1 none))
+
+pub units_first_are : (ends : ℕ → Bool) (octets : List ℕ) → UnitsAre ends octets (units_first ends octets)
+unfolding units_first
+units_first_are ends octets = units_are (length octets) ends octets (omega arith)
+
+pub units_first_only : (ends : ℕ → Bool) (octets : List ℕ) (units : List Written) (rest : List ℕ) → ends 92 ≡ false → octets ≡ written_text units ++ rest → AllByRecursion (IsUnit ends) units → NoUnit ends rest → units_first ends octets ≡ record { units = units; rest = rest }
+unfolding units_first
+units_first_only ends octets units rest backslash e each none =
+    subst (λ t. units_by (length t) ends t ≡ record { units = units; rest = rest }) (sym e) (units_only (length (written_text units ++ rest)) ends units rest backslash (omega arith) each none)
+
+-- ---- comments
+
+-- where a comment ends: at a line feed or the end
+abbrev pub EndsComment : List ℕ → Type 0
+EndsComment [] = Unit {0}
+EndsComment (c ∷ rest) = c ≡ 10
+
+abbrev IsComment : List ℕ → Type 0
+IsComment octets = AllByRecursion (λ c. c ≢ 10) octets
+
+comment_whole : (octets : List ℕ) → octets ≡ before_line_feed octets ++ from_line_feed octets
+unfolding before_line_feed from_line_feed
+comment_whole [] = refl
+comment_whole (c ∷ rest) = by (c == 10) (comment_whole rest)
+  where
+    by : (b : Bool) → rest ≡ before_line_feed rest ++ from_line_feed rest → c ∷ rest ≡ (if b then [] else c ∷ before_line_feed rest) ++ (if b then c ∷ rest else from_line_feed rest)
+    by true more = refl
+    by false more = ap (λ t. c ∷ t) more
+
+comment_each : (octets : List ℕ) → IsComment (before_line_feed octets)
+unfolding before_line_feed
+comment_each [] = tt
+comment_each (c ∷ rest) = cond_both (c == 10) [] (c ∷ before_line_feed rest) IsComment (λ e. tt) (λ e. (eqb-false c 10 e, comment_each rest))
+
+comment_ends : (octets : List ℕ) → EndsComment (from_line_feed octets)
+unfolding from_line_feed
+comment_ends [] = tt
+comment_ends (c ∷ rest) = cond_both (c == 10) (c ∷ rest) (from_line_feed rest) EndsComment (eqb-true c 10) (λ e. comment_ends rest)
+
+comment_only : (octets rest : List ℕ) → IsComment octets → EndsComment rest → (before_line_feed (octets ++ rest) ≡ octets) × (from_line_feed (octets ++ rest) ≡ rest)
+unfolding before_line_feed from_line_feed
+comment_only [] [] each ends = (refl, refl)
+comment_only [] (c ∷ rest) each ends = rw ends (refl, refl)
+comment_only (c ∷ octets) rest each ends =
+    let more = comment_only octets rest each.1 ends in
+    rw (ne_eqb c 10 each.0) (ap (λ t. c ∷ t) more.0, more.1)
+
+-- ---- what an octet is where no item, comment or quote is open
+
+abbrev IsSign : ℕ → Sign → Type 0
+IsSign c a_blank = is_blank c ≡ true
+IsSign c a_line_feed = c ≡ 10
+IsSign c a_quote = c ≡ 34
+IsSign c an_opening = c ≡ 40
+IsSign c a_closing = c ≡ 41
+IsSign c a_semicolon = c ≡ 59
+IsSign c of_item = ends_item c ≡ false
+
+sign_is : (c : ℕ) → IsSign c (sign_of c)
+sign_is c =
+    let P : Sign → Type 0 = IsSign c in
+    cond_both (is_blank c) a_blank _ P (λ e. e) λ e0.
+    cond_both (c == 10) a_line_feed _ P (eqb-true c 10) λ e1.
+    cond_both (c == 34) a_quote _ P (eqb-true c 34) λ e2.
+    cond_both (c == 40) an_opening _ P (eqb-true c 40) λ e3.
+    cond_both (c == 41) a_closing _ P (eqb-true c 41) λ e4.
+    cond_both (c == 59) a_semicolon of_item P (eqb-true c 59) λ e5.
+    rw (e0, e1, e2, e3, e4, e5) refl
+
+sign_of_blank : (c : ℕ) → is_blank c ≡ true → sign_of c ≡ a_blank
+sign_of_blank c e = rw e refl
+
+sign_of_item : (c : ℕ) → ends_item c ≡ false → sign_of c ≡ of_item
+sign_of_item c e =
+    let p5 = or_parts (is_blank c || c == 10 || c == 34 || c == 40 || c == 41) (c == 59) e in
+    let p4 = or_parts (is_blank c || c == 10 || c == 34 || c == 40) (c == 41) p5.0 in
+    let p3 = or_parts (is_blank c || c == 10 || c == 34) (c == 40) p4.0 in
+    let p2 = or_parts (is_blank c || c == 10) (c == 34) p3.0 in
+    let p1 = or_parts (is_blank c) (c == 10) p2.0 in
+    rw (p1.0, p1.1, p2.1, p3.1, p4.1, p5.1) refl
+
+-- ---- the front of a text
+
+-- a piece ends before what is behind it
+abbrev pub Stops : Piece → List ℕ → Type 0
+Stops (bare units) rest = NoUnit ends_item rest
+Stops (comment octets) rest = EndsComment rest
+Stops p rest = Unit {0}
+
+-- a parenthesis closes one that is open
+abbrev pub HasRoom : ℕ → Piece → Type 0
+HasRoom depth closing = 0 < depth
+HasRoom depth p = Unit {0}
+
+pub record Takes (depth : ℕ) (octets : List ℕ) (p : Piece) (rest : List ℕ) : Type 0 where
+  pub whole : octets ≡ piece_text p ++ rest
+  pub piece : IsPiece p
+  pub stop : Stops p rest
+  pub room : HasRoom depth p
+
+-- the end of a text that is cut, or what breaks it
+abbrev pub Ends : ℕ → List ℕ → Option Fault → Type 0
+Ends depth octets None = (depth ≡ 0) × (octets ≡ [])
+Ends depth octets (Some fault) = IsBroken depth octets fault
+
+abbrev pub IsFront : ℕ → List ℕ → Front → Type 0
+IsFront depth octets (takes p rest) = Takes depth octets p rest
+IsFront depth octets (stops fault) = Ends depth octets fault
+
+first_octet_is : (c d : ℕ) (rest : List ℕ) → c ≡ d → c ∷ rest ≡ d ∷ rest
+first_octet_is c d rest e = ap (λ t. t ∷ rest) e
+
+quoted_is : (depth c : ℕ) (octets : List ℕ) (units : List Written) (rest : List ℕ) → c ≡ 34 → octets ≡ written_text units ++ rest → AllByRecursion (IsUnit is_quote) units → NoUnit is_quote rest → IsFront depth (c ∷ octets) (quoted_front units rest)
+quoted_is depth c octets units [] is whole each none =
+    no_quote units (each_so units quoted_unit each) (first_octet_is c 34 octets is ∙ ap (λ t. 34 ∷ t) (whole ∙ append-nil (written_text units)))
+quoted_is depth c octets units (d ∷ rest) is whole each none =
+    cond_both (is_quote d) (takes (quoted units) rest) (stops (Some BadEscape)) (IsFront depth (c ∷ octets))
+    (λ e. let same : d ∷ rest ≡ 34 ∷ rest = first_octet_is d 34 rest (eqb-true d 34 e) in record {
+      whole = first_octet_is c 34 octets is ∙ ap (λ t. 34 ∷ t) (whole ∙ ap (λ t. written_text units ++ t) same ∙ sym (append_assoc (written_text units) (34 ∷ []) rest));
+      piece = each_so units quoted_unit each;
+      stop = tt;
+      room = tt;
+    })
+    (λ e. no_quoted_escape units (d ∷ rest) (each_so units quoted_unit each) (first_octet_is c 34 octets is ∙ ap (λ t. 34 ∷ t) whole) (escape_of e none))
+  where
+    escape_of : is_quote d ≡ false → NoUnit is_quote (d ∷ rest) → IsBadEscape (d ∷ rest)
+    escape_of e (at_end h) = absurd (cc)
+    escape_of e (at_octet x more h end) = let same : d ≡ x = cc in absurd (both_ways (is_quote d) e (ap is_quote same ∙ end))
+    escape_of e (at_backslash bad) = bad
+
+bare_is : (depth c : ℕ) (octets : List ℕ) (units : List Written) (rest : List ℕ) → ends_item c ≡ false → c ∷ octets ≡ written_text units ++ rest → AllByRecursion (IsUnit ends_item) units → NoUnit ends_item rest → IsFront depth (c ∷ octets) (bare_front units rest)
+bare_is depth c octets [] rest goes_on whole each none = no_escape (escape_of none)
+  where
+    escape_of : NoUnit ends_item rest → IsBadEscape (c ∷ octets)
+    escape_of (at_end h) = absurd (cc)
+    escape_of (at_octet x more h end) = let same : c ≡ x = cc in absurd (both_ways (ends_item c) goes_on (ap ends_item same ∙ end))
+    escape_of (at_backslash bad) = subst IsBadEscape (sym whole) bad
+bare_is depth c octets (w ∷ units) rest goes_on whole each none = record {
+  whole = whole;
+  piece = (omega arith, each_so (w ∷ units) bare_unit each);
+  stop = none;
+  room = tt;
+}
+
+front_by_sign : (depth c : ℕ) (rest : List ℕ) (sign : Sign) → IsSign c sign → IsFront depth (c ∷ rest) (front_by depth c rest sign)
+front_by_sign depth c rest a_blank is = record { whole = refl; piece = is; stop = tt; room = tt }
+front_by_sign depth c rest a_line_feed is = record { whole = first_octet_is c 10 rest is; piece = tt; stop = tt; room = tt }
+front_by_sign depth c rest an_opening is = record { whole = first_octet_is c 40 rest is; piece = tt; stop = tt; room = tt }
+front_by_sign zero c rest a_closing is = closes_nothing rest refl (first_octet_is c 41 rest is)
+front_by_sign (suc depth) c rest a_closing is = record { whole = first_octet_is c 41 rest is; piece = tt; stop = tt; room = omega arith }
+front_by_sign depth c rest a_semicolon is = record {
+  whole = first_octet_is c 59 rest is ∙ ap (λ t. 59 ∷ t) (comment_whole rest);
+  piece = comment_each rest;
+  stop = comment_ends rest;
+  room = tt;
+}
+front_by_sign depth c rest a_quote is =
+    let found : UnitsAre is_quote rest (units_first is_quote rest) = units_first_are is_quote rest in
+    quoted_is depth c rest (units_first is_quote rest).units (units_first is_quote rest).rest is found.whole found.each found.none
+front_by_sign depth c rest of_item is =
+    let found : UnitsAre ends_item (c ∷ rest) (units_first ends_item (c ∷ rest)) = units_first_are ends_item (c ∷ rest) in
+    bare_is depth c rest (units_first ends_item (c ∷ rest)).units (units_first ends_item (c ∷ rest)).rest is found.whole found.each found.none
+
+end_is : (depth : ℕ) → IsFront depth [] (end_front depth)
+end_is zero = (refl, refl)
+end_is (suc depth) = not_closed (omega arith) refl
+
+-- what is read at the front is so
+pub front_is : (depth : ℕ) (octets : List ℕ) → IsFront depth octets (front_of depth octets)
+unfolding front_of
+front_is depth [] = end_is depth
+front_is depth (c ∷ rest) = front_by_sign depth c rest (sign_of c) (sign_is c)
+
+-- ---- what is so is read
+
+at_sign : (depth c : ℕ) (rest : List ℕ) (sign : Sign) → sign_of c ≡ sign → front_of depth (c ∷ rest) ≡ front_by depth c rest sign
+unfolding front_of
+at_sign depth c rest sign e = ap (front_by depth c rest) e
+
+front_of_units : (depth c : ℕ) (octets : List ℕ) (units : List Written) (rest : List ℕ) → ends_item c ≡ false → c ∷ octets ≡ written_text units ++ rest → AllByRecursion (IsUnit ends_item) units → NoUnit ends_item rest → front_of depth (c ∷ octets) ≡ bare_front units rest
+front_of_units depth c octets units rest goes_on whole each none =
+    at_sign depth c octets of_item (sign_of_item c goes_on)
+    ∙ ap (λ (found : Units). bare_front found.units found.rest) (units_first_only ends_item (c ∷ octets) units rest refl whole each none)
+
+front_of_bare : (depth : ℕ) (w : Written) (units : List Written) (rest : List ℕ) → AllByRecursion IsBareUnit (w ∷ units) → NoUnit ends_item rest → front_of depth (written_text (w ∷ units) ++ rest) ≡ takes (bare (w ∷ units)) rest
+front_of_bare depth (plain c) units rest each none =
+    front_of_units depth c (written_text units ++ rest) (plain c ∷ units) rest each.0.0 refl (each_so (plain c ∷ units) unit_of_bare each) none
+front_of_bare depth (escaped c) units rest each none =
+    front_of_units depth 92 (c ∷ (written_text units ++ rest)) (escaped c ∷ units) rest refl refl (each_so (escaped c ∷ units) unit_of_bare each) none
+front_of_bare depth (decimal x y z) units rest each none =
+    front_of_units depth 92 (x ∷ y ∷ z ∷ (written_text units ++ rest)) (decimal x y z ∷ units) rest refl refl (each_so (decimal x y z ∷ units) unit_of_bare each) none
+
+front_of_quote : (depth : ℕ) (octets : List ℕ) (units : List Written) (rest : List ℕ) → octets ≡ written_text units ++ rest → AllByRecursion IsQuotedUnit units → NoUnit is_quote rest → front_of depth (34 ∷ octets) ≡ quoted_front units rest
+front_of_quote depth octets units rest whole each none =
+    at_sign depth 34 octets a_quote refl
+    ∙ ap (λ (found : Units). quoted_front found.units found.rest) (units_first_only is_quote octets units rest refl whole (each_so units unit_of_quoted each) none)
+
+pub front_takes : (depth : ℕ) (p : Piece) (rest : List ℕ) → IsPiece p → Stops p rest → HasRoom depth p → front_of depth (piece_text p ++ rest) ≡ takes p rest
+front_takes depth (blank c) rest is stop room = at_sign depth c rest a_blank (sign_of_blank c is)
+front_takes depth line_feed rest is stop room = at_sign depth 10 rest a_line_feed refl
+front_takes depth opening rest is stop room = at_sign depth 40 rest an_opening refl
+front_takes zero closing rest is stop room = absurd (omega arith)
+front_takes (suc depth) closing rest is stop room = at_sign (suc depth) 41 rest a_closing refl
+front_takes depth (comment octets) rest is stop room =
+    let only = comment_only octets rest is stop in
+    at_sign depth 59 (octets ++ rest) a_semicolon refl ∙ rw (only.0, only.1) refl
+front_takes depth (bare []) rest is stop room = absurd (omega (arith, is.0))
+front_takes depth (bare (w ∷ units)) rest is stop room = front_of_bare depth w units rest is.1 stop
+front_takes depth (quoted units) rest is stop room =
+    front_of_quote depth ((written_text units ++ 34 ∷ []) ++ rest) units (34 ∷ rest) (append_assoc (written_text units) (34 ∷ []) rest) is (at_octet 34 rest refl refl)
+
+bad_escape_front : (depth : ℕ) (rest : List ℕ) → IsBadEscape rest → front_of depth rest ≡ stops (Some BadEscape)
+bad_escape_front depth rest bad =
+    let P : List ℕ → Type 0 = λ t. front_of depth t ≡ stops (Some BadEscape) in
+    subst P (sym bad.1) (front_of_units depth 92 bad.0 [] (92 ∷ bad.0) refl refl tt (at_backslash (subst IsBadEscape bad.1 bad)))
+
+bad_quote_front : (depth : ℕ) (units : List Written) (after : List ℕ) → AllByRecursion IsQuotedUnit units → IsBadEscape after → front_of depth (34 ∷ (written_text units ++ after)) ≡ stops (Some BadEscape)
+bad_quote_front depth units after each bad =
+    front_of_quote depth (written_text units ++ after) units after refl each (at_backslash bad) ∙ ap (quoted_front units) bad.1
+
+broken_front : (depth : ℕ) (rest : List ℕ) (fault : Fault) → IsBroken depth rest fault → front_of depth rest ≡ stops (Some fault)
+unfolding front_of
+broken_front depth rest fault (closes_nothing after e whole) = rw (e, whole) refl
+broken_front depth rest fault (no_escape bad) = bad_escape_front depth rest bad
+broken_front depth rest fault (no_quoted_escape units after each whole bad) = rw whole (bad_quote_front depth units after each bad)
+broken_front depth rest fault (no_quote units each whole) =
+    rw whole (front_of_quote depth (written_text units) units [] (sym (append-nil (written_text units))) each (at_end refl))
+broken_front zero rest fault (not_closed some whole) = absurd (omega arith)
+broken_front (suc depth) rest fault (not_closed some whole) = rw whole refl
+
+pub front_stops : (depth : ℕ) (octets : List ℕ) (fault : Option Fault) → Ends depth octets fault → front_of depth octets ≡ stops fault
+unfolding front_of
+front_stops depth octets None ends = rw (ends.0, ends.1) refl
+front_stops depth octets (Some fault) ends = broken_front depth octets fault ends

@@ -1,0 +1,304 @@
+-- What is settled of a text by its front.
+use Rattle.std.proofs.Common.{◌≡◌, ℕ, zero, suc, ◌≤◌, true, false, List, [], ◌∷◌, ◌++◌, length, Option, Some, None, refl, sym, ap, ◌∙◌, subst, arith, append_assoc, ◌⊎◌, inl, inr}
+use Rattle.std.specs.List.{AllByRecursion}
+use Rattle.std.proofs.lemmas.Bool.{both_ways}
+use Rattle.std.proofs.lemmas.List.{append-nil}
+use Rattle.std.proofs.lemmas.List.Concat.{flat_map-append}
+use Rattle.zone_name.specs.Spelling.{Written, plain, escaped, decimal, text_of, octet_of, IsWritten, IsBadEscape, is_digit}
+use Rattle.zone_rdata.specs.declared.fault.Fault.{Fault}
+use Rattle.zone_rdata.specs.declared.fault.Fault.TheVariants.{BadEscape, UnbalancedParenthesis}
+use Rattle.zone_text.specs.Pieces.{Piece, blank, opening, closing, line_feed, comment, bare, quoted, piece_text, text, written_text, IsPiece, AllFollow, depth_after, Cuts}
+use Rattle.zone_text.specs.Breaks.{IsBroken, closes_nothing, no_escape, no_quoted_escape, no_quote, not_closed, MayEndBefore, Breaks}
+use Rattle.zone_text.specs.Lasting.{EndInLineFeed, IsLostEscape, at_line_end, one_digit, two_digits, too_great, StaysBroken, closing_stays, escape_stays, quoted_escape_stays, BreaksForGood}
+use Rattle.zone_text.specs.Cutting.{stops}
+use Rattle.zone_text.proofs.Fronts.{front_stops}
+use Rattle.zone_text.proofs.Cuttings.{IsCut, is_cut, cuts, is_broken, breaks, last_behind, follow_behind}
+
+-- ---- pieces behind pieces
+
+each_append : (pieces more : List Piece) → AllByRecursion IsPiece pieces → AllByRecursion IsPiece more → AllByRecursion IsPiece (pieces ++ more)
+each_append [] more each others = others
+each_append (p ∷ pieces) more each others = (each.0, each_append pieces more each.1 others)
+
+each_front : (pieces more : List Piece) → AllByRecursion IsPiece (pieces ++ more) → AllByRecursion IsPiece pieces
+each_front [] more each = tt
+each_front (p ∷ pieces) more each = (each.0, each_front pieces more each.1)
+
+each_back : (pieces more : List Piece) → AllByRecursion IsPiece (pieces ++ more) → AllByRecursion IsPiece more
+each_back [] more each = each
+each_back (p ∷ pieces) more each = each_back pieces more each.1
+
+line_feed_then : (more : List Piece) → AllFollow more → AllFollow (line_feed ∷ more)
+line_feed_then [] follow = tt
+line_feed_then (p ∷ more) follow = (tt, follow)
+
+ends_behind : (p q : Piece) (pieces : List Piece) → EndInLineFeed (p ∷ q ∷ pieces) → EndInLineFeed (q ∷ pieces)
+ends_behind (blank c) q pieces ends = ends
+ends_behind line_feed q pieces ends = ends
+ends_behind opening q pieces ends = ends
+ends_behind closing q pieces ends = ends
+ends_behind (comment octets) q pieces ends = ends
+ends_behind (bare units) q pieces ends = ends
+ends_behind (quoted units) q pieces ends = ends
+
+follow_append : (pieces more : List Piece) → AllFollow pieces → EndInLineFeed pieces → AllFollow more → AllFollow (pieces ++ more)
+follow_append [] more follow ends others = others
+follow_append (line_feed ∷ []) more follow ends others = line_feed_then more others
+follow_append (blank c ∷ []) more follow ends others = absurd ends
+follow_append (opening ∷ []) more follow ends others = absurd ends
+follow_append (closing ∷ []) more follow ends others = absurd ends
+follow_append (comment octets ∷ []) more follow ends others = absurd ends
+follow_append (bare units ∷ []) more follow ends others = absurd ends
+follow_append (quoted units ∷ []) more follow ends others = absurd ends
+follow_append (p ∷ q ∷ pieces) more follow ends others = (follow.0, follow_append (q ∷ pieces) more follow.1 (ends_behind p q pieces ends) others)
+
+follow_front : (pieces more : List Piece) → AllFollow (pieces ++ more) → AllFollow pieces
+follow_front [] more follow = tt
+follow_front (p ∷ []) more follow = tt
+follow_front (p ∷ q ∷ pieces) more follow = (follow.0, follow_front (q ∷ pieces) more follow.1)
+
+follow_back : (pieces more : List Piece) → AllFollow (pieces ++ more) → AllFollow more
+follow_back [] more follow = follow
+follow_back (p ∷ pieces) more follow = follow_back pieces more (follow_behind p (pieces ++ more) follow)
+
+last_back : (pieces more : List Piece) (rest : List ℕ) → MayEndBefore (pieces ++ more) rest → MayEndBefore more rest
+last_back [] more rest last = last
+last_back (p ∷ pieces) more rest last = last_back pieces more rest (last_behind p (pieces ++ more) rest last)
+
+last_in_front : (p q : Piece) (pieces : List Piece) (rest : List ℕ) → MayEndBefore (q ∷ pieces) rest → MayEndBefore (p ∷ q ∷ pieces) rest
+last_in_front (blank c) q pieces rest last = last
+last_in_front line_feed q pieces rest last = last
+last_in_front opening q pieces rest last = last
+last_in_front closing q pieces rest last = last
+last_in_front (comment octets) q pieces rest last = last
+last_in_front (bare units) q pieces rest last = last
+last_in_front (quoted units) q pieces rest last = last
+
+last_line_feed : (more : List Piece) (rest : List ℕ) → MayEndBefore more rest → MayEndBefore (line_feed ∷ more) rest
+last_line_feed [] rest last = tt
+last_line_feed (q ∷ more) rest last = last
+
+last_append : (pieces more : List Piece) (rest : List ℕ) → EndInLineFeed pieces → MayEndBefore more rest → MayEndBefore (pieces ++ more) rest
+last_append [] more rest ends last = last
+last_append (line_feed ∷ []) more rest ends last = last_line_feed more rest last
+last_append (blank c ∷ []) more rest ends last = absurd ends
+last_append (opening ∷ []) more rest ends last = absurd ends
+last_append (closing ∷ []) more rest ends last = absurd ends
+last_append (comment octets ∷ []) more rest ends last = absurd ends
+last_append (bare units ∷ []) more rest ends last = absurd ends
+last_append (quoted units ∷ []) more rest ends last = absurd ends
+last_append (p ∷ q ∷ pieces) more rest ends last = last_in_front p q (pieces ++ more) rest (last_append (q ∷ pieces) more rest (ends_behind p q pieces ends) last)
+
+no_depth : (n : ℕ) → None ≡ Some n → ⊥
+no_depth n e = cc
+
+pub depth_append : (depth at : ℕ) (pieces more : List Piece) → depth_after depth pieces ≡ Some at → depth_after depth (pieces ++ more) ≡ depth_after at more
+depth_append depth at [] more e = let same : depth ≡ at = cc in ap (λ d. depth_after d more) same
+depth_append depth at (blank c ∷ pieces) more e = depth_append depth at pieces more e
+depth_append depth at (line_feed ∷ pieces) more e = depth_append depth at pieces more e
+depth_append depth at (opening ∷ pieces) more e = depth_append (suc depth) at pieces more e
+depth_append zero at (closing ∷ pieces) more e = absurd (no_depth at e)
+depth_append (suc depth) at (closing ∷ pieces) more e = depth_append depth at pieces more e
+depth_append depth at (comment octets ∷ pieces) more e = depth_append depth at pieces more e
+depth_append depth at (bare units ∷ pieces) more e = depth_append depth at pieces more e
+depth_append depth at (quoted units ∷ pieces) more e = depth_append depth at pieces more e
+
+-- ---- what stands behind a line feed outside parentheses is cut by itself
+
+pub both_cut : (front rest : List ℕ) (pieces more : List Piece) (fault : Option Fault) → Cuts front pieces → EndInLineFeed pieces → IsCut zero rest more fault → IsCut zero (front ++ rest) (pieces ++ more) fault
+both_cut front rest pieces more fault cut ends others = record {
+  rest = others.rest;
+  at = others.at;
+  whole = ap (λ t. t ++ rest) cut.whole ∙ ap (λ t. text pieces ++ t) others.whole ∙ sym (append_assoc (text pieces) (text more) others.rest) ∙ ap (λ t. t ++ others.rest) (sym (flat_map-append piece_text pieces more));
+  each = each_append pieces more cut.each others.each;
+  follow = follow_append pieces more cut.follow ends others.follow;
+  last = last_append pieces more others.rest ends others.last;
+  parentheses = depth_append zero zero pieces more cut.balanced ∙ others.parentheses;
+  ends = others.ends;
+}
+
+pub cut_joined : (front rest : List ℕ) (pieces more : List Piece) → Cuts front pieces → EndInLineFeed pieces → Cuts rest more → Cuts (front ++ rest) (pieces ++ more)
+cut_joined front rest pieces more cut ends others = cuts (front ++ rest) (pieces ++ more) (both_cut front rest pieces more None cut ends (is_cut rest more others))
+
+pub break_joined : (front rest : List ℕ) (pieces more : List Piece) (fault : Fault) → Cuts front pieces → EndInLineFeed pieces → Breaks rest more fault → Breaks (front ++ rest) (pieces ++ more) fault
+break_joined front rest pieces more fault cut ends others = breaks (front ++ rest) (pieces ++ more) fault (both_cut front rest pieces more (Some fault) cut ends (is_broken rest more fault others))
+
+-- the text behind pieces
+pub record IsParted (octets : List ℕ) (pieces more : List Piece) (fault : Option Fault) : Type 0 where
+  pub rest : List ℕ
+  pub whole : octets ≡ text pieces ++ rest
+  pub front : Cuts (text pieces) pieces
+  pub back : IsCut zero rest more fault
+
+pub parted : (octets : List ℕ) (pieces more : List Piece) (fault : Option Fault) → depth_after zero pieces ≡ Some zero → IsCut zero octets (pieces ++ more) fault → IsParted octets pieces more fault
+parted octets pieces more fault balanced is = record {
+  rest = text more ++ is.rest;
+  whole = is.whole ∙ ap (λ t. t ++ is.rest) (flat_map-append piece_text pieces more) ∙ append_assoc (text pieces) (text more) is.rest;
+  front = record {
+    whole = refl;
+    each = each_front pieces more is.each;
+    follow = follow_front pieces more is.follow;
+    balanced = balanced;
+  };
+  back = record {
+    rest = is.rest;
+    at = is.at;
+    whole = refl;
+    each = each_back pieces more is.each;
+    follow = follow_back pieces more is.follow;
+    last = last_back pieces more is.rest is.last;
+    parentheses = sym (depth_append zero zero pieces more balanced) ∙ is.parentheses;
+    ends = is.ends;
+  };
+}
+
+pub cut_parted : (octets : List ℕ) (pieces more : List Piece) → depth_after zero pieces ≡ Some zero → Cuts octets (pieces ++ more) → (rest : List ℕ) × (octets ≡ text pieces ++ rest) × Cuts (text pieces) pieces × Cuts rest more
+cut_parted octets pieces more balanced cut =
+    let is : IsParted octets pieces more None = parted octets pieces more None balanced (is_cut octets (pieces ++ more) cut) in
+    (is.rest, is.whole, is.front, cuts is.rest more is.back)
+
+pub break_parted : (octets : List ℕ) (pieces more : List Piece) (fault : Fault) → depth_after zero pieces ≡ Some zero → Breaks octets (pieces ++ more) fault → (rest : List ℕ) × (octets ≡ text pieces ++ rest) × Cuts (text pieces) pieces × Breaks rest more fault
+break_parted octets pieces more fault balanced broken =
+    let is : IsParted octets pieces more (Some fault) = parted octets pieces more (Some fault) balanced (is_broken octets (pieces ++ more) fault broken) in
+    (is.rest, is.whole, is.front, breaks is.rest more fault is.back)
+
+-- ---- a break that stays
+
+digit_and_none : (x : ℕ) → is_digit x ≡ true → is_digit x ≡ false → ⊥
+digit_and_none x one none = both_ways (is_digit x) none one
+
+line_end_is_no_digit : (c : ℕ) → (c ≡ 10) ⊎ (c ≡ 13) → is_digit c ≡ false
+line_end_is_no_digit c (inl e) = rw e refl
+line_end_is_no_digit c (inr e) = rw e refl
+
+-- no written octet begins such a text, nor one that it begins
+begins_none : (rest more after : List ℕ) (w : Written) → IsLostEscape rest → IsWritten w → rest ++ more ≡ text_of w ++ after → ⊥
+begins_none rest more after (plain d) (at_line_end c others e is) written h = let r : rest ++ more ≡ 92 ∷ c ∷ (others ++ more) = ap (λ t. t ++ more) e in written.1 (cc)
+begins_none rest more after (escaped d) (at_line_end c others e is) written h =
+    let r : rest ++ more ≡ 92 ∷ c ∷ (others ++ more) = ap (λ t. t ++ more) e in
+    let same : c ≡ d = cc in
+    elim is as (λ s. ⊥) [ inl feed ↦ written.1 (sym same ∙ feed) | inr return ↦ written.2 (sym same ∙ return) ]
+begins_none rest more after (decimal x y z) (at_line_end c others e is) written h =
+    let r : rest ++ more ≡ 92 ∷ c ∷ (others ++ more) = ap (λ t. t ++ more) e in
+    let same : c ≡ x = cc in
+    digit_and_none c (ap is_digit same ∙ written.0) (line_end_is_no_digit c is)
+begins_none rest more after (plain d) (one_digit x c others e is is_not) written h = let r : rest ++ more ≡ 92 ∷ x ∷ c ∷ (others ++ more) = ap (λ t. t ++ more) e in written.1 (cc)
+begins_none rest more after (escaped d) (one_digit x c others e is is_not) written h =
+    let r : rest ++ more ≡ 92 ∷ x ∷ c ∷ (others ++ more) = ap (λ t. t ++ more) e in
+    let same : x ≡ d = cc in
+    digit_and_none x is (ap is_digit same ∙ written.0)
+begins_none rest more after (decimal u v w) (one_digit x c others e is is_not) written h =
+    let r : rest ++ more ≡ 92 ∷ x ∷ c ∷ (others ++ more) = ap (λ t. t ++ more) e in
+    let same : c ≡ v = cc in
+    digit_and_none c (ap is_digit same ∙ written.1) is_not
+begins_none rest more after (plain d) (two_digits x y c others e is is_one is_not) written h = let r : rest ++ more ≡ 92 ∷ x ∷ y ∷ c ∷ (others ++ more) = ap (λ t. t ++ more) e in written.1 (cc)
+begins_none rest more after (escaped d) (two_digits x y c others e is is_one is_not) written h =
+    let r : rest ++ more ≡ 92 ∷ x ∷ y ∷ c ∷ (others ++ more) = ap (λ t. t ++ more) e in
+    let same : x ≡ d = cc in
+    digit_and_none x is (ap is_digit same ∙ written.0)
+begins_none rest more after (decimal u v w) (two_digits x y c others e is is_one is_not) written h =
+    let r : rest ++ more ≡ 92 ∷ x ∷ y ∷ c ∷ (others ++ more) = ap (λ t. t ++ more) e in
+    let same : c ≡ w = cc in
+    digit_and_none c (ap is_digit same ∙ written.2) is_not
+begins_none rest more after (plain d) (too_great x y z others e is is_one is_too great) written h = let r : rest ++ more ≡ 92 ∷ x ∷ y ∷ z ∷ (others ++ more) = ap (λ t. t ++ more) e in written.1 (cc)
+begins_none rest more after (escaped d) (too_great x y z others e is is_one is_too great) written h =
+    let r : rest ++ more ≡ 92 ∷ x ∷ y ∷ z ∷ (others ++ more) = ap (λ t. t ++ more) e in
+    let same : x ≡ d = cc in
+    digit_and_none x is (ap is_digit same ∙ written.0)
+begins_none rest more after (decimal u v w) (too_great x y z others e is is_one is_too great) written h =
+    let r : rest ++ more ≡ 92 ∷ x ∷ y ∷ z ∷ (others ++ more) = ap (λ t. t ++ more) e in
+    let one : u ≡ x = cc in
+    let two : v ≡ y = cc in
+    let three : w ≡ z = cc in
+    let few : octet_of (decimal u v w) ≤ 255 = written.3 in
+    omega arith
+
+begins_backslash : (rest : List ℕ) → IsLostEscape rest → (after : List ℕ) × (rest ≡ 92 ∷ after)
+begins_backslash rest (at_line_end c others e is) = (c ∷ others, e)
+begins_backslash rest (one_digit x c others e is is_not) = (x ∷ c ∷ others, e)
+begins_backslash rest (two_digits x y c others e is is_one is_not) = (x ∷ y ∷ c ∷ others, e)
+begins_backslash rest (too_great x y z others e is is_one is_too great) = (x ∷ y ∷ z ∷ others, e)
+
+pub lost_escape : (rest more : List ℕ) → IsLostEscape rest → IsBadEscape (rest ++ more)
+lost_escape rest more lost =
+    let begins = begins_backslash rest lost in
+    (begins.0 ++ more, ap (λ t. t ++ more) begins.1, λ w after written e. begins_none rest more after w lost written e)
+
+one_fault : (depth : ℕ) (rest : List ℕ) (fault other : Fault) → IsBroken depth rest fault → IsBroken depth rest other → fault ≡ other
+one_fault depth rest fault other broken as_well = by fault other (sym (front_stops depth rest (Some fault) broken) ∙ front_stops depth rest (Some other) as_well)
+  where
+    by : (f g : Fault) → stops (Some f) ≡ stops (Some g) → f ≡ g
+    by f g e = cc
+
+first_octets : (c d : ℕ) (rest after : List ℕ) → c ∷ rest ≡ d ∷ after → c ≡ d
+first_octets c d rest after e = cc
+
+-- a `)` breaks at depth zero alone
+at_depth_zero : (depth : ℕ) (rest after : List ℕ) (fault : Fault) → rest ≡ 41 ∷ after → IsBroken depth rest fault → depth ≡ 0
+at_depth_zero depth rest after fault e (closes_nothing others zero_is whole) = zero_is
+at_depth_zero depth rest after fault e (no_escape bad) = absurd (omega (arith, first_octets 41 92 after bad.0 (sym e ∙ bad.1)))
+at_depth_zero depth rest after fault e (no_quoted_escape units others each whole bad) = absurd (omega (arith, first_octets 41 34 after (written_text units ++ others) (sym e ∙ whole)))
+at_depth_zero depth rest after fault e (no_quote units each whole) = absurd (omega (arith, first_octets 41 34 after (written_text units) (sym e ∙ whole)))
+at_depth_zero depth rest after fault e (not_closed some whole) = absurd (omega (arith, ap length (sym e ∙ whole)))
+
+broken_more : (depth : ℕ) (rest more : List ℕ) (fault : Fault) → StaysBroken rest → IsBroken depth rest fault → IsBroken depth (rest ++ more) fault
+broken_more depth rest more fault (closing_stays after e) broken =
+    let zero_is : depth ≡ 0 = at_depth_zero depth rest after fault e broken in
+    let now : IsBroken depth rest UnbalancedParenthesis = closes_nothing after zero_is e in
+    let later : IsBroken depth (rest ++ more) UnbalancedParenthesis = closes_nothing (after ++ more) zero_is (ap (λ t. t ++ more) e) in
+    subst (IsBroken depth (rest ++ more)) (one_fault depth rest UnbalancedParenthesis fault now broken) later
+broken_more depth rest more fault (escape_stays lost) broken =
+    let now : IsBroken depth rest BadEscape = no_escape (subst IsBadEscape (append-nil rest) (lost_escape rest [] lost)) in
+    let later : IsBroken depth (rest ++ more) BadEscape = no_escape (lost_escape rest more lost) in
+    subst (IsBroken depth (rest ++ more)) (one_fault depth rest BadEscape fault now broken) later
+broken_more depth rest more fault (quoted_escape_stays units after each whole lost) broken =
+    let now : IsBroken depth rest BadEscape = no_quoted_escape units after each whole (subst IsBadEscape (append-nil after) (lost_escape after [] lost)) in
+    let longer : rest ++ more ≡ 34 ∷ (written_text units ++ (after ++ more)) = ap (λ t. t ++ more) whole ∙ ap (λ t. 34 ∷ t) (append_assoc (written_text units) after more) in
+    let later : IsBroken depth (rest ++ more) BadEscape = no_quoted_escape units (after ++ more) each longer (lost_escape after more lost) in
+    subst (IsBroken depth (rest ++ more)) (one_fault depth rest BadEscape fault now broken) later
+
+lost_more : (rest more : List ℕ) → IsLostEscape rest → IsLostEscape (rest ++ more)
+lost_more rest more (at_line_end c others e is) = at_line_end c (others ++ more) (ap (λ t. t ++ more) e) is
+lost_more rest more (one_digit x c others e is is_not) = one_digit x c (others ++ more) (ap (λ t. t ++ more) e) is is_not
+lost_more rest more (two_digits x y c others e is is_one is_not) = two_digits x y c (others ++ more) (ap (λ t. t ++ more) e) is is_one is_not
+lost_more rest more (too_great x y z others e is is_one is_too great) = too_great x y z (others ++ more) (ap (λ t. t ++ more) e) is is_one is_too great
+
+stays_more : (rest more : List ℕ) → StaysBroken rest → StaysBroken (rest ++ more)
+stays_more rest more (closing_stays after e) = closing_stays (after ++ more) (ap (λ t. t ++ more) e)
+stays_more rest more (escape_stays lost) = escape_stays (lost_more rest more lost)
+stays_more rest more (quoted_escape_stays units after each whole lost) =
+    quoted_escape_stays units (after ++ more) each (ap (λ t. t ++ more) whole ∙ ap (λ t. 34 ∷ t) (append_assoc (written_text units) after more)) (lost_more after more lost)
+
+stays_some : (rest : List ℕ) → StaysBroken rest → rest ≡ [] → ⊥
+stays_some rest (closing_stays after e) none = cc
+stays_some rest (escape_stays lost) none = let begins : rest ≡ 92 ∷ (begins_backslash rest lost).0 = (begins_backslash rest lost).1 in cc
+stays_some rest (quoted_escape_stays units after each whole lost) none = cc
+
+-- no comment is the last piece before what breaks a text as it stands
+last_before : (pieces : List Piece) (rest after : List ℕ) → (rest ≡ [] → ⊥) → MayEndBefore pieces rest → MayEndBefore pieces after
+last_before [] rest after some last = tt
+last_before (blank c ∷ []) rest after some last = tt
+last_before (line_feed ∷ []) rest after some last = tt
+last_before (opening ∷ []) rest after some last = tt
+last_before (closing ∷ []) rest after some last = tt
+last_before (comment octets ∷ []) rest after some last = absurd (some last)
+last_before (bare units ∷ []) rest after some last = tt
+last_before (quoted units ∷ []) rest after some last = tt
+last_before (p ∷ q ∷ pieces) rest after some last = last_in_front p q pieces after (last_before (q ∷ pieces) rest after some (last_behind p (q ∷ pieces) rest last))
+
+pub breaks_for_good : (octets more : List ℕ) (pieces : List Piece) (fault : Fault) → BreaksForGood octets pieces fault → BreaksForGood (octets ++ more) pieces fault
+breaks_for_good octets more pieces fault good =
+    let old : Breaks octets pieces fault = good.breaks in
+    record {
+      breaks = record {
+        rest = old.rest ++ more;
+        depth = old.depth;
+        whole = ap (λ t. t ++ more) old.whole ∙ append_assoc (text pieces) old.rest more;
+        each = old.each;
+        follow = old.follow;
+        last = last_before pieces old.rest (old.rest ++ more) (stays_some old.rest good.stays) old.last;
+        parentheses = old.parentheses;
+        broken = broken_more old.depth old.rest more fault good.stays old.broken;
+      };
+      stays = stays_more old.rest more good.stays;
+    }

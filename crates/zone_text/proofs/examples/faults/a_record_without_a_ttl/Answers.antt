@@ -1,0 +1,18 @@
+use Rattle.std.proofs.Common.{◌∷◌, [], codes, refl, inl, inr}
+use Rattle.zone_text.specs.Cutting.{units_by, units_first, before_line_feed, from_line_feed, front_of, cut_by, cutting}
+use Rattle.zone_text.specs.ExampleEntries.{x}
+use Rattle.zone_text.specs.EntryFault.{of_ttl, none}
+use Rattle.zone_text.specs.FileReads.{refused, whole}
+use Rattle.zone_text.proofs.Cuttings.{cut_is_read}
+use Rattle.zone_text.proofs.ExampleFacts.{x_name, at_spells, is_ns, ns_kind, ns_states, ns_has_no_minimum}
+use Rattle.zone_rdata.specs.Spelling.{bare}
+use Rattle.zone_text.proofs.examples.faults.a_record_without_a_ttl.Goals as goal
+
+pub returns : goal.returns
+unfolding units_by units_first before_line_feed from_line_feed front_of cut_by cutting
+returns c =
+    whole _ (cut_is_read _ _ refl)
+    (refused _ (of_ttl (record { owner = x; class = 1; kind = 2; items = bare (codes "n.x.") ∷ [] }) _
+    (record { parts = record { words = []; rest = bare (codes "NS") ∷ bare (codes "n.x.") ∷ [] }; word = codes "NS"; split = refl; owner = (x, (refl, at_spells x x_name)); words = tt; class = refl; rest = refl; named = is_ns; kind = ns_kind })
+    (record { above = x; under = refl; states = ns_states x 1 })
+    (none (λ seconds has. elim has [ inl states ↦ ns_has_no_minimum c.kind_word_is_unique.ensures [] _ [] seconds refl states | inr others ↦ others.1 ]))) refl refl)

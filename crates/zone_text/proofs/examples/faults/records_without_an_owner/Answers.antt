@@ -1,0 +1,15 @@
+use Rattle.std.proofs.Common.{refl}
+use Rattle.zone_text.specs.Cutting.{units_by, units_first, before_line_feed, from_line_feed, front_of, cut_by, cutting}
+use Rattle.zone_text.specs.EntryFault.{of_owner}
+use Rattle.zone_text.specs.FileReads.{refused, whole}
+use Rattle.zone_text.proofs.Cuttings.{cut_is_read}
+use Rattle.zone_text.proofs.examples.faults.records_without_an_owner.Goals as goal
+
+pub returns : goal.returns
+unfolding units_by units_first before_line_feed from_line_feed front_of cut_by cutting
+returns c =
+    record {
+      omitted = whole _ (cut_is_read _ _ refl) (refused _ (of_owner (refl, λ found last. last)) refl refl);
+      quoted = whole _ (cut_is_read _ _ refl) (refused _ (of_owner refl) refl refl);
+      behind_a_blank = whole _ (cut_is_read _ _ refl) (refused _ (of_owner (refl, λ found last. last)) refl refl);
+    }

@@ -1,0 +1,9 @@
+use Rattle.zone_text.proofs.Entered.{record_or_fault, nothing_or_record, nothing_or_fault}
+use Rattle.zone_text.proofs.laws.entry.an_entry_has_one_outcome.Goals as goal
+
+pub returns : goal.returns
+returns c = record {
+  record_or_fault = record_or_fault c.lower_laws.ensures;
+  nothing_or_fault = nothing_or_fault c.lower_laws.ensures;
+  nothing_or_record = nothing_or_record;
+}

@@ -1,0 +1,5 @@
+use Rattle.zone_text.proofs.Escapes.{break_stays_or_ends}
+use Rattle.zone_text.proofs.laws.pieces.a_break_stays_or_stands_at_the_end.Goals as goal
+
+pub returns : goal.returns
+returns c = break_stays_or_ends

@@ -1,0 +1,37 @@
+-- How a text that isn't cut into pieces breaks (RFC 1035 5.1).
+use Rattle.std.specs.Prelude.{◌≡◌, ℕ, zero, ◌<◌, List, [], ◌∷◌, ◌++◌, Some, ⊤}
+use Rattle.std.specs.List.{AllByRecursion}
+use Rattle.zone_name.specs.Spelling.{Written, IsBadEscape}
+use Rattle.zone_rdata.specs.declared.fault.Fault.{Fault}
+use Rattle.zone_rdata.specs.declared.fault.Fault.TheVariants.{BadEscape, UnclosedQuote, UnbalancedParenthesis}
+use Rattle.zone_text.specs.Pieces.{Piece, comment, text, written_text, IsPiece, IsQuotedUnit, AllFollow, depth_after}
+
+-- What stands where a text breaks, at a depth of parentheses, up to the end of the text: a `)` that closes nothing; a
+-- backslash that begins no escape, outside quotes or behind an opening quote and quoted units; an opening quote and
+-- quoted units alone; nothing, where a parenthesis is open. A broken bare item begins at its backslash, a broken
+-- quoted item at its opening quote.
+pub data IsBroken (depth : ℕ) (rest : List ℕ) : Fault → Type 0 where
+  closes_nothing : (after : List ℕ) → depth ≡ 0 → rest ≡ 41 ∷ after → IsBroken depth rest UnbalancedParenthesis
+  no_escape : IsBadEscape rest → IsBroken depth rest BadEscape
+  no_quoted_escape : (units : List Written) (after : List ℕ) → AllByRecursion IsQuotedUnit units → rest ≡ 34 ∷ written_text units ++ after → IsBadEscape after → IsBroken depth rest BadEscape
+  no_quote : (units : List Written) → AllByRecursion IsQuotedUnit units → rest ≡ 34 ∷ written_text units → IsBroken depth rest UnclosedQuote
+  not_closed : 0 < depth → rest ≡ [] → IsBroken depth rest UnbalancedParenthesis
+
+-- a comment ends at a line feed or where the text does
+abbrev pub MayEndBefore : List Piece → List ℕ → Type 0
+MayEndBefore [] rest = ⊤
+MayEndBefore (comment octets ∷ []) rest = rest ≡ []
+MayEndBefore (p ∷ []) rest = ⊤
+MayEndBefore (p ∷ q ∷ pieces) rest = MayEndBefore (q ∷ pieces) rest
+
+-- The text breaks behind these pieces: they are the pieces of its front, and behind them, at their depth, stands what
+-- breaks it.
+pub record Breaks (octets : List ℕ) (pieces : List Piece) (fault : Fault) : Type 0 where
+  pub rest : List ℕ
+  pub depth : ℕ
+  pub whole : octets ≡ text pieces ++ rest
+  pub each : AllByRecursion IsPiece pieces
+  pub follow : AllFollow pieces
+  pub last : MayEndBefore pieces rest
+  pub parentheses : depth_after zero pieces ≡ Some depth
+  pub broken : IsBroken depth rest fault

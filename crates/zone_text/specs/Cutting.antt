@@ -1,0 +1,141 @@
+-- How a master file is cut from the left: what stands at its front, and what the rest makes of it (RFC 1035 5.1).
+use Rattle.std.specs.Prelude.{ℕ, zero, suc, ◌-◌, List, [], ◌∷◌, length, Bool, ◌==◌, ◌&&◌, ◌||◌, nat_le, if◌then◌else◌, Option, Some, None}
+use Rattle.zone_name.specs.Spelling.{Written, plain, escaped, decimal, octet_of, is_digit}
+use Rattle.zone_rdata.specs.declared.fault.Fault.{Fault}
+use Rattle.zone_rdata.specs.declared.fault.Fault.TheVariants.{BadEscape, UnclosedQuote, UnbalancedParenthesis}
+use Rattle.zone_text.specs.Pieces.{Piece, blank, opening, closing, line_feed, comment, bare, quoted, is_blank, ends_item}
+
+-- ---- the written octet at the front of a text, and what is behind it; none where an octet that ends the item or a
+-- backslash that begins no escape stands there
+
+abbrev pub decimal_first : ℕ → ℕ → ℕ → List ℕ → Option (Written × List ℕ)
+decimal_first x y z rest = if is_digit x && is_digit y && is_digit z && nat_le (octet_of (decimal x y z)) 255 then Some (decimal x y z, rest) else None
+
+-- behind a backslash and a digit
+abbrev pub digits_first : ℕ → List ℕ → Option (Written × List ℕ)
+digits_first x [] = None
+digits_first x (y ∷ []) = None
+digits_first x (y ∷ z ∷ rest) = decimal_first x y z rest
+
+-- behind a backslash
+abbrev pub escape_first : List ℕ → Option (Written × List ℕ)
+escape_first [] = None
+escape_first (x ∷ rest) = if is_digit x then digits_first x rest else (if x == 10 || x == 13 then None else Some (escaped x, rest))
+
+abbrev pub unit_first : (ℕ → Bool) → List ℕ → Option (Written × List ℕ)
+unit_first ends [] = None
+unit_first ends (c ∷ rest) = if ends c then None else (if c == 92 then escape_first rest else Some (plain c, rest))
+
+-- ---- written octets at the front of a text as long as they come, and what is behind them
+
+pub record Units : Type 0 where
+  pub units : List Written
+  pub rest : List ℕ
+
+abbrev pub units_then : (List ℕ → Units) → List ℕ → Option (Written × List ℕ) → Units
+units_then go_on octets None = record { units = []; rest = octets }
+units_then go_on octets (Some (w, rest)) = let more : Units = go_on rest in record { units = w ∷ more.units; rest = more.rest }
+
+-- n of them at the most
+unfoldable pub units_by : ℕ → (ℕ → Bool) → List ℕ → Units
+units_by zero ends octets = record { units = []; rest = octets }
+units_by (suc n) ends octets = units_then (units_by n ends) octets (unit_first ends octets)
+
+unfoldable pub units_first : (ℕ → Bool) → List ℕ → Units
+units_first ends octets = units_by (length octets) ends octets
+
+-- ---- a comment's octets, and what is behind them
+
+unfoldable pub before_line_feed : List ℕ → List ℕ
+before_line_feed [] = []
+before_line_feed (c ∷ rest) = if c == 10 then [] else c ∷ before_line_feed rest
+
+unfoldable pub from_line_feed : List ℕ → List ℕ
+from_line_feed [] = []
+from_line_feed (c ∷ rest) = if c == 10 then c ∷ rest else from_line_feed rest
+
+-- ---- the piece at the front of a text
+
+-- what an octet is where no item, comment or quote is open
+pub data Sign : Type 0 where
+  a_blank : Sign
+  a_line_feed : Sign
+  an_opening : Sign
+  a_closing : Sign
+  a_semicolon : Sign
+  a_quote : Sign
+  of_item : Sign
+
+abbrev pub sign_of : ℕ → Sign
+sign_of c =
+    if is_blank c then a_blank
+    else if c == 10 then a_line_feed
+    else if c == 34 then a_quote
+    else if c == 40 then an_opening
+    else if c == 41 then a_closing
+    else if c == 59 then a_semicolon
+    else of_item
+
+-- a piece and what is behind it, or the end: of a text that is cut, or with a fault
+pub data Front : Type 0 where
+  takes : Piece → List ℕ → Front
+  stops : Option Fault → Front
+
+abbrev pub is_quote : ℕ → Bool
+is_quote c = c == 34
+
+-- behind the units of a quoted item
+abbrev pub quoted_front : List Written → List ℕ → Front
+quoted_front units [] = stops (Some UnclosedQuote)
+quoted_front units (c ∷ rest) = if is_quote c then takes (quoted units) rest else stops (Some BadEscape)
+
+-- behind the units of a bare item
+abbrev pub bare_front : List Written → List ℕ → Front
+bare_front [] rest = stops (Some BadEscape)
+bare_front (w ∷ units) rest = takes (bare (w ∷ units)) rest
+
+-- at a depth of parentheses, by the first octet and what is behind it
+abbrev pub front_by : ℕ → ℕ → List ℕ → Sign → Front
+front_by depth c rest a_blank = takes (blank c) rest
+front_by depth c rest a_line_feed = takes line_feed rest
+front_by depth c rest an_opening = takes opening rest
+front_by zero c rest a_closing = stops (Some UnbalancedParenthesis)
+front_by (suc depth) c rest a_closing = takes closing rest
+front_by depth c rest a_semicolon = takes (comment (before_line_feed rest)) (from_line_feed rest)
+front_by depth c rest a_quote = let found : Units = units_first is_quote rest in quoted_front found.units found.rest
+front_by depth c rest of_item = let found : Units = units_first ends_item (c ∷ rest) in bare_front found.units found.rest
+
+-- where the text ends
+abbrev pub end_front : ℕ → Front
+end_front zero = stops None
+end_front (suc depth) = stops (Some UnbalancedParenthesis)
+
+unfoldable pub front_of : ℕ → List ℕ → Front
+front_of depth [] = end_front depth
+front_of depth (c ∷ rest) = front_by depth c rest (sign_of c)
+
+-- ---- the whole text
+
+-- the depth behind a piece
+abbrev pub depth_behind : ℕ → Piece → ℕ
+depth_behind depth opening = suc depth
+depth_behind depth closing = depth - 1
+depth_behind depth p = depth
+
+-- the pieces of a text, or of its front where it breaks, and the fault with which it breaks
+pub record Cutting : Type 0 where
+  pub pieces : List Piece
+  pub broken : Option Fault
+
+abbrev pub cut_on : (ℕ → List ℕ → Cutting) → ℕ → Front → Cutting
+cut_on go_on depth (stops fault) = record { pieces = []; broken = fault }
+cut_on go_on depth (takes p rest) = let more : Cutting = go_on (depth_behind depth p) rest in record { pieces = p ∷ more.pieces; broken = more.broken }
+
+-- n pieces at the most
+unfoldable pub cut_by : ℕ → ℕ → List ℕ → Cutting
+cut_by zero depth octets = record { pieces = []; broken = None }
+cut_by (suc n) depth octets = cut_on (cut_by n) depth (front_of depth octets)
+
+-- each piece takes an octet or more, so one more than the octets is enough for all pieces and the end
+unfoldable pub cutting : List ℕ → Cutting
+cutting octets = cut_by (suc (length octets)) zero octets

@@ -1,0 +1,29 @@
+-- Files on which the records and faults of entries are computed.
+use Rattle.std.specs.Prelude.{ℕ, List, [], ◌∷◌, codes, Some}
+use Rattle.zone_name.specs.Name.{wire}
+use Rattle.zone_rdata.specs.Record.{Record}
+use Rattle.zone_rdata.specs.declared.fault.Fault.{Fault}
+use Rattle.zone_rdata.specs.declared.fault.Place.TheVariants.{Line}
+use Rattle.zone_rdata.specs.declared.record.Placed.{Placed}
+use Rattle.zone_text.specs.FileReads.{Ending, FileReads}
+
+-- the origin `x.`, and the name of one letter under a name
+abbrev pub x : List (List ℕ)
+x = codes "x" ∷ []
+
+abbrev pub under : ℕ → List (List ℕ) → List (List ℕ)
+under letter name = (letter ∷ []) ∷ name
+
+-- an NS record of the name server `n.x.`
+abbrev pub ns : List (List ℕ) → ℕ → ℕ → Record
+ns owner class ttl = record { owner = owner; class = class; kind = 2; ttl = ttl; octets = wire (under 110 x) }
+
+abbrev pub at_line : ℕ → Record → Placed
+at_line line r = record { rr = r; place = Line line }
+
+abbrev pub fault_at : ℕ → Fault → Ending
+fault_at line fault = Some (fault, Line line)
+
+-- a text under the origin `x.` gives these records and this fault
+abbrev pub Reads : List ℕ → List Placed → Ending → Type 0
+Reads octets placed ending = FileReads x octets placed ending

@@ -1,0 +1,15 @@
+-- Pieces of texts on which cuts and breaks are computed.
+use Rattle.std.specs.Prelude.{ℕ, List, map}
+use Rattle.zone_name.specs.Spelling.{plain}
+use Rattle.zone_text.specs.Pieces.{Piece, blank, bare, quoted}
+
+-- a bare item in which each octet stands for itself
+abbrev pub item : List ℕ → Piece
+item octets = bare (map plain octets)
+
+-- a quoted item in which each octet stands for itself
+abbrev pub string : List ℕ → Piece
+string octets = quoted (map plain octets)
+
+abbrev pub space : Piece
+space = blank 32

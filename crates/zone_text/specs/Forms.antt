@@ -1,0 +1,100 @@
+-- The forms of an entry (RFC 1035 5.1; `$TTL` RFC 2308 4): blank, a directive or a record, and a record's parts.
+use Rattle.std.specs.Prelude.{ℕ, List, [], ◌∷◌, ◌++◌, codes, take, drop, ◌==◌, ◌&&◌, ◌||◌, if◌then◌else◌, Bool, false, bytes_eq, Option, Some, None}
+use Rattle.zone_name.specs.Name.{folded_label}
+use Rattle.zone_name.specs.Spelling.{is_digit}
+use Rattle.zone_rdata.specs.Spelling.{RawItem, bare, quoted}
+use Rattle.zone_text.specs.Pieces.{is_blank}
+use Rattle.zone_text.specs.Entries.{Entry}
+
+-- no items; a directive with what follows its word; or a record with what follows its owner, stated or omitted
+pub data Form : Type 0 where
+  no_items : Form
+  sets_origin : List RawItem → Form
+  sets_ttl : List RawItem → Form
+  includes : Form
+  unknown : Form
+  owned : RawItem → List RawItem → Form
+  unowned : List RawItem → Form
+
+-- a directive's word, in any case
+abbrev pub directive : RawItem → List RawItem → Form
+directive (quoted text) items = unknown
+directive (bare text) items =
+    if bytes_eq (folded_label text) (codes "$origin") then sets_origin items
+    else if bytes_eq (folded_label text) (codes "$ttl") then sets_ttl items
+    else if bytes_eq (folded_label text) (codes "$include") then includes
+    else unknown
+
+-- `$` as the first octet begins a directive, and a blank omits the owner
+abbrev pub form_by : Option ℕ → List RawItem → Form
+form_by first [] = no_items
+form_by None (item ∷ items) = owned item items
+form_by (Some c) (item ∷ items) =
+    if c == 36 then directive item items
+    else if is_blank c then unowned (item ∷ items)
+    else owned item items
+
+abbrev pub form_of : Entry → Form
+form_of entry = form_by entry.first entry.items
+
+abbrev pub begins_with_digit : List ℕ → Bool
+begins_with_digit [] = false
+begins_with_digit (c ∷ text) = is_digit c
+
+-- one digit or more
+abbrev pub are_digits : List ℕ → Bool
+are_digits [] = false
+are_digits (c ∷ []) = is_digit c
+are_digits (c ∷ d ∷ text) = is_digit c && are_digits (d ∷ text)
+
+-- IN, CS, CH, HS, or CLASS and digits, in any case
+abbrev pub is_class_word : List ℕ → Bool
+is_class_word text =
+    let word = folded_label text in
+    bytes_eq word (codes "in") || bytes_eq word (codes "cs") || bytes_eq word (codes "ch") || bytes_eq word (codes "hs") || (bytes_eq (take 5 word) (codes "class") && are_digits (drop 5 text))
+
+-- a word before the type
+pub data Word : Type 0 where
+  ttl : List ℕ → Word
+  class : List ℕ → Word
+
+abbrev pub ttl_among : List Word → Option (List ℕ)
+ttl_among [] = None
+ttl_among (ttl text ∷ words) = Some text
+ttl_among (class text ∷ words) = ttl_among words
+
+abbrev pub class_among : List Word → Option (List ℕ)
+class_among [] = None
+class_among (ttl text ∷ words) = class_among words
+class_among (class text ∷ words) = Some text
+
+abbrev pub unless_stated : Option (List ℕ) → Word → Option Word
+unless_stated None word = Some word
+unless_stated (Some text) word = None
+
+-- The word that an item is behind others: a bare item that begins with a digit is a TTL if none stood before, a bare
+-- class word is a class if none stood before. Any other item stands at the type's place.
+abbrev pub word_behind : List Word → RawItem → Option Word
+word_behind before (quoted text) = None
+word_behind before (bare text) =
+    if begins_with_digit text then unless_stated (ttl_among before) (ttl text)
+    else if is_class_word text then unless_stated (class_among before) (class text)
+    else None
+
+-- the parts of a record behind its owner: `[TTL] [class]` in either order, and the items from the type on
+pub record Parts : Type 0 where
+  pub words : List Word
+  pub rest : List RawItem
+
+abbrev pub parts_behind : List Word → List RawItem → Parts
+parts_behind words [] = record { words = words; rest = [] }
+parts_behind words (item ∷ items) = elim (word_behind words item) [ None ↦ record { words = words; rest = item ∷ items } | Some word ↦ parts_behind (words ++ word ∷ []) items ]
+
+abbrev pub parts_in : Form → Option Parts
+parts_in (owned owner items) = Some (parts_behind [] items)
+parts_in (unowned items) = Some (parts_behind [] items)
+parts_in form = None
+
+-- the parts of a record entry
+abbrev pub parts_of : Entry → Option Parts
+parts_of entry = parts_in (form_of entry)

@@ -1,0 +1,91 @@
+-- What an entry inherits from the entries before it (RFC 1035 5.1, RFC 2308 4). They come the latest first.
+use Rattle.std.specs.Prelude.{◌≡◌, ℕ, ◌≤◌, List, [], ◌∷◌, Option, Some, None, MatchOption}
+use Rattle.zone_name.specs.Spelling.{Spells}
+use Rattle.zone_rdata.specs.Number.{IsTime}
+use Rattle.zone_rdata.specs.Spelling.{RawItem, bare}
+use Rattle.zone_rdata.specs.Words.{IsClassWord}
+use Rattle.zone_text.specs.Entries.{Entry}
+use Rattle.zone_text.specs.Forms.{Form, sets_origin, sets_ttl, owned, unowned, form_of, Parts, parts_of, ttl_among, class_among}
+
+abbrev pub or_else : Option (List ℕ) → Option (List ℕ) → Option (List ℕ)
+or_else None other = other
+or_else (Some text) other = Some text
+
+-- what the latest of the entries states that states any
+abbrev pub latest : (Entry → Option (List ℕ)) → List Entry → Option (List ℕ)
+latest stated [] = None
+latest stated (entry ∷ before) = or_else (stated entry) (latest stated before)
+
+abbrev pub one_bare : List RawItem → Option (List ℕ)
+one_bare (bare text ∷ []) = Some text
+one_bare items = None
+
+abbrev pub origin_in : Form → Option (List ℕ)
+origin_in (sets_origin items) = one_bare items
+origin_in form = None
+
+abbrev pub default_ttl_in : Form → Option (List ℕ)
+default_ttl_in (sets_ttl items) = one_bare items
+default_ttl_in form = None
+
+abbrev pub owner_in : Form → Option (List ℕ)
+owner_in (owned (bare text) items) = Some text
+owner_in form = None
+
+abbrev pub ttl_in : Option Parts → Option (List ℕ)
+ttl_in None = None
+ttl_in (Some parts) = ttl_among parts.words
+
+abbrev pub class_in : Option Parts → Option (List ℕ)
+class_in None = None
+class_in (Some parts) = class_among parts.words
+
+-- the texts that an entry states: the name of `$ORIGIN`, the time of `$TTL`, a record's owner, TTL and class
+abbrev pub origin_text : Entry → Option (List ℕ)
+origin_text entry = origin_in (form_of entry)
+
+abbrev pub default_ttl_text : Entry → Option (List ℕ)
+default_ttl_text entry = default_ttl_in (form_of entry)
+
+abbrev pub owner_text : Entry → Option (List ℕ)
+owner_text entry = owner_in (form_of entry)
+
+abbrev pub ttl_text : Entry → Option (List ℕ)
+ttl_text entry = ttl_in (parts_of entry)
+
+abbrev pub class_word : Entry → Option (List ℕ)
+class_word entry = class_in (parts_of entry)
+
+-- The origin behind entries: that of the latest `$ORIGIN`, read under the origin before it, else the one handed in
+abbrev pub IsOrigin : List (List ℕ) → List Entry → List (List ℕ) → Type 0
+IsOrigin origin [] name = name ≡ origin
+IsOrigin origin (entry ∷ before) name =
+    MatchOption (origin_text entry) (IsOrigin origin before name) (λ text. (above : List (List ℕ)) × (IsOrigin origin before above × Spells (Some above) text name))
+
+-- the text spells the name where it stands behind entries
+abbrev pub SpellsBehind : List (List ℕ) → List Entry → List ℕ → List (List ℕ) → Type 0
+SpellsBehind origin before text name = (above : List (List ℕ)) × (IsOrigin origin before above × Spells (Some above) text name)
+
+-- the owner of the latest record entry that states one, read under the origin of that entry
+abbrev pub IsLastOwner : List (List ℕ) → List Entry → List (List ℕ) → Type 0
+IsLastOwner origin [] name = ⊥
+IsLastOwner origin (entry ∷ before) name = MatchOption (owner_text entry) (IsLastOwner origin before name) (λ text. SpellsBehind origin before text name)
+
+-- the owner of a record entry: its own, or the last one stated where it begins with a blank
+abbrev pub IsOwner : List (List ℕ) → List Entry → Form → List (List ℕ) → Type 0
+IsOwner origin before (owned (bare text) items) name = SpellsBehind origin before text name
+IsOwner origin before (unowned items) name = IsLastOwner origin before name
+IsOwner origin before form name = ⊥
+
+-- the class of a record entry: the latest stated in it or before it, else IN
+abbrev pub HasClass : List Entry → Entry → ℕ → Type 0
+HasClass before entry class = MatchOption (latest class_word (entry ∷ before)) (class ≡ 1) (λ text. IsClassWord text class)
+
+-- the text of a record entry's TTL: its own, else that of the latest `$TTL`, else the latest that a record states
+abbrev pub stated_ttl : List Entry → Entry → Option (List ℕ)
+stated_ttl before entry = or_else (ttl_text entry) (or_else (latest default_ttl_text before) (latest ttl_text before))
+
+-- a time that a TTL may be (RFC 2181 8)
+pub record IsTtl (text : List ℕ) (seconds : ℕ) : Type 0 where
+  pub time : IsTime text seconds
+  pub short : seconds ≤ 2147483647

@@ -1,0 +1,26 @@
+-- The laws of names, words and data on which those of entries stand.
+use Rattle.std.proofs.Common.{◌≡◌, ℕ, List, Some}
+use Rattle.zone_name.specs.Spelling.{Spells, FirstFault}
+use Rattle.zone_name.specs.declared.fault.NameFault.{NameFault}
+use Rattle.zone_rdata.specs.DataFault.{IsDataFault}
+use Rattle.zone_rdata.specs.Number.{IsTime}
+use Rattle.zone_rdata.specs.Spelling.{RawItem, States}
+use Rattle.zone_rdata.specs.Words.{IsClassWord, IsKind, IsKindWord, IsWordFault}
+use Rattle.zone_rdata.specs.declared.fault.Fault.{Fault}
+
+-- the relation holds of one value at most
+abbrev pub Once : (A : Type 0) → (A → Type 0) → Type 0
+Once A P = (a b : A) → P a → P b → a ≡ b
+
+pub record Lower : Type 0 where
+  pub name : (above : List (List ℕ)) (text : List ℕ) → Once (List (List ℕ)) (Spells (Some above) text)
+  pub name_or_fault : (above : List (List ℕ)) (text : List ℕ) (name : List (List ℕ)) (fault : NameFault) → Spells (Some above) text name → FirstFault (Some above) text fault → ⊥
+  pub name_fault : (above : List (List ℕ)) (text : List ℕ) → Once NameFault (FirstFault (Some above) text)
+  pub time : (text : List ℕ) → Once ℕ (IsTime text)
+  pub class : (word : List ℕ) → Once ℕ (IsClassWord word)
+  pub kind : (word : List ℕ) → Once ℕ (IsKindWord word)
+  pub kind_or_fault : (word : List ℕ) (n : ℕ) (fault : Fault) → IsKindWord word n → IsKind n → IsWordFault word fault → ⊥
+  pub kind_fault : (word : List ℕ) → Once Fault (IsWordFault word)
+  pub rdata : (above : List (List ℕ)) (class kind : ℕ) (items : List RawItem) → Once (List ℕ) (States above class kind items)
+  pub rdata_or_fault : (above : List (List ℕ)) (class kind : ℕ) (items : List RawItem) (octets : List ℕ) (fault : Fault) → States above class kind items octets → IsDataFault above class kind items fault → ⊥
+  pub rdata_fault : (above : List (List ℕ)) (class kind : ℕ) (items : List RawItem) → Once Fault (IsDataFault above class kind items)

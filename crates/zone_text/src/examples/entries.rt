@@ -1,0 +1,37 @@
+//! Files whose records are computed: what an entry inherits from those before it.
+ghost use Rattle.std.specs.Prelude.{◌≡◌, ◌∷◌, [], codes, Some, None};
+ghost use Rattle.zone_rdata.specs.Spelling.{bare};
+ghost use Rattle.zone_text.specs.ExampleEntries.{at_line, ns, Reads, under, x};
+ghost use Rattle.zone_text.specs.Forms.{class, parts_behind, ttl};
+
+/// A TTL and a class stand in either order, each once: a second one is the type's word.
+pub fn words_before_the_type()
+    ensures class_first { parts_behind [] (bare (codes "IN") ∷ bare (codes "60") ∷ bare (codes "A") ∷ []) ≡ record { words = class (codes "IN") ∷ ttl (codes "60") ∷ []; rest = bare (codes "A") ∷ [] } }
+    ensures second_ttl { parts_behind [] (bare (codes "60") ∷ bare (codes "6x") ∷ bare (codes "A") ∷ []) ≡ record { words = ttl (codes "60") ∷ []; rest = bare (codes "6x") ∷ bare (codes "A") ∷ [] } }
+    ensures second_class { parts_behind [] (bare (codes "IN") ∷ bare (codes "CLASS0") ∷ bare (codes "A") ∷ []) ≡ record { words = class (codes "IN") ∷ []; rest = bare (codes "CLASS0") ∷ bare (codes "A") ∷ [] } }
+{}
+
+/// An entry that begins with a blank has the owner stated last, and a TTL left out is the one stated last.
+pub fn owner_and_ttl_are_inherited()
+    ensures { Reads (codes "@ 60 NS n.x.\n NS n.x.\n") (at_line 1 (ns x 1 60) ∷ at_line 2 (ns x 1 60) ∷ []) None }
+{}
+
+/// A TTL left out is that of `$TTL` before it, not the one stated last.
+pub fn a_default_ttl_comes_first()
+    ensures { Reads (codes "@ 60 NS n.x.\n$TTL 300\n NS n.x.\n") (at_line 1 (ns x 1 60) ∷ at_line 3 (ns x 1 300) ∷ []) None }
+{}
+
+/// A relative origin is read under the origin before it, and the word of the directive in any case.
+pub fn origins_are_nested()
+    ensures { Reads (codes "$ORIGIN a\n$origin b\n@ 60 NS n.x.\n") (at_line 3 (ns (under 98 (under 97 x)) 1 60) ∷ []) None }
+{}
+
+/// An owner left out behind `$ORIGIN` is still the name stated last, unchanged.
+pub fn an_owner_keeps_its_origin()
+    ensures { Reads (codes "@ 60 NS n.x.\n$ORIGIN a\n 60 NS n.x.\n") (at_line 1 (ns x 1 60) ∷ at_line 3 (ns x 1 60) ∷ []) None }
+{}
+
+/// A class left out is the one stated last.
+pub fn a_class_is_inherited()
+    ensures { Reads (codes "@ 60 CH NS n.x.\n@ NS n.x.\n") (at_line 1 (ns x 3 60) ∷ at_line 2 (ns x 3 60) ∷ []) None }
+{}

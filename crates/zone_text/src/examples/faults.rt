@@ -1,0 +1,61 @@
+//! Files whose first fault is computed.
+ghost use Rattle.std.specs.Prelude.{◌∷◌, [], codes};
+ghost use Rattle.zone_rdata.specs.declared.fault.Fault.TheVariants.{BadClass, BadDirective, BadEscape, BadTtl, EmptyLabel, IncludeDirective, MetaType, NoOwner, NoTtl, UnbalancedParenthesis, UnclosedQuote, UnknownDirective, UnknownType};
+ghost use Rattle.zone_text.specs.Decided.{Decided};
+ghost use Rattle.zone_text.specs.ExampleEntries.{at_line, fault_at, ns, Reads, x};
+
+use zone_rdata::laws::word::{kind_word_is_unique, time_is_unique};
+
+/// A directive's word is judged first, then its items, then the value.
+pub fn directives_that_are_refused()
+    ensures include { Reads (codes "@ 60 NS n.x.\n$include\n") (at_line 1 (ns x 1 60) ∷ []) (fault_at 2 IncludeDirective) }
+    ensures generate { Reads (codes "$GENERATE 1-2 a\n") [] (fault_at 1 UnknownDirective) }
+    ensures dollar_alone { Reads (codes "$\n") [] (fault_at 1 UnknownDirective) }
+    ensures no_item { Reads (codes "$ORIGIN\n") [] (fault_at 1 BadDirective) }
+    ensures two_items { Reads (codes "$ORIGIN a b\n") [] (fault_at 1 BadDirective) }
+    ensures quoted_item { Reads (codes "$TTL \"5\"\n") [] (fault_at 1 BadDirective) }
+    ensures bad_name { Reads (codes "$ORIGIN a..b\n") [] (fault_at 1 EmptyLabel) }
+    ensures no_time { Reads (codes "$TTL x\n") [] (fault_at 1 BadTtl) }
+    ensures long_time { Reads (codes "$TTL 2147483648\n") [] (fault_at 1 BadTtl) }
+{
+    time_is_unique();
+}
+
+/// An owner is left out before any was stated, or quoted.
+pub fn records_without_an_owner()
+    ensures omitted { Reads (codes " NS n\n") [] (fault_at 1 NoOwner) }
+    ensures quoted { Reads (codes "\"a\" 60 A 10.0.0.1\n") [] (fault_at 1 NoOwner) }
+    ensures behind_a_blank { Reads (codes " $ORIGIN y.\n") [] (fault_at 1 NoOwner) }
+{}
+
+/// The words before the type are judged from the left, then the type.
+pub fn words_that_are_refused()
+    ensures class_zero { Reads (codes "@ CLASS0 2147483648\n") [] (fault_at 1 BadClass) }
+    ensures long_ttl { Reads (codes "@ 2147483648 CLASS0\n") [] (fault_at 1 BadTtl) }
+    ensures no_type { Reads (codes "@ 60\n") [] (fault_at 1 UnknownType) }
+    ensures quoted_type { Reads (codes "@ 60 \"NS\" n\n") [] (fault_at 1 UnknownType) }
+    ensures long_type { Reads (codes "@ 60 TYPE65536\n") [] (fault_at 1 UnknownType) }
+    ensures meta_type { Reads (codes "@ 60 TYPE41\n") [] (fault_at 1 MetaType) }
+{
+    time_is_unique();
+}
+
+/// A TTL left out before anything could give one.
+pub fn a_record_without_a_ttl()
+    ensures { Reads (codes "@ NS n.x.\n") [] (fault_at 1 NoTtl) }
+{
+    kind_word_is_unique();
+}
+
+/// A break stands at the line of its entry and hides what else is wrong there.
+pub fn breaks_come_first()
+    ensures escape { Reads (codes "$INCLUDE \\04") [] (fault_at 1 BadEscape) }
+    ensures parenthesis { Reads (codes "@ 60 NS n.x.\n$FOO )\n") (at_line 1 (ns x 1 60) ∷ []) (fault_at 2 UnbalancedParenthesis) }
+    ensures quote { Reads (codes "@ 60 NS n.x.\n( \"a") (at_line 1 (ns x 1 60) ∷ []) (fault_at 2 UnclosedQuote) }
+    ensures open_at_the_end { Reads (codes "( ; c") [] (fault_at 1 UnbalancedParenthesis) }
+{}
+
+/// What is decided of a front: the entries that a line feed has ended, and no open one.
+pub fn decided_entries()
+    ensures { Decided x (codes "@ 60 NS n.x.\n$FOO\n@") (at_line 1 (ns x 1 60) ∷ []) (fault_at 2 UnknownDirective) }
+{}

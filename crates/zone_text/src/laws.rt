@@ -1,0 +1,4 @@
+//! Laws over the definitions alone.
+pub mod entry;
+pub mod file;
+pub mod pieces;

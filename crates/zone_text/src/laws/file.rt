@@ -1,0 +1,36 @@
+//! Laws of files: the records that one states, and its reading.
+ghost use Rattle.std.specs.Prelude.{◌≡◌, ◌++◌, ◌↔◌, List, ℕ, None};
+ghost use Rattle.zone_rdata.specs.declared.record.Placed.{Placed};
+ghost use Rattle.zone_text.specs.Decided.{Decided, Stays};
+ghost use Rattle.zone_text.specs.File.{FileStates};
+ghost use Rattle.zone_text.specs.FileReads.{Ending, FileReads};
+
+use crate::laws::entry::lower_laws;
+
+/// A file states at most one list of records with their places.
+pub fn a_file_states_one_list()
+    ensures { (origin : List (List ℕ)) (octets : List ℕ) (a b : List Placed) → FileStates origin octets a → FileStates origin octets b → a ≡ b }
+{
+    lower_laws();
+}
+
+/// A file has at most one reading.
+pub fn a_file_has_one_reading()
+    ensures { (origin : List (List ℕ)) (octets : List ℕ) (a b : List Placed) (e f : Ending) → FileReads origin octets a e → FileReads origin octets b f → (a ≡ b) × (e ≡ f) }
+{
+    lower_laws();
+}
+
+/// A file states the records of its reading where that finds no fault, and no others.
+pub fn a_file_states_what_is_read()
+    ensures { (origin : List (List ℕ)) (octets : List ℕ) (placed : List Placed) → FileStates origin octets placed ↔ FileReads origin octets placed None }
+{}
+
+/// What is decided of a file by its front stays for every longer front and for the whole file: the records are the first
+/// ones, and a fault is the last word.
+pub fn what_is_decided_stays()
+    ensures longer { (origin : List (List ℕ)) (octets more : List ℕ) (placed later : List Placed) (ending last : Ending) → Decided origin octets placed ending → Decided origin (octets ++ more) later last → Stays placed ending later last }
+    ensures whole { (origin : List (List ℕ)) (octets more : List ℕ) (placed later : List Placed) (ending last : Ending) → Decided origin octets placed ending → FileReads origin (octets ++ more) later last → Stays placed ending later last }
+{
+    lower_laws();
+}

@@ -1,0 +1,106 @@
+-- The answers of a message are read as the records that they state.
+use Rattle.std.proofs.Common.{◌≡◌, ◌≢◌, ℕ, ◌≤◌, List, [], ◌∷◌, ◌++◌, length, refl, ap, sym, ◌∙◌, Bool, true, false, nat_eq, arith}
+use Rattle.std.specs.Prelude.{◌==◌, ◌&&◌, ◌||◌, not, Option, Some, None, Result, Ok, Err, ⊤}
+use Rattle.std.specs.List.{AllByRecursion, list_any}
+use Rattle.std.specs.Cmp.Lexicographic.{pointwise, pointwise_decides, bytes_decides}
+use Rattle.std.proofs.lemmas.Bool.{cond-true, cond-false, eq-eqb, and_from, or_from}
+use Rattle.std.proofs.lemmas.Bool.Decides.{nat_tests}
+use Rattle.zone_rdata.specs.Record.{Record}
+use Rattle.zone_rdata.specs.Words.{IsClass, is_meta}
+use Rattle.zone_rdata.specs.declared.fault.Fault.{Fault}
+use Rattle.zone_rdata.specs.declared.fault.Place.TheVariants.{Message}
+use Rattle.zone_rdata.specs.declared.record.Placed.{Placed}
+use Rattle.zone_wire.specs.Answers.{same_name, same_record, is_no_class, record_of, zone_of, agrees, order_fault, answer_of, Answered, before_others, answers_of}
+use Rattle.zone_wire.specs.Data.{data_at}
+use Rattle.zone_wire.specs.Message.{QuestionAt, RecordAt, AreRecordsAt}
+use Rattle.zone_wire.specs.Transfer.{ttl_of, compressible, StatesRecord, StateEach, AsksFor}
+use Rattle.zone_wire.proofs.Fielding.{data_reads}
+use Rattle.zone_wire.proofs.Sectioning.{and_then_ok}
+
+pub differ : (a b : ℕ) → a ≢ b → nat_eq a b ≡ false
+differ a b h = grind (arith, nat_tests)
+
+holds_data : (n : ℕ) → IsClass n → is_no_class n ≡ false
+holds_data n is = or_from (n == 0 || n == 254) (n == 255) (or_from (n == 0) (n == 254) (differ n 0 is.not_zero) (differ n 254 is.not_none)) (differ n 255 is.not_any)
+
+none_of : (kind : ℕ) (kinds : List ℕ) → AllByRecursion (λ k. kind ≢ k) kinds → list_any (nat_eq kind) kinds ≡ false
+none_of kind [] each = refl
+none_of kind (k ∷ kinds) each = or_from (nat_eq kind k) (list_any (nat_eq kind) kinds) (differ kind k each.0) (none_of kind kinds each.1)
+
+-- the record of an answer by itself
+record_is_read : (octets : List ℕ) (a : RecordAt) (r : Record) → a.end ≤ length octets → StatesRecord octets a r → record_of octets a ≡ Ok r
+unfolding record_of
+record_is_read octets a r within s =
+    let class : is_no_class a.class ≡ false = ap is_no_class (sym s.class) ∙ holds_data r.class s.fits.rdata.class in
+    let kind : is_meta a.kind ≡ false = ap is_meta (sym s.kind) ∙ s.fits.rdata.kind.stored in
+    cond-false _ _ _ class ∙ cond-false _ _ _ kind ∙ cond-false _ _ _ (none_of a.kind compressible s.readable)
+    ∙ and_then_ok (data_at octets a) r.octets _ (data_reads octets a r.octets within s.rdata)
+    ∙ ap (λ (x : List (List ℕ)). Ok (record r { owner = x; class = a.class; kind = a.kind; ttl = ttl_of a.ttl })) (sym s.owner)
+    ∙ ap (λ (x : ℕ). Ok (record r { class = x; kind = a.kind; ttl = ttl_of a.ttl })) (sym s.class)
+    ∙ ap (λ (x : ℕ). Ok (record r { kind = x; ttl = ttl_of a.ttl })) (sym s.kind)
+    ∙ ap (λ (x : ℕ). Ok (record r { ttl = x })) (sym s.ttl)
+
+names_same : (n m : List (List ℕ)) → n ≡ m → same_name n m ≡ true
+names_same n m e = (pointwise_decides bytes_decides n m).1 e
+
+pub records_same : (r s : Record) → r ≡ s → same_record r s ≡ true
+records_same r s e =
+    let place : (same_name s.owner s.owner && s.class == s.class) ≡ true = and_from (same_name s.owner s.owner) (s.class == s.class) (names_same s.owner s.owner refl) (eq-eqb s.class s.class refl) in
+    let head : (same_name s.owner s.owner && s.class == s.class && s.kind == s.kind && s.ttl == s.ttl) ≡ true = and_from (same_name s.owner s.owner && s.class == s.class && s.kind == s.kind) (s.ttl == s.ttl) (and_from (same_name s.owner s.owner && s.class == s.class) (s.kind == s.kind) place (eq-eqb s.kind s.kind refl)) (eq-eqb s.ttl s.ttl refl) in
+    let own : same_record s s ≡ true = and_from (same_name s.owner s.owner && s.class == s.class && s.kind == s.kind && s.ttl == s.ttl) (pointwise nat_eq s.octets s.octets) head ((bytes_decides s.octets s.octets).1 refl) in
+    ap (λ x. same_record x s) e ∙ own
+
+-- records, if there are any, begin with the zone's SOA
+abbrev pub OpensWith : Record → List Placed → Type 0
+OpensWith zone [] = ⊤
+OpensWith zone (opening ∷ placed) = opening.rr ≡ zone
+
+-- what the questions for a zone and its records fix is the zone
+pub zone_agrees : (zone : Record) (questions : List QuestionAt) (placed : List Placed) (name : List (List ℕ)) (class : ℕ) → AllByRecursion (AsksFor zone) questions → OpensWith zone placed → name ≡ zone.owner → class ≡ zone.class → agrees (zone_of questions placed) name class ≡ true
+zone_agrees zone (q ∷ questions) placed name class ask opens n c = and_from (same_name name q.name) (class == q.class) (names_same name q.name (n ∙ sym ask.0.name)) (eq-eqb class q.class (c ∙ sym ask.0.class))
+zone_agrees zone [] (opening ∷ placed) name class ask opens n c = and_from (same_name name opening.rr.owner) (class == opening.rr.class) (names_same name opening.rr.owner (n ∙ ap (λ (r : Record). r.owner) (sym opens))) (eq-eqb class opening.rr.class (c ∙ ap (λ (r : Record). r.class) (sym opens)))
+zone_agrees zone [] [] name class ask opens n c = refl
+
+abbrev pub is_soa : Placed → Bool
+is_soa p = p.rr.kind == 6
+
+-- a record that can stand behind others
+abbrev pub Follows : Record → List Placed → Placed → Type 0
+Follows zone [] p = (p.rr ≡ zone) × (zone.kind ≡ 6)
+Follows zone (opening ∷ others) p = (list_any is_soa others ≡ false) × ((is_soa p && not (same_record p.rr opening.rr)) ≡ false)
+
+abbrev pub InOrder : Record → List Placed → List Placed → Type 0
+InOrder zone before [] = ⊤
+InOrder zone before (p ∷ placed) = Follows zone before p × InOrder zone (before ++ p ∷ []) placed
+
+order_is_kept : (zone : Record) (questions : List QuestionAt) (before : List Placed) (p : Placed) → AllByRecursion (AsksFor zone) questions → Follows zone before p → order_fault questions before p.rr ≡ None
+order_is_kept zone questions [] p ask follows =
+    cond-false _ _ _ (ap not (eq-eqb p.rr.kind 6 (ap (λ (r : Record). r.kind) follows.0 ∙ follows.1)))
+    ∙ cond-true _ _ _ (zone_agrees zone questions [] p.rr.owner p.rr.class ask tt (ap (λ (r : Record). r.owner) follows.0) (ap (λ (r : Record). r.class) follows.0))
+order_is_kept zone questions (opening ∷ others) p ask follows = cond-false _ _ _ follows.0 ∙ cond-false _ _ _ follows.1
+
+unfaulted : (r : Record) (fault : Option Fault) → fault ≡ None → (let x : Result Record Fault = elim fault [ Some f ↦ Err f | None ↦ Ok r ] in x) ≡ Ok r
+unfaulted r None e = refl
+unfaulted r (Some f) e = cc
+
+answer_is_read : (zone : Record) (octets : List ℕ) (questions : List QuestionAt) (before : List Placed) (a : RecordAt) (p : Placed) → a.end ≤ length octets → AllByRecursion (AsksFor zone) questions → StatesRecord octets a p.rr → Follows zone before p → answer_of octets questions before a ≡ Ok p.rr
+unfolding answer_of
+answer_is_read zone octets questions before a p within ask states follows =
+    and_then_ok (record_of octets a) p.rr _ (record_is_read octets a p.rr within states) ∙ unfaulted p.rr (order_fault questions before p.rr) (order_is_kept zone questions before p ask follows)
+
+abbrev pub all_read : {E : Type 0} → List Placed → Answered E
+all_read placed = record { placed = placed; fault = None }
+
+-- an answer that is read, and those after it
+read_before : (number offset : ℕ) (p : Placed) (placed : List Placed) (next : Placed → Answered (Fault × ℕ)) → p.place ≡ Message number offset → next p ≡ all_read placed → before_others number offset (Ok p.rr) next ≡ all_read (p ∷ placed)
+read_before number offset p placed next place e =
+    ap (λ x. let q : Placed = record p { place = x } in record (next q) { placed = q ∷ (next q).placed }) (sym place) ∙ ap (λ (x : Answered (Fault × ℕ)). record x { placed = p ∷ x.placed }) e
+
+pub answers_are_read : (zone : Record) (number : ℕ) (octets : List ℕ) (questions : List QuestionAt) (offset end : ℕ) (answers : List RecordAt) (before placed : List Placed) → AllByRecursion (AsksFor zone) questions → AreRecordsAt octets offset answers end → StateEach number octets answers placed → InOrder zone before placed → answers_of number octets questions before answers ≡ all_read placed
+answers_are_read zone number octets questions offset end [] before [] ask are states order = refl
+answers_are_read zone number octets questions offset end [] before (p ∷ placed) ask are states order = absurd states
+answers_are_read zone number octets questions offset end (a ∷ answers) before [] ask are states order = absurd states
+answers_are_read zone number octets questions offset end (a ∷ answers) before (p ∷ placed) ask are states order =
+    let next = λ (q : Placed). answers_of number octets questions (before ++ q ∷ []) answers in
+    ap (λ r. before_others number a.offset r next) (answer_is_read zone octets questions before a p are.0.inside ask states.0 order.0)
+    ∙ read_before number a.offset p placed next states.1 (answers_are_read zone number octets questions a.end end answers (before ++ p ∷ []) placed ask are.1 states.2 order.1)

@@ -1,0 +1,154 @@
+-- What is read as the data of a record is its data.
+use Rattle.std.proofs.Common.{◌≡◌, ℕ, zero, suc, ◌+◌, ◌-◌, ◌≤◌, ◌^◌, ◌<◌, List, [], ◌∷◌, length, refl, ap, sym, ◌∙◌, subst, nat_le, nat_lt, nat_eq, arith}
+use Rattle.std.specs.Prelude.{get_or, slice_index, take, drop, ◌==◌, ◌&&◌, Option, Some, None, MatchOption, Result, Ok}
+use Rattle.std.specs.Int.{w16, w32, to_be_bytes, from_be_bytes}
+use Rattle.std.specs.Cmp.Lexicographic.{pointwise, bytes_decides}
+use Rattle.std.specs.List.{flat_map, AllByRecursion}
+use Rattle.std.proofs.lemmas.Bool.{leb-true, ltb-true, eqb-true}
+use Rattle.std.proofs.lemmas.List.{take_all, length-take, length-take-le, length-drop}
+use Rattle.std.proofs.lemmas.Nat.{be_bytes_2, be_bytes_4}
+use Rattle.zone_name.specs.Name.{frame}
+use Rattle.zone_rdata.specs.Field.{FieldValue, string_at, strings_by, strings_of, octets_of, Holds, HoldEach, field_at}
+use Rattle.zone_rdata.specs.Layout.{layout}
+use Rattle.zone_rdata.specs.Strings.{IsString}
+use Rattle.zone_rdata.specs.declared.fault.Fault.{Fault}
+use Rattle.zone_rdata.specs.declared.layout.Field.{Field}
+use Rattle.zone_rdata.specs.declared.layout.Field.TheVariants.{Name, Serial, Time, U16, Octets, OneString, Strings}
+use Rattle.zone_wire.specs.Data.{name_before, sized_before, strings_before, value_at, values_at, data_at}
+use Rattle.zone_wire.specs.Message.{RecordAt}
+use Rattle.zone_wire.specs.Reading.{Outcome, named, refused, outcome}
+use Rattle.zone_wire.specs.Sections.{and_then}
+use Rattle.zone_wire.specs.Transfer.{part, StandsAt, StandEach, AreFieldsAt, IsDataAt}
+use Rattle.zone_wire.specs.Walk.{walk}
+use Rattle.zone_wire.proofs.Fielding.{part_first}
+use Rattle.zone_wire.proofs.ReadSections.{ok_same, leads, passes, both}
+use Rattle.zone_wire.proofs.Walking.{walk_names, take_each, drop_each}
+
+abbrev Shown : List ℕ → ℕ → ℕ → Field → FieldValue × ℕ → Type 0
+Shown octets end start field v = Holds field v.0 × (v.1 ≤ end) × StandsAt octets start v.1 v.0
+
+-- octets, each below 256
+bytes_each : (octets : List ℕ) → ((k : ℕ) → get_or octets k 0 < 256) → AllByRecursion (λ c. c < 256) octets
+bytes_each [] small = tt
+bytes_each (c ∷ octets) small = (small 0, bytes_each octets (λ k. small (suc k)))
+
+strings_each_by : (n : ℕ) (octets : List ℕ) → ((k : ℕ) → get_or octets k 0 < 256) → AllByRecursion IsString (strings_by n octets)
+strings_each_by zero octets small = tt
+strings_each_by (suc n) [] small = tt
+strings_each_by (suc n) (c ∷ octets) small =
+    (record { short = omega (arith, length-take c octets, small 0); each = bytes_each (take c octets) (take_each c octets (λ k. small (suc k))) }, strings_each_by n (drop c octets) (drop_each c octets (λ k. small (suc k))))
+
+strings_each : (octets : List ℕ) → ((k : ℕ) → get_or octets k 0 < 256) → AllByRecursion IsString (strings_of octets)
+unfolding strings_of
+strings_each octets small = strings_each_by (length octets) octets small
+
+some_strings : (many : List (List ℕ)) → 0 < length (flat_map frame many) → 0 < length many
+some_strings [] h = absurd (omega arith)
+some_strings (text ∷ many) h = omega arith
+
+module _ (octets : List ℕ) (each : (k : ℕ) → get_or octets k 0 < 256) (end : ℕ) (within : end ≤ length octets) where
+  name_shows : (start : ℕ) (o : Outcome) (v : FieldValue × ℕ) → outcome octets (walk octets start) ≡ o → name_before end o ≡ Ok v → Shown octets end start Name v
+  name_shows start (named found) v is e =
+      let p = passes (nat_le found.end end) _ v _ e in
+      let at = walk_names octets start found each is in
+      subst (Shown octets end start Name) p.1 (at.name, leb-true _ _ p.0, (found, at, refl, refl))
+  name_shows start (refused fault steps) v is e = cc
+
+  sized_shows : (start size : ℕ) (field : Field) (v : FieldValue × ℕ) → (start + size ≤ end → Shown octets end start field (field_at field (part octets start (start + size)), start + size)) → sized_before octets end start field size ≡ Ok v → Shown octets end start field v
+  sized_shows start size field v shows e =
+      let p = passes (nat_le (start + size) end) _ v _ e in
+      subst (Shown octets end start field) p.1 (shows (leb-true _ _ p.0))
+
+  part_bytes : (start past : ℕ) (k : ℕ) → get_or (part octets start past) k 0 < 256
+  part_bytes start past = take_each (past - start) (drop start octets) (drop_each start octets each)
+
+  part_size : (start size : ℕ) → start + size ≤ end → length (part octets start (start + size)) ≡ size
+  part_size start size fits =
+      let n : start + size - start ≡ size = omega arith in
+      ap (λ k. length (take k (drop start octets))) n ∙ length-take-le size (drop start octets) (omega (arith, within, length-drop start octets))
+
+  long_short : (bs : List ℕ) → ((k : ℕ) → get_or bs k 0 < 256) → from_be_bytes w32 bs < 2 ^ 32
+  long_short bs small = omega (arith, small 0, small 1, small 2, small 3)
+
+  two_short : (bs : List ℕ) → ((k : ℕ) → get_or bs k 0 < 256) → from_be_bytes w16 bs < 2 ^ 16
+  two_short bs small = omega (arith, small 0, small 1)
+
+  long_stands : (start : ℕ) → start + 4 ≤ end → (start ≤ start + 4) × (part octets start (start + 4) ≡ to_be_bytes w32 (from_be_bytes w32 (take 4 (part octets start (start + 4)))))
+  long_stands start fits =
+      let bs = part octets start (start + 4) in
+      let len : length bs ≡ 4 = part_size start 4 fits in
+      (omega arith, sym (be_bytes_4 bs (from_be_bytes w32 (take 4 bs)) len (part_bytes start (start + 4)) (ap (from_be_bytes w32) (take_all 4 bs (omega (arith, len))))))
+
+  two_stands : (start : ℕ) → start + 2 ≤ end → (start ≤ start + 2) × (part octets start (start + 2) ≡ to_be_bytes w16 (from_be_bytes w16 (take 2 (part octets start (start + 2)))))
+  two_stands start fits =
+      let bs = part octets start (start + 2) in
+      let len : length bs ≡ 2 = part_size start 2 fits in
+      (omega arith, sym (be_bytes_2 bs (from_be_bytes w16 (take 2 bs)) len (part_bytes start (start + 2)) (ap (from_be_bytes w16) (take_all 2 bs (omega (arith, len))))))
+
+  -- octets of a fixed number
+  fixed_shows : (start n : ℕ) → start + n ≤ end → Shown octets end start (Octets n) (field_at (Octets n) (part octets start (start + n)), start + n)
+  fixed_shows start n fits =
+      let bs = part octets start (start + n) in
+      let len : length bs ≡ n = part_size start n fits in
+      let whole : take n bs ≡ bs = take_all n bs (omega (arith, len)) in
+      (record { size = ap length whole ∙ len; each = bytes_each (take n bs) (take_each n bs (part_bytes start (start + n))) }, fits, (omega arith, sym whole))
+
+  -- a string behind its length
+  string_shows : (start : ℕ) → start + (1 + slice_index octets start) ≤ end → Shown octets end start OneString (field_at OneString (part octets start (start + (1 + slice_index octets start))), start + (1 + slice_index octets start))
+  string_shows start fits =
+      let past = start + (1 + slice_index octets start) in
+      let bs = part octets start past in
+      let h = framed bs (slice_index octets start) (part_bytes start past) (part_size start (1 + slice_index octets start) fits) (part_first octets start past (omega arith)) in
+      (h.0, fits, (omega arith, h.1))
+    where
+      framed : (bs : List ℕ) (size : ℕ) → ((k : ℕ) → get_or bs k 0 < 256) → length bs ≡ 1 + size → get_or bs 0 0 ≡ size → IsString (string_at bs) × (bs ≡ frame (string_at bs))
+      framed [] size small len first = absurd (omega (arith, len))
+      framed (c ∷ rest) size small len first =
+          let same : length rest ≡ c = omega (arith, len, first) in
+          let whole : take c rest ≡ rest = take_all c rest (omega (arith, same)) in
+          let text : length (take c rest) ≡ c = ap length whole ∙ same in
+          (record { short = omega (arith, text, small 0); each = bytes_each (take c rest) (take_each c rest (λ k. small (suc k))) }, ap (λ x. x ∷ rest) (sym text) ∙ ap (λ x. length (take c rest) ∷ x) (sym whole))
+
+  -- strings up to the end
+  strings_show : (start : ℕ) (v : FieldValue × ℕ) → strings_before end (part octets start end) ≡ Ok v → Shown octets end start Strings v
+  strings_show start v e =
+      let bs = part octets start end in
+      let p = passes (nat_lt 0 (length bs) && pointwise nat_eq (flat_map frame (strings_of bs)) bs) _ v _ e in
+      let b = both (nat_lt 0 (length bs)) (pointwise nat_eq (flat_map frame (strings_of bs)) bs) p.0 in
+      let some : 0 < length bs = ltb-true 0 (length bs) b.0 in
+      let whole : flat_map frame (strings_of bs) ≡ bs = (bytes_decides (flat_map frame (strings_of bs)) bs).0 b.1 in
+      let order : start ≤ end = omega (arith, some, length-take (end - start) (drop start octets)) in
+      subst (Shown octets end start Strings) p.1 (record { some = some_strings (strings_of bs) (omega (arith, some, ap length whole)); each = strings_each bs (part_bytes start end) }, omega arith, (order, sym whole))
+
+  -- what is read for a field stands there
+  value_shows : (start : ℕ) (field : Field) (v : FieldValue × ℕ) → value_at octets end start field ≡ Ok v → Shown octets end start field v
+  unfolding value_at
+  value_shows start Name v e = name_shows start (outcome octets (walk octets start)) v refl e
+  value_shows start Serial v e = sized_shows start 4 Serial v (λ fits. (long_short _ (take_each 4 _ (part_bytes start (start + 4))), fits, long_stands start fits)) e
+  value_shows start Time v e = sized_shows start 4 Time v (λ fits. (long_short _ (take_each 4 _ (part_bytes start (start + 4))), fits, long_stands start fits)) e
+  value_shows start (Octets n) v e = sized_shows start n (Octets n) v (fixed_shows start n) e
+  value_shows start OneString v e = sized_shows start (1 + slice_index octets start) OneString v (string_shows start) e
+  value_shows start Strings v e = strings_show start v e
+  value_shows start U16 v e = sized_shows start 2 U16 v (λ fits. (two_short _ (take_each 2 _ (part_bytes start (start + 2))), fits, two_stands start fits)) e
+
+  values_show : (fields : List Field) (start : ℕ) (values : List FieldValue) → values_at octets end start fields ≡ Ok values → HoldEach fields values × StandEach octets start end values
+  values_show [] start values e =
+      let p = passes (start == end) [] values _ e in
+      subst (λ (vs : List FieldValue). HoldEach [] vs × StandEach octets start end vs) p.1 (tt, eqb-true start end p.0)
+  values_show (f ∷ fields) start values e =
+      let one = leads (value_at octets end start f) _ values e in
+      let rest = leads (values_at octets end one.first.1 fields) _ values one.goes_on in
+      let here = value_shows start f one.first one.is in
+      let others = values_show fields one.first.1 rest.first rest.is in
+      subst (λ (vs : List FieldValue). HoldEach (f ∷ fields) vs × StandEach octets start end vs) (ok_same _ _ rest.goes_on) ((here.0, others.0), (one.first.1, here.1, here.2, others.1))
+
+  layout_shows : (start : ℕ) (canonical : List ℕ) (o : Option (List Field)) → (let r : Result (List ℕ) Fault = elim o [ None ↦ Ok (part octets start end) | Some fields ↦ and_then (values_at octets end start fields) (λ values. Ok (octets_of values)) ] in r) ≡ Ok canonical → MatchOption o (canonical ≡ part octets start end) (λ fields. AreFieldsAt octets start end fields canonical)
+  layout_shows start canonical None e = sym (ok_same _ _ e)
+  layout_shows start canonical (Some fields) e =
+      let l = leads (values_at octets end start fields) _ canonical e in
+      let values = values_show fields start l.first l.is in
+      record { values = l.first; held = values.0; stand = values.1; whole = sym (ok_same _ _ l.goes_on) }
+
+pub data_shown : (octets : List ℕ) (a : RecordAt) (canonical : List ℕ) → ((k : ℕ) → get_or octets k 0 < 256) → a.end ≤ length octets → data_at octets a ≡ Ok canonical → IsDataAt octets a canonical
+unfolding data_at
+data_shown octets a canonical each within e = layout_shows octets each a.end within a.start canonical (layout a.class a.kind) e

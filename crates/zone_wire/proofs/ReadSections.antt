@@ -1,0 +1,132 @@
+-- What is read as the sections of a message are its sections.
+use Rattle.std.proofs.Common.{◌≡◌, ℕ, zero, suc, ◌<◌, ◌≤◌, List, length, refl, ap, sym, subst, Bool, true, false, nat_le}
+use Rattle.std.specs.Prelude.{get_or, ◌==◌, ◌&&◌, not, Option, Some, None, Result, Ok, Err, if◌then◌else◌}
+use Rattle.std.proofs.lemmas.Bool.{leb-true, ltb-false, eqb-true}
+use Rattle.zone_rdata.specs.declared.fault.Fault.{Fault}
+use Rattle.zone_wire.specs.Message.{word_at, HasHeader, QuestionAt, question_by, IsQuestionAt, RecordAt, record_by, IsRecordAt, AreAt, Sections, IsMessage}
+use Rattle.zone_wire.specs.Name.{Found}
+use Rattle.zone_wire.specs.Reading.{Outcome, named, refused, outcome}
+use Rattle.zone_wire.specs.Sections.{and_then, at_offset, header_fault, inside, question_at, record_at, each_from, questions_from, records_from, behind_header, sections_of}
+use Rattle.zone_wire.specs.Walk.{walk}
+use Rattle.zone_wire.proofs.Walking.{walk_names}
+
+pub ok_same : {X E : Type 0} (x y : X) → (let r : Result X E = Ok x in r) ≡ Ok y → x ≡ y
+ok_same x y e = cc
+
+-- what leads to a value has a value
+pub record Leads {X Y E : Type 0} (r : Result X E) (next : X → Result Y E) (y : Y) : Type 0 where
+  pub first : X
+  pub is : r ≡ Ok first
+  pub goes_on : next first ≡ Ok y
+
+pub leads : {X Y E : Type 0} (r : Result X E) (next : X → Result Y E) (y : Y) → and_then r next ≡ Ok y → Leads r next y
+leads (Ok x) next y e = record { first = x; is = refl; goes_on = e }
+leads (Err fault) next y e = cc
+
+-- a test that is passed
+pub passes : {X E : Type 0} (test : Bool) (x y : X) (fault : E) → (if test then Ok x else Err fault) ≡ Ok y → (test ≡ true) × (x ≡ y)
+passes true x y fault e = (refl, ok_same x y e)
+passes false x y fault e = cc
+
+pub passes_on : {X E : Type 0} (test : Bool) (fault : E) (rest : Result X E) (x : X) → (if test then Err fault else rest) ≡ Ok x → (test ≡ false) × (rest ≡ Ok x)
+passes_on true fault rest x e = cc
+passes_on false fault rest x e = (refl, e)
+
+pub no_fault : (test : Bool) (fault : Fault) (rest : Option Fault) → (if test then Some fault else rest) ≡ None → (test ≡ false) × (rest ≡ None)
+no_fault true fault rest e = cc
+no_fault false fault rest e = (refl, e)
+
+pub both : (a b : Bool) → (a && b) ≡ true → (a ≡ true) × (b ≡ true)
+both true b e = (refl, e)
+both false b e = cc
+
+not_false : (a : Bool) → not a ≡ false → a ≡ true
+not_false true e = refl
+not_false false e = cc
+
+header_shows : (octets : List ℕ) → header_fault octets ≡ None → HasHeader octets
+unfolding header_fault
+header_shows octets e =
+    let a = no_fault _ _ _ e in
+    let b = no_fault _ _ _ a.1 in
+    let c = no_fault _ _ _ b.1 in
+    let d = no_fault _ _ _ c.1 in
+    let counts = both (nat_le (word_at octets 4) 1) (word_at octets 8 == 0) (not_false _ (no_fault _ _ _ d.1).0) in
+    record {
+      twelve = ltb-false _ _ a.0;
+      response = eqb-true _ _ (not_false _ b.0);
+      whole = eqb-true _ _ (not_false _ c.0);
+      no_error = eqb-true _ _ (not_false _ d.0);
+      questions = leb-true _ _ counts.0;
+      no_authority = eqb-true _ _ counts.1;
+    }
+
+-- what stands behind a name inside the message
+record IsInside {X : Type 0} (octets : List ℕ) (by : Found → X) (end_of : X → ℕ) (o : Outcome) (x : X) : Type 0 where
+  found : Found
+  is : o ≡ named found
+  stands : by found ≡ x
+  fits : end_of (by found) ≤ length octets
+
+inside_shows : {X : Type 0} (octets : List ℕ) (by : Found → X) (end_of : X → ℕ) (o : Outcome) (x : X) → inside octets by end_of o ≡ Ok x → IsInside octets by end_of o x
+inside_shows octets by end_of (named found) x e =
+    let p = passes (nat_le (end_of (by found)) (length octets)) (by found) x _ e in
+    record { found = found; is = refl; stands = p.1; fits = leb-true _ _ p.0 }
+inside_shows octets by end_of (refused fault steps) x e = cc
+
+question_shows : (octets : List ℕ) → ((k : ℕ) → get_or octets k 0 < 256) → (offset : ℕ) (q : QuestionAt) → question_at octets offset ≡ Ok q → IsQuestionAt octets offset q
+unfolding question_at
+question_shows octets each offset q e =
+    let s = inside_shows octets (question_by octets) (λ (x : QuestionAt). x.end) (outcome octets (walk octets offset)) q e in
+    record { found = s.found; name = walk_names octets offset s.found each s.is; stands = sym s.stands; inside = subst (λ (x : QuestionAt). x.end ≤ length octets) s.stands s.fits }
+
+record_shows : (octets : List ℕ) → ((k : ℕ) → get_or octets k 0 < 256) → (offset : ℕ) (r : RecordAt) → record_at octets offset ≡ Ok r → IsRecordAt octets offset r
+unfolding record_at
+record_shows octets each offset r e =
+    let s = inside_shows octets (record_by octets offset) (λ (x : RecordAt). x.end) (outcome octets (walk octets offset)) r e in
+    record { found = s.found; name = walk_names octets offset s.found each s.is; stands = sym s.stands; inside = subst (λ (x : RecordAt). x.end ≤ length octets) s.stands s.fits }
+
+at_offset_shows : {X : Type 0} (offset : ℕ) (r : Result X Fault) (x : X) → at_offset offset r ≡ Ok x → r ≡ Ok x
+at_offset_shows offset (Ok y) x e = ap Ok (ok_same y x e)
+at_offset_shows offset (Err fault) x e = cc
+
+each_shows : {X : Type 0} (read : ℕ → Result X Fault) (end_of : X → ℕ) (Is : ℕ → X → Type 0) → ((offset : ℕ) (x : X) → read offset ≡ Ok x → Is offset x) → (count offset : ℕ) (run : List X × ℕ) → each_from read end_of count offset ≡ Ok run → (length run.0 ≡ count) × AreAt Is end_of offset run.0 run.1
+each_shows {X} read end_of Is shows zero offset run e = subst (λ (x : List X × ℕ). (length x.0 ≡ zero) × AreAt Is end_of offset x.0 x.1) (ok_same _ _ e) (refl, refl)
+each_shows {X} read end_of Is shows (suc count) offset run e =
+    let one = leads (at_offset offset (read offset)) _ run e in
+    let rest = leads (each_from read end_of count (end_of one.first)) _ run one.goes_on in
+    let here : Is offset one.first = shows offset one.first (at_offset_shows offset (read offset) one.first one.is) in
+    let others = each_shows read end_of Is shows count (end_of one.first) rest.first rest.is in
+    subst (λ (x : List X × ℕ). (length x.0 ≡ suc count) × AreAt Is end_of offset x.0 x.1) (ok_same _ _ rest.goes_on) (ap suc others.0, (here, others.1))
+
+opened : (octets : List ℕ) (s : Sections) (fault : Option Fault) → (let r : Result Sections (Fault × ℕ) = elim fault [ Some f ↦ Err (f, 0) | None ↦ behind_header octets ] in r) ≡ Ok s → (fault ≡ None) × (behind_header octets ≡ Ok s)
+opened octets s None e = (refl, e)
+opened octets s (Some f) e = cc
+
+behind_shows : (octets : List ℕ) (s : Sections) → ((k : ℕ) → get_or octets k 0 < 256) → HasHeader octets → behind_header octets ≡ Ok s → IsMessage octets s
+behind_shows octets s each header e =
+    let q = leads (questions_from octets (word_at octets 4) 12) _ s e in
+    let a = leads (records_from octets (word_at octets 6) q.first.1) _ s q.goes_on in
+    let d = leads (records_from octets (word_at octets 10) a.first.1) _ s a.goes_on in
+    let questions = each_shows (question_at octets) (λ (x : QuestionAt). x.end) (IsQuestionAt octets) (question_shows octets each) (word_at octets 4) 12 q.first q.is in
+    let answers = each_shows (record_at octets) (λ (x : RecordAt). x.end) (IsRecordAt octets) (record_shows octets each) (word_at octets 6) q.first.1 a.first a.is in
+    let additional = each_shows (record_at octets) (λ (x : RecordAt). x.end) (IsRecordAt octets) (record_shows octets each) (word_at octets 10) a.first.1 d.first d.is in
+    let last = passes (d.first.1 == length octets) _ s _ d.goes_on in
+    let end : d.first.1 ≡ length octets = eqb-true _ _ last.0 in
+    subst (IsMessage octets) last.1 (record {
+      header = header;
+      id = refl;
+      question_count = questions.0;
+      answer_count = answers.0;
+      additional_count = additional.0;
+      past_questions = q.first.1;
+      past_answers = a.first.1;
+      questions = questions.1;
+      answers = answers.1;
+      additional = subst (λ n. AreAt (IsRecordAt octets) (λ (x : RecordAt). x.end) a.first.1 d.first.0 n) end additional.1;
+    })
+
+-- what is read as sections is a message
+pub sections_shown : (octets : List ℕ) (s : Sections) → ((k : ℕ) → get_or octets k 0 < 256) → sections_of octets ≡ Ok s → IsMessage octets s
+unfolding sections_of
+sections_shown octets s each e = let o = opened octets s (header_fault octets) e in behind_shows octets s each (header_shows octets o.0) o.1

@@ -1,0 +1,60 @@
+-- The sections of a message are read.
+use Rattle.std.proofs.Common.{◌≡◌, ℕ, ◌≤◌, List, [], ◌∷◌, length, refl, ap, sym, ◌∙◌, subst, false, nat_le}
+use Rattle.std.specs.Prelude.{◌==◌, not, Option, Some, None, Result, Ok, Err}
+use Rattle.std.proofs.lemmas.Bool.{cond-true, cond-false, le-leb, le-ltb, eq-eqb, and_from}
+use Rattle.zone_rdata.specs.declared.fault.Fault.{Fault}
+use Rattle.zone_wire.specs.Message.{word_at, HasHeader, QuestionAt, question_by, IsQuestionAt, RecordAt, record_by, IsRecordAt, AreAt, Sections, IsMessage}
+use Rattle.zone_wire.specs.Name.{Found}
+use Rattle.zone_wire.specs.Reading.{Outcome, named, outcome}
+use Rattle.zone_wire.specs.Sections.{and_then, at_offset, header_fault, inside, question_at, record_at, each_from, behind_header, sections_of}
+use Rattle.zone_wire.specs.Walk.{walk}
+use Rattle.zone_wire.proofs.Walking.{name_walks}
+
+pub and_then_ok : {X Y E : Type 0} (r : Result X E) (x : X) (next : X → Result Y E) → r ≡ Ok x → and_then r next ≡ next x
+and_then_ok r x next e = ap (λ z. and_then z next) e
+
+not_other : (a b : ℕ) → a ≡ b → not (a == b) ≡ false
+not_other a b e = ap not (eq-eqb a b e)
+
+header_reads : (octets : List ℕ) → HasHeader octets → header_fault octets ≡ None
+unfolding header_fault
+header_reads octets is =
+    cond-false _ _ _ (le-ltb _ _ is.twelve) ∙ cond-false _ _ _ (not_other _ _ is.response) ∙ cond-false _ _ _ (not_other _ _ is.whole)
+    ∙ cond-false _ _ _ (not_other _ _ is.no_error) ∙ cond-false _ _ _ (ap not (and_from (nat_le (word_at octets 4) 1) (word_at octets 8 == 0) (le-leb _ _ is.questions) (eq-eqb _ _ is.no_authority)))
+
+inside_reads : {X : Type 0} (octets : List ℕ) (by : Found → X) (end : X → ℕ) (found : Found) (o : Outcome) → o ≡ named found → end (by found) ≤ length octets → inside octets by end o ≡ Ok (by found)
+inside_reads octets by end found o e h = ap (inside octets by end) e ∙ cond-true _ _ _ (le-leb _ _ h)
+
+question_reads : (octets : List ℕ) (offset : ℕ) (q : QuestionAt) → IsQuestionAt octets offset q → question_at octets offset ≡ Ok q
+unfolding question_at
+question_reads octets offset q is =
+    inside_reads octets (question_by octets) (λ (x : QuestionAt). x.end) is.found (outcome octets (walk octets offset)) (name_walks octets offset is.found is.name) (subst (λ (x : QuestionAt). x.end ≤ length octets) is.stands is.inside) ∙ ap Ok (sym is.stands)
+
+record_reads : (octets : List ℕ) (offset : ℕ) (r : RecordAt) → IsRecordAt octets offset r → record_at octets offset ≡ Ok r
+unfolding record_at
+record_reads octets offset r is =
+    inside_reads octets (record_by octets offset) (λ (x : RecordAt). x.end) is.found (outcome octets (walk octets offset)) (name_walks octets offset is.found is.name) (subst (λ (x : RecordAt). x.end ≤ length octets) is.stands is.inside) ∙ ap Ok (sym is.stands)
+
+each_reads : {X : Type 0} (read : ℕ → Result X Fault) (end_of : X → ℕ) (Is : ℕ → X → Type 0) → ((offset : ℕ) (x : X) → Is offset x → read offset ≡ Ok x) → (xs : List X) (count offset past : ℕ) → length xs ≡ count → AreAt Is end_of offset xs past → each_from read end_of count offset ≡ Ok (xs, past)
+each_reads {X} read end_of Is reads xs count offset past size are = subst (λ n. each_from read end_of n offset ≡ Ok (xs, past)) size (by xs offset are)
+  where
+    by : (parts : List X) (start : ℕ) → AreAt Is end_of start parts past → each_from read end_of (length parts) start ≡ Ok (parts, past)
+    by [] start at = ap (λ n. Ok ([], n)) at
+    by (x ∷ parts) start at =
+        and_then_ok (at_offset start (read start)) x _ (ap (at_offset start) (reads start x at.0))
+        ∙ and_then_ok (each_from read end_of (length parts) (end_of x)) (parts, past) _ (by parts (end_of x) at.1)
+
+opens : (octets : List ℕ) (fault : Option Fault) → fault ≡ None → (let r : Result Sections (Fault × ℕ) = elim fault [ Some f ↦ Err (f, 0) | None ↦ behind_header octets ] in r) ≡ behind_header octets
+opens octets None e = refl
+opens octets (Some f) e = cc
+
+-- a message is read as its sections
+pub sections_read : (octets : List ℕ) (s : Sections) → IsMessage octets s → sections_of octets ≡ Ok s
+unfolding sections_of
+sections_read octets s is =
+    opens octets (header_fault octets) (header_reads octets is.header)
+    ∙ and_then_ok _ (s.questions, is.past_questions) _ (each_reads (question_at octets) (λ q. q.end) (IsQuestionAt octets) (question_reads octets) s.questions (word_at octets 4) 12 is.past_questions is.question_count is.questions)
+    ∙ and_then_ok _ (s.answers, is.past_answers) _ (each_reads (record_at octets) (λ r. r.end) (IsRecordAt octets) (record_reads octets) s.answers (word_at octets 6) is.past_questions is.past_answers is.answer_count is.answers)
+    ∙ and_then_ok _ (s.additional, length octets) _ (each_reads (record_at octets) (λ r. r.end) (IsRecordAt octets) (record_reads octets) s.additional (word_at octets 10) is.past_answers (length octets) is.additional_count is.additional)
+    ∙ cond-true _ _ _ (eq-eqb (length octets) (length octets) refl)
+    ∙ ap (λ n. Ok (record s { id = n })) (sym is.id)

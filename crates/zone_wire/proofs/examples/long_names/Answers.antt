@@ -1,0 +1,10 @@
+use Rattle.std.proofs.Common.{refl}
+use Rattle.zone_wire.specs.Walk.{place_of, walk_by, walk, ending}
+use Rattle.zone_wire.proofs.examples.long_names.Goals as goal
+
+pub returns : goal.returns
+unfolding place_of walk_by walk ending
+returns c = record {
+  longest = record { ends = refl; count = refl };
+  too_long = record { ends = refl; count = refl };
+}

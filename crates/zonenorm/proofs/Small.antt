@@ -1,0 +1,41 @@
+-- Records of short lists that are accepted, and names of one label that lie outside an apex of one label.
+use Rattle.std.proofs.Common.{◌≡◌, ◌≢◌, ℕ, List, [], ◌∷◌, sym, subst, ⊎_elim}
+use Rattle.std.specs.List.{AllByRecursion}
+use Rattle.zone_name.specs.Name.{IsWithin}
+use Rattle.zone_rdata.specs.Record.{Record}
+use Rattle.zone_rdata.specs.declared.record.Placed.{Placed}
+use Rattle.zone_set.specs.Builder.{OtherClass, OtherSoa, Accepts}
+use Rattle.zone_set.specs.Refusal.{AllAccepted}
+use Rattle.zone_set.specs.Zone.{Has, InOneSet}
+use Rattle.zonenorm.proofs.Deciding.{AllAccepted-push, none_before}
+
+each_Has : (P : Record → Type 0) (records : List Record) (r : Record) → AllByRecursion P records → Has records r → P r
+each_Has P [] r each has = absurd has
+each_Has P (s ∷ records) r each has = ⊎_elim (λ same. subst P (sym same) each.0) (λ more. each_Has P records r each.1 more) has
+
+pub no_other_class : (held : List Record) (r : Record) → AllByRecursion (λ s. s.class ≡ r.class) held → OtherClass held r → ⊥
+no_other_class held r each (s, has, other) = other (each_Has (λ t. t.class ≡ r.class) held s each has)
+
+pub no_other_soa : (held : List Record) (r : Record) → r.kind ≢ 6 → OtherSoa held r → ⊥
+no_other_soa held r other (is_soa, s, has, soa_s, differs) = other is_soa
+
+pub fits : (held : List Record) (r : Record) → AllByRecursion (λ s. s.class ≡ r.class) held → r.kind ≢ 6 → AllByRecursion (λ s. InOneSet s r → s.ttl ≡ r.ttl) held → Accepts held r
+fits held r classes other ttls = record {
+  one_class = no_other_class held r classes;
+  one_soa = no_other_soa held r other;
+  one_ttl = λ (s, has, one, differs). differs (each_Has (λ t. InOneSet t r → t.ttl ≡ r.ttl) held s ttls has one);
+}
+
+pub all_of_one : (p : Placed) → AllAccepted (p ∷ [])
+all_of_one p = AllAccepted-push [] p none_before (record { one_class = λ (s, has, other). has; one_soa = λ (is_soa, s, has, soa_s, other). has; one_ttl = λ (s, has, one, other). has })
+
+pub all_of_two : (p q : Placed) → Accepts (p.rr ∷ []) q.rr → AllAccepted (p ∷ q ∷ [])
+all_of_two p q accepted = AllAccepted-push (p ∷ []) q (all_of_one p) accepted
+
+pub all_of_three : (p q s : Placed) → Accepts (p.rr ∷ []) q.rr → Accepts (p.rr ∷ q.rr ∷ []) s.rr → AllAccepted (p ∷ q ∷ s ∷ [])
+all_of_three p q s accepted accepted_last = AllAccepted-push (p ∷ q ∷ []) s (all_of_two p q accepted) accepted_last
+
+pub outside_of : (label apex : List ℕ) → label ≢ apex → IsWithin (label ∷ []) (apex ∷ []) → ⊥
+outside_of label apex other ([], parts) = other cc
+outside_of label apex other (l ∷ [], parts) = cc
+outside_of label apex other (l ∷ m ∷ below, parts) = cc

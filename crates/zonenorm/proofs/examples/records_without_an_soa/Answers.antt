@@ -1,0 +1,16 @@
+use Rattle.std.proofs.Common.{◌≡◌, codes, refl, ap, sym, ◌∙◌, ⊎_elim, arith}
+use Rattle.zone_rdata.specs.declared.fault.Fault.TheVariants.{NoSoa}
+use Rattle.zone_rdata.specs.declared.fault.Place.TheVariants.{Whole}
+use Rattle.zone_set.specs.Builder.{no_soa}
+use Rattle.zonenorm.specs.Examples.{top, server_of}
+use Rattle.zonenorm.specs.Refusal.{unfinished}
+use Rattle.zonenorm.proofs.Small.{fits, all_of_two}
+use Rattle.zonenorm.proofs.examples.records_without_an_soa.Goals as goal
+
+pub returns : goal.returns
+returns c =
+    unfinished NoSoa Whole
+    (all_of_two _ _ (fits _ (server_of (top (codes "b")) 60) (refl, tt) (λ same. let no : 2 ≡ 6 = same in omega arith) (λ one. refl, tt)))
+    refl
+    (no_soa (λ r has soa. ⊎_elim (λ is. let no : 2 ≡ 6 = sym (ap (λ t. t.kind) is) ∙ soa in omega arith)
+    (λ more. ⊎_elim (λ is. let no : 2 ≡ 6 = sym (ap (λ t. t.kind) is) ∙ soa in omega arith) (λ none. none) more) has))

@@ -1,0 +1,60 @@
+-- Why an input is refused, and where: its first fault (RFC 1035 5; the order of faults is this project's choice).
+use Rattle.std.specs.Prelude.{◌≡◌, ℕ, ◌<◌, ◌≤◌, ◌+◌, List, [], ◌++◌, length, count_by, ◌==◌, Option, Some, None, IfSome}
+use Rattle.zone_rdata.specs.declared.fault.Fault.{Fault}
+use Rattle.zone_rdata.specs.declared.fault.Fault.TheVariants.{ZoneTooLarge, InputTooLong}
+use Rattle.zone_rdata.specs.declared.fault.Place.{Place}
+use Rattle.zone_rdata.specs.declared.fault.Place.TheVariants.{Line, Whole}
+use Rattle.zone_rdata.specs.declared.fault.Stop.{Stop}
+use Rattle.zone_rdata.specs.declared.fault.Stop.TheVariants.{Refused, Read, Write, Memory}
+use Rattle.zone_rdata.specs.declared.record.Placed.{Placed}
+use Rattle.zone_text.specs.File.{FileStates}
+use Rattle.zone_text.specs.FileReads.{FileReads}
+use Rattle.zone_set.specs.Builder.{StopsFinish}
+use Rattle.zone_set.specs.Refusal.{AllAccepted, IsFirstRefused, records_of}
+use Rattle.zone_set.specs.Zone.{Zone, IsZone, SameRecords}
+use Rattle.zone_print.specs.Canonical.{canon, text_limit}
+
+-- What refuses a reading, the records of an input in their order and the fault after them: the first record that can't
+-- stand with those before it; else the fault of reading; else that no SOA is there, or an owner outside the zone, of
+-- which the least is named; else that the canonical text of the zone is too long.
+pub data RefusesReading (placed : List Placed) (ending : Option (Fault × Place)) : Fault → Place → Type 0 where
+  refused : (fault : Fault) (place : Place) → IsFirstRefused placed fault place → RefusesReading placed ending fault place
+  unread : (fault : Fault) (place : Place) → AllAccepted placed → ending ≡ Some (fault, place) → RefusesReading placed ending fault place
+  unfinished : (fault : Fault) (place : Place) → AllAccepted placed → ending ≡ None → StopsFinish (records_of placed) (Refused fault place) → RefusesReading placed ending fault place
+  too_large : (z : Zone) → ending ≡ None → IsZone z → SameRecords z.records (records_of placed) → text_limit < length (canon z) → RefusesReading placed ending ZoneTooLarge Whole
+
+-- the records of a reading are those of the zone, as a set, and its canonical text is within the limit
+pub record MakesZone (placed : List Placed) (z : Zone) : Type 0 where
+  pub zone : IsZone z
+  pub same : SameRecords z.records (records_of placed)
+  pub text_short : length (canon z) ≤ text_limit
+
+-- why a master file is refused under its origin: it is longer than the limit, or else its reading is refused
+pub data IsRefusal (origin : List (List ℕ)) (octets : List ℕ) : Fault → Place → Type 0 where
+  too_long : text_limit < length octets → IsRefusal origin octets InputTooLong Whole
+  reading : (placed : List Placed) (ending : Option (Fault × Place)) (fault : Fault) (place : Place) → length octets ≤ text_limit → FileReads origin octets placed ending → RefusesReading placed ending fault place → IsRefusal origin octets fault place
+
+-- The records of a front of the octets and the fault that stands behind it, at the line that begins there, are refused.
+-- The front is all of the octets where no fault stands behind it.
+pub record RefusesRead (origin : List (List ℕ)) (octets : List ℕ) (fault : Fault) (place : Place) : Type 0 where
+  pub front : List ℕ
+  pub rest : List ℕ
+  pub placed : List Placed
+  pub ending : Option (Fault × Place)
+  pub whole : octets ≡ front ++ rest
+  pub states : FileStates origin front placed
+  pub all : ending ≡ None → rest ≡ []
+  pub behind : IfSome ending (λ e. e.1 ≡ Line (1 + count_by (λ c. c == 10) front))
+  pub refuses : RefusesReading placed ending fault place
+
+-- octets are refused: for their length where they are longer than the limit, and else as they were read
+pub data RefusesOctets (origin : List (List ℕ)) (octets : List ℕ) : Fault → Place → Type 0 where
+  over : text_limit < length octets → RefusesOctets origin octets InputTooLong Whole
+  read : (fault : Fault) (place : Place) → length octets ≤ text_limit → RefusesRead origin octets fault place → RefusesOctets origin octets fault place
+
+-- the fault and place of a refusal are so
+abbrev pub IfRefused : Stop → (Fault → Place → Type 0) → Type 0
+IfRefused (Refused fault place) P = P fault place
+IfRefused Read P = Unit {0}
+IfRefused Write P = Unit {0}
+IfRefused Memory P = Unit {0}

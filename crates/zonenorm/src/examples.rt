@@ -1,0 +1,63 @@
+//! Refusals and canonical texts of small inputs, computed from the definitions.
+ghost use Rattle.std.specs.Prelude.{◌≡◌, ◌∷◌, ◌++◌, [], Some, None, ℕ, List, length, codes};
+ghost use Rattle.zone_rdata.specs.declared.fault.Fault.TheVariants.{ClassMismatch, MultipleSoa, DifferingTtl, UnclosedQuote, NoSoa, OutOfZone, InputTooLong};
+ghost use Rattle.zone_rdata.specs.declared.fault.Place.TheVariants.{Line, Whole};
+ghost use Rattle.zone_set.specs.Refusal.{IsFirstRefused};
+ghost use Rattle.zone_print.specs.Canonical.{canon};
+ghost use Rattle.zonenorm.specs.Examples.{top, under, x, a_x, soa_of, server_of, address_of, from_line};
+ghost use Rattle.zonenorm.specs.Refusal.{IsRefusal, RefusesReading};
+
+/// The canonical text of a zone with an SOA and a name server.
+pub fn a_canonical_text()
+    ensures { canon (record { apex = x; class = 1; records = soa_of 1 3600 1 ∷ server_of x 3600 ∷ [] }) ≡ codes "x. 3600 IN SOA n.x. h.x. 1 2 3 4 5" ++ 10 ∷ codes "x. 3600 IN NS n.x." ++ 10 ∷ [] }
+{}
+
+/// A record whose class, SOA data and TTL differ is refused for its class.
+pub fn a_record_of_another_class()
+    ensures { IsFirstRefused (from_line 1 (soa_of 1 60 1 ∷ soa_of 3 61 2 ∷ [])) ClassMismatch (Line 2) }
+{}
+
+/// A second SOA with another SERIAL.
+pub fn a_second_soa()
+    ensures { IsFirstRefused (from_line 1 (soa_of 1 60 1 ∷ soa_of 1 60 2 ∷ [])) MultipleSoa (Line 2) }
+{}
+
+/// Two addresses of one owner with different TTLs.
+pub fn a_differing_ttl()
+    ensures { IsFirstRefused (from_line 1 (soa_of 1 60 1 ∷ address_of a_x 300 1 ∷ address_of a_x 600 2 ∷ [])) DifferingTtl (Line 3) }
+{}
+
+/// Records without an SOA.
+pub fn records_without_an_soa()
+    ensures { RefusesReading (from_line 1 (server_of (top (codes "a")) 60 ∷ server_of (top (codes "b")) 60 ∷ [])) None NoSoa Whole }
+{}
+
+/// Of two owners outside the zone the least is named.
+pub fn owners_outside_the_zone()
+    ensures { RefusesReading (from_line 1 (soa_of 1 60 1 ∷ server_of (under (codes "b") (top (codes "y"))) 60 ∷ server_of (top (codes "y")) 60 ∷ [])) None (OutOfZone (top (codes "y"))) Whole }
+{}
+
+/// A differing TTL hides a quote that is left open on a later line.
+pub fn a_differing_ttl_before_an_open_quote()
+    ensures { RefusesReading (from_line 1 (soa_of 1 60 1 ∷ address_of a_x 60 1 ∷ address_of a_x 61 1 ∷ [])) (Some (UnclosedQuote, Line 4)) DifferingTtl (Line 3) }
+{}
+
+/// An open quote hides that no SOA is there.
+pub fn an_open_quote_before_a_missing_soa()
+    ensures { RefusesReading (from_line 1 (server_of (top (codes "a")) 60 ∷ [])) (Some (UnclosedQuote, Line 2)) UnclosedQuote (Line 2) }
+{}
+
+/// An input of one octet more than the limit, whatever it states.
+pub fn an_input_that_is_too_long()
+    ensures { (octets : List ℕ) → length octets ≡ 1073741825 → IsRefusal x octets InputTooLong Whole }
+{}
+
+/// An empty input has no SOA.
+pub fn an_empty_input()
+    ensures { IsRefusal x [] NoSoa Whole }
+{}
+
+/// An input of an opening quote alone.
+pub fn an_input_of_an_open_quote()
+    ensures { IsRefusal x (34 ∷ []) UnclosedQuote (Line 1) }
+{}

@@ -1,0 +1,65 @@
+//! Laws of inputs over the definitions alone. The functions only call other laws: their contracts are the laws.
+ghost use Rattle.std.specs.Prelude.{◌≡◌, ◌⊎◌, ℕ, List, Option, Some, None};
+ghost use Rattle.std.specs.List.{AllByRecursion};
+ghost use Rattle.zone_rdata.specs.Record.{IsRecord};
+ghost use Rattle.zone_rdata.specs.declared.fault.Fault.{Fault};
+ghost use Rattle.zone_rdata.specs.declared.fault.Place.{Place};
+ghost use Rattle.zone_rdata.specs.declared.record.Placed.{Placed};
+ghost use Rattle.zone_set.specs.Refusal.{records_of};
+ghost use Rattle.zone_set.specs.Zone.{Zone};
+ghost use Rattle.zone_text.specs.FileReads.{FileReads};
+ghost use Rattle.zone_print.specs.Denotes.{Denotes};
+ghost use Rattle.zonenorm.specs.Refusal.{IsRefusal, MakesZone, RefusesReading};
+
+/// A reading is refused for at most one fault, at one place.
+pub fn one_fault_of_a_reading()
+    ensures { (placed : List Placed) (ending : Option (Fault × Place)) (fault other : Fault) (place elsewhere : Place)
+        → RefusesReading placed ending fault place → RefusesReading placed ending other elsewhere → (fault ≡ other) × (place ≡ elsewhere) }
+{
+    zone_name::laws::order_is_total();
+}
+
+/// A reading that is refused makes no zone.
+pub fn no_zone_of_a_refused_reading()
+    ensures { (placed : List Placed) (fault : Fault) (place : Place) → RefusesReading placed None fault place → (z : Zone) → MakesZone placed z → ⊥ }
+{
+    zone_print::laws::one_zone_of_records();
+}
+
+/// Every reading is refused or makes a zone, and one with a fault at its end is refused.
+pub fn refusal_or_zone_of_a_reading()
+    ensures whole { (placed : List Placed) → AllByRecursion IsRecord (records_of placed)
+        → ((fault : Fault) × (place : Place) × RefusesReading placed None fault place) ⊎ ((z : Zone) × MakesZone placed z) }
+    ensures broken { (placed : List Placed) (ending : Fault × Place) → (fault : Fault) × (place : Place) × RefusesReading placed (Some ending) fault place }
+{
+    zone_name::laws::order_is_total();
+    zone_name::laws::order_is_exact();
+    zone_print::laws::canonical_order_is_total();
+}
+
+/// An input is refused for at most one fault, at one place.
+pub fn one_refusal()
+    ensures { (origin : List (List ℕ)) (octets : List ℕ) (fault other : Fault) (place elsewhere : Place)
+        → IsRefusal origin octets fault place → IsRefusal origin octets other elsewhere → (fault ≡ other) × (place ≡ elsewhere) }
+{
+    one_fault_of_a_reading();
+    zone_text::laws::file::a_file_has_one_reading();
+}
+
+/// An input that is refused denotes no zone.
+pub fn no_zone_of_a_refused_input()
+    ensures { (origin : List (List ℕ)) (octets : List ℕ) (fault : Fault) (place : Place) → IsRefusal origin octets fault place → (z : Zone) → Denotes origin octets z → ⊥ }
+{
+    no_zone_of_a_refused_reading();
+    zone_text::laws::file::a_file_has_one_reading();
+    zone_text::laws::file::a_file_states_what_is_read();
+}
+
+/// An input that has a reading is refused or denotes a zone.
+pub fn refusal_or_zone()
+    ensures { (origin : List (List ℕ)) (octets : List ℕ) (placed : List Placed) (ending : Option (Fault × Place)) → FileReads origin octets placed ending
+        → ((fault : Fault) × (place : Place) × IsRefusal origin octets fault place) ⊎ ((z : Zone) × Denotes origin octets z) }
+{
+    refusal_or_zone_of_a_reading();
+    zone_text::laws::file::a_file_states_what_is_read();
+}
