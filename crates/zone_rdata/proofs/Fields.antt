@@ -60,11 +60,6 @@ laid_out row values last h =
     let back : values_of row (octets_of values) ≡ values = values_back row values last h in
     record { held = subst (HoldEach row) (sym back) h; whole = ap octets_of back }
 
--- octets, element by element
-pub bytes_each : (octets : List ℕ) → ((i : ℕ) → get_or octets i 0 < 256) → AllByRecursion (λ c. c < 256) octets
-bytes_each [] h = tt
-bytes_each (c ∷ octets) h = (h 0, bytes_each octets (λ i. h (suc i)))
-
 -- what an item spells for a field, the field can hold
 spelt_holds : (origin : List (List ℕ)) (f : Field) (item : RawItem) (v : FieldValue) → SpellsField origin f item v → Holds f v
 spelt_holds origin fields.Name (bare text) (name labels) h = h.name

@@ -1,6 +1,7 @@
 pub mod Words
 pub mod Names
 pub mod Minima
+pub mod Bytes
 pub mod StringFields
 pub mod AddressFields
 pub mod Sent
