@@ -33,3 +33,4 @@ pub mod Addresses
 pub mod AddressParts
 pub mod AddressGaps
 pub mod AddressLaws
+pub mod Building
