@@ -36,3 +36,4 @@ pub mod AddressGaps
 pub mod AddressLaws
 pub mod AddressOctets
 pub mod OneWord
+pub mod Building

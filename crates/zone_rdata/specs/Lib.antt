@@ -20,3 +20,5 @@ pub mod Reading
 pub mod Text
 pub mod Source
 pub mod AddressReading
+pub mod Builder
+pub mod BuilderPart

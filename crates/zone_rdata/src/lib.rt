@@ -2,6 +2,7 @@
 #![tactic(auto)]
 
 mod address;
+mod builder;
 mod class;
 mod fault;
 mod front;
@@ -24,6 +25,7 @@ mod time;
 mod uncompressed;
 mod word;
 
+pub use builder::RdataBuilder;
 pub use class::Class;
 pub use fault::{Failing, Fault, Place, Stop};
 pub use item::Item;

@@ -143,6 +143,18 @@ impl Rdata {
         })
     }
 
+    /// The data of these octets.
+    pub(crate) fn of_octets(class: Class, kind: Kind, octets: Vec<u8>) -> Rdata
+        requires { IsRdata (record { class = class; kind = kind; octets = octets.items }) }
+        ensures { result ≡ record { class = class; kind = kind; octets = octets.items } }
+    {
+        Rdata {
+            class,
+            kind,
+            octets,
+        }
+    }
+
     pub fn class(&self) -> Class
         ensures { result ≡ self.now.class }
     {

@@ -4,6 +4,7 @@ use std::collections::VecDeque;
 use std::test::Fail;
 use zone_name::{Name, NameFault};
 
+mod builder;
 mod items;
 mod wire;
 

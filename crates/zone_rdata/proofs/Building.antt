@@ -1,0 +1,261 @@
+-- Data that is made part by part.
+use Rattle.std.proofs.Common.{◌≡◌, ◌≢◌, ℕ, zero, suc, ◌+◌, ◌-◌, ◌^◌, ◌<◌, ◌≤◌, Bool, true, false, IsTrue, ◌↔◌, List, [], ◌∷◌, ◌++◌, length, Option, Some, None, refl, sym, ap, ◌∙◌, subst, arith, add-one, append_assoc, length-append}
+use Rattle.std.specs.List.{flat_map, AllByRecursion}
+use Rattle.std.proofs.lemmas.List.{append-nil}
+use Rattle.std.proofs.lemmas.List.Concat.{flat_map-append}
+use Rattle.zone_name.specs.Name.{IsName, frame, wire}
+use Rattle.zone_rdata.specs.declared.fault.Fault.{Fault}
+use Rattle.zone_rdata.specs.declared.fault.Fault.TheVariants.{BadRdata}
+use Rattle.zone_rdata.specs.declared.layout.Field.{Field}
+use Rattle.zone_rdata.specs.declared.layout.Field.TheVariants as fields
+use Rattle.zone_rdata.specs.Builder.{Built, Suits, IsOpaque, IsNext, FitsString, Pushes, IsPushFault, misplaced, long_string, too_long, IsWhole, part_field, more_fields, part_fields, parts_of, AreParts, IsBuilt, IsReal, IsOver, over_string, over_data, Grows, least_of}
+use Rattle.zone_rdata.specs.Field.{FieldValue, name, long, two_octets, fixed, string, strings, field_octets, octets_of, AreStrings, Holds, HoldEach, values_of}
+use Rattle.zone_rdata.specs.Layout.{AreLaidOut, StringsLast, layout}
+use Rattle.zone_rdata.specs.Reading.{item_field}
+use Rattle.zone_rdata.specs.Strings.{IsString}
+use Rattle.zone_rdata.specs.Record.{Data, IsRdata}
+use Rattle.zone_rdata.proofs.Fields.{AreFor, laid_out, table_row, values_back}
+
+-- ---- the parts that are held
+length-values_of : (row : List Field) (octets : List ℕ) → length (values_of row octets) ≡ length row
+length-values_of [] octets = refl
+length-values_of (f ∷ row) octets = ap suc (length-values_of row _)
+
+pub parts_length : (laid : Option (List Field)) (count : ℕ) (octets : List ℕ) → AreParts laid count octets → length (parts_of laid count octets) ≡ count
+parts_length None zero octets held = refl
+parts_length None (suc n) octets held = omega (arith, held)
+parts_length (Some row) n octets held = length-values_of (part_fields row n) octets ∙ held.0
+
+pub parts_octets : (laid : Option (List Field)) (count : ℕ) (octets : List ℕ) → AreParts laid count octets → octets_of (parts_of laid count octets) ≡ octets
+parts_octets None zero octets held = sym held
+parts_octets None (suc n) octets held = append-nil octets
+parts_octets (Some row) n octets held = held.1.whole
+
+octets_push : (values : List FieldValue) (v : FieldValue) → octets_of (values ++ v ∷ []) ≡ octets_of values ++ field_octets v
+octets_push values v = flat_map-append field_octets values (v ∷ []) ∙ ap (λ o. octets_of values ++ o) (append-nil (field_octets v))
+
+-- ---- one more part
+plain_part : (f : Field) → part_field f ≢ fields.Strings
+plain_part fields.Strings = λ e. cc
+plain_part f = λ e. cc
+
+AreOne : List Field → Type 0
+AreOne row = AllByRecursion (λ f. f ≢ fields.Strings) row
+
+more_plain : (f : Field) (n : ℕ) → AllByRecursion (λ g. g ≢ fields.Strings) (more_fields f n)
+more_plain fields.Strings zero = tt
+more_plain fields.Strings (suc n) = (λ e. cc, more_plain fields.Strings n)
+more_plain f n = tt
+
+plain_fields : (row : List Field) (n : ℕ) → AllByRecursion (λ f. f ≢ fields.Strings) (part_fields row n)
+plain_fields row zero = tt
+plain_fields [] (suc n) = tt
+plain_fields (f ∷ []) (suc n) = (plain_part f, more_plain f n)
+plain_fields (f ∷ g ∷ row) (suc n) = (plain_part f, plain_fields (g ∷ row) n)
+
+plain_last : (row : List Field) → AllByRecursion (λ f. f ≢ fields.Strings) row → StringsLast row
+plain_last [] each = tt
+plain_last (f ∷ []) each = tt
+plain_last (f ∷ g ∷ row) each = (each.0, plain_last (g ∷ row) each.1)
+
+more_push : (n : ℕ) → more_fields fields.Strings (suc n) ≡ more_fields fields.Strings n ++ fields.OneString ∷ []
+more_push zero = refl
+more_push (suc n) = ap (λ r. fields.OneString ∷ r) (more_push n)
+
+last_push : (f g : Field) (n : ℕ) → item_field (f ∷ []) n ≡ Some g → part_fields (f ∷ []) (suc n) ≡ part_fields (f ∷ []) n ++ part_field g ∷ []
+last_push fields.Strings g zero e = ap (λ h. part_field h ∷ []) (let s : fields.Strings ≡ g = cc in s)
+last_push fields.Strings g (suc n) e = ap (λ r. fields.OneString ∷ r) (more_push n) ∙ ap (λ h. fields.OneString ∷ (more_fields fields.Strings n ++ part_field h ∷ [])) (let s : fields.Strings ≡ g = cc in s)
+last_push f g zero e = ap (λ h. part_field h ∷ []) (let s : f ≡ g = cc in s)
+last_push f g (suc n) e = absurd (let s : None ≡ Some g = e in cc)
+
+fields_push : (row : List Field) (f : Field) (n : ℕ) → item_field row n ≡ Some f → part_fields row (suc n) ≡ part_fields row n ++ part_field f ∷ []
+fields_push [] f n e = absurd (let s : None ≡ Some f = e in cc)
+fields_push (g ∷ []) f n e = last_push g f n e
+fields_push (g ∷ h ∷ row) f zero e = ap (λ k. part_field k ∷ []) (let s : g ≡ f = cc in s)
+fields_push (g ∷ h ∷ row) f (suc n) e = ap (λ r. part_field g ∷ r) (fields_push (h ∷ row) f n e)
+
+hold_push : (row : List Field) (values : List FieldValue) (f : Field) (v : FieldValue) → HoldEach row values → Holds f v → HoldEach (row ++ f ∷ []) (values ++ v ∷ [])
+hold_push [] [] f v each h = (h, tt)
+hold_push [] (w ∷ values) f v each h = absurd each
+hold_push (g ∷ row) [] f v each h = absurd each
+hold_push (g ∷ row) (w ∷ values) f v each h = (each.0, hold_push row values f v each.1 h)
+
+holds_part : (f : Field) (v : FieldValue) → Suits (Some f) v → FitsString v → IsReal v → Holds (part_field f) v
+holds_part fields.Name (name labels) s t r = r
+holds_part fields.Serial (long n) s t r = r
+holds_part fields.Time (long n) s t r = r
+holds_part fields.U16 (two_octets n) s t r = r
+holds_part (fields.Octets n) (fixed octets) s t r = record { size = s.0; each = r }
+holds_part fields.OneString (string octets) s t r = record { short = t; each = r }
+holds_part fields.Strings (string octets) s t r = record { short = t; each = r }
+holds_part f v s t r = absurd s
+
+some_octets : (f : Field) (v : FieldValue) → Suits (Some f) v → 0 < length (field_octets v)
+some_octets fields.Name (name labels) s = omega (arith, length-append (flat_map frame labels) (0 ∷ []))
+some_octets fields.Serial (long n) s = omega arith
+some_octets fields.Time (long n) s = omega arith
+some_octets fields.U16 (two_octets n) s = omega arith
+some_octets (fields.Octets n) (fixed octets) s = omega (arith, s.0, s.1)
+some_octets fields.OneString (string octets) s = omega arith
+some_octets fields.Strings (string octets) s = omega arith
+some_octets f v s = absurd s
+
+some_field : (o : Option Field) (v : FieldValue) → Suits o v → (f : Field) × (o ≡ Some f) × Suits (Some f) v
+some_field (Some f) v s = (f, refl, s)
+some_field None v s = absurd s
+
+-- the parts with one more
+pub record Pushed (laid : Option (List Field)) (count : ℕ) (octets : List ℕ) (part : FieldValue) : Type 0 where
+  pub held : AreParts laid (suc count) (octets ++ field_octets part)
+  pub made : parts_of laid (suc count) (octets ++ field_octets part) ≡ parts_of laid count octets ++ part ∷ []
+  pub few : count ≤ length octets + 1 → suc count ≤ length (octets ++ field_octets part) + 1
+
+pushed_field : (row : List Field) (f : Field) (count : ℕ) (octets : List ℕ) (part : FieldValue) → AreParts (Some row) count octets → item_field row count ≡ Some f → Holds (part_field f) part → 0 < length (field_octets part) → Pushed (Some row) count octets part
+pushed_field row f count octets part held e holds some =
+    let here = part_fields row count in
+    let values = values_of here octets in
+    let next : part_fields row (suc count) ≡ here ++ part_field f ∷ [] = fields_push row f count e in
+    let same : octets_of (values ++ part ∷ []) ≡ octets ++ field_octets part = octets_push values part ∙ ap (λ o. o ++ field_octets part) held.1.whole in
+    let each = hold_push here values (part_field f) part held.1.held holds in
+    let last : StringsLast (here ++ part_field f ∷ []) = plain_last (here ++ part_field f ∷ []) (subst (λ r. AllByRecursion (λ g. g ≢ fields.Strings) r) next (plain_fields row (suc count))) in
+    record {
+      held = (ap length next ∙ length-append here (part_field f ∷ []) ∙ (let n : length here + 1 ≡ suc count = omega (arith, held.0) in n), subst (λ r. AreLaidOut r (octets ++ field_octets part)) (sym next) (subst (AreLaidOut (here ++ part_field f ∷ [])) same (laid_out (here ++ part_field f ∷ []) (values ++ part ∷ []) last each)));
+      made = ap (λ r. values_of r (octets ++ field_octets part)) next ∙ ap (values_of (here ++ part_field f ∷ [])) (sym same) ∙ values_back (here ++ part_field f ∷ []) (values ++ part ∷ []) last each;
+      few = λ h. omega (arith, length-append octets (field_octets part));
+    }
+
+pushed_opaque : (count : ℕ) (octets : List ℕ) (part : FieldValue) → AreParts None count octets → IsOpaque count part → Pushed None count octets part
+pushed_opaque zero octets (fixed more) held s = record { held = refl; made = ap (λ o. fixed (o ++ more) ∷ []) held; few = λ h. omega arith }
+pushed_opaque count octets part held s = absurd s
+
+pub pushed_part : (laid : Option (List Field)) (count : ℕ) (octets : List ℕ) (part : FieldValue) → AreParts laid count octets → IsNext laid count part → FitsString part → IsReal part → Pushed laid count octets part
+pushed_part None count octets part held next fits real = pushed_opaque count octets part held next
+pushed_part (Some row) count octets part held next fits real =
+    let f = some_field (item_field row count) part next in
+    pushed_field row f.0 count octets part held f.1 (holds_part f.0 part f.2 fits real) (some_octets f.0 part f.2)
+
+-- ---- all parts
+pub record WholeParts (row : List Field) (octets : List ℕ) : Type 0 where
+  pub own : List FieldValue
+  pub each : HoldEach row own
+  pub same : octets_of own ≡ octets
+
+record ManyParts (values : List FieldValue) : Type 0 where
+  many : List (List ℕ)
+  each : AllByRecursion IsString many
+  same : flat_map frame many ≡ octets_of values
+
+join_parts : (n : ℕ) (values : List FieldValue) → HoldEach (more_fields fields.Strings n) values → ManyParts values
+join_parts zero [] h = record { many = []; each = tt; same = refl }
+join_parts zero (v ∷ values) h = absurd h
+join_parts (suc n) [] h = absurd h
+join_parts (suc n) (string s ∷ values) h =
+    let rest = join_parts n values h.1 in
+    record { many = s ∷ rest.many; each = (h.0, rest.each); same = ap (λ o. frame s ++ o) rest.same }
+join_parts (suc n) (v ∷ values) h = absurd h.0
+
+last_whole : (f : Field) (n : ℕ) (values : List FieldValue) → HoldEach (part_fields (f ∷ []) (suc n)) values → WholeParts (f ∷ []) (octets_of values)
+last_whole fields.Strings n [] h = absurd h
+last_whole fields.Strings n (string s ∷ values) h =
+    let rest = join_parts n values h.1 in
+    record { own = strings (s ∷ rest.many) ∷ []; each = (record { some = omega arith; each = (h.0, rest.each) }, tt); same = append-nil (frame s ++ flat_map frame rest.many) ∙ ap (λ o. frame s ++ o) rest.same }
+last_whole fields.Strings n (v ∷ values) h = absurd h.0
+last_whole f n [] h = absurd h
+last_whole f n (v ∷ []) h = record { own = v ∷ []; each = (h.0, tt); same = refl }
+last_whole f n (v ∷ w ∷ values) h = absurd h.1
+
+whole_by : (row : List Field) (n : ℕ) (values : List FieldValue) → StringsLast row → length row ≤ n → HoldEach (part_fields row n) values → WholeParts row (octets_of values)
+whole_by [] zero [] last past h = record { own = []; each = tt; same = refl }
+whole_by [] zero (v ∷ values) last past h = absurd h
+whole_by [] (suc n) [] last past h = record { own = []; each = tt; same = refl }
+whole_by [] (suc n) (v ∷ values) last past h = absurd h
+whole_by (f ∷ row) zero values last past h = absurd (omega arith)
+whole_by (f ∷ []) (suc n) values last past h = last_whole f n values h
+whole_by (f ∷ g ∷ row) (suc n) [] last past h = absurd h
+whole_by (f ∷ g ∷ row) (suc n) (v ∷ values) last past h =
+    let rest = whole_by (g ∷ row) n values last.1 (omega arith) h.1 in
+    record { own = v ∷ rest.own; each = (whole_part f v last.0 h.0, rest.each); same = ap (λ o. field_octets v ++ o) rest.same }
+  where
+    whole_part : (f : Field) (v : FieldValue) → f ≢ fields.Strings → Holds (part_field f) v → Holds f v
+    whole_part fields.Strings v other h = absurd (other refl)
+    whole_part f v other h = h
+
+pub whole_laid : (row : List Field) (count : ℕ) (octets : List ℕ) → StringsLast row → length row ≤ count → AreParts (Some row) count octets → AreLaidOut row octets
+whole_laid row count octets last past held =
+    let whole = whole_by row count (values_of (part_fields row count) octets) last past held.1.held in
+    subst (AreLaidOut row) (whole.same ∙ held.1.whole) (laid_out row whole.own last whole.each)
+
+-- ---- what the code answers
+pub over_as : (octets more : List ℕ) (v : FieldValue) → FitsString v → more ≡ field_octets v → (fault : Fault) → IsOver octets (fixed more) fault → IsOver octets v fault
+over_as octets more v fits e _ (over_string none) = absurd (none tt)
+over_as octets more v fits e _ (over_data f h) = over_data fits (subst (λ m. 65535 < length octets + length m) e h)
+
+pub grows_as : (octets more new : List ℕ) (v : FieldValue) → FitsString v → more ≡ field_octets v → Grows octets (fixed more) new → Grows octets v new
+grows_as octets more new v fits e g = record { string_fits = fits; fits = subst (λ m. length octets + length m ≤ 65535) e g.fits; written = g.written ∙ ap (λ m. octets ++ m) e }
+
+abbrev pub built : ℕ → ℕ → ℕ → List ℕ → Built
+built class kind count octets = record { class = class; kind = kind; parts = parts_of (layout class kind) count octets }
+
+grown_octets : (laid : Option (List Field)) (count : ℕ) (octets : List ℕ) (part : FieldValue) → AreParts laid count octets → octets_of (parts_of laid count octets ++ part ∷ []) ≡ octets ++ field_octets part
+grown_octets laid count octets part held = octets_push (parts_of laid count octets) part ∙ ap (λ o. o ++ field_octets part) (parts_octets laid count octets held)
+
+next_parts : (class kind count : ℕ) (octets : List ℕ) (part : FieldValue) → IsBuilt class kind count octets → IsNext (layout class kind) count part → IsNext (layout class kind) (length (parts_of (layout class kind) count octets)) part
+next_parts class kind count octets part is next = subst (λ n. IsNext (layout class kind) n part) (sym (parts_length (layout class kind) count octets is.held)) next
+
+pub push_misplaced : (class kind count : ℕ) (octets : List ℕ) (b : Built) (part : FieldValue) (r : Bool) → built class kind count octets ≡ b → IsBuilt class kind count octets → r ≡ false → (IsTrue r ↔ IsNext (layout class kind) count part) → IsPushFault b part BadRdata
+push_misplaced class kind count octets b part r e is refused test =
+    subst (λ v. IsPushFault v part BadRdata) e (misplaced (λ next. let t = test.1 (subst (λ n. IsNext (layout class kind) n part) (parts_length (layout class kind) count octets is.held) next) in absurd (let bad : false ≡ true = sym refused ∙ t in cc)))
+
+over_push : (class kind count : ℕ) (octets : List ℕ) (part : FieldValue) (fault : Fault) → IsBuilt class kind count octets → IsNext (layout class kind) count part → IsOver octets part fault → IsPushFault (built class kind count octets) part fault
+over_push class kind count octets part _ is next (over_string none) = long_string (next_parts class kind count octets part is next) none
+over_push class kind count octets part _ is next (over_data fits h) = too_long (next_parts class kind count octets part is next) fits (omega (arith, ap length (grown_octets (layout class kind) count octets part is.held), length-append octets (field_octets part)))
+
+pub push_over : (class kind count : ℕ) (octets : List ℕ) (b : Built) (part : FieldValue) (fault : Fault) → built class kind count octets ≡ b → IsBuilt class kind count octets → IsNext (layout class kind) count part → IsOver octets part fault → IsPushFault b part fault
+push_over class kind count octets b part fault e is next over = subst (λ v. IsPushFault v part fault) e (over_push class kind count octets part fault is next over)
+
+pub push_built : (class kind count : ℕ) (octets new : List ℕ) (part : FieldValue) → IsBuilt class kind count octets → IsNext (layout class kind) count part → IsReal part → Grows octets part new → IsBuilt class kind (count + 1) new
+push_built class kind count octets new part is next real g =
+    let more = pushed_part (layout class kind) count octets part is.held next g.string_fits real in
+    let next_is : IsBuilt class kind (suc count) (octets ++ field_octets part) = record { is_class = is.is_class; is_kind = is.is_kind; short = omega (arith, g.fits, length-append octets (field_octets part)); few = more.few is.few; held = more.held } in
+    rw add-one (subst (IsBuilt class kind (suc count)) (sym g.written) next_is)
+
+pub push_made : (class kind count : ℕ) (octets new : List ℕ) (b : Built) (part : FieldValue) → built class kind count octets ≡ b → IsBuilt class kind count octets → IsNext (layout class kind) count part → IsReal part → Grows octets part new → Pushes b part (built class kind (count + 1) new)
+push_made class kind count octets new b part e is next real g =
+    let more = pushed_part (layout class kind) count octets part is.held next g.string_fits real in
+    let made : parts_of (layout class kind) (count + 1) new ≡ parts_of (layout class kind) count octets ++ part ∷ [] = rw add-one (ap (parts_of (layout class kind) (suc count)) g.written ∙ more.made) in
+    subst (λ v. Pushes v part (built class kind (count + 1) new)) e (record {
+      next = next_parts class kind count octets part is next;
+      string_fits = g.string_fits;
+      fits = omega (arith, g.fits, ap length (grown_octets (layout class kind) count octets part is.held), length-append octets (field_octets part));
+      made = ap (λ (ps : List FieldValue). let v : Built = record { class = class; kind = kind; parts = ps } in v) made;
+    })
+
+-- ---- the end
+pub whole_parts : (laid : Option (List Field)) (count : ℕ) (octets : List ℕ) → AreParts laid count octets → least_of laid ≤ count → IsWhole laid (parts_of laid count octets)
+whole_parts None count octets held past = omega (arith, parts_length None count octets held)
+whole_parts (Some row) count octets held past = omega (arith, parts_length (Some row) count octets held)
+
+pub missing_part : (laid : Option (List Field)) (count : ℕ) (octets : List ℕ) → AreParts laid count octets → count < least_of laid → IsWhole laid (parts_of laid count octets) → ⊥
+missing_part None count octets held few whole = omega (arith, parts_length None count octets held)
+missing_part (Some row) count octets held few whole = omega (arith, parts_length (Some row) count octets held)
+
+parts_for : (class kind : ℕ) (laid : Option (List Field)) (count : ℕ) (octets : List ℕ) → laid ≡ layout class kind → AreParts laid count octets → least_of laid ≤ count → AreFor laid octets
+parts_for class kind None count octets e held past = tt
+parts_for class kind (Some row) count octets e held past = whole_laid row count octets (table_row class kind row (sym e)).last past held
+
+pub parts_data : (class kind count : ℕ) (octets : List ℕ) → IsBuilt class kind count octets → least_of (layout class kind) ≤ count → AllByRecursion (λ c. c < 256) octets → IsRdata (record { class = class; kind = kind; octets = octets })
+parts_data class kind count octets is past each = record {
+  class = is.is_class;
+  kind = is.is_kind;
+  octets = record { short = is.short; each = each; value = parts_for class kind (layout class kind) count octets refl is.held past };
+}
+
+pub finish_missing : (class kind count : ℕ) (octets : List ℕ) (b : Built) → built class kind count octets ≡ b → IsBuilt class kind count octets → count < least_of (layout class kind) → IsWhole (layout b.class b.kind) b.parts → ⊥
+finish_missing class kind count octets b e is few whole =
+    missing_part (layout class kind) count octets is.held few (subst (λ (v : Built). IsWhole (layout v.class v.kind) v.parts) (sym e) whole)
+
+pub finish_made : (class kind count : ℕ) (octets : List ℕ) (b : Built) (d : Data) → built class kind count octets ≡ b → IsBuilt class kind count octets → least_of (layout class kind) ≤ count → d ≡ record { class = class; kind = kind; octets = octets } → IsWhole (layout b.class b.kind) b.parts × (d ≡ record { class = b.class; kind = b.kind; octets = octets_of b.parts })
+finish_made class kind count octets b d e is past made =
+    let data_of : List ℕ → Data = λ o. record { class = class; kind = kind; octets = o } in
+    subst (λ (v : Built). IsWhole (layout v.class v.kind) v.parts × (d ≡ record { class = v.class; kind = v.kind; octets = octets_of v.parts })) e
+    (whole_parts (layout class kind) count octets is.held past, made ∙ ap data_of (sym (parts_octets (layout class kind) count octets is.held)))

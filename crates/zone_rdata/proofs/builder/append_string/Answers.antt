@@ -1,0 +1,9 @@
+use Rattle.std.proofs.Common.{arith}
+use Rattle.zone_rdata.specs.Builder.{over_data, over_string}
+use Rattle.zone_rdata.proofs.builder.append_string.Goals as goal
+
+pub returns-then-octets-gt255-clause-fault : goal.returns-then-octets-gt255-clause-fault
+returns-then-octets-gt255-clause-fault c = over_string (λ h. omega (arith, h))
+
+pub returns-then-octets-len-clause-fault : goal.returns-then-octets-len-clause-fault
+returns-then-octets-len-clause-fault c = over_data (omega arith) (omega arith)

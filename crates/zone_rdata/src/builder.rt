@@ -1,0 +1,255 @@
+ghost use Rattle.std.specs.Prelude.{◌≡◌, ◌++◌, ◌↔◌, [], ◌≤◌, List, length, IsTrue, IfOk, IfErr, OnOk, OnErr};
+ghost use Rattle.zone_rdata.specs.Builder.{Built, Grows, IsNext, IsOver, IsPushFault, IsReal, IsWhole, Pushes, least_of};
+ghost use Rattle.zone_rdata.specs.BuilderPart.{value_of};
+ghost use Rattle.zone_rdata.specs.Fault.{IfFault};
+ghost use Rattle.zone_rdata.specs.Field.{fixed, long, name, octets_of, string, two_octets};
+ghost use Rattle.zone_rdata.specs.Layout.{layout};
+ghost use Rattle.zone_rdata.specs.Record.{Data};
+
+use crate::class::Class;
+use crate::fault::{Failing, Fault};
+use crate::kind::Kind;
+use crate::layout::{Field, layout_of};
+use crate::rdata::Rdata;
+use crate::reading::are_octets;
+use crate::string::push_framed;
+use std::alloc::Global;
+use std::marker::Model;
+use zone_name::Name;
+
+/// The most octets that record data has.
+const LONGEST: usize = 65535;
+
+/// Record data that is made part by part. Contracts see class, type and the parts that were pushed.
+#[derive(Debug, Drop)]
+pub struct RdataBuilder {
+    class: Class,
+    kind: Kind,
+    /// How many parts were pushed.
+    count: usize,
+    octets: Vec<u8>,
+}
+
+impl Model for RdataBuilder {
+    ghost use Rattle.zone_rdata.specs.Builder.{Built, IsBuilt, parts_of};
+    ghost use Rattle.zone_rdata.specs.Layout.{layout};
+
+    ghost Value = { Built };
+
+    ghost view = { λ b. record { class = b.class; kind = b.kind; parts = parts_of (layout b.class b.kind) b.count b.octets.items } };
+
+    ghost invariant = { λ b. IsBuilt b.class b.kind b.count b.octets.items };
+}
+
+/// What a push hands in.
+#[derive(Clone, Copy)]
+enum Part<'p> {
+    Octets(&'p [u8]),
+    U16(u16),
+    U32(u32),
+    Name(&'p Name),
+    String(&'p [u8]),
+}
+
+impl RdataBuilder {
+    /// Data of a class and type, without a part yet.
+    pub fn new(alloc: Global, class: Class, kind: Kind) -> RdataBuilder
+        ensures { result ≡ record { class = class; kind = kind; parts = [] } }
+    {
+        class.known();
+        kind.known();
+        RdataBuilder {
+            class,
+            kind,
+            count: 0,
+            octets: Vec::new(alloc),
+        }
+    }
+
+    /// Pushes an address, or the octets of opaque data. Refused, the builder has what it had.
+    ///
+    /// # Errors
+    ///
+    /// `BadRdata` where that isn't the next part or the octets are not as many as the field's, `RdataTooLong` where
+    /// the data would have more than 65,535 octets, and want of memory.
+    pub fn push_octets(&mut self, octets: &[u8]) -> Result<(), Failing>
+        ensures ok { OnOk result (Pushes self.old (fixed octets.now) self.new) }
+        ensures fault { IfErr result (IfFault (IsPushFault self.old (fixed octets.now))) }
+        ensures err { OnErr result (self.new ≡ self.old) }
+    {
+        self.push(Part::Octets(octets))
+    }
+
+    /// Pushes a number of 16 bits. Refused, the builder has what it had.
+    ///
+    /// # Errors
+    ///
+    /// `BadRdata` where that isn't the next part, `RdataTooLong` where the data would have more than 65,535 octets,
+    /// and want of memory.
+    pub fn push_u16(&mut self, number: u16) -> Result<(), Failing>
+        ensures ok { OnOk result (Pushes self.old (two_octets number) self.new) }
+        ensures fault { IfErr result (IfFault (IsPushFault self.old (two_octets number))) }
+        ensures err { OnErr result (self.new ≡ self.old) }
+    {
+        self.push(Part::U16(number))
+    }
+
+    /// Pushes a number of 32 bits, a serial or a time in seconds. Refused, the builder has what it had.
+    ///
+    /// # Errors
+    ///
+    /// As `push_u16` has.
+    pub fn push_u32(&mut self, number: u32) -> Result<(), Failing>
+        ensures ok { OnOk result (Pushes self.old (long number) self.new) }
+        ensures fault { IfErr result (IfFault (IsPushFault self.old (long number))) }
+        ensures err { OnErr result (self.new ≡ self.old) }
+    {
+        self.push(Part::U32(number))
+    }
+
+    /// Pushes a name. Refused, the builder has what it had.
+    ///
+    /// # Errors
+    ///
+    /// As `push_u16` has.
+    pub fn push_name(&mut self, target: &Name) -> Result<(), Failing>
+        ensures ok { OnOk result (Pushes self.old (name target.now) self.new) }
+        ensures fault { IfErr result (IfFault (IsPushFault self.old (name target.now))) }
+        ensures err { OnErr result (self.new ≡ self.old) }
+    {
+        self.push(Part::Name(target))
+    }
+
+    /// Pushes a string, the next field or one more of several. Refused, the builder has what it had.
+    ///
+    /// # Errors
+    ///
+    /// `BadRdata` where that isn't the next part, `StringTooLong` over 255 octets, `RdataTooLong` where the data would
+    /// have more than 65,535 octets, and want of memory.
+    pub fn push_string(&mut self, octets: &[u8]) -> Result<(), Failing>
+        ensures ok { OnOk result (Pushes self.old (string octets.now) self.new) }
+        ensures fault { IfErr result (IfFault (IsPushFault self.old (string octets.now))) }
+        ensures err { OnErr result (self.new ≡ self.old) }
+    {
+        self.push(Part::String(octets))
+    }
+
+    /// Pushes a part.
+    fn push(&mut self, part: Part) -> Result<(), Failing>
+        ensures ok { OnOk result (Pushes self.old (value_of part.entry) self.new) }
+        ensures fault { IfErr result (IfFault (IsPushFault self.old (value_of part.entry))) }
+        ensures err { OnErr result (self.new ≡ self.old) }
+    {
+        if !is_next(self.class, self.kind, self.count, part) {
+            return Err(Failing::Fault(Fault::BadRdata));
+        }
+        known(part);
+        append(part, &mut self.octets)?;
+        self.count += 1;
+        Ok(())
+    }
+
+    /// The data of the parts that were pushed.
+    ///
+    /// # Errors
+    ///
+    /// `BadRdata` where a part is missing.
+    pub fn finish(self) -> Result<Rdata, Fault>
+        ensures ok { IfOk result (λ d. IsWhole (layout self.class self.kind) self.parts × (d ≡ record { class = self.class; kind = self.kind; octets = octets_of self.parts })) }
+        ensures err { IfErr result (λ f. (f ≡ Fault.BadRdata) × (IsWhole (layout self.class self.kind) self.parts → ⊥)) }
+    {
+        if self.count < least_parts(self.class, self.kind) {
+            return Err(Fault::BadRdata);
+        }
+        are_octets(&self.octets);
+        Ok(Rdata::of_octets(self.class, self.kind, self.octets))
+    }
+}
+
+/// The fewest parts that are whole.
+fn least_parts(class: Class, kind: Kind) -> usize
+    ensures { result ≡ least_of (layout class kind) }
+{
+    match layout_of(class, kind) {
+        Some(layout) => layout.fields().len(),
+        None => 1,
+    }
+}
+
+/// Whether the part is the next behind so many.
+fn is_next(class: Class, kind: Kind, count: usize, part: Part) -> bool
+    ensures { IsTrue result ↔ IsNext (layout class kind) count (value_of part.entry) }
+{
+    let Some(layout) = layout_of(class, kind) else {
+        return count == 0 && matches!(part, Part::Octets(_));
+    };
+    let Some(field) = layout.item_field(count) else {
+        return false;
+    };
+    match (field, part) {
+        (Field::Octets(count), Part::Octets(octets)) => octets.len() == count && count > 0,
+        (Field::U16, Part::U16(_)) => true,
+        (Field::Serial | Field::Time, Part::U32(_)) => true,
+        (Field::Name, Part::Name(_)) => true,
+        (Field::OneString | Field::Strings, Part::String(_)) => true,
+        _ => false,
+    }
+}
+
+/// What holds of every part.
+fn known(part: Part)
+    ensures { IsReal (value_of part.entry) }
+{
+    match part {
+        Part::Octets(octets) | Part::String(octets) => are_octets(octets),
+        Part::Name(name) => name.known(),
+        Part::U16(_) | Part::U32(_) => {}
+    }
+}
+
+/// Appends the octets of a part. Refused, `out` holds what it held.
+fn append(part: Part, out: &mut Vec<u8>) -> Result<(), Failing>
+    requires { length out.old.items ≤ 65535 }
+    ensures ok { OnOk result (Grows out.old.items (value_of part.entry) out.new.items) }
+    ensures fault { IfErr result (IfFault (IsOver out.old.items (value_of part.entry))) }
+    ensures err { OnErr result (out.new.items ≡ out.old.items) }
+{
+    match part {
+        Part::Octets(octets) => append_octets(octets, out),
+        Part::U16(number) => append_octets(&number.to_be_bytes(), out),
+        Part::U32(number) => append_octets(&number.to_be_bytes(), out),
+        Part::Name(name) => append_octets(name.wire(), out),
+        Part::String(octets) => append_string(octets, out),
+    }
+}
+
+/// Appends octets. Refused, `out` holds what it held.
+fn append_octets(octets: &[u8], out: &mut Vec<u8>) -> Result<(), Failing>
+    requires { length out.old.items ≤ 65535 }
+    ensures ok { OnOk result (Grows out.old.items (fixed octets.now) out.new.items) }
+    ensures fault { IfErr result (IfFault (IsOver out.old.items (fixed octets.now))) }
+    ensures err { OnErr result (out.new.items ≡ out.old.items) }
+{
+    if octets.len() > LONGEST - out.len() {
+        return Err(Failing::Fault(Fault::RdataTooLong));
+    }
+    out.extend_from_slice(octets)?;
+    Ok(())
+}
+
+/// Appends a string behind its length. Refused, `out` holds what it held.
+fn append_string(octets: &[u8], out: &mut Vec<u8>) -> Result<(), Failing>
+    requires { length out.old.items ≤ 65535 }
+    ensures ok { OnOk result (Grows out.old.items (string octets.now) out.new.items) }
+    ensures fault { IfErr result (IfFault (IsOver out.old.items (string octets.now))) }
+    ensures err { OnErr result (out.new.items ≡ out.old.items) }
+{
+    if octets.len() > 255 {
+        return Err(Failing::Fault(Fault::StringTooLong));
+    }
+    if octets.len() + 1 > LONGEST - out.len() {
+        return Err(Failing::Fault(Fault::RdataTooLong));
+    }
+    push_framed(octets, out)?;
+    Ok(())
+}
