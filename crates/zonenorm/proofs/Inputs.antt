@@ -13,9 +13,11 @@ use Rattle.zone_text.specs.Entries.{Entry, entries_of}
 use Rattle.zone_text.specs.File.{FileStates, StateEach, StatesFirst, states_none, states_one}
 use Rattle.zone_text.specs.FileReads.{FileReads}
 use Rattle.zone_set.specs.Refusal.{records_of}
-use Rattle.zone_set.specs.Zone.{Zone}
+use Rattle.zone_set.specs.Zone.{Zone, IsZone, SameRecords}
 use Rattle.zone_print.specs.Canonical.{text_limit}
-use Rattle.zone_print.specs.Denotes.{Denotes}
+use Rattle.zone_wire.specs.Stream.{StreamReads}
+use Rattle.zone_wire.specs.Transfer.{StreamStates}
+use Rattle.zonenorm.specs.Input.{Input, file, transfer, octets_of, States, Reads, InputDenotes}
 use Rattle.zonenorm.specs.Refusal.{RefusesReading, MakesZone, IsRefusal, too_long, reading}
 
 -- what a file states are records
@@ -27,17 +29,40 @@ each_fits origin before (entry ∷ entries) placed states = by states (λ others
     by (states_none nothing others) later = later placed others
     by (states_one p others states at parts rest) later = subst (λ ps. AllByRecursion IsRecord (records_of ps)) (sym parts) (states.fits, later others rest)
 
-module _ (origin : List (List ℕ)) (octets : List ℕ) where
-  abbrev OneReading : Type 0
-  OneReading = (a b : List Placed) (e f : Option (Fault × Place)) → FileReads origin octets a e → FileReads origin octets b f → (a ≡ b) × (e ≡ f)
+pub file_fits : (origin : List (List ℕ)) (octets : List ℕ) (placed : List Placed) → FileStates origin octets placed → AllByRecursion IsRecord (records_of placed)
+file_fits origin octets placed states = each_fits origin [] (entries_of states.pieces) placed states.each
 
+-- records with their places are records
+pub placed_fit : (placed : List Placed) → AllByRecursion IsRecord (records_of placed) → AllByRecursion (λ p. IsRecord p.rr) placed
+placed_fit [] fits = tt
+placed_fit (p ∷ placed) fits = (fits.0, placed_fit placed fits.1)
+
+abbrev OneReadingOf : (List Placed → Option (Fault × Place) → Type 0) → Type 0
+OneReadingOf R = (a b : List Placed) (e f : Option (Fault × Place)) → R a e → R b f → (a ≡ b) × (e ≡ f)
+
+-- inputs of both forms have one reading
+pub one_reading : ((origin : List (List ℕ)) (octets : List ℕ) → OneReadingOf (FileReads origin octets)) → ((stream : List ℕ) → OneReadingOf (StreamReads stream)) → (input : Input) → OneReadingOf (Reads input)
+one_reading files streams (file origin octets) = files origin octets
+one_reading files streams (transfer stream) = streams stream
+
+-- what inputs of both forms state is read without a fault
+pub stated_is_read : ((origin : List (List ℕ)) (octets : List ℕ) (placed : List Placed) → FileStates origin octets placed ↔ FileReads origin octets placed None) → ((stream : List ℕ) (placed : List Placed) → StreamStates stream placed → StreamReads stream placed None) → (input : Input) (placed : List Placed) → States input placed → Reads input placed None
+stated_is_read files streams (file origin octets) placed states = (files origin octets placed).0 states
+stated_is_read files streams (transfer stream) placed states = streams stream placed states
+
+-- inputs of both forms state one list of records
+pub one_list : ((origin : List (List ℕ)) (octets : List ℕ) (a b : List Placed) → FileStates origin octets a → FileStates origin octets b → a ≡ b) → ((stream : List ℕ) (a b : List Placed) → StreamStates stream a → StreamStates stream b → a ≡ b) → (input : Input) (a b : List Placed) → States input a → States input b → a ≡ b
+one_list files streams (file origin octets) = files origin octets
+one_list files streams (transfer stream) = streams stream
+
+module _ (input : Input) where
   abbrev IsRead : Type 0
-  IsRead = (placed : List Placed) → FileStates origin octets placed ↔ FileReads origin octets placed None
+  IsRead = (placed : List Placed) → States input placed → Reads input placed None
 
   abbrev OneFault : Type 0
   OneFault = (placed : List Placed) (ending : Option (Fault × Place)) (fault other : Fault) (place elsewhere : Place) → RefusesReading placed ending fault place → RefusesReading placed ending other elsewhere → (fault ≡ other) × (place ≡ elsewhere)
 
-  pub one_refusal : OneFault → OneReading → (fault other : Fault) (place elsewhere : Place) → IsRefusal origin octets fault place → IsRefusal origin octets other elsewhere → (fault ≡ other) × (place ≡ elsewhere)
+  pub one_refusal : OneFault → OneReadingOf (Reads input) → (fault other : Fault) (place elsewhere : Place) → IsRefusal input fault place → IsRefusal input other elsewhere → (fault ≡ other) × (place ≡ elsewhere)
   one_refusal one once _ _ _ _ (too_long long) (too_long too) = (refl, refl)
   one_refusal one once _ _ _ _ (too_long long) (reading b f other elsewhere short reads refuses) = absurd (omega arith)
   one_refusal one once _ _ _ _ (reading a e fault place short reads refuses) (too_long long) = absurd (omega arith)
@@ -45,15 +70,20 @@ module _ (origin : List (List ℕ)) (octets : List ℕ) where
       let same = once a b e f reads reads' in
       one b f fault other place elsewhere (subst (λ ending. RefusesReading b ending fault place) same.1 (subst (λ placed. RefusesReading placed e fault place) same.0 refuses)) refuses'
 
-  pub refused_or_denoted : ((placed : List Placed) (fault : Fault) (place : Place) → RefusesReading placed None fault place → (z : Zone) → MakesZone placed z → ⊥) → OneReading → IsRead → (fault : Fault) (place : Place) → IsRefusal origin octets fault place → (z : Zone) → Denotes origin octets z → ⊥
-  refused_or_denoted apart once is_read _ _ (too_long long) z denotes = let short : length octets ≤ text_limit = denotes.short in omega arith
+  pub refused_or_denoted : ((placed : List Placed) (fault : Fault) (place : Place) → RefusesReading placed None fault place → (z : Zone) → MakesZone placed z → ⊥) → OneReadingOf (Reads input) → IsRead → (fault : Fault) (place : Place) → IsRefusal input fault place → (z : Zone) → InputDenotes input z → ⊥
+  refused_or_denoted apart once is_read _ _ (too_long long) z denotes = let short : length (octets_of input) ≤ text_limit = denotes.short in omega arith
   refused_or_denoted apart once is_read _ _ (reading a e fault place short reads refuses) z denotes =
-      let same = once a denotes.placed e None reads ((is_read denotes.placed).0 denotes.states) in
+      let same = once a denotes.placed e None reads (is_read denotes.placed denotes.states) in
       apart denotes.placed fault place (subst (λ ending. RefusesReading denotes.placed ending fault place) same.1 (subst (λ placed. RefusesReading placed e fault place) same.0 refuses))
       z (record { zone = denotes.zone; same = denotes.same; text_short = denotes.text_short })
 
+  pub one_zone : ((z w : Zone) → IsZone z → IsZone w → SameRecords z.records w.records → z ≡ w) → ((a b : List Placed) → States input a → States input b → a ≡ b) → (z w : Zone) → InputDenotes input z → InputDenotes input w → z ≡ w
+  one_zone once lists z w left right =
+      let same = subst (λ placed. SameRecords z.records (records_of placed)) (lists left.placed right.placed left.states right.states) left.same in
+      once z w left.zone right.zone (λ r. ((λ has. (right.same r).1 ((same r).0 has)), (λ has. (same r).1 ((right.same r).0 has))))
+
   abbrev Outcome : Type 0
-  Outcome = ((fault : Fault) × (place : Place) × IsRefusal origin octets fault place) ⊎ ((z : Zone) × Denotes origin octets z)
+  Outcome = ((fault : Fault) × (place : Place) × IsRefusal input fault place) ⊎ ((z : Zone) × InputDenotes input z)
 
   abbrev WholeOutcome : Type 0
   WholeOutcome = (placed : List Placed) → AllByRecursion IsRecord (records_of placed) → ((fault : Fault) × (place : Place) × RefusesReading placed None fault place) ⊎ ((z : Zone) × MakesZone placed z)
@@ -61,15 +91,19 @@ module _ (origin : List (List ℕ)) (octets : List ℕ) where
   abbrev BrokenOutcome : Type 0
   BrokenOutcome = (placed : List Placed) (ending : Fault × Place) → (fault : Fault) × (place : Place) × RefusesReading placed (Some ending) fault place
 
-  within : WholeOutcome → BrokenOutcome → IsRead → length octets ≤ text_limit → (placed : List Placed) (ending : Option (Fault × Place)) → FileReads origin octets placed ending → Outcome
-  within whole broken is_read short placed None reads =
-      let states = (is_read placed).1 reads in
+  -- what is read without a fault is stated, and is records
+  abbrev IsStated : List Placed → Type 0
+  IsStated placed = Reads input placed None → States input placed × AllByRecursion IsRecord (records_of placed)
+
+  within : WholeOutcome → BrokenOutcome → length (octets_of input) ≤ text_limit → (placed : List Placed) (ending : Option (Fault × Place)) → IsStated placed → Reads input placed ending → Outcome
+  within whole broken short placed None stated reads =
+      let (states, fits) = stated reads in
       ⊎_elim (λ (fault, place, refuses). inl (fault, place, reading placed None fault place short reads refuses))
       (λ (z, makes). inr (z, record { short = short; placed = placed; states = states; same = makes.same; zone = makes.zone; text_short = makes.text_short }))
-      (whole placed (each_fits origin [] (entries_of states.pieces) placed states.each))
-  within whole broken is_read short placed (Some ending) reads =
+      (whole placed fits)
+  within whole broken short placed (Some ending) stated reads =
       let (fault, place, refuses) = broken placed ending in inl (fault, place, reading placed (Some ending) fault place short reads refuses)
 
-  pub refusal_or_zone : WholeOutcome → BrokenOutcome → IsRead → (placed : List Placed) (ending : Option (Fault × Place)) → FileReads origin octets placed ending → Outcome
-  refusal_or_zone whole broken is_read placed ending reads =
-      ⊎_elim (λ short. within whole broken is_read short.1 placed ending reads) (λ long. inl (InputTooLong, Whole, too_long long.1)) (leb_tells (length octets) text_limit)
+  pub refusal_or_zone : WholeOutcome → BrokenOutcome → (placed : List Placed) (ending : Option (Fault × Place)) → IsStated placed → Reads input placed ending → Outcome
+  refusal_or_zone whole broken placed ending stated reads =
+      ⊎_elim (λ short. within whole broken short.1 placed ending stated reads) (λ long. inl (InputTooLong, Whole, too_long long.1)) (leb_tells (length (octets_of input)) text_limit)

@@ -1,4 +1,5 @@
 pub mod Form
+pub mod Input
 pub mod Reading
 pub mod Normalise
 pub mod Refusal

@@ -8,11 +8,11 @@ use Rattle.zone_rdata.specs.declared.fault.Stop.{Stop}
 use Rattle.zone_rdata.specs.declared.fault.Stop.TheVariants.{Refused, Read, Write, Memory}
 use Rattle.zone_rdata.specs.declared.record.Placed.{Placed}
 use Rattle.zone_text.specs.File.{FileStates}
-use Rattle.zone_text.specs.FileReads.{FileReads}
 use Rattle.zone_set.specs.Builder.{StopsFinish}
 use Rattle.zone_set.specs.Refusal.{AllAccepted, IsFirstRefused, records_of}
 use Rattle.zone_set.specs.Zone.{Zone, IsZone, SameRecords}
 use Rattle.zone_print.specs.Canonical.{canon, text_limit}
+use Rattle.zonenorm.specs.Input.{Input, octets_of, Reads}
 
 -- What refuses a reading, the records of an input in their order and the fault after them: the first record that can't
 -- stand with those before it; else the fault of reading; else that no SOA is there, or an owner outside the zone, of
@@ -29,10 +29,10 @@ pub record MakesZone (placed : List Placed) (z : Zone) : Type 0 where
   pub same : SameRecords z.records (records_of placed)
   pub text_short : length (canon z) ≤ text_limit
 
--- why a master file is refused under its origin: it is longer than the limit, or else its reading is refused
-pub data IsRefusal (origin : List (List ℕ)) (octets : List ℕ) : Fault → Place → Type 0 where
-  too_long : text_limit < length octets → IsRefusal origin octets InputTooLong Whole
-  reading : (placed : List Placed) (ending : Option (Fault × Place)) (fault : Fault) (place : Place) → length octets ≤ text_limit → FileReads origin octets placed ending → RefusesReading placed ending fault place → IsRefusal origin octets fault place
+-- why an input is refused, and where: it is longer than the limit, or else its reading is refused
+pub data IsRefusal (input : Input) : Fault → Place → Type 0 where
+  too_long : text_limit < length (octets_of input) → IsRefusal input InputTooLong Whole
+  reading : (placed : List Placed) (ending : Option (Fault × Place)) (fault : Fault) (place : Place) → length (octets_of input) ≤ text_limit → Reads input placed ending → RefusesReading placed ending fault place → IsRefusal input fault place
 
 -- The records of a front of the octets and the fault that stands behind it, at the line that begins there, are refused.
 -- The front is all of the octets where no fault stands behind it.

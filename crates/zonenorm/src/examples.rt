@@ -5,6 +5,7 @@ ghost use Rattle.zone_rdata.specs.declared.fault.Place.TheVariants.{Line, Whole}
 ghost use Rattle.zone_set.specs.Refusal.{IsFirstRefused};
 ghost use Rattle.zone_print.specs.Canonical.{canon};
 ghost use Rattle.zonenorm.specs.Examples.{top, under, x, a_x, soa_of, server_of, address_of, from_line};
+ghost use Rattle.zonenorm.specs.Input.{file};
 ghost use Rattle.zonenorm.specs.Refusal.{IsRefusal, RefusesReading};
 
 /// The canonical text of a zone with an SOA and a name server.
@@ -49,15 +50,15 @@ pub fn an_open_quote_before_a_missing_soa()
 
 /// An input of one octet more than the limit, whatever it states.
 pub fn an_input_that_is_too_long()
-    ensures { (octets : List ℕ) → length octets ≡ 1073741825 → IsRefusal x octets InputTooLong Whole }
+    ensures { (octets : List ℕ) → length octets ≡ 1073741825 → IsRefusal (file x octets) InputTooLong Whole }
 {}
 
 /// An empty input has no SOA.
 pub fn an_empty_input()
-    ensures { IsRefusal x [] NoSoa Whole }
+    ensures { IsRefusal (file x []) NoSoa Whole }
 {}
 
 /// An input of an opening quote alone.
 pub fn an_input_of_an_open_quote()
-    ensures { IsRefusal x (34 ∷ []) UnclosedQuote (Line 1) }
+    ensures { IsRefusal (file x (34 ∷ [])) UnclosedQuote (Line 1) }
 {}

@@ -1,5 +1,5 @@
 //! Laws of inputs over the definitions alone. The functions only call other laws: their contracts are the laws.
-ghost use Rattle.std.specs.Prelude.{◌≡◌, ◌⊎◌, ℕ, List, Option, Some, None};
+ghost use Rattle.std.specs.Prelude.{◌≡◌, ◌⊎◌, ◌<◌, ℕ, List, Option, Some, None, slice_index};
 ghost use Rattle.std.specs.List.{AllByRecursion};
 ghost use Rattle.zone_rdata.specs.Record.{IsRecord};
 ghost use Rattle.zone_rdata.specs.declared.fault.Fault.{Fault};
@@ -8,7 +8,8 @@ ghost use Rattle.zone_rdata.specs.declared.record.Placed.{Placed};
 ghost use Rattle.zone_set.specs.Refusal.{records_of};
 ghost use Rattle.zone_set.specs.Zone.{Zone};
 ghost use Rattle.zone_text.specs.FileReads.{FileReads};
-ghost use Rattle.zone_print.specs.Denotes.{Denotes};
+ghost use Rattle.zone_wire.specs.Stream.{StreamReads};
+ghost use Rattle.zonenorm.specs.Input.{Input, file, transfer, InputDenotes};
 ghost use Rattle.zonenorm.specs.Refusal.{IsRefusal, MakesZone, RefusesReading};
 
 /// A reading is refused for at most one fault, at one place.
@@ -39,27 +40,41 @@ pub fn refusal_or_zone_of_a_reading()
 
 /// An input is refused for at most one fault, at one place.
 pub fn one_refusal()
-    ensures { (origin : List (List ℕ)) (octets : List ℕ) (fault other : Fault) (place elsewhere : Place)
-        → IsRefusal origin octets fault place → IsRefusal origin octets other elsewhere → (fault ≡ other) × (place ≡ elsewhere) }
+    ensures { (input : Input) (fault other : Fault) (place elsewhere : Place) → IsRefusal input fault place → IsRefusal input other elsewhere → (fault ≡ other) × (place ≡ elsewhere) }
 {
     one_fault_of_a_reading();
     zone_text::laws::file::a_file_has_one_reading();
+    zone_wire::laws::one_reading_of_a_stream();
+}
+
+/// An input denotes at most one zone.
+pub fn one_zone()
+    ensures { (input : Input) (z w : Zone) → InputDenotes input z → InputDenotes input w → z ≡ w }
+{
+    zone_print::laws::one_zone_of_records();
+    zone_text::laws::file::a_file_states_one_list();
+    zone_wire::laws::one_list_of_a_stream();
 }
 
 /// An input that is refused denotes no zone.
 pub fn no_zone_of_a_refused_input()
-    ensures { (origin : List (List ℕ)) (octets : List ℕ) (fault : Fault) (place : Place) → IsRefusal origin octets fault place → (z : Zone) → Denotes origin octets z → ⊥ }
+    ensures { (input : Input) (fault : Fault) (place : Place) → IsRefusal input fault place → (z : Zone) → InputDenotes input z → ⊥ }
 {
     no_zone_of_a_refused_reading();
     zone_text::laws::file::a_file_has_one_reading();
     zone_text::laws::file::a_file_states_what_is_read();
+    zone_wire::laws::one_reading_of_a_stream();
+    zone_wire::laws::a_transfer_is_read();
 }
 
-/// An input that has a reading is refused or denotes a zone.
+/// A file that has a reading is refused or denotes a zone, and so is a stream whose reading gives records.
 pub fn refusal_or_zone()
-    ensures { (origin : List (List ℕ)) (octets : List ℕ) (placed : List Placed) (ending : Option (Fault × Place)) → FileReads origin octets placed ending
-        → ((fault : Fault) × (place : Place) × IsRefusal origin octets fault place) ⊎ ((z : Zone) × Denotes origin octets z) }
+    ensures file { (origin : List (List ℕ)) (octets : List ℕ) (placed : List Placed) (ending : Option (Fault × Place)) → FileReads origin octets placed ending
+        → ((fault : Fault) × (place : Place) × IsRefusal (file origin octets) fault place) ⊎ ((z : Zone) × InputDenotes (file origin octets) z) }
+    ensures transfer { (stream : List ℕ) (placed : List Placed) (ending : Option (Fault × Place)) → ((i : ℕ) → slice_index stream i < 256) → AllByRecursion IsRecord (records_of placed) → StreamReads stream placed ending
+        → ((fault : Fault) × (place : Place) × IsRefusal (transfer stream) fault place) ⊎ ((z : Zone) × InputDenotes (transfer stream) z) }
 {
     refusal_or_zone_of_a_reading();
     zone_text::laws::file::a_file_states_what_is_read();
+    zone_wire::laws::a_transfer_is_read();
 }

@@ -1,0 +1,34 @@
+-- The inputs that state records: a master file with its origin (RFC 1035 5), or the octets of a zone transfer as they
+-- came over TCP (RFC 5936 2.2).
+use Rattle.std.specs.Prelude.{ℕ, List, Option}
+use Rattle.zone_rdata.specs.declared.fault.Fault.{Fault}
+use Rattle.zone_rdata.specs.declared.fault.Place.{Place}
+use Rattle.zone_rdata.specs.declared.record.Placed.{Placed}
+use Rattle.zone_text.specs.File.{FileStates}
+use Rattle.zone_text.specs.FileReads.{FileReads}
+use Rattle.zone_wire.specs.Stream.{StreamReads}
+use Rattle.zone_wire.specs.Transfer.{StreamStates}
+use Rattle.zone_set.specs.Zone.{Zone}
+use Rattle.zone_print.specs.Denotes.{DenotesBy}
+
+pub data Input : Type 0 where
+  file : List (List ℕ) → List ℕ → Input
+  transfer : List ℕ → Input
+
+abbrev pub octets_of : Input → List ℕ
+octets_of (file origin octets) = octets
+octets_of (transfer octets) = octets
+
+-- the records that an input states, in order and with their places
+abbrev pub States : Input → List Placed → Type 0
+States (file origin octets) placed = FileStates origin octets placed
+States (transfer octets) placed = StreamStates octets placed
+
+-- what an input is read as: the records before its first fault, and that fault with its place
+abbrev pub Reads : Input → List Placed → Option (Fault × Place) → Type 0
+Reads (file origin octets) placed ending = FileReads origin octets placed ending
+Reads (transfer octets) placed ending = StreamReads octets placed ending
+
+-- the zone that an input denotes
+abbrev pub InputDenotes : Input → Zone → Type 0
+InputDenotes input z = DenotesBy (States input) (octets_of input) z
