@@ -19,6 +19,7 @@ pub mod TimeLaws
 pub mod Values
 pub mod Faults
 pub mod Texts
+pub mod TextItems
 pub mod StringTexts
 pub mod Times
 pub mod Decimal

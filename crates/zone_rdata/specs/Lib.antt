@@ -18,6 +18,7 @@ pub mod Wire
 pub mod DataFault
 pub mod Reading
 pub mod Text
+pub mod TextItems
 pub mod Source
 pub mod AddressReading
 pub mod Builder

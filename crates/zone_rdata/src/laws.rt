@@ -3,5 +3,6 @@ pub mod address;
 pub mod generic;
 pub mod items;
 pub mod string;
+pub mod text;
 pub mod uncompressed;
 pub mod word;
