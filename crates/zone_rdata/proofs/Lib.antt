@@ -37,3 +37,5 @@ pub mod AddressLaws
 pub mod AddressOctets
 pub mod OneWord
 pub mod Building
+pub mod TimeChoice
+pub mod WordChoice
