@@ -39,3 +39,4 @@ pub mod OneWord
 pub mod Building
 pub mod TimeChoice
 pub mod WordChoice
+pub mod AddressChoice
