@@ -40,3 +40,4 @@ pub mod Building
 pub mod TimeChoice
 pub mod WordChoice
 pub mod AddressChoice
+pub mod UncompressedChoice
