@@ -41,3 +41,4 @@ pub mod TimeChoice
 pub mod WordChoice
 pub mod AddressChoice
 pub mod UncompressedChoice
+pub mod ItemChoice

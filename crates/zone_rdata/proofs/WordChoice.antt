@@ -15,7 +15,7 @@ same_by : (a b : List ℕ) (t : Bool) → bytes_eq a b ≡ t → (a ≡ b) ⊎ (
 same_by a b true e = inl ((bytes_eq-Decides a b).0 e)
 same_by a b false e = inr (λ h. false≢true (sym e ∙ (bytes_eq-Decides a b).1 h))
 
-same_or_not : (a b : List ℕ) → (a ≡ b) ⊎ (a ≡ b → ⊥)
+pub same_or_not : (a b : List ℕ) → (a ≡ b) ⊎ (a ≡ b → ⊥)
 same_or_not a b = same_by a b (bytes_eq a b) refl
 
 -- ---- a mnemonic, among the numbers below a bound
