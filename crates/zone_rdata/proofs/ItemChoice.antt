@@ -25,6 +25,7 @@ use Rattle.zone_rdata.specs.Spelling.{IsAddress, IsCanonicalOf, SpellsField, Spe
 use Rattle.zone_rdata.specs.Strings.{item_text, SpellsString, StringFault}
 use Rattle.zone_rdata.specs.Uncompressed.{IsUncompressed}
 use Rattle.zone_rdata.proofs.AddressChoice.{Choice, address_or_not}
+use Rattle.zone_rdata.proofs.Bytes.{bytes_each}
 use Rattle.zone_rdata.proofs.Fronts.{AreLow}
 use Rattle.zone_rdata.proofs.GenericLaws.{decimal_or_not, generic-or_fault}
 use Rattle.zone_rdata.proofs.Items.{spell_push}
@@ -129,13 +130,9 @@ words_or_fault names origin is None items low unmarked = inr (BadGeneric, opaque
 words_or_fault names origin is (Some row) items low unmarked = worded origin row items unmarked (words_by names origin is (item_fields row items) items [] [] [] tt low)
 
 -- octets that hexadecimal digits stand for
-low_by : (octets : List ℕ) → ((i : ℕ) → get_or octets i 0 < 256) → AreLow octets
-low_by [] each = tt
-low_by (c ∷ octets) each = (each 0, low_by octets (λ i. each (suc i)))
-
-joined_low : (items : List RawItem) (octets : List ℕ) → JoinTo items octets → AreLow octets
+pub joined_low : (items : List RawItem) (octets : List ℕ) → JoinTo items octets → AreLow octets
 joined_low [] octets h = subst AreLow (sym h) tt
-joined_low (bare text ∷ items) octets h = subst AreLow (sym h.3) (AllByRecursion-append (λ c. c < 256) h.0 h.1 (low_by h.0 (decode_of-ok text h.0 h.2).3) (joined_low items h.1 h.4))
+joined_low (bare text ∷ items) octets h = subst AreLow (sym h.3) (AllByRecursion-append (λ c. c < 256) h.0 h.1 (bytes_each h.0 (decode_of-ok text h.0 h.2).3) (joined_low items h.1 h.4))
 joined_low (quoted text ∷ items) octets h = absurd h
 
 canonical_item : (origin : List (List ℕ)) (row : List Field) (items : List RawItem) (stated : List ℕ) → IsGeneric items → StatesGeneric items stated → Choice (IsUncompressed row stated) → Outcome origin (Some row) items

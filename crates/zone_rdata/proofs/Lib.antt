@@ -42,3 +42,4 @@ pub mod WordChoice
 pub mod AddressChoice
 pub mod UncompressedChoice
 pub mod ItemChoice
+pub mod StatedOctets

@@ -4,7 +4,7 @@ ghost use Rattle.std.specs.List.{AllByRecursion};
 ghost use Rattle.zone_name.specs.Name.{IsName};
 ghost use Rattle.zone_rdata.specs.DataFault.{IsDataFault};
 ghost use Rattle.zone_rdata.specs.Item.{RawItem};
-ghost use Rattle.zone_rdata.specs.Layout.{IsLayout, layout};
+ghost use Rattle.zone_rdata.specs.Layout.{IsData, IsLayout, layout};
 ghost use Rattle.zone_rdata.specs.Spelling.{States};
 ghost use Rattle.zone_rdata.specs.Strings.{item_text};
 ghost use Rattle.zone_rdata.specs.declared.fault.Fault.{Fault};
@@ -23,6 +23,11 @@ pub fn data_is_unique()
 {
     spelling_is_unique();
 }
+
+/// What items state is data that a record can have.
+pub fn stated_data_is_data()
+    ensures { (origin : List (List ℕ)) (class kind : ℕ) (items : List RawItem) (octets : List ℕ) → States origin class kind items octets → IsData class kind octets }
+{}
 
 /// Items of octets state a value of a class and type under an origin that is a name, or have a first fault.
 pub fn data_or_fault()
