@@ -8,6 +8,7 @@ pub mod Once
 pub mod Inherits
 pub mod Outcomes
 pub mod Entered
+pub mod EntryChoice
 pub mod Files
 pub mod Seconds
 pub mod CutAgain

@@ -6,13 +6,16 @@ ghost use Rattle.zone_rdata.specs.declared.fault.Fault.{Fault};
 ghost use Rattle.zone_text.specs.Entries.{Entry};
 ghost use Rattle.zone_text.specs.EntryFault.{EntryFault};
 ghost use Rattle.zone_text.specs.Forms.{begins_with_digit, form_of, is_class_word};
-ghost use Rattle.zone_text.specs.Lower.{Lower};
+ghost use Rattle.zone_text.specs.Lower.{Choices, Lower};
 ghost use Rattle.zone_text.specs.Records.{StatesNothing, StatesRecord};
 
 use zone_name::laws::{spelling_is_unique, texts_have_one_verdict};
-use zone_rdata::laws::items::{data_fault_is_unique, data_is_unique, faulty_items_state_none};
+use zone_rdata::laws::items::{
+    data_fault_is_unique, data_is_unique, data_or_fault, faulty_items_state_none, stated_data_is_data,
+};
 use zone_rdata::laws::word::{
-    class_word_is_unique, kind_word_has_one_verdict, kind_word_is_unique, time_is_unique,
+    class_word_is_unique, kind_word_has_one_verdict, kind_word_is_unique, kind_word_or_fault,
+    numbers_and_times_are_decided, time_is_unique,
 };
 
 /// The laws of names, words and data on which those of entries stand.
@@ -28,6 +31,17 @@ pub(super) fn lower_laws()
     data_is_unique();
     faulty_items_state_none();
     data_fault_is_unique();
+}
+
+/// The laws by which texts, words and items have a value or a first fault.
+pub(super) fn lower_choices()
+    ensures { Choices }
+{
+    texts_have_one_verdict();
+    numbers_and_times_are_decided();
+    kind_word_or_fault();
+    data_or_fault();
+    stated_data_is_data();
 }
 
 /// An item is taken for a class where it is a class's word, and no word is a class's and begins with a digit, as a TTL.
