@@ -56,13 +56,13 @@ origin_by : (origin : List (List ℕ)) (before : List Entry) (entry : Entry) →
 origin_by origin before entry (inl n) above = origin_nothing origin before (form_of entry) n above
 origin_by origin before entry (inr s) above = origin_record origin before (form_of entry) s.1.head.parts s.1.head.split above
 
-origin_is : (origin : List (List ℕ)) (before : List Entry) → IsName origin → AllState origin before → (name : List (List ℕ)) × (IsOrigin origin before name × IsName name)
+pub origin_is : (origin : List (List ℕ)) (before : List Entry) → IsName origin → AllState origin before → (name : List (List ℕ)) × (IsOrigin origin before name × IsName name)
 origin_is origin [] is states = (origin, (refl, is))
 origin_is origin (entry ∷ before) is states = origin_by origin before entry states.0 (origin_is origin before is states.1)
 
 -- ---- the owner
 
-abbrev OwnerChoice : List (List ℕ) → List Entry → Option (List ℕ) → Type 0
+abbrev pub OwnerChoice : List (List ℕ) → List Entry → Option (List ℕ) → Type 0
 OwnerChoice origin before o = ((name : List (List ℕ)) × (MatchOption o (IsLastOwner origin before name) (λ text. SpellsBehind origin before text name) × IsName name)) ⊎ ((name : List (List ℕ)) → MatchOption o (IsLastOwner origin before name) (λ text. SpellsBehind origin before text name) → ⊥)
 
 owner_nothing : (origin : List (List ℕ)) (before : List Entry) (form : Form) → StatesNothing origin before form → OwnerChoice origin before None → OwnerChoice origin before (owner_in form)
@@ -88,18 +88,18 @@ owner_by : (origin : List (List ℕ)) (before : List Entry) (entry : Entry) → 
 owner_by origin before entry (inl n) last = owner_nothing origin before (form_of entry) n last
 owner_by origin before entry (inr s) last = owner_record origin before (form_of entry) s.0.owner s.1.head.owner last
 
-last_owner : (origin : List (List ℕ)) (before : List Entry) → AllState origin before → OwnerChoice origin before None
+pub last_owner : (origin : List (List ℕ)) (before : List Entry) → AllState origin before → OwnerChoice origin before None
 last_owner origin [] states = inr (λ name h. h)
 last_owner origin (entry ∷ before) states = owner_by origin before entry states.0 (last_owner origin before states.1)
 
-abbrev NameChoice : List (List ℕ) → List Entry → List ℕ → Type 0
+abbrev pub NameChoice : List (List ℕ) → List Entry → List ℕ → Type 0
 NameChoice origin before text = ((name : List (List ℕ)) × (SpellsBehind origin before text name × IsName name)) ⊎ ((fault : Fault) × IsNameFault origin before text fault)
 
 name_by : (origin : List (List ℕ)) (before : List Entry) (text : List ℕ) (above : List (List ℕ)) → IsOrigin origin before above → ((name : List (List ℕ)) × Spells (Some above) text name) ⊎ ((fault : NameFault) × FirstFault (Some above) text fault) → NameChoice origin before text
 name_by origin before text above under (inl found) = inl (found.0, ((above, (under, found.1)), found.1.name))
 name_by origin before text above under (inr bad) = inr (fault_of bad.0, record { above = above; found = bad.0; under = under; first = bad.1; same = refl })
 
-name_or_fault : Choices → (origin : List (List ℕ)) (before : List Entry) (text : List ℕ) → IsName origin → AllState origin before → AllByRecursion (λ c. c < 256) text → NameChoice origin before text
+pub name_or_fault : Choices → (origin : List (List ℕ)) (before : List Entry) (text : List ℕ) → IsName origin → AllState origin before → AllByRecursion (λ c. c < 256) text → NameChoice origin before text
 name_or_fault choices origin before text is states low =
     let above = origin_is origin before is states in
     name_by origin before text above.0 above.1.0 (choices.name above.0 text above.1.1 low)
@@ -129,14 +129,14 @@ class_before : (origin : List (List ℕ)) (before : List Entry) → AllState ori
 class_before origin [] states = (1, (refl, record { short = omega arith; not_zero = λ e. omega arith; not_none = λ e. omega arith; not_any = λ e. omega arith }))
 class_before origin (entry ∷ before) states = class_in_parts (parts_of entry) (latest class_word before) (words_have origin before entry states.0) (class_before origin before states.1)
 
-class_is : (origin : List (List ℕ)) (before : List Entry) (entry : Entry) (parts : Parts) → AllState origin before → parts_of entry ≡ Some parts → AllByRecursion HasValue parts.words → (number : ℕ) × (HasClass before entry number × IsClass number)
+pub class_is : (origin : List (List ℕ)) (before : List Entry) (entry : Entry) (parts : Parts) → AllState origin before → parts_of entry ≡ Some parts → AllByRecursion HasValue parts.words → (number : ℕ) × (HasClass before entry number × IsClass number)
 class_is origin before entry parts states split words =
     class_in_parts (parts_of entry) (latest class_word before) (λ other e. let both : Some parts ≡ Some other = sym split ∙ e in let same : parts ≡ other = cc in subst (λ p. AllByRecursion HasValue p.words) same words) (class_before origin before states)
 
 -- ---- the words before the type
 
 -- a class among them is the word of one
-abbrev IsKnown : Word → Type 0
+abbrev pub IsKnown : Word → Type 0
 IsKnown (ttl text) = Unit {0}
 IsKnown (class text) = is_class_word text ≡ true
 
@@ -160,7 +160,7 @@ abbrev parts_by : List Word → RawItem → List RawItem → Option Word → Par
 parts_by words item items None = record { words = words; rest = item ∷ items }
 parts_by words item items (Some word) = parts_behind (words ++ word ∷ []) items
 
-record AreGood (parts : Parts) : Type 0 where
+pub record AreGood (parts : Parts) : Type 0 where
   pub known : AllByRecursion IsKnown parts.words
   pub low : AreLowItems parts.rest
 
@@ -168,14 +168,14 @@ good_by : (words : List Word) (item : RawItem) (items : List RawItem) (o : Optio
 good_by words item items None e known low goes = record { known = known; low = low }
 good_by words item items (Some word) e known low goes = goes word (known_push words word known (behind_known words item word e))
 
-parts_good : (items : List RawItem) (words : List Word) → AllByRecursion IsKnown words → AreLowItems items → AreGood (parts_behind words items)
+pub parts_good : (items : List RawItem) (words : List Word) → AllByRecursion IsKnown words → AreLowItems items → AreGood (parts_behind words items)
 parts_good [] words known low = record { known = known; low = tt }
 parts_good (item ∷ items) words known low = good_by words item items (word_behind words item) refl known low (λ word more. parts_good items (words ++ word ∷ []) more low.1)
 
 abbrev WordChoice : Word → Type 0
 WordChoice word = HasValue word ⊎ ((fault : Fault) × WordFault word fault)
 
-ttl_word_by : Lower → (text : List ℕ) → ((n : ℕ) × IsTime text n) ⊎ ((n : ℕ) → IsTime text n → ⊥) → ((seconds : ℕ) × IsTtl text seconds) ⊎ ((seconds : ℕ) → IsTtl text seconds → ⊥)
+pub ttl_word_by : Lower → (text : List ℕ) → ((n : ℕ) × IsTime text n) ⊎ ((n : ℕ) → IsTime text n → ⊥) → ((seconds : ℕ) × IsTtl text seconds) ⊎ ((seconds : ℕ) → IsTtl text seconds → ⊥)
 ttl_word_by lower text (inr no_time) = inr (λ seconds h. no_time seconds h.time)
 ttl_word_by lower text (inl found) = elim (cases_lt 2147483647 found.0) [
   | inl over ↦ inr (λ seconds h. omega (arith, lower.time text seconds found.0 h.time found.1, h.short))
@@ -214,6 +214,6 @@ words_by word words (inr bad) others = inr (bad.0, inl bad.1)
 words_by word words (inl has) (inl have) = inl (has, have)
 words_by word words (inl has) (inr bad) = inr (bad.0, inr (has, bad.1))
 
-words_or_fault : Lower → Choices → (words : List Word) → AllByRecursion IsKnown words → AllByRecursion HasValue words ⊎ ((fault : Fault) × WordsFault words fault)
+pub words_or_fault : Lower → Choices → (words : List Word) → AllByRecursion IsKnown words → AllByRecursion HasValue words ⊎ ((fault : Fault) × WordsFault words fault)
 words_or_fault lower choices [] known = inl tt
 words_or_fault lower choices (word ∷ words) known = words_by word words (word_or_fault lower choices word known.0) (words_or_fault lower choices words known.1)

@@ -9,6 +9,7 @@ pub mod Inherits
 pub mod Outcomes
 pub mod Entered
 pub mod EntryChoice
+pub mod EntryOutcome
 pub mod Files
 pub mod Seconds
 pub mod CutAgain
