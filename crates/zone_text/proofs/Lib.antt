@@ -11,6 +11,7 @@ pub mod Entered
 pub mod EntryChoice
 pub mod EntryOutcome
 pub mod Files
+pub mod FileChoice
 pub mod Seconds
 pub mod CutAgain
 pub mod Decides
