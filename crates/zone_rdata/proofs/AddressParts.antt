@@ -45,7 +45,7 @@ pub record AreSomeParts (ends : Bool) (text octets : List ℕ) : Type 0 where
   pub are : ArePartsOf ends text octets
   pub some : 0 < length are.parts
 
-text_some : (ends : Bool) (text octets : List ℕ) (parts : List Part) → 0 < length text → AreParts ends parts → text ≡ parts_text parts → octets ≡ parts_octets parts → AreSomeParts ends text octets
+pub text_some : (ends : Bool) (text octets : List ℕ) (parts : List Part) → 0 < length text → AreParts ends parts → text ≡ parts_text parts → octets ≡ parts_octets parts → AreSomeParts ends text octets
 text_some ends text octets [] some each parted value = absurd (omega (arith, ap length parted))
 text_some ends text octets (p ∷ parts) some each parted value = record { are = record { parts = p ∷ parts; each = each; parted = parted; value = value }; some = omega arith }
 
@@ -70,10 +70,10 @@ cut_parts ends text group rest octets (p ∷ q ∷ parts) cut some each parted v
       value = value;
     }
 
-parts_cut : (ends : Bool) (text group rest octets : List ℕ) → IsCut 58 text group rest → AreSomeParts ends text octets → PartsCut ends group rest octets
+pub parts_cut : (ends : Bool) (text group rest octets : List ℕ) → IsCut 58 text group rest → AreSomeParts ends text octets → PartsCut ends group rest octets
 parts_cut ends text group rest octets cut h = cut_parts ends text group rest octets h.are.parts cut h.some h.are.each h.are.parted h.are.value
 
-only_part : (ends : Bool) (text octets : List ℕ) (parts : List Part) → Lacks 58 text → 0 < length parts → AreParts ends parts → text ≡ parts_text parts → octets ≡ parts_octets parts → IsLastPart ends (record { text = text; octets = octets })
+pub only_part : (ends : Bool) (text octets : List ℕ) (parts : List Part) → Lacks 58 text → 0 < length parts → AreParts ends parts → text ≡ parts_text parts → octets ≡ parts_octets parts → IsLastPart ends (record { text = text; octets = octets })
 only_part ends text octets [] lacks some each parted value = absurd (omega arith)
 only_part ends text octets (p ∷ []) lacks some each parted value =
     let own : octets ≡ p.octets = value ∙ append-nil p.octets in

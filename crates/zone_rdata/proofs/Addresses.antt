@@ -11,7 +11,7 @@ use Rattle.zone_rdata.specs.AddressReading.{Lacks, IsCut}
 
 -- ---- cutting
 
-lacks_push : (c : ℕ) (text : List ℕ) (d : ℕ) → Lacks c text → d ≢ c → Lacks c (text ++ d ∷ [])
+pub lacks_push : (c : ℕ) (text : List ℕ) (d : ℕ) → Lacks c text → d ≢ c → Lacks c (text ++ d ∷ [])
 lacks_push c [] d h other = (other, tt)
 lacks_push c (x ∷ text) d h other = (h.0, lacks_push c text d h.1 other)
 

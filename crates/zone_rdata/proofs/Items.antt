@@ -30,7 +30,7 @@ pub read_none : (origin : List (List ℕ)) (row : List Field) (items : List RawI
 read_none origin row items octets e = record { values = []; spelt = tt; written = e }
 
 -- one more item at the end
-spell_push : (origin : List (List ℕ)) (row : List Field) (items : List RawItem) (values : List FieldValue) (f : Field) (item : RawItem) (v : FieldValue) → SpellEach origin row items values → SpellsField origin f item v → SpellEach origin (row ++ f ∷ []) (items ++ item ∷ []) (values ++ v ∷ [])
+pub spell_push : (origin : List (List ℕ)) (row : List Field) (items : List RawItem) (values : List FieldValue) (f : Field) (item : RawItem) (v : FieldValue) → SpellEach origin row items values → SpellsField origin f item v → SpellEach origin (row ++ f ∷ []) (items ++ item ∷ []) (values ++ v ∷ [])
 spell_push origin [] [] [] f item v each h = (h, tt)
 spell_push origin [] [] (w ∷ values) f item v each h = absurd each
 spell_push origin [] (i ∷ items) values f item v each h = absurd each

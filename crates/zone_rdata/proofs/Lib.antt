@@ -38,3 +38,9 @@ pub mod AddressLaws
 pub mod AddressOctets
 pub mod OneWord
 pub mod Building
+pub mod TimeChoice
+pub mod WordChoice
+pub mod AddressChoice
+pub mod UncompressedChoice
+pub mod ItemChoice
+pub mod StatedOctets

@@ -54,7 +54,7 @@ frames_push many x a =
 abbrev pub AreSome : List (List ℕ) → Type 0
 AreSome labels = AllByRecursion (λ label. 0 < length label) labels
 
-folded_some : (sent : List (List ℕ)) → AllByRecursion IsLabel (folded sent) → AreSome sent
+pub folded_some : (sent : List (List ℕ)) → AllByRecursion IsLabel (folded sent) → AreSome sent
 folded_some [] each = tt
 folded_some (label ∷ sent) each = (omega (arith, each.0.some, length-map label folded_octet), folded_some sent each.1)
 
@@ -103,7 +103,7 @@ cut_name octets rest labels name c behind cut e nothing same is = record {
 }
 
 -- a name there goes on from what was cut off
-goes_on : (octets rest tail : List ℕ) (labels name : List (List ℕ)) (cut : HasCut octets labels rest) (b : BeginsWithSent octets name tail) → (more : List (List ℕ)) × (b.sent ≡ cut.sent ++ more) × (rest ≡ wire more ++ tail)
+pub goes_on : (octets rest tail : List ℕ) (labels name : List (List ℕ)) (cut : HasCut octets labels rest) (b : BeginsWithSent octets name tail) → (more : List (List ℕ)) × (b.sent ≡ cut.sent ++ more) × (rest ≡ wire more ++ tail)
 goes_on octets rest tail labels name cut b = labels_first cut.sent b.sent rest tail cut.some (sym cut.parts ∙ b.parts)
 
 pub no_first : (octets rest : List ℕ) (labels : List (List ℕ)) → HasCut octets labels rest → length rest ≡ 0 → (name : List (List ℕ)) (tail : List ℕ) → BeginsWithSent octets name tail → ⊥
@@ -168,12 +168,12 @@ no_label octets rest labels c behind label fault r cut e some fits same is only 
     refused_by fault labels label r is only empty long too_long count (subst (λ l. Fits labels l) (sym same) (next_fits octets rest labels c behind cut e some fits name tail b))
 
 -- ---- a name at the front is one name
-name_by : (more : List (List ℕ)) (rest tail : List ℕ) → AreSome more → 0 ∷ rest ≡ wire more ++ tail → (more ≡ []) × (rest ≡ tail)
+pub name_by : (more : List (List ℕ)) (rest tail : List ℕ) → AreSome more → 0 ∷ rest ≡ wire more ++ tail → (more ≡ []) × (rest ≡ tail)
 name_by [] rest tail some e = (refl, (cc))
 name_by ([] ∷ more) rest tail some e = absurd (omega (arith, some.0))
 name_by ((c ∷ l) ∷ more) rest tail some e = absurd (let bad : 0 ≡ suc (length l) = cc in omega arith)
 
-some_behind : (before more : List (List ℕ)) → AreSome (before ++ more) → AreSome more
+pub some_behind : (before more : List (List ℕ)) → AreSome (before ++ more) → AreSome more
 some_behind [] more some = some
 some_behind (l ∷ before) more some = some_behind before more some.1
 

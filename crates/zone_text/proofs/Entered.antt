@@ -75,7 +75,7 @@ directive_or_record origin before no_items fault parts x split = x
 directive_or_record origin before (owned owner items) fault parts x split = x
 directive_or_record origin before (unowned items) fault parts x split = x
 
-nothing_or_parts : (origin : List (List ℕ)) (before : List Entry) (form : Form) (parts : Parts) → StatesNothing origin before form → parts_in form ≡ Some parts → ⊥
+pub nothing_or_parts : (origin : List (List ℕ)) (before : List Entry) (form : Form) (parts : Parts) → StatesNothing origin before form → parts_in form ≡ Some parts → ⊥
 nothing_or_parts origin before no_items parts x split = cc
 nothing_or_parts origin before (sets_origin items) parts x split = cc
 nothing_or_parts origin before (sets_ttl items) parts x split = cc

@@ -8,7 +8,10 @@ pub mod Once
 pub mod Inherits
 pub mod Outcomes
 pub mod Entered
+pub mod EntryChoice
+pub mod EntryOutcome
 pub mod Files
+pub mod FileChoice
 pub mod Seconds
 pub mod CutAgain
 pub mod Decides

@@ -12,5 +12,6 @@ pub mod File
 pub mod FileReads
 pub mod Decided
 pub mod Lower
+pub mod Outcome
 pub mod Lines
 pub mod ExampleEntries

@@ -1,10 +1,14 @@
 -- The laws of names, words and data on which those of entries stand.
-use Rattle.std.proofs.Common.{◌≡◌, ℕ, List, Some}
+use Rattle.std.proofs.Common.{◌≡◌, ◌<◌, ◌⊎◌, ℕ, List, Some}
+use Rattle.std.specs.List.{AllByRecursion}
+use Rattle.zone_name.specs.Name.{IsName}
 use Rattle.zone_name.specs.Spelling.{Spells, FirstFault}
 use Rattle.zone_name.specs.declared.fault.NameFault.{NameFault}
 use Rattle.zone_rdata.specs.DataFault.{IsDataFault}
+use Rattle.zone_rdata.specs.Layout.{IsData}
 use Rattle.zone_rdata.specs.Number.{IsTime}
 use Rattle.zone_rdata.specs.Spelling.{RawItem, States}
+use Rattle.zone_rdata.specs.Strings.{item_text}
 use Rattle.zone_rdata.specs.Words.{IsClassWord, IsKind, IsKindWord, IsWordFault}
 use Rattle.zone_rdata.specs.declared.fault.Fault.{Fault}
 
@@ -24,3 +28,11 @@ pub record Lower : Type 0 where
   pub rdata : (above : List (List ℕ)) (class kind : ℕ) (items : List RawItem) → Once (List ℕ) (States above class kind items)
   pub rdata_or_fault : (above : List (List ℕ)) (class kind : ℕ) (items : List RawItem) (octets : List ℕ) (fault : Fault) → States above class kind items octets → IsDataFault above class kind items fault → ⊥
   pub rdata_fault : (above : List (List ℕ)) (class kind : ℕ) (items : List RawItem) → Once Fault (IsDataFault above class kind items)
+
+-- Each text of octets, word and list of items has its value or its first fault.
+pub record Choices : Type 0 where
+  pub name : (above : List (List ℕ)) (text : List ℕ) → IsName above → AllByRecursion (λ c. c < 256) text → ((name : List (List ℕ)) × Spells (Some above) text name) ⊎ ((fault : NameFault) × FirstFault (Some above) text fault)
+  pub time : (text : List ℕ) → ((seconds : ℕ) × IsTime text seconds) ⊎ ((seconds : ℕ) → IsTime text seconds → ⊥)
+  pub kind : (word : List ℕ) → ((n : ℕ) × (IsKindWord word n × IsKind n)) ⊎ ((fault : Fault) × IsWordFault word fault)
+  pub rdata : (above : List (List ℕ)) (class kind : ℕ) (items : List RawItem) → IsName above → AllByRecursion (λ item. AllByRecursion (λ c. c < 256) (item_text item)) items → ((octets : List ℕ) × States above class kind items octets) ⊎ ((fault : Fault) × IsDataFault above class kind items fault)
+  pub stated : (above : List (List ℕ)) (class kind : ℕ) (items : List RawItem) (octets : List ℕ) → States above class kind items octets → IsData class kind octets

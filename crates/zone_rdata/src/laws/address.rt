@@ -1,5 +1,5 @@
 //! Laws of addresses in text.
-ghost use Rattle.std.specs.Prelude.{◌≡◌, ◌<◌, ◌≤◌, ℕ, List, length};
+ghost use Rattle.std.specs.Prelude.{◌≡◌, ◌⊎◌, ◌<◌, ◌≤◌, ℕ, List, length};
 ghost use Rattle.std.specs.List.{AllByRecursion};
 ghost use Rattle.std.specs.Net.Addr.{segments_of};
 ghost use Rattle.zone_rdata.specs.Address.{IsAddressOctet, IsFourNumbers, IsGroups, IsShortenedRun, IsZeroRun, four_text, groups_text, parted_groups, shortened_groups};
@@ -38,4 +38,10 @@ pub fn addresses_have_their_octets()
     ensures four_each { (text octets : List ℕ) → IsFourNumbers text octets → AllByRecursion (λ c. c < 256) octets }
     ensures sixteen { (text octets : List ℕ) → IsGroups text octets → length octets ≡ 16 }
     ensures sixteen_each { (text octets : List ℕ) → IsGroups text octets → AllByRecursion (λ c. c < 256) octets }
+{}
+
+/// A text is an address of four octets or none, and one of sixteen or none.
+pub fn texts_are_addresses_or_none()
+    ensures four { (text : List ℕ) → ((octets : List ℕ) × IsFourNumbers text octets) ⊎ ((octets : List ℕ) → IsFourNumbers text octets → ⊥) }
+    ensures sixteen { (text : List ℕ) → ((octets : List ℕ) × IsGroups text octets) ⊎ ((octets : List ℕ) → IsGroups text octets → ⊥) }
 {}

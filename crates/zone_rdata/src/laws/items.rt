@@ -1,9 +1,12 @@
 //! Laws of the items that state record data (RFC 1035 5.1; RFC 3597 5).
-ghost use Rattle.std.specs.Prelude.{◌≡◌, List, ℕ, Some};
+ghost use Rattle.std.specs.Prelude.{◌≡◌, ◌⊎◌, ◌<◌, List, ℕ, Some};
+ghost use Rattle.std.specs.List.{AllByRecursion};
+ghost use Rattle.zone_name.specs.Name.{IsName};
 ghost use Rattle.zone_rdata.specs.DataFault.{IsDataFault};
 ghost use Rattle.zone_rdata.specs.Item.{RawItem};
-ghost use Rattle.zone_rdata.specs.Layout.{IsLayout, layout};
+ghost use Rattle.zone_rdata.specs.Layout.{IsData, IsLayout, layout};
 ghost use Rattle.zone_rdata.specs.Spelling.{States};
+ghost use Rattle.zone_rdata.specs.Strings.{item_text};
 ghost use Rattle.zone_rdata.specs.declared.fault.Fault.{Fault};
 ghost use Rattle.zone_rdata.specs.declared.layout.Field.{Field};
 
@@ -19,6 +22,18 @@ pub fn data_is_unique()
     ensures { (origin : List (List ℕ)) (class kind : ℕ) (items : List RawItem) (a b : List ℕ) → States origin class kind items a → States origin class kind items b → a ≡ b }
 {
     spelling_is_unique();
+}
+
+/// What items state is data that a record can have.
+pub fn stated_data_is_data()
+    ensures { (origin : List (List ℕ)) (class kind : ℕ) (items : List RawItem) (octets : List ℕ) → States origin class kind items octets → IsData class kind octets }
+{}
+
+/// Items of octets state a value of a class and type under an origin that is a name, or have a first fault.
+pub fn data_or_fault()
+    ensures { (origin : List (List ℕ)) (class kind : ℕ) (items : List RawItem) → IsName origin → AllByRecursion (λ item. AllByRecursion (λ c. c < 256) (item_text item)) items → ((octets : List ℕ) × States origin class kind items octets) ⊎ ((fault : Fault) × IsDataFault origin class kind items fault) }
+{
+    texts_have_one_verdict();
 }
 
 /// Items that have a first fault state no value.

@@ -1,6 +1,6 @@
 //! Laws of words and times in text (RFC 1035 5.1, RFC 3597 5).
-ghost use Rattle.std.specs.Prelude.{◌≡◌, List, ℕ};
-ghost use Rattle.zone_rdata.specs.Number.{IsTime};
+ghost use Rattle.std.specs.Prelude.{◌≡◌, ◌⊎◌, List, ℕ};
+ghost use Rattle.zone_rdata.specs.Number.{IsDecimal, IsTime};
 ghost use Rattle.zone_rdata.specs.Words.{IsClassWord, IsKind, IsKindWord, IsWordFault};
 ghost use Rattle.zone_rdata.specs.declared.fault.Fault.{Fault};
 
@@ -23,4 +23,20 @@ pub fn kind_word_is_unique()
 pub fn kind_word_has_one_verdict()
     ensures never_both { (word : List ℕ) (n : ℕ) (fault : Fault) → IsKindWord word n → IsKind n → IsWordFault word fault → ⊥ }
     ensures one_fault { (word : List ℕ) (f g : Fault) → IsWordFault word f → IsWordFault word g → f ≡ g }
+{}
+
+/// A text states a decimal number or none, and a time or none.
+pub fn numbers_and_times_are_decided()
+    ensures decimal { (text : List ℕ) → ((n : ℕ) × IsDecimal text n) ⊎ ((n : ℕ) → IsDecimal text n → ⊥) }
+    ensures time { (text : List ℕ) → ((n : ℕ) × IsTime text n) ⊎ ((n : ℕ) → IsTime text n → ⊥) }
+{}
+
+/// A word is that of a class or of none.
+pub fn class_word_or_none()
+    ensures { (word : List ℕ) → ((n : ℕ) × IsClassWord word n) ⊎ ((n : ℕ) → IsClassWord word n → ⊥) }
+{}
+
+/// A word is that of a type of which records can be, or has a fault at a type's place.
+pub fn kind_word_or_fault()
+    ensures { (word : List ℕ) → ((n : ℕ) × (IsKindWord word n × IsKind n)) ⊎ ((fault : Fault) × IsWordFault word fault) }
 {}

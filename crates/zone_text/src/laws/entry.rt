@@ -1,18 +1,24 @@
 //! Laws of entries: what one states and the first fault of one, whatever stands before it.
-ghost use Rattle.std.specs.Prelude.{◌≡◌, ◌↔◌, false, List, ℕ, true};
+ghost use Rattle.std.specs.Prelude.{◌≡◌, ◌↔◌, ◌⊎◌, false, List, ℕ, true};
+ghost use Rattle.zone_name.specs.Name.{IsName};
 ghost use Rattle.zone_rdata.specs.Record.{Record};
 ghost use Rattle.zone_rdata.specs.Words.{IsClassWord};
 ghost use Rattle.zone_rdata.specs.declared.fault.Fault.{Fault};
 ghost use Rattle.zone_text.specs.Entries.{Entry};
 ghost use Rattle.zone_text.specs.EntryFault.{EntryFault};
 ghost use Rattle.zone_text.specs.Forms.{begins_with_digit, form_of, is_class_word};
-ghost use Rattle.zone_text.specs.Lower.{Lower};
+ghost use Rattle.zone_text.specs.Lower.{Choices, Lower};
+ghost use Rattle.zone_text.specs.Outcome.{AllState, AreLowItems};
 ghost use Rattle.zone_text.specs.Records.{StatesNothing, StatesRecord};
 
 use zone_name::laws::{spelling_is_unique, texts_have_one_verdict};
-use zone_rdata::laws::items::{data_fault_is_unique, data_is_unique, faulty_items_state_none};
+use zone_rdata::laws::items::{
+    data_fault_is_unique, data_is_unique, data_or_fault, faulty_items_state_none,
+    stated_data_is_data,
+};
 use zone_rdata::laws::word::{
-    class_word_is_unique, kind_word_has_one_verdict, kind_word_is_unique, time_is_unique,
+    class_word_is_unique, kind_word_has_one_verdict, kind_word_is_unique, kind_word_or_fault,
+    numbers_and_times_are_decided, time_is_unique,
 };
 
 /// The laws of names, words and data on which those of entries stand.
@@ -28,6 +34,17 @@ pub(super) fn lower_laws()
     data_is_unique();
     faulty_items_state_none();
     data_fault_is_unique();
+}
+
+/// The laws by which texts, words and items have a value or a first fault.
+pub(super) fn lower_choices()
+    ensures { Choices }
+{
+    texts_have_one_verdict();
+    numbers_and_times_are_decided();
+    kind_word_or_fault();
+    data_or_fault();
+    stated_data_is_data();
 }
 
 /// An item is taken for a class where it is a class's word, and no word is a class's and begins with a digit, as a TTL.
@@ -57,4 +74,13 @@ pub fn an_entry_has_one_outcome()
     ensures nothing_or_record { (origin : List (List ℕ)) (before : List Entry) (entry : Entry) (r : Record) → StatesNothing origin before (form_of entry) → StatesRecord origin before entry r → ⊥ }
 {
     lower_laws();
+}
+
+/// An entry of octets states nothing or a record, or has a first fault, where each entry before it states nothing or a
+/// record and the origin is a name.
+pub fn an_entry_has_an_outcome()
+    ensures { (origin : List (List ℕ)) (before : List Entry) (entry : Entry) → IsName origin → AllState origin before → AreLowItems entry.items → StatesNothing origin before (form_of entry) ⊎ (((r : Record) × StatesRecord origin before entry r) ⊎ ((fault : Fault) × EntryFault origin before entry fault)) }
+{
+    lower_laws();
+    lower_choices();
 }

@@ -1,17 +1,27 @@
 //! Laws of files: the records that one states, and its reading.
-ghost use Rattle.std.specs.Prelude.{◌≡◌, ◌++◌, ◌↔◌, List, ℕ, None};
+ghost use Rattle.std.specs.Prelude.{◌≡◌, ◌++◌, ◌<◌, ◌↔◌, List, ℕ, None};
+ghost use Rattle.std.specs.List.{AllByRecursion};
+ghost use Rattle.zone_name.specs.Name.{IsName};
 ghost use Rattle.zone_rdata.specs.declared.record.Placed.{Placed};
 ghost use Rattle.zone_text.specs.Decided.{Decided, Stays};
 ghost use Rattle.zone_text.specs.File.{FileStates};
 ghost use Rattle.zone_text.specs.FileReads.{Ending, FileReads};
 
-use crate::laws::entry::lower_laws;
+use crate::laws::entry::{lower_choices, lower_laws};
 
 /// A file states at most one list of records with their places.
 pub fn a_file_states_one_list()
     ensures { (origin : List (List ℕ)) (octets : List ℕ) (a b : List Placed) → FileStates origin octets a → FileStates origin octets b → a ≡ b }
 {
     lower_laws();
+}
+
+/// Every file of octets has a reading under an origin that is a name.
+pub fn a_file_has_a_reading()
+    ensures { (origin : List (List ℕ)) (octets : List ℕ) → IsName origin → AllByRecursion (λ c. c < 256) octets → (placed : List Placed) × ((ending : Ending) × FileReads origin octets placed ending) }
+{
+    lower_laws();
+    lower_choices();
 }
 
 /// A file has at most one reading.

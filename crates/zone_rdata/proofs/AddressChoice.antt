@@ -1,0 +1,230 @@
+-- A text is an address or none.
+use Rattle.std.proofs.Common.{◌≡◌, ◌≢◌, ℕ, zero, suc, ◌+◌, ◌-◌, ◌<◌, ◌≤◌, Bool, true, false, IsTrue, inl, inr, ◌⊎◌, List, [], ◌∷◌, ◌++◌, length, get_or, take, drop, replicate, Result, Ok, Err, refl, sym, ap, ◌∙◌, subst, arith, append_assoc}
+use Rattle.std.specs.List.{AllByRecursion}
+use Rattle.std.proofs.lemmas.Bool.{cases_lt, cases_eq}
+use Rattle.std.proofs.lemmas.List.{append-nil}
+use Rattle.hex.specs.Hex.{decode_sized}
+use Rattle.hex.specs.declared.error.FromHexError.{FromHexError}
+use Rattle.zone_rdata.specs.Address.{IsOctetNumber, AreNumbers, IsFourNumbers, Part, IsGroup, IsLastPart, AreParts, parts_text, parts_octets, ArePartsOf, AreAround, IsGroups, eight, fewer}
+use Rattle.zone_rdata.specs.AddressReading.{Lacks, IsCut, HasGapAt}
+use Rattle.zone_rdata.specs.Number.{IsDecimal}
+use Rattle.zone_rdata.specs.Spelling.{IsAddress, of_four, of_sixteen}
+use Rattle.zone_rdata.proofs.Addresses.{numbers_one, numbers_more, numbers_none, number_refused, rest_refused, last_refused, lacks_push, join_more}
+use Rattle.zone_rdata.proofs.AddressParts.{AreSomeParts, parts_cut, only_part, text_some, no_parts, parts_unique}
+use Rattle.zone_rdata.proofs.AddressGaps.{IsFirstGap, refused_without_gap, refused_at_gap, found_at_gap}
+use Rattle.zone_rdata.proofs.GenericLaws.{decimal_or_not}
+
+-- octets of the kind, or none
+abbrev pub Choice : (List ℕ → Type 0) → Type 0
+Choice P = ((octets : List ℕ) × P octets) ⊎ ((octets : List ℕ) → P octets → ⊥)
+
+-- ---- cutting
+abbrev Cuts : ℕ → List ℕ → Type 0
+Cuts c text = ((front : List ℕ) × ((back : List ℕ) × IsCut c text front back)) ⊎ Lacks c text
+
+cut_behind : (c d : ℕ) (text : List ℕ) → d ≢ c → Cuts c text → Cuts c (d ∷ text)
+cut_behind c d text other (inl found) = inl (d ∷ found.0, (found.1.0, record { parted = ap (λ t. d ∷ t) found.1.1.parted; lacks = (other, found.1.1.lacks) }))
+cut_behind c d text other (inr lacks) = inr (other, lacks)
+
+cut_or_lacks : (c : ℕ) (text : List ℕ) → Cuts c text
+cut_or_lacks c [] = inr tt
+cut_or_lacks c (d ∷ text) = elim (cases_eq d c) [
+  | inl same ↦ inl ([], (text, record { parted = ap (λ x. x ∷ text) same; lacks = tt }))
+  | inr other ↦ cut_behind c d text other (cut_or_lacks c text)
+]
+
+-- ---- numbers parted by dots
+octet_by : (text : List ℕ) → ((n : ℕ) × IsDecimal text n) ⊎ ((n : ℕ) → IsDecimal text n → ⊥) → ((n : ℕ) × IsOctetNumber text n) ⊎ ((n : ℕ) → IsOctetNumber text n → ⊥)
+octet_by text (inr none) = inr (λ n h. none n h.number)
+octet_by text (inl found) = elim (cases_lt 255 found.0) [
+  | inl over ↦ inr (λ n h. omega (arith, h.number.value, found.1.value, h.short))
+  | inr short ↦ inl (found.0, record { number = found.1; short = short })
+]
+
+octet_or_not : (text : List ℕ) → ((n : ℕ) × IsOctetNumber text n) ⊎ ((n : ℕ) → IsOctetNumber text n → ⊥)
+octet_or_not text = octet_by text (decimal_or_not text)
+
+one_by : (text : List ℕ) → ((n : ℕ) × IsOctetNumber text n) ⊎ ((n : ℕ) → IsOctetNumber text n → ⊥) → Choice (AreNumbers 1 text)
+one_by text (inl found) = inl (found.0 ∷ [], numbers_one text found.0 found.1)
+one_by text (inr none) = inr (last_refused text none)
+
+more_by : (count : ℕ) (text front rest : List ℕ) → IsCut 46 text front rest → ((n : ℕ) × IsOctetNumber front n) ⊎ ((n : ℕ) → IsOctetNumber front n → ⊥) → Choice (AreNumbers (suc count) rest) → Choice (AreNumbers (suc (suc count)) text)
+more_by count text front rest cut (inr none) others = inr (number_refused text front rest cut none count)
+more_by count text front rest cut (inl found) (inr none) = inr (rest_refused count text front rest cut none)
+more_by count text front rest cut (inl found) (inl others) = inl (found.0 ∷ others.0, numbers_more count text front rest others.0 found.0 cut found.1 others.1)
+
+numbers_by : (count : ℕ) (text : List ℕ) → Cuts 46 text → ((rest : List ℕ) → Choice (AreNumbers (suc count) rest)) → Choice (AreNumbers (suc (suc count)) text)
+numbers_by count text (inr lacks) others = inr (numbers_none text lacks count)
+numbers_by count text (inl cut) others = more_by count text cut.0 cut.1.0 cut.1.1 (octet_or_not cut.0) (others cut.1.0)
+
+numbers_or_not : (count : ℕ) (text : List ℕ) → Choice (AreNumbers (suc count) text)
+numbers_or_not zero text = one_by text (octet_or_not text)
+numbers_or_not (suc count) text = numbers_by count text (cut_or_lacks 46 text) (λ rest. numbers_or_not count rest)
+
+pub four_or_not : (text : List ℕ) → Choice (IsFourNumbers text)
+four_or_not text = numbers_or_not 3 text
+
+-- ---- parts between colons
+abbrev IsGroupOf : List ℕ → List ℕ → Type 0
+IsGroupOf text octets = IsGroup (record { text = text; octets = octets })
+
+abbrev IsLastOf : Bool → List ℕ → List ℕ → Type 0
+IsLastOf ends text octets = IsLastPart ends (record { text = text; octets = octets })
+
+value_by : (text : List ℕ) (found : Result (List ℕ) FromHexError) → 0 < length text → length text ≤ 4 → decode_sized (replicate (4 - length text) 48 ++ text) 2 ≡ found → Choice (IsGroupOf text)
+value_by text (Ok octets) some few e = inl (octets, record { some = some; few = few; value = e })
+value_by text (Err error) some few e = inr (λ octets h. absurd (let clash : Err error ≡ Ok octets = sym e ∙ h.value in cc))
+
+group_or_not : (text : List ℕ) → Choice (IsGroupOf text)
+group_or_not text = elim (cases_lt 4 (length text)) [
+  | inl long ↦ inr (λ octets h. omega (arith, h.few))
+  | inr few ↦ elim (cases_lt 0 (length text)) [
+    | inl some ↦ value_by text (decode_sized (replicate (4 - length text) 48 ++ text) 2) some few refl
+    | inr none ↦ inr (λ octets h. omega (arith, h.some))
+  ]
+]
+
+no_last : (ends : Bool) (text : List ℕ) → ((octets : List ℕ) → IsGroupOf text octets → ⊥) → (IsTrue ends → (octets : List ℕ) → IsFourNumbers text octets → ⊥) → (octets : List ℕ) → IsLastOf ends text octets → ⊥
+no_last ends text none none' octets (inl is) = none octets is
+no_last ends text none none' octets (inr are) = none' are.0 octets are.1
+
+last_by : (ends : Bool) (text : List ℕ) → Choice (IsGroupOf text) → Choice (IsFourNumbers text) → Choice (IsLastOf ends text)
+last_by ends text (inl found) four = inl (found.0, inl found.1)
+last_by true text (inr none) (inl found) = inl (found.0, inr (refl, found.1))
+last_by true text (inr none) (inr none') = inr (no_last true text none (λ h. none'))
+last_by false text (inr none) four = inr (no_last false text none (λ h octets are. absurd cc))
+
+last_or_not : (ends : Bool) (text : List ℕ) → Choice (IsLastOf ends text)
+last_or_not ends text = last_by ends text (group_or_not text) (four_or_not text)
+
+-- the last of parts
+end_by : (ends : Bool) (text : List ℕ) → Lacks 58 text → Choice (IsLastOf ends text) → Choice (AreSomeParts ends text)
+end_by ends text lacks (inl found) =
+    let p : Part = record { text = text; octets = found.0 } in
+    inl (found.0, record { are = record { parts = p ∷ []; each = found.1; parted = refl; value = sym (append-nil found.0) }; some = omega arith })
+end_by ends text lacks (inr none) = inr (λ octets h. none octets (only_part ends text octets h.are.parts lacks h.some h.are.each h.are.parted h.are.value))
+
+-- a group before the others
+parts_behind : (ends : Bool) (p q : Part) (parts : List Part) → IsGroup p → AreParts ends (q ∷ parts) → AreParts ends (p ∷ q ∷ parts)
+parts_behind ends p q parts is are = (is, are)
+
+put_by : (ends : Bool) (group rest added octets : List ℕ) (parts : List Part) → IsGroupOf group added → 0 < length parts → AreParts ends parts → rest ≡ parts_text parts → octets ≡ parts_octets parts → AreSomeParts ends (group ++ 58 ∷ rest) (added ++ octets)
+put_by ends group rest added octets [] is some each parted value = absurd (omega arith)
+put_by ends group rest added octets (q ∷ parts) is some each parted value =
+    let p : Part = record { text = group; octets = added } in
+    record {
+      are = record { parts = p ∷ q ∷ parts; each = parts_behind ends p q parts is each; parted = ap (λ t. group ++ 58 ∷ t) parted; value = ap (λ o. added ++ o) value };
+      some = omega arith;
+    }
+
+colon_by : (ends : Bool) (group rest : List ℕ) → Lacks 58 group → Choice (IsGroupOf group) → Choice (AreSomeParts ends rest) → Choice (AreSomeParts ends (group ++ 58 ∷ rest))
+colon_by ends group rest lacks (inr none) others = inr (λ octets h. let cut = parts_cut ends (group ++ 58 ∷ rest) group rest octets (record { parted = refl; lacks = lacks }) h in none cut.added cut.is)
+colon_by ends group rest lacks (inl found) (inr none) = inr (λ octets h. let cut = parts_cut ends (group ++ 58 ∷ rest) group rest octets (record { parted = refl; lacks = lacks }) h in none cut.more cut.are)
+colon_by ends group rest lacks (inl found) (inl others) =
+    let are = others.1 in
+    inl (found.0 ++ others.0, put_by ends group rest found.0 others.0 are.are.parts found.1 are.some are.are.each are.are.parted are.are.value)
+
+octet_next : (ends : Bool) (group rest : List ℕ) (c : ℕ) → Lacks 58 group → (c ≡ 58) ⊎ (c ≢ 58) → (Lacks 58 (group ++ c ∷ []) → Choice (AreSomeParts ends ((group ++ c ∷ []) ++ rest))) → Choice (AreSomeParts ends rest) → Choice (AreSomeParts ends (group ++ c ∷ rest))
+octet_next ends group rest c lacks (inl same) goes others = subst (λ d. Choice (AreSomeParts ends (group ++ d ∷ rest))) (sym same) (colon_by ends group rest lacks (group_or_not group) others)
+octet_next ends group rest c lacks (inr other) goes others = subst (λ t. Choice (AreSomeParts ends t)) (append_assoc group (c ∷ []) rest) (goes (lacks_push 58 group c lacks other))
+
+some_or_not : (ends : Bool) (text group : List ℕ) → Lacks 58 group → Choice (AreSomeParts ends (group ++ text))
+some_or_not ends [] group lacks = subst (λ t. Choice (AreSomeParts ends t)) (sym (append-nil group)) (end_by ends group lacks (last_or_not ends group))
+some_or_not ends (c ∷ text) group lacks = octet_next ends group text c lacks (cases_eq c 58) (some_or_not ends text (group ++ c ∷ [])) (some_or_not ends text [] tt)
+
+parts_by : (ends : Bool) (c : ℕ) (text : List ℕ) → Choice (AreSomeParts ends (c ∷ text)) → Choice (ArePartsOf ends (c ∷ text))
+parts_by ends c text (inl found) = inl (found.0, found.1.are)
+parts_by ends c text (inr none) = inr (λ octets h. none octets (text_some ends (c ∷ text) octets h.parts (omega arith) h.each h.parted h.value))
+
+parts_or_not : (ends : Bool) (text : List ℕ) → Choice (ArePartsOf ends text)
+parts_or_not ends [] = inl ([], no_parts ends)
+parts_or_not ends (c ∷ text) = parts_by ends c text (some_or_not ends (c ∷ text) [] tt)
+
+-- ---- the first gap
+abbrev Gaps : List ℕ → Type 0
+Gaps text = ((at : ℕ) × ((at + 2 ≤ length text) × IsFirstGap text at)) ⊎ ((k : ℕ) → HasGapAt text k → ⊥)
+
+not_before : (c : ℕ) (text : List ℕ) (at : ℕ) → (HasGapAt (c ∷ text) 0 → ⊥) → IsFirstGap text at → (k : ℕ) → k < suc at → HasGapAt (c ∷ text) k → ⊥
+not_before c text at first h zero lt gap = first gap
+not_before c text at first h (suc k) lt gap = h.none k (omega arith) gap
+
+not_at : (c : ℕ) (text : List ℕ) → (HasGapAt (c ∷ text) 0 → ⊥) → ((k : ℕ) → HasGapAt text k → ⊥) → (k : ℕ) → HasGapAt (c ∷ text) k → ⊥
+not_at c text first none zero gap = first gap
+not_at c text first none (suc k) gap = none k gap
+
+gap_behind : (c : ℕ) (text : List ℕ) → (HasGapAt (c ∷ text) 0 → ⊥) → Gaps text → Gaps (c ∷ text)
+gap_behind c text first (inl found) = inl (suc found.0, (omega (arith, found.1.0), record { here = found.1.1.here; none = not_before c text found.0 first found.1.1 }))
+gap_behind c text first (inr none) = inr (not_at c text first none)
+
+gap_here : (c : ℕ) (text : List ℕ) → (c ≡ 58) ⊎ (c ≢ 58) → (get_or text 0 0 ≡ 58) ⊎ (get_or text 0 0 ≢ 58) → Gaps text → Gaps (c ∷ text)
+gap_here c [] (inl colon) second gaps = inr (not_at c [] (λ gap. omega (arith, gap.1)) (λ k gap. omega (arith, gap.0)))
+gap_here c (d ∷ text) (inl colon) (inl second) gaps = inl (zero, (omega arith, record { here = (colon, second); none = λ k lt. absurd (omega arith) }))
+gap_here c (d ∷ text) (inl colon) (inr other) gaps = gap_behind c (d ∷ text) (λ gap. other gap.1) gaps
+gap_here c text (inr other) second gaps = gap_behind c text (λ gap. other gap.0) gaps
+
+gap_or_not : (text : List ℕ) → Gaps text
+gap_or_not [] = inr (λ k gap. omega (arith, gap.0))
+gap_or_not (c ∷ text) = gap_here c text (cases_eq c 58) (cases_eq (get_or text 0 0) 58) (gap_or_not text)
+
+-- ---- an address of sixteen octets
+room_by : (front back before after : List ℕ) → ArePartsOf false front before → ArePartsOf true back after → Choice (AreAround front back)
+room_by front back before after x y = elim (cases_lt 14 (length before + length after)) [
+  | inl full ↦ inr (λ octets h.
+      let a = parts_unique false front h.before before h.front_parts x in
+      let b = parts_unique true back h.after after h.back_parts y in
+      omega (arith, ap length a, ap length b, h.room))
+  | inr room ↦ inl (before ++ (replicate (16 - length before - length after) 0 ++ after), record { before = before; after = after; front_parts = x; back_parts = y; room = room; value = refl })
+]
+
+around_by : (front back : List ℕ) → Choice (ArePartsOf false front) → Choice (ArePartsOf true back) → Choice (AreAround front back)
+around_by front back (inr none) others = inr (λ octets h. none h.before h.front_parts)
+around_by front back (inl found) (inr none) = inr (λ octets h. none h.after h.back_parts)
+around_by front back (inl found) (inl others) = room_by front back found.0 others.0 found.1 others.1
+
+gap_by : (text : List ℕ) (at : ℕ) → at + 2 ≤ length text → IsFirstGap text at → Choice (AreAround (take at text) (drop (at + 2) text)) → Choice (IsGroups text)
+gap_by text at inside first (inl found) = inl (found.0, found_at_gap text (drop (at + 2) text) at refl inside first.here found.0 found.1)
+gap_by text at inside first (inr none) = inr (refused_at_gap text (drop (at + 2) text) at refl first none)
+
+eight_by : (text : List ℕ) → ((k : ℕ) → HasGapAt text k → ⊥) → Choice (ArePartsOf true text) → Choice (IsGroups text)
+eight_by text no_gap (inr none) = inr (refused_without_gap text no_gap (λ octets are len. none octets are))
+eight_by text no_gap (inl found) = elim (cases_eq (length found.0) 16) [
+  | inl count ↦ inl (found.0, eight found.1 count)
+  | inr other ↦ inr (refused_without_gap text no_gap (λ octets are len. other (ap length (parts_unique true text found.0 octets found.1 are) ∙ len)))
+]
+
+groups_by : (text : List ℕ) → Gaps text → Choice (IsGroups text)
+groups_by text (inl found) = gap_by text found.0 found.1.0 found.1.1 (around_by (take found.0 text) (drop (found.0 + 2) text) (parts_or_not false (take found.0 text)) (parts_or_not true (drop (found.0 + 2) text)))
+groups_by text (inr none) = eight_by text none (parts_or_not true text)
+
+pub sixteen_or_not : (text : List ℕ) → Choice (IsGroups text)
+sixteen_or_not text = groups_by text (gap_or_not text)
+
+-- ---- an address of so many octets
+no_four : (n : ℕ) (text : List ℕ) → n ≡ 4 → ((octets : List ℕ) → IsFourNumbers text octets → ⊥) → (octets : List ℕ) → IsAddress n text octets → ⊥
+no_four n text e none octets (of_four d h) = none octets h
+no_four n text e none octets (of_sixteen d h) = omega arith
+
+no_sixteen : (n : ℕ) (text : List ℕ) → n ≡ 16 → ((octets : List ℕ) → IsGroups text octets → ⊥) → (octets : List ℕ) → IsAddress n text octets → ⊥
+no_sixteen n text e none octets (of_four d h) = omega arith
+no_sixteen n text e none octets (of_sixteen d h) = none octets h
+
+no_size : (n : ℕ) (text : List ℕ) → n ≢ 4 → n ≢ 16 → (octets : List ℕ) → IsAddress n text octets → ⊥
+no_size n text not_four not_sixteen octets (of_four e h) = not_four e
+no_size n text not_four not_sixteen octets (of_sixteen e h) = not_sixteen e
+
+address_four : (n : ℕ) (text : List ℕ) → n ≡ 4 → Choice (IsFourNumbers text) → Choice (IsAddress n text)
+address_four n text e (inl found) = inl (found.0, of_four e found.1)
+address_four n text e (inr none) = inr (no_four n text e none)
+
+address_sixteen : (n : ℕ) (text : List ℕ) → n ≡ 16 → Choice (IsGroups text) → Choice (IsAddress n text)
+address_sixteen n text e (inl found) = inl (found.0, of_sixteen e found.1)
+address_sixteen n text e (inr none) = inr (no_sixteen n text e none)
+
+pub address_or_not : (n : ℕ) (text : List ℕ) → Choice (IsAddress n text)
+address_or_not n text = elim (cases_eq n 4) [
+  | inl four ↦ address_four n text four (four_or_not text)
+  | inr not_four ↦ elim (cases_eq n 16) [
+    | inl sixteen ↦ address_sixteen n text sixteen (sixteen_or_not text)
+    | inr not_sixteen ↦ inr (no_size n text not_four not_sixteen)
+  ]
+]

@@ -1,0 +1,167 @@
+-- Items state a value or have a first fault.
+use Rattle.std.proofs.Common.{◌≡◌, ◌≢◌, ℕ, zero, suc, ◌+◌, ◌<◌, ◌≤◌, ◌^◌, Bool, true, false, List, [], ◌∷◌, ◌++◌, length, get_or, Result, Ok, Option, Some, None, ◌⊎◌, inl, inr, refl, sym, ap, ◌∙◌, subst, arith, append_assoc, bytes_eq}
+use Rattle.std.specs.Prelude.{IfSome}
+use Rattle.std.specs.List.{AllByRecursion}
+use Rattle.std.proofs.lemmas.Bool.{cases_lt}
+use Rattle.std.proofs.lemmas.List.{append-nil}
+use Rattle.hex.specs.Hex.{decode_of}
+use Rattle.hex.proofs.HexLemmas.{decode_of-ok}
+use Rattle.zone_name.specs.Name.{IsName}
+use Rattle.zone_name.specs.Spelling.{Spells, FirstFault}
+use Rattle.zone_name.specs.declared.fault.NameFault.{NameFault}
+use Rattle.zone_rdata.specs.declared.fault.Fault.{Fault}
+use Rattle.zone_rdata.specs.declared.fault.Fault.TheVariants.{BadRdata, BadGeneric, BadNumber, RdataTooLong}
+use Rattle.zone_rdata.specs.declared.layout.Field.{Field}
+use Rattle.zone_rdata.specs.declared.layout.Field.TheVariants.{Name, Serial, Time, U16, Octets, OneString, Strings}
+use Rattle.zone_rdata.specs.DataFault as faults
+use Rattle.zone_rdata.specs.DataFault.{IsItemFault, IsWordsFault, IsFormFault, IsFaultFor, IsDataFault, unspelt, missing, left_over, too_long, malformed, no_value, in_form, opaque_words}
+use Rattle.zone_rdata.specs.Fault.{fault_of}
+use Rattle.zone_rdata.specs.Field.{FieldValue, name, long, two_octets, fixed, string, strings, octets_of}
+use Rattle.zone_rdata.specs.Generic.{JoinTo, StatesGeneric, GenericFault}
+use Rattle.zone_rdata.specs.Item.{RawItem, bare, quoted, generic_mark, IsGeneric}
+use Rattle.zone_rdata.specs.Layout.{layout}
+use Rattle.zone_rdata.specs.Number.{IsDecimal, IsTime}
+use Rattle.zone_rdata.specs.Spelling.{IsAddress, IsCanonicalOf, SpellsField, SpellEach, States, StatesFor, in_words, in_octets, item_fields}
+use Rattle.zone_rdata.specs.Strings.{item_text, SpellsString, StringFault}
+use Rattle.zone_rdata.specs.Uncompressed.{IsUncompressed}
+use Rattle.zone_rdata.proofs.AddressChoice.{Choice, address_or_not}
+use Rattle.zone_rdata.proofs.Bytes.{bytes_each}
+use Rattle.zone_rdata.proofs.Fronts.{AreLow}
+use Rattle.zone_rdata.proofs.GenericLaws.{decimal_or_not, generic-or_fault}
+use Rattle.zone_rdata.proofs.Items.{spell_push}
+use Rattle.zone_rdata.proofs.StringLaws.{string-or_fault}
+use Rattle.zone_rdata.proofs.StringSteps.{AllByRecursion-append}
+use Rattle.zone_rdata.proofs.TimeChoice.{time_or_not}
+use Rattle.zone_rdata.proofs.TimeLaws.{one_time}
+use Rattle.zone_rdata.proofs.UncompressedChoice.{canonical_or_not}
+use Rattle.zone_rdata.proofs.WordChoice.{same_or_not}
+
+-- a text of octets spells a name under an origin or has a first fault
+abbrev pub NameOrFault : Type 0
+NameOrFault = (origin : Option (List (List ℕ))) (text : List ℕ) → IfSome origin IsName → AllByRecursion (λ c. c < 256) text → ((labels : List (List ℕ)) × Spells origin text labels) ⊎ ((fault : NameFault) × FirstFault origin text fault)
+
+-- ---- one item
+abbrev ItemChoice : List (List ℕ) → Field → RawItem → Type 0
+ItemChoice origin f item = ((value : FieldValue) × SpellsField origin f item value) ⊎ ((fault : Fault) × IsItemFault origin f item fault)
+
+name_item : (origin : List (List ℕ)) (text : List ℕ) → ((labels : List (List ℕ)) × Spells (Some origin) text labels) ⊎ ((fault : NameFault) × FirstFault (Some origin) text fault) → ItemChoice origin Name (bare text)
+name_item origin text (inl found) = inl (name found.0, found.1)
+name_item origin text (inr bad) = inr (fault_of bad.0, (bad.0, bad.1, refl))
+
+serial_item : (origin : List (List ℕ)) (text : List ℕ) → ((n : ℕ) × IsDecimal text n) ⊎ ((n : ℕ) → IsDecimal text n → ⊥) → ItemChoice origin Serial (bare text)
+serial_item origin text (inr none) = inr (BadNumber, (refl, λ n h short. none n h))
+serial_item origin text (inl found) = elim (cases_lt found.0 4294967296) [
+  | inl short ↦ inl (long found.0, (found.1, short))
+  | inr over ↦ inr (BadNumber, (refl, λ n h short. omega (arith, h.value, found.1.value)))
+]
+
+time_item : (origin : List (List ℕ)) (text : List ℕ) → ((n : ℕ) × IsTime text n) ⊎ ((n : ℕ) → IsTime text n → ⊥) → ItemChoice origin Time (bare text)
+time_item origin text (inr none) = inr (BadNumber, (refl, λ n h short. none n h))
+time_item origin text (inl found) = elim (cases_lt found.0 4294967296) [
+  | inl short ↦ inl (long found.0, (found.1, short))
+  | inr over ↦ inr (BadNumber, (refl, λ n h short. omega (arith, one_time text n found.0 h found.1)))
+]
+
+two_item : (origin : List (List ℕ)) (text : List ℕ) → ((n : ℕ) × IsDecimal text n) ⊎ ((n : ℕ) → IsDecimal text n → ⊥) → ItemChoice origin U16 (bare text)
+two_item origin text (inr none) = inr (BadNumber, (refl, λ n h short. none n h))
+two_item origin text (inl found) = elim (cases_lt found.0 65536) [
+  | inl short ↦ inl (two_octets found.0, (found.1, short))
+  | inr over ↦ inr (BadNumber, (refl, λ n h short. omega (arith, h.value, found.1.value)))
+]
+
+address_item : (origin : List (List ℕ)) (n : ℕ) (text : List ℕ) → Choice (IsAddress n text) → ItemChoice origin (Octets n) (bare text)
+address_item origin n text (inl found) = inl (fixed found.0, found.1)
+address_item origin n text (inr none) = inr (BadRdata, (refl, none))
+
+string_item : (origin : List (List ℕ)) (item : RawItem) → ((octets : List ℕ) × SpellsString item octets) ⊎ ((fault : Fault) × StringFault item fault) → ItemChoice origin OneString item
+string_item origin item (inl found) = inl (string found.0, found.1)
+string_item origin item (inr bad) = inr (bad.0, bad.1)
+
+strings_item : (origin : List (List ℕ)) (item : RawItem) → ((octets : List ℕ) × SpellsString item octets) ⊎ ((fault : Fault) × StringFault item fault) → ItemChoice origin Strings item
+strings_item origin item (inl found) = inl (strings (found.0 ∷ []), found.1)
+strings_item origin item (inr bad) = inr (bad.0, bad.1)
+
+item_or_fault : NameOrFault → (origin : List (List ℕ)) → IsName origin → (f : Field) (item : RawItem) → AreLow (item_text item) → ItemChoice origin f item
+item_or_fault names origin is OneString item low = string_item origin item (string-or_fault item low)
+item_or_fault names origin is Strings item low = strings_item origin item (string-or_fault item low)
+item_or_fault names origin is Name (bare text) low = name_item origin text (names (Some origin) text is low)
+item_or_fault names origin is Serial (bare text) low = serial_item origin text (decimal_or_not text)
+item_or_fault names origin is Time (bare text) low = time_item origin text (time_or_not text)
+item_or_fault names origin is U16 (bare text) low = two_item origin text (decimal_or_not text)
+item_or_fault names origin is (Octets n) (bare text) low = address_item origin n text (address_or_not n text)
+item_or_fault names origin is Name (quoted text) low = inr (BadRdata, refl)
+item_or_fault names origin is Serial (quoted text) low = inr (BadRdata, refl)
+item_or_fault names origin is Time (quoted text) low = inr (BadRdata, refl)
+item_or_fault names origin is U16 (quoted text) low = inr (BadRdata, refl)
+item_or_fault names origin is (Octets n) (quoted text) low = inr (BadRdata, refl)
+
+-- ---- items in words
+abbrev pub AreLowItems : List RawItem → Type 0
+AreLowItems items = AllByRecursion (λ item. AllByRecursion (λ c. c < 256) (item_text item)) items
+
+abbrev WordsChoice : List (List ℕ) → List Field → List RawItem → Type 0
+WordsChoice origin row items = ((values : List FieldValue) × SpellEach origin row items values) ⊎ ((fault : Fault) × IsWordsFault origin row items fault)
+
+next_item : (origin : List (List ℕ)) (front back : List Field) (f : Field) (before after : List RawItem) (item : RawItem) (values : List FieldValue) → SpellEach origin front before values → ItemChoice origin f item → ((value : FieldValue) → SpellEach origin (front ++ f ∷ []) (before ++ item ∷ []) (values ++ value ∷ []) → WordsChoice origin ((front ++ f ∷ []) ++ back) ((before ++ item ∷ []) ++ after)) → WordsChoice origin (front ++ f ∷ back) (before ++ item ∷ after)
+next_item origin front back f before after item values spelt (inr bad) goes = inr (bad.0, unspelt front back f before after item values bad.0 refl refl spelt bad.1)
+next_item origin front back f before after item values spelt (inl found) goes =
+    subst (λ r. WordsChoice origin r (before ++ item ∷ after)) (append_assoc front (f ∷ []) back)
+    (subst (λ x. WordsChoice origin ((front ++ f ∷ []) ++ back) x) (append_assoc before (item ∷ []) after) (goes found.0 (spell_push origin front before values f item found.0 spelt found.1)))
+
+words_by : NameOrFault → (origin : List (List ℕ)) → IsName origin → (back : List Field) (after : List RawItem) (front : List Field) (before : List RawItem) (values : List FieldValue) → SpellEach origin front before values → AreLowItems after → WordsChoice origin (front ++ back) (before ++ after)
+words_by names origin is [] [] front before values spelt low = inl (values, subst (λ r. SpellEach origin r (before ++ []) values) (sym (append-nil front)) (subst (λ x. SpellEach origin front x values) (sym (append-nil before)) spelt))
+words_by names origin is [] (item ∷ after) front before values spelt low = inr (BadRdata, left_over before after item values refl (subst (λ r. SpellEach origin r before values) (sym (append-nil front)) spelt))
+words_by names origin is (f ∷ back) [] front before values spelt low = inr (BadRdata, missing front back f values refl (subst (λ x. SpellEach origin front x values) (sym (append-nil before)) spelt))
+words_by names origin is (f ∷ back) (item ∷ after) front before values spelt low = next_item origin front back f before after item values spelt (item_or_fault names origin is f item low.0) (λ value more. words_by names origin is back after (front ++ f ∷ []) (before ++ item ∷ []) (values ++ value ∷ []) more low.1)
+
+-- ---- items of a layout, if there is one
+abbrev Outcome : List (List ℕ) → Option (List Field) → List RawItem → Type 0
+Outcome origin laid items = ((octets : List ℕ) × StatesFor origin laid items octets) ⊎ ((fault : Fault) × IsFaultFor origin laid items fault)
+
+worded : (origin : List (List ℕ)) (row : List Field) (items : List RawItem) → (IsGeneric items → ⊥) → WordsChoice origin (item_fields row items) items → Outcome origin (Some row) items
+worded origin row items unmarked (inr bad) = inr (bad.0, faults.in_words row bad.0 refl unmarked bad.1)
+worded origin row items unmarked (inl found) = elim (cases_lt 65535 (length (octets_of found.0))) [
+  | inl over ↦ inr (RdataTooLong, faults.in_words row RdataTooLong refl unmarked (too_long found.0 found.1 over))
+  | inr short ↦ inl (octets_of found.0, in_words row found.0 refl unmarked found.1 refl short)
+]
+
+words_or_fault : NameOrFault → (origin : List (List ℕ)) → IsName origin → (laid : Option (List Field)) (items : List RawItem) → AreLowItems items → (IsGeneric items → ⊥) → Outcome origin laid items
+words_or_fault names origin is None items low unmarked = inr (BadGeneric, opaque_words refl unmarked)
+words_or_fault names origin is (Some row) items low unmarked = worded origin row items unmarked (words_by names origin is (item_fields row items) items [] [] [] tt low)
+
+-- octets that hexadecimal digits stand for
+pub joined_low : (items : List RawItem) (octets : List ℕ) → JoinTo items octets → AreLow octets
+joined_low [] octets h = subst AreLow (sym h) tt
+joined_low (bare text ∷ items) octets h = subst AreLow (sym h.3) (AllByRecursion-append (λ c. c < 256) h.0 h.1 (bytes_each h.0 (decode_of-ok text h.0 h.2).3) (joined_low items h.1 h.4))
+joined_low (quoted text ∷ items) octets h = absurd h
+
+canonical_item : (origin : List (List ℕ)) (row : List Field) (items : List RawItem) (stated : List ℕ) → IsGeneric items → StatesGeneric items stated → Choice (IsUncompressed row stated) → Outcome origin (Some row) items
+canonical_item origin row items stated marked form (inl found) = inl (found.0, in_octets stated marked form found.1)
+canonical_item origin row items stated marked form (inr none) = inr (BadRdata, in_form BadRdata marked (no_value row stated refl form none))
+
+form_by : (origin : List (List ℕ)) (class kind : ℕ) (laid : Option (List Field)) (items : List RawItem) → layout class kind ≡ laid → IsGeneric items → ((octets : List ℕ) × StatesGeneric items octets) ⊎ ((fault : Fault) × GenericFault items fault) → Outcome origin laid items
+form_by origin class kind laid items e marked (inr bad) = inr (bad.0, in_form bad.0 marked (malformed bad.0 bad.1))
+form_by origin class kind None items e marked (inl found) = inl (found.0, in_octets found.0 marked found.1 refl)
+form_by origin class kind (Some row) items e marked (inl found) = canonical_item origin row items found.0 marked found.1 (canonical_or_not class kind row found.0 e (joined_low found.1.digits found.0 found.1.joined))
+
+-- the first item is the mark or not
+marked_by : (text : List ℕ) (rest : List RawItem) → (text ≡ 92 ∷ 35 ∷ []) ⊎ (text ≡ 92 ∷ 35 ∷ [] → ⊥) → IsGeneric (bare text ∷ rest) ⊎ (IsGeneric (bare text ∷ rest) → ⊥)
+marked_by text rest (inl same) = inl (rest, ap (λ t. bare t ∷ rest) same)
+marked_by text rest (inr other) = inr (λ h. let e = h.1 in let same : text ≡ 92 ∷ 35 ∷ [] = cc in other same)
+
+marked_or_not : (items : List RawItem) → IsGeneric items ⊎ (IsGeneric items → ⊥)
+marked_or_not [] = inr (λ h. absurd (let e = h.1 in cc))
+marked_or_not (bare text ∷ rest) = marked_by text rest (same_or_not text (92 ∷ 35 ∷ []))
+marked_or_not (quoted text ∷ rest) = inr (λ h. absurd (let e = h.1 in cc))
+
+outcome_by : NameOrFault → (origin : List (List ℕ)) → IsName origin → (class kind : ℕ) (items : List RawItem) → AreLowItems items → IsGeneric items ⊎ (IsGeneric items → ⊥) → Outcome origin (layout class kind) items
+outcome_by names origin is class kind items low (inl marked) = form_by origin class kind (layout class kind) items refl marked (generic-or_fault items marked)
+outcome_by names origin is class kind items low (inr unmarked) = words_or_fault names origin is (layout class kind) items low unmarked
+
+-- ---- data of a class and type
+data_by : (origin : List (List ℕ)) (class kind : ℕ) (items : List RawItem) → Outcome origin (layout class kind) items → ((octets : List ℕ) × States origin class kind items octets) ⊎ ((fault : Fault) × IsDataFault origin class kind items fault)
+data_by origin class kind items (inl found) = inl (found.0, record { stated = found.1 })
+data_by origin class kind items (inr bad) = inr (bad.0, record { first = bad.1 })
+
+pub data-or_fault : NameOrFault → (origin : List (List ℕ)) (class kind : ℕ) (items : List RawItem) → IsName origin → AreLowItems items → ((octets : List ℕ) × States origin class kind items octets) ⊎ ((fault : Fault) × IsDataFault origin class kind items fault)
+data-or_fault names origin class kind items is low = data_by origin class kind items (outcome_by names origin is class kind items low (marked_or_not items))

@@ -1,0 +1,5 @@
+use Rattle.zone_rdata.proofs.WordChoice.{class_or_not}
+use Rattle.zone_rdata.proofs.laws.word.class_word_or_none.Goals as goal
+
+pub returns : goal.returns
+returns c = class_or_not

@@ -1,0 +1,98 @@
+-- A file of octets has a reading.
+use Rattle.std.proofs.Common.{◌≡◌, ℕ, zero, ◌+◌, ◌<◌, ◌==◌, List, [], ◌∷◌, ◌++◌, Some, None, ◌⊎◌, inl, inr, refl, sym, ◌∙◌, ap, subst}
+use Rattle.std.specs.List.{flat_map, AllByRecursion, count_by}
+use Rattle.std.proofs.lemmas.Grind.{flat_map-append}
+use Rattle.zone_name.specs.Name.{IsName}
+use Rattle.zone_rdata.specs.Record.{Record}
+use Rattle.zone_rdata.specs.Spelling.{RawItem}
+use Rattle.zone_rdata.specs.declared.fault.Fault.{Fault}
+use Rattle.zone_rdata.specs.declared.fault.Place.TheVariants.{Line}
+use Rattle.zone_rdata.specs.declared.record.Placed.{Placed}
+use Rattle.zone_text.specs.Breaks.{Breaks}
+use Rattle.zone_text.specs.Entries.{Entry, Cut, and_last, cut_from, item_of, numbered, entries_of, ended_entries, open_line}
+use Rattle.zone_text.specs.FileReads.{Ending, reads_none, reads_one, refused, ReadEach, FileReads, whole, broken}
+use Rattle.zone_text.specs.Lower.{Lower, Choices}
+use Rattle.zone_text.specs.Outcome.{AllState, AreLowItems}
+use Rattle.zone_text.specs.Pieces.{Piece, blank, opening, closing, line_feed, comment, bare, quoted, piece_text, text, written_text, Cuts}
+use Rattle.zone_text.proofs.Cuttings.{cut_or_broken}
+use Rattle.zone_text.proofs.Ending.{entries_text}
+use Rattle.zone_text.proofs.EntryOutcome.{Outcome, entry_outcome}
+
+-- ---- the items of entries are octets
+
+abbrev AreLow : List ℕ → Type 0
+AreLow octets = AllByRecursion (λ c. c < 256) octets
+
+low_front : (front rest : List ℕ) → AreLow (front ++ rest) → AreLow front
+low_front [] rest low = tt
+low_front (c ∷ front) rest low = (low.0, low_front front rest low.1)
+
+low_behind : (front rest : List ℕ) → AreLow (front ++ rest) → AreLow rest
+low_behind [] rest low = low
+low_behind (c ∷ front) rest low = low_behind front rest low.1
+
+low_item : (p : Piece) (items : List RawItem) → AreLow (piece_text p) → AreLowItems items → AreLowItems (item_of p ++ items)
+low_item (blank c) items low others = others
+low_item opening items low others = others
+low_item closing items low others = others
+low_item line_feed items low others = others
+low_item (comment octets) items low others = others
+low_item (bare units) items low others = (low, others)
+low_item (quoted units) items low others = (low_front (written_text units) (34 ∷ []) low.1, others)
+
+low_items : (pieces : List Piece) → AreLow (text pieces) → AreLowItems (flat_map item_of pieces)
+low_items [] low = tt
+low_items (p ∷ pieces) low = low_item p (flat_map item_of pieces) (low_front (piece_text p) (text pieces) low) (low_items pieces (low_behind (piece_text p) (text pieces) low))
+
+abbrev AreLowEntries : List Entry → Type 0
+AreLowEntries entries = AllByRecursion (λ (entry : Entry). AreLowItems entry.items) entries
+
+low_entries : (line : ℕ) (entries : List (List Piece)) → AreLow (flat_map text entries) → AreLowEntries (numbered line entries)
+low_entries line [] low = tt
+low_entries line (pieces ∷ entries) low = (low_items pieces (low_front (text pieces) (flat_map text entries) low), low_entries (line + count_by (λ c. c == 10) (text pieces)) entries (low_behind (text pieces) (flat_map text entries) low))
+
+low_ended : (ended : List (List Piece)) (open_pieces : List Piece) → AreLow (flat_map text (and_last ended open_pieces)) → AreLow (flat_map text ended)
+low_ended ended [] low = low
+low_ended ended (p ∷ pieces) low = low_front (flat_map text ended) (flat_map text ((p ∷ pieces) ∷ [])) (subst AreLow (flat_map-append text ended ((p ∷ pieces) ∷ [])) low)
+
+low_of : (pieces : List Piece) → AreLow (text pieces) → AreLowEntries (entries_of pieces)
+low_of pieces low =
+    let cut : Cut = cut_from zero pieces in
+    low_entries 1 (and_last cut.ended cut.open_pieces) (subst AreLow (sym (entries_text pieces)) low)
+
+low_ended_of : (pieces : List Piece) → AreLow (text pieces) → AreLowEntries (ended_entries pieces)
+low_ended_of pieces low =
+    let cut : Cut = cut_from zero pieces in
+    low_entries 1 cut.ended (low_ended cut.ended cut.open_pieces (subst AreLow (sym (entries_text pieces)) low))
+
+-- ---- entries are read one after the other
+
+abbrev Readings : List (List ℕ) → Ending → List Entry → List Entry → Type 0
+Readings origin behind before entries = (placed : List Placed) × ((ending : Ending) × ReadEach origin behind before entries placed ending)
+
+next_reading : (origin : List (List ℕ)) (behind : Ending) (before : List Entry) (entry : Entry) (entries : List Entry) → AllState origin before → Outcome origin before entry → (AllState origin (entry ∷ before) → Readings origin behind (entry ∷ before) entries) → Readings origin behind before (entry ∷ entries)
+next_reading origin behind before entry entries states (inl n) goes =
+    let rest = goes (inl n, states) in
+    (rest.0, (rest.1.0, reads_none n rest.1.1))
+next_reading origin behind before entry entries states (inr (inl found)) goes =
+    let rest = goes (inr found, states) in
+    let p : Placed = record { rr = found.0; place = Line entry.line } in
+    (p ∷ rest.0, (rest.1.0, reads_one p rest.0 found.1 refl refl rest.1.1))
+next_reading origin behind before entry entries states (inr (inr bad)) goes = ([], (Some (bad.0, Line entry.line), refused bad.0 bad.1 refl refl))
+
+readings : Lower → Choices → (origin : List (List ℕ)) → IsName origin → (behind : Ending) (entries before : List Entry) → AllState origin before → AreLowEntries entries → Readings origin behind before entries
+readings lower choices origin is behind [] before states low = ([], (behind, (refl, refl)))
+readings lower choices origin is behind (entry ∷ entries) before states low =
+    next_reading origin behind before entry entries states (entry_outcome lower choices origin before entry is states low.0) (λ more. readings lower choices origin is behind entries (entry ∷ before) more low.1)
+
+file_by : Lower → Choices → (origin : List (List ℕ)) (octets : List ℕ) → IsName origin → AreLow octets → ((pieces : List Piece) × Cuts octets pieces) ⊎ ((pieces : List Piece) × (fault : Fault) × Breaks octets pieces fault) → (placed : List Placed) × ((ending : Ending) × FileReads origin octets placed ending)
+file_by lower choices origin octets is low (inl cut) =
+    let found = readings lower choices origin is None (entries_of cut.0) [] tt (low_of cut.0 (subst AreLow cut.1.whole low)) in
+    (found.0, (found.1.0, whole cut.0 cut.1 found.1.1))
+file_by lower choices origin octets is low (inr bad) =
+    let behind : Ending = Some (bad.1, Line (open_line bad.0)) in
+    let found = readings lower choices origin is behind (ended_entries bad.0) [] tt (low_ended_of bad.0 (low_front (text bad.0) bad.2.rest (subst AreLow bad.2.whole low))) in
+    (found.0, (found.1.0, broken bad.0 bad.1 bad.2 found.1.1))
+
+pub file_reads : Lower → Choices → (origin : List (List ℕ)) (octets : List ℕ) → IsName origin → AllByRecursion (λ c. c < 256) octets → (placed : List Placed) × ((ending : Ending) × FileReads origin octets placed ending)
+file_reads lower choices origin octets is low = file_by lower choices origin octets is low (cut_or_broken octets)
