@@ -1,13 +1,13 @@
 //! Laws of inputs over the definitions alone. The functions only call other laws: their contracts are the laws.
 ghost use Rattle.std.specs.Prelude.{◌≡◌, ◌⊎◌, ◌<◌, ℕ, List, Option, Some, None, slice_index};
 ghost use Rattle.std.specs.List.{AllByRecursion};
+ghost use Rattle.zone_name.specs.Name.{IsName};
 ghost use Rattle.zone_rdata.specs.Record.{IsRecord};
 ghost use Rattle.zone_rdata.specs.declared.fault.Fault.{Fault};
 ghost use Rattle.zone_rdata.specs.declared.fault.Place.{Place};
 ghost use Rattle.zone_rdata.specs.declared.record.Placed.{Placed};
 ghost use Rattle.zone_set.specs.Refusal.{records_of};
 ghost use Rattle.zone_set.specs.Zone.{Zone};
-ghost use Rattle.zone_text.specs.FileReads.{FileReads};
 ghost use Rattle.zone_wire.specs.Stream.{StreamReads};
 ghost use Rattle.zonenorm.specs.Input.{Input, file, transfer, InputDenotes};
 ghost use Rattle.zonenorm.specs.Refusal.{IsRefusal, MakesZone, RefusesReading};
@@ -67,14 +67,15 @@ pub fn no_zone_of_a_refused_input()
     zone_wire::laws::a_transfer_is_read();
 }
 
-/// A file that has a reading is refused or denotes a zone, and so is a stream whose reading gives records.
+/// Every master file is refused or denotes a zone, and so is every stream whose reading gives records.
 pub fn refusal_or_zone()
-    ensures file { (origin : List (List ℕ)) (octets : List ℕ) (placed : List Placed) (ending : Option (Fault × Place)) → FileReads origin octets placed ending
+    ensures file { (origin : List (List ℕ)) (octets : List ℕ) → IsName origin → AllByRecursion (λ c. c < 256) octets
         → ((fault : Fault) × (place : Place) × IsRefusal (file origin octets) fault place) ⊎ ((z : Zone) × InputDenotes (file origin octets) z) }
     ensures transfer { (stream : List ℕ) (placed : List Placed) (ending : Option (Fault × Place)) → ((i : ℕ) → slice_index stream i < 256) → AllByRecursion IsRecord (records_of placed) → StreamReads stream placed ending
         → ((fault : Fault) × (place : Place) × IsRefusal (transfer stream) fault place) ⊎ ((z : Zone) × InputDenotes (transfer stream) z) }
 {
     refusal_or_zone_of_a_reading();
+    zone_text::laws::file::a_file_has_a_reading();
     zone_text::laws::file::a_file_states_what_is_read();
     zone_wire::laws::a_transfer_is_read();
 }

@@ -68,22 +68,40 @@ fn addresses_refused(rt: HostRuntime) -> Result<(), Fail> {
     Ok(())
 }
 
+/// The fault of items of a type in class IN.
+fn fault_of(alloc: Global, number: u64, items: &[Item]) -> Result<Fault, Fail> {
+    match stated(alloc, 1, number, items) {
+        Err(Failing::Fault(fault)) => Ok(fault),
+        _ => Err(Fail::from("not refused")),
+    }
+}
+
 #[test]
 fn first_faults(rt: HostRuntime) -> Result<(), Fail> {
-    let fault = |number: u64, items: &[Item]| -> Result<Fault, Fail> {
-        match stated(rt.alloc(), 1, number, items) {
-            Err(Failing::Fault(fault)) => Ok(fault),
-            _ => Err(Fail::from("not refused")),
-        }
-    };
-    assert!(rt; matches!(fault(15, &[Item::Bare(b"65536")])?, Fault::BadNumber));
-    assert!(rt; matches!(fault(15, &[Item::Bare(b"10")])?, Fault::BadRdata));
+    let alloc = rt.alloc();
+    assert!(rt;
+        matches!(
+            fault_of(alloc, 15, &[Item::Bare(b"65536")])?,
+            Fault::BadNumber
+        )
+    );
+    assert!(rt; matches!(fault_of(alloc, 15, &[Item::Bare(b"10")])?, Fault::BadRdata));
     let left = [Item::Bare(b"10"), Item::Bare(b"a..b"), Item::Bare(b"z")];
-    assert!(rt; matches!(fault(15, &left)?, Fault::EmptyLabel));
-    assert!(rt; matches!(fault(731, &[Item::Bare(b"00")])?, Fault::BadGeneric));
-    assert!(rt; matches!(fault(731, &[])?, Fault::BadGeneric));
-    assert!(rt; matches!(fault(2, &[Item::Bare(b"\\#")])?, Fault::BadGeneric));
+    assert!(rt; matches!(fault_of(alloc, 15, &left)?, Fault::EmptyLabel));
+    assert!(rt;
+        matches!(
+            fault_of(alloc, 731, &[Item::Bare(b"00")])?,
+            Fault::BadGeneric
+        )
+    );
+    assert!(rt; matches!(fault_of(alloc, 731, &[])?, Fault::BadGeneric));
+    assert!(rt;
+        matches!(
+            fault_of(alloc, 2, &[Item::Bare(b"\\#")])?,
+            Fault::BadGeneric
+        )
+    );
     let long = [Item::Bare(b"\\#"), Item::Bare(b"65536"), Item::Bare(b"0")];
-    assert!(rt; matches!(fault(731, &long)?, Fault::RdataTooLong));
+    assert!(rt; matches!(fault_of(alloc, 731, &long)?, Fault::RdataTooLong));
     Ok(())
 }
