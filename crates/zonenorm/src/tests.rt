@@ -1,6 +1,4 @@
 //! What no contract says: worked examples, texts for people, and devices that fail.
-mod data;
-
 use crate::explain::explain_line;
 use crate::form::Form;
 use crate::order::{LineFault, Order, order_of};
