@@ -9,6 +9,7 @@ pub mod Naming
 pub mod Places
 pub mod ReadAnswers
 pub mod ReadFields
+pub mod ReadRecords
 pub mod ReadSections
 pub mod ReadStreams
 pub mod Sectioning

@@ -18,7 +18,7 @@ use Rattle.zone_wire.proofs.Answering.{is_soa}
 use Rattle.zone_wire.proofs.ReadFields.{data_shown}
 use Rattle.zone_wire.proofs.ReadSections.{ok_same, leads, passes_on, no_fault, both}
 
-unequal : (a b : ℕ) → nat_eq a b ≡ false → a ≢ b
+pub unequal : (a b : ℕ) → nat_eq a b ≡ false → a ≢ b
 unequal a b e same = let yes : nat_eq a b ≡ true = eq-eqb a b same in cc
 
 each_other : (kind : ℕ) (kinds : List ℕ) → list_any (nat_eq kind) kinds ≡ false → AllByRecursion (λ k. kind ≢ k) kinds
@@ -87,7 +87,7 @@ kept_record : (r s : Record) (fault : Option Fault) → (let x : Result Record F
 kept_record r s None e = (refl, ok_same r s e)
 kept_record r s (Some f) e = cc
 
-answer_shown : (octets : List ℕ) (questions : List QuestionAt) (before : List Placed) (a : RecordAt) (r : Record) → answer_of octets questions before a ≡ Ok r → (record_of octets a ≡ Ok r) × (order_fault questions before r ≡ None)
+pub answer_shown : (octets : List ℕ) (questions : List QuestionAt) (before : List Placed) (a : RecordAt) (r : Record) → answer_of octets questions before a ≡ Ok r → (record_of octets a ≡ Ok r) × (order_fault questions before r ≡ None)
 unfolding answer_of
 answer_shown octets questions before a r e =
     let l = leads (record_of octets a) _ r e in

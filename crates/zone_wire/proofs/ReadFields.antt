@@ -28,7 +28,7 @@ abbrev Shown : List ℕ → ℕ → ℕ → Field → FieldValue × ℕ → Type
 Shown octets end start field v = Holds field v.0 × (v.1 ≤ end) × StandsAt octets start v.1 v.0
 
 -- octets, each below 256
-bytes_each : (octets : List ℕ) → ((k : ℕ) → get_or octets k 0 < 256) → AllByRecursion (λ c. c < 256) octets
+pub bytes_each : (octets : List ℕ) → ((k : ℕ) → get_or octets k 0 < 256) → AllByRecursion (λ c. c < 256) octets
 bytes_each [] small = tt
 bytes_each (c ∷ octets) small = (small 0, bytes_each octets (λ k. small (suc k)))
 

@@ -21,7 +21,7 @@ use Rattle.zone_wire.proofs.Answering.{is_soa}
 use Rattle.zone_wire.proofs.ReadAnswers.{Behind, stands_behind, opening_agrees, agree_parts, Kept, answers_shown}
 use Rattle.zone_wire.proofs.ReadSections.{ok_same, leads, passes, both, sections_shown}
 
-abbrev Bytes : List ℕ → Type 0
+abbrev pub Bytes : List ℕ → Type 0
 Bytes octets = (k : ℕ) → get_or octets k 0 < 256
 
 -- a question for a zone
@@ -63,7 +63,7 @@ questions_shown questions placed s t (q ∷ []) few e of =
     passes_or test x y fault h = (passes test x y fault h).0
 questions_shown questions placed s t (q ∷ r ∷ asked) few e of = absurd (omega (arith, few))
 
-asked_same : (questions : List QuestionAt) (placed : List Placed) (s t : Sections) (asked : List QuestionAt) → ask_for_zone questions placed s asked ≡ Ok t → s ≡ t
+pub asked_same : (questions : List QuestionAt) (placed : List Placed) (s t : Sections) (asked : List QuestionAt) → ask_for_zone questions placed s asked ≡ Ok t → s ≡ t
 asked_same questions placed s t [] e = ok_same s t e
 asked_same questions placed s t (q ∷ asked) e = asked_same questions placed s t asked (second _ _ _ e)
   where
@@ -263,7 +263,7 @@ ended number placed None [] e = (refl, refl, closed (is_closed placed) e)
     closed true h = refl
     closed false h = cc
 
-front_bytes : (xs ys : List ℕ) → Bytes (xs ++ ys) → Bytes xs
+pub front_bytes : (xs ys : List ℕ) → Bytes (xs ++ ys) → Bytes xs
 front_bytes [] ys each k = lit< tt
 front_bytes (x ∷ xs) ys each zero = each 0
 front_bytes (x ∷ xs) ys each (suc k) = front_bytes xs ys (λ i. each (suc i)) k
@@ -272,7 +272,7 @@ back_bytes : (xs ys : List ℕ) → Bytes (xs ++ ys) → Bytes ys
 back_bytes [] ys each = each
 back_bytes (x ∷ xs) ys each = back_bytes xs ys (λ i. each (suc i))
 
-message_bytes : (messages : List (List ℕ)) → Bytes (flat_map frame messages) → AllByRecursion Bytes messages
+pub message_bytes : (messages : List (List ℕ)) → Bytes (flat_map frame messages) → AllByRecursion Bytes messages
 message_bytes [] each = tt
 message_bytes (m ∷ messages) each =
     let body : Bytes (m ++ flat_map frame messages) = λ i. each (suc (suc i)) in

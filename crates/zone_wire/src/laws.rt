@@ -13,6 +13,8 @@ ghost use Rattle.zone_rdata.specs.declared.fault.Place.{Place};
 ghost use Rattle.zone_rdata.specs.declared.record.Placed.{Placed};
 ghost use Rattle.zone_wire.specs.Walk.{walk, walk_by, outset, ending};
 
+use zone_rdata::laws::value::{held_values_are_data, values_without_strings_are_short};
+
 /// At most one name stands at an offset of a message.
 pub fn one_name_at_an_offset()
     ensures { (message : List ℕ) (offset : ℕ) (found other : Found) → IsNameAt message offset found → IsNameAt message offset other → found ≡ other }
@@ -91,8 +93,18 @@ pub fn the_data_of_a_record()
     ensures only { (octets canonical : List ℕ) (a : RecordAt) → a.end ≤ length octets → IsDataAt octets a canonical → data_at octets a ≡ Ok canonical }
 {}
 
+/// What a stream of octets is read as is records.
+pub fn what_is_read_is_records()
+    ensures { (stream : List ℕ) (placed : List Placed) (ending : Option (Fault × Place)) → ((i : ℕ) → slice_index stream i < 256) → StreamReads stream placed ending → AllByRecursion (λ p. IsRecord p.rr) placed }
+{
+    held_values_are_data();
+    values_without_strings_are_short();
+}
+
 /// A transfer is read as its records, without a fault, and a stream that is read without a fault is that transfer.
 pub fn a_transfer_is_read()
-    ensures found { (stream : List ℕ) (placed : List Placed) → ((i : ℕ) → slice_index stream i < 256) → AllByRecursion (λ p. IsRecord p.rr) placed → StreamReads stream placed None → StreamStates stream placed }
+    ensures found { (stream : List ℕ) (placed : List Placed) → ((i : ℕ) → slice_index stream i < 256) → StreamReads stream placed None → StreamStates stream placed }
     ensures only { (stream : List ℕ) (placed : List Placed) → StreamStates stream placed → StreamReads stream placed None }
-{}
+{
+    what_is_read_is_records();
+}

@@ -1,0 +1,190 @@
+-- What a stream of octets is read as is records.
+use Rattle.std.proofs.Common.{◌≡◌, ◌≢◌, ℕ, ◌+◌, ◌-◌, ◌≤◌, ◌<◌, List, [], ◌∷◌, ◌++◌, length, refl, ap, sym, ◌∙◌, subst, Bool, true, false, nat_lt, nat_eq, inl, inr, arith}
+use Rattle.std.specs.Prelude.{drop, ◌==◌, ◌&&◌, ◌||◌, ◌⊎◌, Option, Some, None, MatchOption, Result, Ok, Err, if◌then◌else◌, ⊤}
+use Rattle.std.specs.List.{flat_map, AllByRecursion, filter, list_any}
+use Rattle.std.proofs.lemmas.Bool.{or_parts, ltb-false}
+use Rattle.std.proofs.lemmas.List.{append-nil, length-take, length-drop}
+use Rattle.zone_name.specs.Name.{IsName}
+use Rattle.zone_rdata.specs.Field.{FieldValue, strings, field_octets, octets_of, Holds, HoldEach}
+use Rattle.zone_rdata.specs.Layout.{layout, AreLaidOut, IsData}
+use Rattle.zone_rdata.specs.Record.{Record, IsRecord}
+use Rattle.zone_rdata.specs.Words.{is_meta}
+use Rattle.zone_rdata.specs.declared.fault.Fault.{Fault}
+use Rattle.zone_rdata.specs.declared.fault.Fault.TheVariants.{BadClass, MetaType, CompressibleType}
+use Rattle.zone_rdata.specs.declared.fault.Place.{Place}
+use Rattle.zone_rdata.specs.declared.layout.Field.{Field}
+use Rattle.zone_rdata.specs.declared.layout.Field.TheVariants.{Strings}
+use Rattle.zone_rdata.specs.declared.record.Placed.{Placed}
+use Rattle.zone_wire.specs.Answers.{is_no_class, record_of, Answered, before_others, answer_of, answers_of}
+use Rattle.zone_wire.specs.Data.{data_at}
+use Rattle.zone_wire.specs.Message.{word_at, QuestionAt, RecordAt, IsRecordAt, AreRecordsAt, Sections, IsMessage}
+use Rattle.zone_wire.specs.Sections.{sections_of}
+use Rattle.zone_wire.specs.Stream.{questions_of, has_first_id, message_of, unless_refused, followed_by, records_of, handed_on, StreamReads}
+use Rattle.zone_wire.specs.Transfer.{part, StandsAt, StandEach, AreFieldsAt, ttl_of, compressible, frame}
+use Rattle.zone_wire.proofs.Accepting.{all_append}
+use Rattle.zone_wire.proofs.ReadAnswers.{unequal, answer_shown}
+use Rattle.zone_wire.proofs.ReadFields.{bytes_each, data_shown}
+use Rattle.zone_wire.proofs.ReadSections.{ok_same, leads, passes, passes_on, sections_shown}
+use Rattle.zone_wire.proofs.ReadStreams.{Bytes, asked_same, front_bytes, message_bytes}
+use Rattle.zone_wire.proofs.Walking.{take_each, drop_each}
+
+-- a layout holds no strings, or strings alone
+abbrev IsRow : Option (List Field) → Type 0
+IsRow None = ⊤
+IsRow (Some fields) = AllByRecursion (λ field. field ≢ Strings) fields ⊎ (fields ≡ Strings ∷ [])
+
+row_by : (test : Bool) (x y : Option (List Field)) → IsRow x → IsRow y → IsRow (if test then x else y)
+row_by true x y here others = here
+row_by false x y here others = others
+
+each_row : (class kind : ℕ) → IsRow (layout class kind)
+each_row class kind =
+    row_by (kind == 1 && class == 1) _ _ (inl (λ e. cc, tt))
+    (row_by (kind == 2) _ _ (inl (λ e. cc, tt))
+    (row_by (kind == 5) _ _ (inl (λ e. cc, tt))
+    (row_by (kind == 6) _ _ (inl (λ e. cc, (λ e. cc, (λ e. cc, (λ e. cc, (λ e. cc, (λ e. cc, (λ e. cc, tt))))))))
+    (row_by (kind == 12) _ _ (inl (λ e. cc, tt))
+    (row_by (kind == 15) _ _ (inl (λ e. cc, (λ e. cc, tt)))
+    (row_by (kind == 16) _ _ (inr refl)
+    (row_by (kind == 28 && class == 1) _ _ (inl (λ e. cc, tt))
+    (row_by (kind == 33) _ _ (inl (λ e. cc, (λ e. cc, (λ e. cc, (λ e. cc, tt)))))
+    (row_by (kind == 35) _ _ (inl (λ e. cc, (λ e. cc, (λ e. cc, (λ e. cc, (λ e. cc, (λ e. cc, tt))))))) tt)))))))))
+
+part_short : (octets : List ℕ) (start end : ℕ) → length (part octets start end) ≤ length octets
+part_short octets start end = omega (arith, length-take (end - start) (drop start octets), length-drop start octets)
+
+-- strings take as many octets as in the message
+held_strings_short : (octets : List ℕ) (start end : ℕ) (value : FieldValue) → Holds Strings value → StandsAt octets start end value → length (field_octets value) ≤ length octets
+held_strings_short octets start end (strings many) held stands = omega (arith, part_short octets start end, ap length stands.1)
+held_strings_short octets start end value held stands = absurd held
+
+strings_short : (octets : List ℕ) (start end : ℕ) (values : List FieldValue) → HoldEach (Strings ∷ []) values → StandEach octets start end values → length (octets_of values) ≤ length octets
+strings_short octets start end [] held stand = absurd held
+strings_short octets start end (v ∷ []) held stand = omega (arith, held_strings_short octets start stand.0 v held.0 stand.2, ap length (append-nil (field_octets v)))
+strings_short octets start end (v ∷ w ∷ values) held stand = absurd held.1
+
+no_class_parts : (n : ℕ) → is_no_class n ≡ false → (n ≢ 0) × (n ≢ 254) × (n ≢ 255)
+no_class_parts n e =
+    let last = or_parts (n == 0 || n == 254) (n == 255) e in
+    let others = or_parts (n == 0) (n == 254) last.0 in
+    (unequal n 0 others.0, unequal n 254 others.1, unequal n 255 last.1)
+
+ttl_short : (n : ℕ) → ttl_of n ≤ 2147483647
+ttl_short n = by (nat_lt 2147483647 n) refl
+  where
+    by : (test : Bool) → nat_lt 2147483647 n ≡ test → (if test then 0 else n) ≤ 2147483647
+    by true e = omega arith
+    by false e = ltb-false 2147483647 n e
+
+abbrev Fit : List Placed → Type 0
+Fit placed = AllByRecursion (λ (p : Placed). IsRecord p.rr) placed
+
+before_fit : (number offset : ℕ) (r : Result Record Fault) (next : Placed → Answered (Fault × ℕ)) → ((rr : Record) → r ≡ Ok rr → IsRecord rr) → ((p : Placed) → Fit (next p).placed) → Fit (before_others number offset r next).placed
+before_fit number offset (Err fault) next here others = tt
+before_fit number offset (Ok rr) next here others = (here rr refl, others _)
+
+unless_fit : (number : ℕ) (r : Result Sections (Fault × ℕ)) (next : Sections → Answered (Fault × Place)) → ((s : Sections) → r ≡ Ok s → Fit (next s).placed) → Fit (unless_refused number r next).placed
+unless_fit number (Err fault) next others = tt
+unless_fit number (Ok s) next others = others s refl
+
+followed_fit : (number : ℕ) (here : List Placed) (fault : Option (Fault × ℕ)) (next : List Placed → Answered (Fault × Place)) → Fit here → Fit (next here).placed → Fit (followed_by number (record { placed = here; fault = fault }) next).placed
+followed_fit number here (Some f) next fits others = fits
+followed_fit number here None next fits others = all_append (λ (p : Placed). IsRecord p.rr) here (next here).placed fits others
+
+id_same : (before : List Sections) (s t : Sections) → has_first_id before s ≡ Ok t → s ≡ t
+id_same [] s t e = ok_same s t e
+id_same (first ∷ before) s t e = (passes (s.id == first.id) s t _ e).1
+
+-- the sections of a message that is not refused
+message_read : (before : List Sections) (placed : List Placed) (octets : List ℕ) (s : Sections) → Bytes octets → message_of before placed octets ≡ Ok s → IsMessage octets s
+unfolding message_of
+message_read before placed octets s each e =
+    let a = leads (sections_of octets) _ s e in
+    let b = leads (has_first_id before a.first) _ s a.goes_on in
+    let same : a.first ≡ s = id_same before a.first b.first b.is ∙ asked_same (questions_of before) placed b.first s b.first.questions b.goes_on in
+    subst (IsMessage octets) same (sections_shown octets a.first each a.is)
+
+filter_fit : (test : Placed → Bool) (placed : List Placed) → Fit placed → Fit (filter test placed)
+filter_fit test [] fits = tt
+filter_fit test (p ∷ placed) fits = by (test p) (filter_fit test placed fits.1)
+  where
+    by : (keep : Bool) → Fit (filter test placed) → Fit (if keep then p ∷ filter test placed else filter test placed)
+    by true rest = (fits.0, rest)
+    by false rest = rest
+
+handed_fit : (placed : List Placed) → Fit placed → Fit (handed_on placed)
+handed_fit [] fits = tt
+handed_fit (opening ∷ others) fits = (fits.0, filter_fit _ others fits.1)
+
+-- values that the fields of a layout hold are data, where their octets are few enough
+abbrev HeldAreData : Type 0
+HeldAreData = (class kind : ℕ) (fields : List Field) (values : List FieldValue) → layout class kind ≡ Some fields → HoldEach fields values → length (octets_of values) ≤ 65535 → IsData class kind (octets_of values)
+
+-- and so they are in a layout without strings
+abbrev UnstrungAreShort : Type 0
+UnstrungAreShort = (class kind : ℕ) (fields : List Field) (values : List FieldValue) → layout class kind ≡ Some fields → AllByRecursion (λ field. field ≢ Strings) fields → HoldEach fields values → length (octets_of values) ≤ 65535
+
+module _ (are_data : HeldAreData) (are_short : UnstrungAreShort) where
+  module _ (octets : List ℕ) (each : Bytes octets) (short : length octets ≤ 65535) where
+    values_short : (class kind start end : ℕ) (fields : List Field) (values : List FieldValue) → layout class kind ≡ Some fields → HoldEach fields values → StandEach octets start end values → IsRow (Some fields) → length (octets_of values) ≤ 65535
+    values_short class kind start end fields values row held stand (inl none) = are_short class kind fields values row none held
+    values_short class kind start end fields values row held stand (inr alone) = omega (arith, short, strings_short octets start end values (subst (λ fs. HoldEach fs values) alone held) stand)
+
+    data_by : (class kind start end : ℕ) (canonical : List ℕ) (row : Option (List Field)) → layout class kind ≡ row → MatchOption row (canonical ≡ part octets start end) (λ fields. AreFieldsAt octets start end fields canonical) → IsData class kind canonical
+    data_by class kind start end canonical None row is = record {
+      short = omega (arith, short, part_short octets start end, ap length is);
+      each = subst (AllByRecursion (λ c. c < 256)) (sym is) (bytes_each (part octets start end) (take_each _ (drop start octets) (drop_each start octets each)));
+      value = subst (λ o. MatchOption o (Unit {0}) (λ fields. AreLaidOut fields canonical)) (sym row) tt;
+    }
+    data_by class kind start end canonical (Some fields) row is =
+        subst (IsData class kind) (sym is.whole)
+        (are_data class kind fields is.values row is.held (values_short class kind start end fields is.values row is.held is.stand (subst IsRow row (each_row class kind))))
+
+    word_short : (offset : ℕ) → word_at octets offset < 65536
+    word_short offset = omega (arith, each offset, each (offset + 1))
+
+    -- the record of an answer
+    record_fits : (offset : ℕ) (a : RecordAt) (r : Record) → IsRecordAt octets offset a → record_of octets a ≡ Ok r → IsRecord r
+    unfolding record_of
+    record_fits offset a r at e =
+        let class = passes_on (is_no_class a.class) BadClass _ r e in
+        let kind = passes_on (is_meta a.kind) MetaType _ r class.1 in
+        let read = passes_on (list_any (nat_eq a.kind) compressible) CompressibleType _ r kind.1 in
+        let l = leads (data_at octets a) _ r read.1 in
+        let not_special = no_class_parts a.class class.0 in
+        let class_short : a.class < 65536 = subst (λ n. n < 65536) (sym (ap (λ (x : RecordAt). x.class) at.stands)) (word_short (at.found.end + 2)) in
+        let kind_short : a.kind < 65536 = subst (λ n. n < 65536) (sym (ap (λ (x : RecordAt). x.kind) at.stands)) (word_short at.found.end) in
+        subst IsRecord (ok_same _ _ l.goes_on) (record {
+          owner = subst IsName (sym (ap (λ (x : RecordAt). x.owner) at.stands)) at.name.name;
+          ttl = ttl_short a.ttl;
+          rdata = record {
+            class = record { short = class_short; not_zero = not_special.0; not_none = not_special.1; not_any = not_special.2 };
+            kind = record { short = kind_short; stored = kind.0 };
+            octets = data_by a.class a.kind a.start a.end l.first (layout a.class a.kind) refl (data_shown octets a l.first each at.inside l.is);
+          };
+        })
+
+    answers_fit : (number : ℕ) (questions : List QuestionAt) (offset end : ℕ) (answers : List RecordAt) (before : List Placed) → AreRecordsAt octets offset answers end → Fit (answers_of number octets questions before answers).placed
+    answers_fit number questions offset end [] before are = tt
+    answers_fit number questions offset end (a ∷ answers) before are =
+        before_fit number a.offset (answer_of octets questions before a) (λ p. answers_of number octets questions (before ++ p ∷ []) answers)
+        (λ r e. record_fits offset a r are.0 (answer_shown octets questions before a r e).0)
+        (λ p. answers_fit number questions a.end end answers (before ++ p ∷ []) are.1)
+
+  records_fit : (messages : List (List ℕ)) (before : List Sections) (placed : List Placed) → AllByRecursion (λ octets. length octets ≤ 65535) messages → AllByRecursion Bytes messages → Fit (records_of before placed messages).placed
+  unfolding records_of
+  records_fit [] before placed short each = tt
+  records_fit (octets ∷ messages) before placed short each =
+      let number : ℕ = length before + 1 in
+      unless_fit number (message_of before placed octets) _ (λ s e.
+      let message = message_read before placed octets s each.0 e in
+      let answered = answers_of number octets (questions_of (before ++ s ∷ [])) placed s.answers in
+      followed_fit number answered.placed answered.fault (λ here. records_of (before ++ s ∷ []) (placed ++ here) messages)
+      (answers_fit octets each.0 short.0 number (questions_of (before ++ s ∷ [])) message.past_questions message.past_answers s.answers placed message.answers)
+      (records_fit messages (before ++ s ∷ []) (placed ++ answered.placed) short.1 each.1))
+
+  -- what a stream is read as
+  pub read_is_records : (stream : List ℕ) (placed : List Placed) (ending : Option (Fault × Place)) → Bytes stream → StreamReads stream placed ending → Fit placed
+  read_is_records stream placed ending each r =
+      let bytes : AllByRecursion Bytes r.messages = message_bytes r.messages (front_bytes (flat_map frame r.messages) r.rest (subst Bytes r.framed.whole each)) in
+      subst Fit (sym r.stated) (handed_fit _ (records_fit r.messages [] [] r.framed.short bytes))
