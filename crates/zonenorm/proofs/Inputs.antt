@@ -33,7 +33,7 @@ pub file_fits : (origin : List (List ℕ)) (octets : List ℕ) (placed : List Pl
 file_fits origin octets placed states = each_fits origin [] (entries_of states.pieces) placed states.each
 
 -- records with their places are records
-pub placed_fit : (placed : List Placed) → AllByRecursion IsRecord (records_of placed) → AllByRecursion (λ p. IsRecord p.rr) placed
+pub placed_fit : (placed : List Placed) → AllByRecursion (λ p. IsRecord p.rr) placed → AllByRecursion IsRecord (records_of placed)
 placed_fit [] fits = tt
 placed_fit (p ∷ placed) fits = (fits.0, placed_fit placed fits.1)
 

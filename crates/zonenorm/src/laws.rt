@@ -8,7 +8,6 @@ ghost use Rattle.zone_rdata.specs.declared.fault.Place.{Place};
 ghost use Rattle.zone_rdata.specs.declared.record.Placed.{Placed};
 ghost use Rattle.zone_set.specs.Refusal.{records_of};
 ghost use Rattle.zone_set.specs.Zone.{Zone};
-ghost use Rattle.zone_wire.specs.Stream.{StreamReads};
 ghost use Rattle.zonenorm.specs.Input.{Input, file, transfer, InputDenotes};
 ghost use Rattle.zonenorm.specs.Refusal.{IsRefusal, MakesZone, RefusesReading};
 
@@ -67,15 +66,17 @@ pub fn no_zone_of_a_refused_input()
     zone_wire::laws::a_transfer_is_read();
 }
 
-/// Every master file is refused or denotes a zone, and so is every stream whose reading gives records.
+/// Every input of octets is refused or denotes a zone, the origin of a file being a name.
 pub fn refusal_or_zone()
     ensures file { (origin : List (List ℕ)) (octets : List ℕ) → IsName origin → AllByRecursion (λ c. c < 256) octets
         → ((fault : Fault) × (place : Place) × IsRefusal (file origin octets) fault place) ⊎ ((z : Zone) × InputDenotes (file origin octets) z) }
-    ensures transfer { (stream : List ℕ) (placed : List Placed) (ending : Option (Fault × Place)) → ((i : ℕ) → slice_index stream i < 256) → AllByRecursion IsRecord (records_of placed) → StreamReads stream placed ending
+    ensures transfer { (stream : List ℕ) → ((i : ℕ) → slice_index stream i < 256)
         → ((fault : Fault) × (place : Place) × IsRefusal (transfer stream) fault place) ⊎ ((z : Zone) × InputDenotes (transfer stream) z) }
 {
     refusal_or_zone_of_a_reading();
     zone_text::laws::file::a_file_has_a_reading();
     zone_text::laws::file::a_file_states_what_is_read();
+    zone_wire::laws::each_stream_is_read();
+    zone_wire::laws::what_is_read_is_records();
     zone_wire::laws::a_transfer_is_read();
 }
