@@ -5,4 +5,5 @@ pub mod items;
 pub mod string;
 pub mod text;
 pub mod uncompressed;
+pub mod value;
 pub mod word;

@@ -1,0 +1,18 @@
+//! Laws of the values of a layout and their octets (RFC 1035 3.3).
+ghost use Rattle.std.specs.Prelude.{◌≡◌, ◌≢◌, ◌≤◌, List, Some, length, ℕ};
+ghost use Rattle.std.specs.List.{AllByRecursion};
+ghost use Rattle.zone_rdata.specs.Field.{FieldValue, HoldEach, octets_of};
+ghost use Rattle.zone_rdata.specs.Layout.{IsData, layout};
+ghost use Rattle.zone_rdata.specs.declared.layout.Field.{Field};
+ghost use Rattle.zone_rdata.specs.declared.layout.Field.TheVariants.{Strings};
+
+/// Values of a layout are data, unless their octets are too many.
+pub fn held_values_are_data()
+    ensures { (class kind : ℕ) (fields : List Field) (values : List FieldValue) → layout class kind ≡ Some fields → HoldEach fields values → length (octets_of values) ≤ 65535 → IsData class kind (octets_of values) }
+{}
+
+/// Values of a layout that does not end in strings are short: at most 7 fields of at most 256 octets each never reach
+/// the limit.
+pub fn values_without_strings_are_short()
+    ensures { (class kind : ℕ) (fields : List Field) (values : List FieldValue) → layout class kind ≡ Some fields → AllByRecursion (λ field. field ≢ Strings) fields → HoldEach fields values → length (octets_of values) ≤ 65535 }
+{}
