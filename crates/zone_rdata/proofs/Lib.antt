@@ -44,3 +44,4 @@ pub mod AddressChoice
 pub mod UncompressedChoice
 pub mod ItemChoice
 pub mod StatedOctets
+pub mod ValueLaws

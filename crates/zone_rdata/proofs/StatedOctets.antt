@@ -49,7 +49,7 @@ low_value OneString v held = absurd held
 low_value Strings (strings many) held = low_strings many held.each
 low_value Strings v held = absurd held
 
-low_values : (row : List Field) (values : List FieldValue) → HoldEach row values → AreLow (octets_of values)
+pub low_values : (row : List Field) (values : List FieldValue) → HoldEach row values → AreLow (octets_of values)
 low_values [] [] held = tt
 low_values [] (v ∷ values) held = absurd held
 low_values (f ∷ row) [] held = absurd held

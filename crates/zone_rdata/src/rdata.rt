@@ -155,12 +155,14 @@ impl Rdata {
         }
     }
 
+    /// The class in which the data has its meaning.
     pub fn class(&self) -> Class
         ensures { result ≡ self.now.class }
     {
         self.class
     }
 
+    /// The type of the data.
     pub fn kind(&self) -> Kind
         ensures { result ≡ self.now.kind }
     {

@@ -54,18 +54,21 @@ impl Rr {
         Ok(Rr { owner, ttl, rdata })
     }
 
+    /// The name that the record stands at.
     pub fn owner(&self) -> &Name
         ensures { result.now ≡ self.now.owner }
     {
         &self.owner
     }
 
+    /// The class, which is that of the data.
     pub fn class(&self) -> Class
         ensures { result ≡ self.now.class }
     {
         self.rdata.class()
     }
 
+    /// The type, which is that of the data.
     pub fn kind(&self) -> Kind
         ensures { result ≡ self.now.kind }
     {
@@ -80,6 +83,7 @@ impl Rr {
         self.ttl
     }
 
+    /// The data, with its class and type.
     pub fn rdata(&self) -> &Rdata
         ensures { result.now ≡ data_of self.now }
     {
