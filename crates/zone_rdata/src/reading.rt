@@ -13,6 +13,7 @@ use crate::fault::{Failing, Fault};
 use crate::item::Item;
 use crate::layout::{Field, Layout};
 use crate::number::decimal_of;
+use crate::record::LONGEST_DATA;
 use crate::string::push_string;
 use crate::time::seconds_of;
 use std::alloc::Global;
@@ -180,9 +181,6 @@ pub(crate) fn is_generic(items: &[Item]) -> bool
     }
 }
 
-/// The most octets that data can have.
-pub(crate) const GREATEST: usize = 65535;
-
 /// The octets of the values that the items spell, field by field.
 pub(crate) fn octets_of_items(
     alloc: Global,
@@ -204,7 +202,7 @@ pub(crate) fn octets_of_items(
     if items.len() < layout.fields().len() {
         return Err(Failing::Fault(Fault::BadRdata));
     }
-    if octets.len() > GREATEST {
+    if octets.len() > LONGEST_DATA {
         return Err(Failing::Fault(Fault::RdataTooLong));
     }
     Ok(octets)
