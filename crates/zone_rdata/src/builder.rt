@@ -185,7 +185,7 @@ fn is_next(class: Class, kind: Kind, count: usize, part: Part) -> bool
         return false;
     };
     match (field, part) {
-        (Field::Octets(count), Part::Octets(octets)) => octets.len() == count && count > 0,
+        (Field::Octets(count), Part::Octets(octets)) => octets.len() == count,
         (Field::U16, Part::U16(_)) => true,
         (Field::Serial | Field::Time, Part::U32(_)) => true,
         (Field::Name, Part::Name(_)) => true,

@@ -88,44 +88,23 @@ fn push_short(text: &[u8], octets: &mut Vec<u8>) -> Result<(), Failing>
     Ok(())
 }
 
-/// Appends the address of four octets.
-fn push_four(text: &[u8], octets: &mut Vec<u8>) -> Result<(), Failing>
-    ensures found { OnOk result (AppendsAddress 4 text.now octets.old.items octets.new.items) }
-    ensures fault { IfErr result (IfFault (λ f. (f ≡ Fault.BadRdata) × ((found : List ℕ) → IsAddress 4 text.now found → ⊥))) }
-{
-    match four_octets_of(text) {
-        Some(address) => {
-            octets.extend_from_slice(&address)?;
-            Ok(())
-        }
-        None => Err(Failing::Fault(Fault::BadRdata)),
-    }
-}
-
-/// Appends the address of sixteen octets.
-fn push_sixteen(text: &[u8], octets: &mut Vec<u8>) -> Result<(), Failing>
-    ensures found { OnOk result (AppendsAddress 16 text.now octets.old.items octets.new.items) }
-    ensures fault { IfErr result (IfFault (λ f. (f ≡ Fault.BadRdata) × ((found : List ℕ) → IsAddress 16 text.now found → ⊥))) }
-{
-    match sixteen_octets_of(text) {
-        Some(address) => {
-            octets.extend_from_slice(&address)?;
-            Ok(())
-        }
-        None => Err(Failing::Fault(Fault::BadRdata)),
-    }
-}
-
 /// Appends the address of so many octets.
 fn push_address(count: usize, text: &[u8], octets: &mut Vec<u8>) -> Result<(), Failing>
     ensures found { OnOk result (AppendsAddress count text.now octets.old.items octets.new.items) }
     ensures fault { IfErr result (IfFault (λ f. (f ≡ Fault.BadRdata) × ((found : List ℕ) → IsAddress count text.now found → ⊥))) }
 {
     match count {
-        4 => push_four(text, octets),
-        16 => push_sixteen(text, octets),
-        _ => Err(Failing::Fault(Fault::BadRdata)),
+        4 => {
+            let address = four_octets_of(text).ok_or(Fault::BadRdata)?;
+            octets.extend_from_slice(&address)?;
+        }
+        16 => {
+            let address = sixteen_octets_of(text).ok_or(Fault::BadRdata)?;
+            octets.extend_from_slice(&address)?;
+        }
+        _ => return Err(Failing::Fault(Fault::BadRdata)),
     }
+    Ok(())
 }
 
 /// Appends the octets of the value that a bare item spells for the field.
