@@ -1,4 +1,4 @@
-use Rattle.std.proofs.Common.{◌<◌, ◌≤◌, length, sym, subst, arith}
+use Rattle.std.proofs.Common.{◌<◌, subst, arith}
 use Rattle.std.specs.List.{AllByRecursion}
 use Rattle.zone_rdata.specs.Wire.{beyond}
 use Rattle.zone_rdata.proofs.Failings.{if_fault_passed}
