@@ -1,15 +1,15 @@
 -- Data that is made part by part.
-use Rattle.std.proofs.Common.{◌≡◌, ◌≢◌, ℕ, zero, suc, ◌+◌, ◌-◌, ◌^◌, ◌<◌, ◌≤◌, Bool, true, false, IsTrue, ◌↔◌, List, [], ◌∷◌, ◌++◌, length, Option, Some, None, refl, sym, ap, ◌∙◌, subst, arith, add-one, append_assoc, length-append}
+use Rattle.std.proofs.Common.{◌≡◌, ◌≢◌, ℕ, zero, suc, ◌+◌, ◌<◌, ◌≤◌, Bool, true, false, IsTrue, ◌↔◌, List, [], ◌∷◌, ◌++◌, length, Option, Some, None, refl, sym, ap, ◌∙◌, subst, arith, add-one, length-append}
 use Rattle.std.specs.List.{flat_map, AllByRecursion}
 use Rattle.std.proofs.lemmas.List.{append-nil}
 use Rattle.std.proofs.lemmas.List.Concat.{flat_map-append}
-use Rattle.zone_name.specs.Name.{IsName, frame, wire}
+use Rattle.zone_name.specs.Name.{frame}
 use Rattle.zone_rdata.specs.declared.fault.Fault.{Fault}
 use Rattle.zone_rdata.specs.declared.fault.Fault.TheVariants.{BadRdata}
 use Rattle.zone_rdata.specs.declared.layout.Field.{Field}
 use Rattle.zone_rdata.specs.declared.layout.Field.TheVariants as fields
 use Rattle.zone_rdata.specs.Builder.{Built, Suits, IsOpaque, IsNext, FitsString, Pushes, IsPushFault, misplaced, long_string, too_long, IsWhole, part_field, more_fields, part_fields, parts_of, AreParts, IsBuilt, IsReal, IsOver, over_string, over_data, Grows, least_of}
-use Rattle.zone_rdata.specs.Field.{FieldValue, name, long, two_octets, fixed, string, strings, field_octets, octets_of, AreStrings, Holds, HoldEach, values_of}
+use Rattle.zone_rdata.specs.Field.{FieldValue, name, long, two_octets, fixed, string, strings, field_octets, octets_of, Holds, HoldEach, values_of}
 use Rattle.zone_rdata.specs.Layout.{AreLaidOut, StringsLast, layout}
 use Rattle.zone_rdata.specs.Reading.{item_field}
 use Rattle.zone_rdata.specs.Strings.{IsString}

@@ -1,5 +1,5 @@
 -- A fault that is passed on, and one that is not.
-use Rattle.std.proofs.Common.{◌≡◌, Result, Ok, Err, refl, sym, ap, ◌∙◌, subst}
+use Rattle.std.proofs.Common.{◌≡◌, Result, Ok, Err, sym, subst}
 use Rattle.std.specs.Prelude.{IfErr, IsErrAnd}
 use Rattle.std.proofs.lemmas.Result.{err_from_is_err_and}
 use Rattle.zone_rdata.specs.declared.fault.Fault.{Fault}
@@ -38,3 +38,7 @@ pub if_fault_passed : {T : Type 0} (r : Result T Failing) (e : Failing) (P Q : F
 if_fault_passed r e P Q is goes h =
     let p = err_from_is_err_and r is in
     subst (λ t. IfErr t (IfFault Q)) (sym p.1) (subst (IfFault Q) (sym p.2) (IfFault-weaker P Q e goes h))
+
+-- the answer of a `?` on a fault
+pub fault_answered : {T : Type 0} (r : Result T Failing) (found : Fault) (P : Fault → Type 0) → IsErrAnd r (λ e. e ≡ failings.Fault found) → P found → IfErr r (IfFault P)
+fault_answered r found P is holds = if_fault_passed r (failings.Fault found) P P is (λ fault h. h) holds

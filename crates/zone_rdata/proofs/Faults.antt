@@ -1,7 +1,6 @@
 -- Faults that are passed on.
 use Rattle.std.proofs.Common.{◌≡◌, Result, Ok, Err, subst, sym}
 use Rattle.std.specs.Prelude.{IfErr, IsErrAnd, IfOk}
-use Rattle.std.proofs.lemmas.Result.{err_from_is_err_and}
 use Rattle.zone_rdata.specs.declared.fault.Fault.{Fault}
 use Rattle.zone_rdata.specs.declared.fault.Failing.{Failing}
 use Rattle.zone_rdata.specs.declared.fault.Failing.TheVariants as failings

@@ -16,7 +16,7 @@ use Rattle.zone_rdata.specs.Layout.{fields_of}
 use Rattle.zone_rdata.specs.Reading.{AreSpelt}
 use Rattle.zone_rdata.specs.Spelling.{IsCanonicalOf, StatesFor, in_words, in_octets, item_fields}
 use Rattle.zone_rdata.specs.Uncompressed.{IsUncompressed}
-use Rattle.zone_rdata.proofs.Faults.{fault_more, if_ok_more}
+use Rattle.zone_rdata.proofs.Faults.{fault_more}
 
 -- octets in the generic form that are no value of the layout
 pub form_value : {T : Type 0} (laid : Option Layout) (own : Layout) (items : List RawItem) (stated octets : List ℕ) (r : Result T Failing) → laid ≡ Some own → StatesGeneric items stated → octets ≡ stated → IfErr r (IfFault (λ f. (f ≡ BadRdata) × ((canonical : List ℕ) → IsUncompressed (fields_of own) octets canonical → ⊥))) → IfErr r (IfFault (IsFormFault (option_map fields_of laid) items))

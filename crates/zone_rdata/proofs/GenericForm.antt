@@ -1,15 +1,14 @@
 -- The generic form: digits that join to octets, item after item.
-use Rattle.std.proofs.Common.{◌≡◌, ◌≢◌, ℕ, zero, suc, ◌+◌, ◌-◌, ◌*◌, ◌/◌, ◌%◌, ◌<◌, ◌≤◌, min, List, [], ◌∷◌, ◌++◌, length, get_or, take, drop, map, length-drop, Result, Ok, Err, refl, sym, ap, ◌∙◌, subst, arith, append_assoc, length-append}
+use Rattle.std.proofs.Common.{◌≡◌, ◌≢◌, ℕ, ◌+◌, ◌-◌, ◌/◌, ◌<◌, ◌≤◌, min, List, [], ◌∷◌, ◌++◌, length, get_or, take, drop, map, length-drop, Ok, refl, sym, ap, ◌∙◌, subst, arith, append_assoc, length-append}
 use Rattle.std.proofs.lemmas.List.{drop_more, drop_all, take_all, append-nil}
 use Rattle.hex.specs.Hex.{decode_of}
 use Rattle.hex.proofs.HexLemmas.{decode_of-ok, decode_of-same}
 use Rattle.zone_rdata.specs.declared.fault.Fault.{Fault}
 use Rattle.zone_rdata.specs.declared.fault.Fault.TheVariants.{BadGeneric, RdataTooLong}
 use Rattle.zone_rdata.specs.declared.item.Item.{Item}
-use Rattle.zone_rdata.specs.declared.item.Item.TheVariants.{Bare, Quoted}
 use Rattle.zone_rdata.specs.Item.{RawItem, bare, quoted, raw, generic_mark, IsGeneric}
 use Rattle.zone_rdata.specs.Number.{IsDecimal}
-use Rattle.zone_rdata.specs.Generic.{StatesLength, IsGenericForm, JoinTo, StatesGeneric, LengthFault, no_number, beyond, GenericFault, no_length, long_length, bad_digits, AppendsDigits}
+use Rattle.zone_rdata.specs.Generic.{StatesLength, JoinTo, StatesGeneric, LengthFault, no_number, beyond, GenericFault, no_length, long_length, bad_digits, AppendsDigits}
 
 -- two digits for each octet
 pub half_length : (text front : List ℕ) → decode_of text ≡ Ok front → length front ≡ length text / 2

@@ -1,10 +1,9 @@
 -- Items state a value or have a first fault.
-use Rattle.std.proofs.Common.{◌≡◌, ◌≢◌, ℕ, zero, suc, ◌+◌, ◌<◌, ◌≤◌, ◌^◌, Bool, true, false, List, [], ◌∷◌, ◌++◌, length, get_or, Result, Ok, Option, Some, None, ◌⊎◌, inl, inr, refl, sym, ap, ◌∙◌, subst, arith, append_assoc, bytes_eq}
+use Rattle.std.proofs.Common.{◌≡◌, ℕ, ◌<◌, List, [], ◌∷◌, ◌++◌, length, Option, Some, None, ◌⊎◌, inl, inr, refl, sym, ap, subst, arith, append_assoc}
 use Rattle.std.specs.Prelude.{IfSome}
 use Rattle.std.specs.List.{AllByRecursion}
 use Rattle.std.proofs.lemmas.Bool.{cases_lt}
 use Rattle.std.proofs.lemmas.List.{append-nil}
-use Rattle.hex.specs.Hex.{decode_of}
 use Rattle.hex.proofs.HexLemmas.{decode_of-ok}
 use Rattle.zone_name.specs.Name.{IsName}
 use Rattle.zone_name.specs.Spelling.{Spells, FirstFault}
@@ -18,10 +17,10 @@ use Rattle.zone_rdata.specs.DataFault.{IsItemFault, IsWordsFault, IsFormFault, I
 use Rattle.zone_rdata.specs.Fault.{fault_of}
 use Rattle.zone_rdata.specs.Field.{FieldValue, name, long, two_octets, fixed, string, strings, octets_of}
 use Rattle.zone_rdata.specs.Generic.{JoinTo, StatesGeneric, GenericFault}
-use Rattle.zone_rdata.specs.Item.{RawItem, bare, quoted, generic_mark, IsGeneric}
+use Rattle.zone_rdata.specs.Item.{RawItem, bare, quoted, IsGeneric}
 use Rattle.zone_rdata.specs.Layout.{layout}
 use Rattle.zone_rdata.specs.Number.{IsDecimal, IsTime}
-use Rattle.zone_rdata.specs.Spelling.{IsAddress, IsCanonicalOf, SpellsField, SpellEach, States, StatesFor, in_words, in_octets, item_fields}
+use Rattle.zone_rdata.specs.Spelling.{IsAddress, SpellsField, SpellEach, States, StatesFor, in_words, in_octets, item_fields}
 use Rattle.zone_rdata.specs.Strings.{item_text, SpellsString, StringFault}
 use Rattle.zone_rdata.specs.Uncompressed.{IsUncompressed}
 use Rattle.zone_rdata.proofs.AddressChoice.{Choice, address_or_not}

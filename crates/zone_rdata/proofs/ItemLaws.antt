@@ -1,11 +1,10 @@
 -- Items state at most one value, or have at most one first fault.
-use Rattle.std.proofs.Common.{◌≡◌, ◌≢◌, ℕ, zero, suc, ◌+◌, ◌<◌, ◌≤◌, ◌^◌, List, [], ◌∷◌, ◌++◌, length, refl, sym, ap, ◌∙◌, subst, arith, length-append, Option, Some, None, inl, inr, ◌⊎◌}
+use Rattle.std.proofs.Common.{◌≡◌, ℕ, suc, ◌<◌, ◌≤◌, List, [], ◌∷◌, ◌++◌, length, refl, sym, ap, ◌∙◌, subst, arith, length-append, Option, Some, None, inl, inr}
 use Rattle.std.proofs.lemmas.Bool.{cases_lt}
 use Rattle.std.proofs.lemmas.List.{append-nil}
 use Rattle.zone_name.specs.Spelling.{Spells, FirstFault}
 use Rattle.zone_name.specs.declared.fault.NameFault.{NameFault}
 use Rattle.zone_rdata.specs.declared.fault.Fault.{Fault}
-use Rattle.zone_rdata.specs.declared.fault.Fault.TheVariants.{BadRdata, BadGeneric, BadNumber, RdataTooLong}
 use Rattle.zone_rdata.specs.declared.layout.Field.{Field}
 use Rattle.zone_rdata.specs.declared.layout.Field.TheVariants.{Name, Serial, Time, U16, Octets, OneString, Strings}
 use Rattle.zone_rdata.specs.DataFault as faults

@@ -1,24 +1,19 @@
 -- Items read from the left, field after field.
-use Rattle.std.proofs.Common.{◌≡◌, ℕ, zero, suc, ◌+◌, ◌<◌, ◌≤◌, List, [], ◌∷◌, ◌++◌, length, get_or, take, drop, map, refl, sym, ap, ◌∙◌, subst, arith, append_assoc, length-append, Bor, Result, Ok, Err, Bool, true, false, IsTrue, ◌↔◌, Option, Some, None}
-use Rattle.std.specs.Prelude.{OnOk, IfErr, slice_get, if◌then◌else◌}
-use Rattle.std.specs.Option.{option_or}
+use Rattle.std.proofs.Common.{◌≡◌, ℕ, ◌+◌, ◌<◌, ◌≤◌, List, [], ◌∷◌, ◌++◌, length, get_or, take, drop, map, sym, ap, ◌∙◌, subst, arith, Bor, Bool, IsTrue, ◌↔◌}
 use Rattle.std.specs.Str.{bytes_eq}
 use Rattle.std.proofs.lemmas.Slice.Eq.{bytes_eq-Decides}
-use Rattle.std.proofs.lemmas.Result.{on_ok_weaker}
-use Rattle.std.proofs.lemmas.List.{take_more, take_all, drop_more, take-append-drop, append-nil, length-map}
+use Rattle.std.proofs.lemmas.List.{take_more, take_all, drop_more, take-append-drop, append-nil}
 use Rattle.std.proofs.lemmas.List.Concat.{flat_map-append}
-use Rattle.zone_rdata.specs.declared.fault.Failing.{Failing}
 use Rattle.zone_rdata.specs.declared.fault.Fault.{Fault}
 use Rattle.zone_rdata.specs.declared.fault.Fault.TheVariants.{BadRdata, RdataTooLong}
 use Rattle.zone_rdata.specs.declared.item.Item.{Item}
 use Rattle.zone_rdata.specs.declared.item.Item.TheVariants.{Bare}
 use Rattle.zone_rdata.specs.declared.layout.Field.{Field}
-use Rattle.zone_rdata.specs.declared.layout.Field.TheVariants as fields
 use Rattle.zone_rdata.specs.DataFault.{IsItemFault, IsWordsFault, unspelt, missing, left_over, too_long}
 use Rattle.zone_rdata.specs.Field.{FieldValue, field_octets, octets_of}
 use Rattle.zone_rdata.specs.Item.{RawItem, bare, raw, generic_mark, IsGeneric}
-use Rattle.zone_rdata.specs.Reading.{AppendsField, AreSpelt, item_field}
-use Rattle.zone_rdata.specs.Spelling.{SpellsField, SpellEach, ends_with_strings, item_fields}
+use Rattle.zone_rdata.specs.Reading.{AppendsField, AreSpelt}
+use Rattle.zone_rdata.specs.Spelling.{SpellsField, SpellEach}
 
 -- the first items spell the first fields, and the octets are those of their values
 pub record HaveRead (origin : List (List ℕ)) (row : List Field) (items : List RawItem) (i : ℕ) (octets : List ℕ) : Type 0 where

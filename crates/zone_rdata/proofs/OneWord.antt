@@ -1,16 +1,13 @@
 -- A word has one number at most, and a text one time.
-use Rattle.std.proofs.Common.{◌≡◌, ℕ, ◌+◌, ◌<◌, ◌≤◌, Bool, true, false, List, [], ◌∷◌, ◌++◌, length, map, take, drop, codes, refl, sym, ap, ◌∙◌, subst, arith, append_assoc, cond, ◌==◌, if◌then◌else◌, Option, Some, None, bytes_eq, ◌⊎◌, inl, inr}
-use Rattle.std.specs.List.{AllByRecursion, flat_map, sum_by}
+use Rattle.std.proofs.Common.{◌≡◌, ℕ, ◌<◌, ◌≤◌, Bool, true, false, List, ◌++◌, length, take, drop, codes, refl, sym, ap, ◌∙◌, subst, arith, cond, ◌==◌, if◌then◌else◌, Option, Some, bytes_eq, ◌⊎◌, inl, inr}
 use Rattle.std.proofs.Math.Seq.{drop-append_seam}
 use Rattle.std.proofs.lemmas.Bool.{eqb-true}
 use Rattle.std.proofs.lemmas.List.{map-append, length-map}
 use Rattle.zone_name.specs.Name.{folded_octet, folded_label}
-use Rattle.zone_name.specs.Spelling.{is_digit}
-use Rattle.zone_rdata.specs.Number.{Group, IsGroup, group_text, group_seconds, unit_seconds, decimal_value, IsDecimal, IsTime, plain, grouped}
+use Rattle.zone_rdata.specs.Number.{decimal_value}
 use Rattle.zone_rdata.specs.Words.{IsKind, IsMnemonic, IsNumbered, IsClassWord, class_named, class_numbered, IsKindWord, kind_named, kind_numbered, class_mnemonic, kind_mnemonic, IsWordFault, nameless, beyond, for_queries}
 use Rattle.zone_rdata.specs.declared.fault.Fault.{Fault}
 use Rattle.zone_rdata.specs.declared.fault.Fault.TheVariants.{UnknownType, MetaType}
-use Rattle.zone_rdata.proofs.Times.{AreDigits, run_split, no_run, unit_no_digit}
 
 chosen : (b : Bool) (x : List ℕ) (y : Option (List ℕ)) (m : List ℕ) (P : Type 0) → cond b (Some x) y ≡ Some m → (b ≡ true → x ≡ m → P) → (y ≡ Some m → P) → P
 chosen true x y m P e f g = f refl cc

@@ -1,9 +1,9 @@
 -- Strings: the reading of an item's text, in the words of the item.
-use Rattle.std.proofs.Common.{◌≡◌, ℕ, ◌<◌, List, length, Result, Ok, Err, refl, sym, ap, ◌∙◌, subst, arith}
+use Rattle.std.proofs.Common.{◌≡◌, ℕ, ◌<◌, List, Ok, Err, sym, ◌∙◌, subst}
 use Rattle.std.specs.List.{AllByRecursion}
 use Rattle.zone_rdata.specs.declared.fault.Fault.{Fault}
 use Rattle.zone_rdata.specs.Item.{RawItem}
-use Rattle.zone_rdata.specs.Strings.{IsString, SpellsString, StringFault, bad_escape, long_string, item_text}
+use Rattle.zone_rdata.specs.Strings.{SpellsString, StringFault, bad_escape, long_string, item_text}
 use Rattle.zone_rdata.specs.StringReading.{reading}
 use Rattle.zone_rdata.proofs.StringSteps.{FindsUnits, TextFault, escape_fault, length_fault, Says, reading-says, reading-units, reading-fault}
 

@@ -1,5 +1,5 @@
 -- Times read octet by octet, and that a text has one reading.
-use Rattle.std.proofs.Common.{◌≡◌, ℕ, zero, suc, ◌+◌, ◌-◌, ◌*◌, ◌<◌, ◌≤◌, min, Bool, true, false, List, [], ◌∷◌, ◌++◌, length, Option, Some, None, refl, sym, ap, ◌∙◌, subst, arith, append_assoc, length-append, inl, inr, IsTrue, ◌↔◌, zero-add, take, drop, get_or}
+use Rattle.std.proofs.Common.{◌≡◌, ℕ, ◌+◌, ◌-◌, ◌*◌, ◌<◌, ◌≤◌, min, true, false, List, [], ◌∷◌, ◌++◌, length, Option, Some, None, refl, sym, ap, ◌∙◌, subst, arith, append_assoc, length-append, inl, inr, IsTrue, zero-add, take, drop, get_or}
 use Rattle.std.specs.Prelude.{IfNone}
 use Rattle.std.specs.List.{AllByRecursion, flat_map, sum_by}
 use Rattle.std.proofs.lemmas.List.{append-nil, take-append-drop, drop_more, take_all}
@@ -11,7 +11,7 @@ use Rattle.std.proofs.Math.Nat.{le-mul_of_pos_right, min-eq_left, min-eq_right, 
 use Rattle.zone_rdata.proofs.Decimal.{value_push, digits_push}
 use Rattle.zone_name.specs.Spelling.{is_digit}
 use Rattle.zone_rdata.specs.declared.time.Progress.{Progress}
-use Rattle.zone_rdata.specs.Number.{Group, IsGroup, group_text, group_seconds, decimal_value, unit_seconds, IsDecimal, IsTime, plain, grouped}
+use Rattle.zone_rdata.specs.Number.{Group, IsGroup, group_text, group_seconds, decimal_value, unit_seconds, IsTime, plain, grouped}
 use Rattle.zone_rdata.specs.Time.{Reads}
 
 abbrev pub AreDigits : List ℕ → Type 0

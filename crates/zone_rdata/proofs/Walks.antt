@@ -1,12 +1,12 @@
 -- A walk over the items of a layout's data.
-use Rattle.std.proofs.Common.{◌≡◌, ℕ, zero, suc, ◌+◌, ◌<◌, ◌≤◌, List, [], ◌∷◌, length, get_or, map, refl, sym, ap, ◌∙◌, subst, arith, Option, Some, None}
+use Rattle.std.proofs.Common.{◌≡◌, ℕ, zero, suc, ◌+◌, ◌<◌, ◌≤◌, List, [], ◌∷◌, length, get_or, map, ap, arith, Some, None}
 use Rattle.std.proofs.lemmas.List.{length-map}
 use Rattle.zone_rdata.specs.declared.fault.Fault.{Fault}
 use Rattle.zone_rdata.specs.declared.fault.Fault.TheVariants.{BadRdata, RdataTooLong}
 use Rattle.zone_rdata.specs.declared.item.Item.{Item}
 use Rattle.zone_rdata.specs.declared.layout.Field.{Field}
 use Rattle.zone_rdata.specs.DataFault.{IsItemFault, IsWordsFault}
-use Rattle.zone_rdata.specs.Item.{RawItem, bare, raw}
+use Rattle.zone_rdata.specs.Item.{bare, raw}
 use Rattle.zone_rdata.specs.declared.layout.Field.TheVariants.{Name}
 use Rattle.zone_rdata.specs.Reading.{AppendsField, AreSpelt, item_field}
 use Rattle.zone_rdata.specs.Spelling.{item_fields}

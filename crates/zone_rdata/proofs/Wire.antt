@@ -1,5 +1,5 @@
 -- Data from uncompressed octets.
-use Rattle.std.proofs.Common.{◌≡◌, ℕ, ◌<◌, ◌≤◌, List, length, Option, Some, None, refl, sym, ap, ◌∙◌, subst, arith}
+use Rattle.std.proofs.Common.{◌≡◌, ℕ, ◌<◌, ◌≤◌, List, length, Option, Some, None, sym, ap, ◌∙◌, subst, arith}
 use Rattle.std.specs.Prelude.{IfSome, option_map}
 use Rattle.std.specs.List.{AllByRecursion}
 use Rattle.zone_rdata.specs.declared.fault.Fault.{Fault}
@@ -8,7 +8,7 @@ use Rattle.zone_rdata.specs.declared.layout.Field.{Field}
 use Rattle.zone_rdata.specs.declared.layout.Layout.{Layout}
 use Rattle.zone_rdata.specs.Layout.{IsData, StringsLast, AreLaidOut, fields_of, layout}
 use Rattle.zone_rdata.specs.Spelling.{IsCanonicalOf}
-use Rattle.zone_rdata.specs.Wire.{IsWireFault, beyond, no_value}
+use Rattle.zone_rdata.specs.Wire.{IsWireFault, no_value}
 use Rattle.zone_rdata.proofs.Fields.{AreFor, laid_out, table_row}
 use Rattle.zone_rdata.proofs.SentLengths.{uncompressed_length}
 use Rattle.zone_rdata.proofs.Taken.{canonical-once}

@@ -1,5 +1,5 @@
 -- Words that are equal in any case of their letters.
-use Rattle.std.proofs.Common.{◌≡◌, ℕ, ◌+◌, ◌<◌, ◌≤◌, Bool, true, false, List, [], ◌∷◌, map, refl, sym, ap, ◌∙◌, arith, IsTrue, ◌↔◌, inl, inr, cond, Option, Some, None, get_or, min, subst, ◌==◌}
+use Rattle.std.proofs.Common.{◌≡◌, ℕ, ◌<◌, ◌≤◌, Bool, true, false, List, [], ◌∷◌, map, refl, sym, ◌∙◌, arith, IsTrue, ◌↔◌, inl, inr, cond, Option, Some, None, get_or, min, subst, ◌==◌}
 use Rattle.std.specs.Char.{to_ascii_lowercase}
 use Rattle.std.proofs.lemmas.Bool.Decides.{nat_tests}
 use Rattle.std.proofs.lemmas.Bool.{eqb-true, cases_lt}

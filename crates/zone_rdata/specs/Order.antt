@@ -1,5 +1,4 @@
 -- The order of record data in a set (RFC 4034 6.3).
-use Rattle.std.specs.Prelude.{ℕ, List}
 use Rattle.std.specs.Ordering.{nat_cmp, on, then_cmp}
 use Rattle.std.specs.declared.cmp.Ordering.{Ordering}
 use Rattle.std.specs.Cmp.Lexicographic.{slice_cmp}

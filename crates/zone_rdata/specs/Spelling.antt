@@ -1,5 +1,5 @@
 -- The items of a master file that state record data (RFC 1035 5.1; RFC 3597 5).
-use Rattle.std.specs.Prelude.{◌≡◌, ◌≢◌, ℕ, ◌^◌, ◌<◌, ◌≤◌, List, [], ◌∷◌, ◌++◌, length, drop, map, Bool, true, false, if◌then◌else◌, ⊤, Option, Some, None, MatchOption}
+use Rattle.std.specs.Prelude.{◌≡◌, ℕ, ◌^◌, ◌<◌, ◌≤◌, List, [], ◌∷◌, ◌++◌, length, drop, map, Bool, true, false, if◌then◌else◌, ⊤, Option, Some, None}
 use Rattle.zone_name.specs.Spelling.{Spells}
 use Rattle.zone_rdata.specs.declared.layout.Field.{Field}
 use Rattle.zone_rdata.specs.declared.layout.Field.TheVariants.{Name, Serial, Time, U16, Octets, OneString, Strings}

@@ -3,7 +3,7 @@
 use Rattle.std.specs.Prelude.{◌≡◌, ◌≢◌, ℕ, ◌<◌, ◌≤◌, List, [], ◌∷◌, ◌++◌, length, nat_le, ◌==◌, ◌&&◌, ◌||◌, Bool, if◌then◌else◌}
 use Rattle.std.specs.List.{flat_map, AllByRecursion}
 use Rattle.zone_name.specs.Name.{frame}
-use Rattle.zone_name.specs.Spelling.{Written, plain, escaped, decimal, text_of, octet_of, IsWritten, written_text, written_octets, IsBadEscape}
+use Rattle.zone_name.specs.Spelling.{Written, plain, escaped, decimal, text_of, IsWritten, written_text, written_octets, IsBadEscape}
 use Rattle.zone_name.specs.Text.{decimal_escape}
 use Rattle.zone_rdata.specs.declared.fault.Fault.{Fault}
 use Rattle.zone_rdata.specs.declared.fault.Fault.TheVariants.{BadEscape, StringTooLong}

@@ -12,13 +12,11 @@ use crate::kind::Kind;
 use crate::layout::{Field, layout_of};
 use crate::rdata::Rdata;
 use crate::reading::are_octets;
+use crate::record::LONGEST_DATA;
 use crate::string::push_framed;
 use std::alloc::Global;
 use std::marker::Model;
 use zone_name::Name;
-
-/// The most octets that record data has.
-const LONGEST: usize = 65535;
 
 /// Record data that is made part by part. Contracts see class, type and the parts that were pushed.
 #[derive(Debug, Drop)]
@@ -187,7 +185,7 @@ fn is_next(class: Class, kind: Kind, count: usize, part: Part) -> bool
         return false;
     };
     match (field, part) {
-        (Field::Octets(count), Part::Octets(octets)) => octets.len() == count && count > 0,
+        (Field::Octets(count), Part::Octets(octets)) => octets.len() == count,
         (Field::U16, Part::U16(_)) => true,
         (Field::Serial | Field::Time, Part::U32(_)) => true,
         (Field::Name, Part::Name(_)) => true,
@@ -230,7 +228,7 @@ fn append_octets(octets: &[u8], out: &mut Vec<u8>) -> Result<(), Failing>
     ensures fault { IfErr result (IfFault (IsOver out.old.items (fixed octets.now))) }
     ensures err { OnErr result (out.new.items ≡ out.old.items) }
 {
-    if octets.len() > LONGEST - out.len() {
+    if octets.len() > LONGEST_DATA - out.len() {
         return Err(Failing::Fault(Fault::RdataTooLong));
     }
     out.extend_from_slice(octets)?;
@@ -247,7 +245,7 @@ fn append_string(octets: &[u8], out: &mut Vec<u8>) -> Result<(), Failing>
     if octets.len() > 255 {
         return Err(Failing::Fault(Fault::StringTooLong));
     }
-    if octets.len() + 1 > LONGEST - out.len() {
+    if octets.len() + 1 > LONGEST_DATA - out.len() {
         return Err(Failing::Fault(Fault::RdataTooLong));
     }
     push_framed(octets, out)?;

@@ -7,11 +7,9 @@ ghost use Rattle.zone_rdata.specs.Item.{IsGeneric, raw};
 use crate::fault::{Failing, Fault};
 use crate::item::Item;
 use crate::number::decimal_of;
+use crate::record::LONGEST_DATA;
 use hex::decode_to_slice;
 use std::alloc::Global;
-
-/// The most octets that record data has.
-const LONGEST: u64 = 65535;
 
 /// The octets that items state in the generic form: `\#`, their number, and their hexadecimal digits (RFC 3597 5).
 ///
@@ -44,7 +42,7 @@ fn length_of(item: Item) -> Result<usize, Fault>
     };
     match decimal_of(text) {
         None => Err(Fault::BadGeneric),
-        Some(number) if number > LONGEST => Err(Fault::RdataTooLong),
+        Some(number) if number > LONGEST_DATA as u64 => Err(Fault::RdataTooLong),
         Some(number) => Ok(number as usize),
     }
 }

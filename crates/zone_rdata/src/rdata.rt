@@ -21,6 +21,7 @@ use crate::lengths::data_len;
 use crate::minimum::last_number_of;
 use crate::printing::push_data;
 use crate::reading::{are_octets, is_generic, octets_of_items};
+use crate::record::LONGEST_DATA;
 use crate::uncompressed::{canonical_for, canonical_of};
 use std::alloc::{AllocError, Global};
 use std::marker::Model;
@@ -129,7 +130,7 @@ impl Rdata {
         ensures only { IfOk result (λ d. (canonical : List ℕ) → IsCanonicalOf (layout class kind) octets.now canonical → d.octets ≡ canonical) }
         ensures fault { IfErr result (IfFault (IsWireFault (layout class kind) octets.now)) }
     {
-        if octets.len() > 65535 {
+        if octets.len() > LONGEST_DATA {
             return Err(Failing::Fault(Fault::RdataTooLong));
         }
         let octets = canonical_for(alloc, layout_of(class, kind), octets)?;

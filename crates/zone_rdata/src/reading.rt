@@ -13,6 +13,7 @@ use crate::fault::{Failing, Fault};
 use crate::item::Item;
 use crate::layout::{Field, Layout};
 use crate::number::decimal_of;
+use crate::record::LONGEST_DATA;
 use crate::string::push_string;
 use crate::time::seconds_of;
 use std::alloc::Global;
@@ -87,44 +88,23 @@ fn push_short(text: &[u8], octets: &mut Vec<u8>) -> Result<(), Failing>
     Ok(())
 }
 
-/// Appends the address of four octets.
-fn push_four(text: &[u8], octets: &mut Vec<u8>) -> Result<(), Failing>
-    ensures found { OnOk result (AppendsAddress 4 text.now octets.old.items octets.new.items) }
-    ensures fault { IfErr result (IfFault (λ f. (f ≡ Fault.BadRdata) × ((found : List ℕ) → IsAddress 4 text.now found → ⊥))) }
-{
-    match four_octets_of(text) {
-        Some(address) => {
-            octets.extend_from_slice(&address)?;
-            Ok(())
-        }
-        None => Err(Failing::Fault(Fault::BadRdata)),
-    }
-}
-
-/// Appends the address of sixteen octets.
-fn push_sixteen(text: &[u8], octets: &mut Vec<u8>) -> Result<(), Failing>
-    ensures found { OnOk result (AppendsAddress 16 text.now octets.old.items octets.new.items) }
-    ensures fault { IfErr result (IfFault (λ f. (f ≡ Fault.BadRdata) × ((found : List ℕ) → IsAddress 16 text.now found → ⊥))) }
-{
-    match sixteen_octets_of(text) {
-        Some(address) => {
-            octets.extend_from_slice(&address)?;
-            Ok(())
-        }
-        None => Err(Failing::Fault(Fault::BadRdata)),
-    }
-}
-
 /// Appends the address of so many octets.
 fn push_address(count: usize, text: &[u8], octets: &mut Vec<u8>) -> Result<(), Failing>
     ensures found { OnOk result (AppendsAddress count text.now octets.old.items octets.new.items) }
     ensures fault { IfErr result (IfFault (λ f. (f ≡ Fault.BadRdata) × ((found : List ℕ) → IsAddress count text.now found → ⊥))) }
 {
     match count {
-        4 => push_four(text, octets),
-        16 => push_sixteen(text, octets),
-        _ => Err(Failing::Fault(Fault::BadRdata)),
+        4 => {
+            let address = four_octets_of(text).ok_or(Fault::BadRdata)?;
+            octets.extend_from_slice(&address)?;
+        }
+        16 => {
+            let address = sixteen_octets_of(text).ok_or(Fault::BadRdata)?;
+            octets.extend_from_slice(&address)?;
+        }
+        _ => return Err(Failing::Fault(Fault::BadRdata)),
     }
+    Ok(())
 }
 
 /// Appends the octets of the value that a bare item spells for the field.
@@ -180,9 +160,6 @@ pub(crate) fn is_generic(items: &[Item]) -> bool
     }
 }
 
-/// The most octets that data can have.
-pub(crate) const GREATEST: usize = 65535;
-
 /// The octets of the values that the items spell, field by field.
 pub(crate) fn octets_of_items(
     alloc: Global,
@@ -204,7 +181,7 @@ pub(crate) fn octets_of_items(
     if items.len() < layout.fields().len() {
         return Err(Failing::Fault(Fault::BadRdata));
     }
-    if octets.len() > GREATEST {
+    if octets.len() > LONGEST_DATA {
         return Err(Failing::Fault(Fault::RdataTooLong));
     }
     Ok(octets)

@@ -1,5 +1,3 @@
-use Rattle.std.proofs.Common.{sym, ap, ◌∙◌, drop}
-use Rattle.std.proofs.lemmas.List.{drop_all}
 use Rattle.zone_rdata.proofs.StringFields.{nothing_after}
 use Rattle.zone_rdata.proofs.front.after_front.Goals as goal
 

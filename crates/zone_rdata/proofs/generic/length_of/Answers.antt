@@ -10,4 +10,4 @@ pub returns-in-None-clause-fault : goal.returns-in-None-clause-fault
 returns-in-None-clause-fault c = length_none c.args.item c.in-Bare.text.now (ap raw c.in-Bare.is) c.in-None.ensures.none
 
 pub returns-in-Some-clause-fault : goal.returns-in-Some-clause-fault
-returns-in-Some-clause-fault c = length_beyond c.args.item c.in-Bare.text.now c.in-Some.number _ (ap raw c.in-Bare.is) c.in-Some.ensures.found c.if-number-gt-LONGEST.true
+returns-in-Some-clause-fault c = length_beyond c.args.item c.in-Bare.text.now c.in-Some.number _ (ap raw c.in-Bare.is) c.in-Some.ensures.found c.if-number.true

@@ -1,4 +1,4 @@
-use Rattle.std.proofs.Common.{arith, length, ◌<◌, ◌≤◌}
+use Rattle.std.proofs.Common.{arith}
 use Rattle.zone_rdata.proofs.StringFields.{first_string}
 use Rattle.zone_rdata.proofs.StringTexts.{measured_first, measured_more, measured_all, first_of_rest, len_is, short_is}
 use Rattle.zone_rdata.proofs.lengths.strings_len.Goals as goal

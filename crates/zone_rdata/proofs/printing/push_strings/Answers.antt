@@ -1,7 +1,6 @@
-use Rattle.std.proofs.Common.{arith, length, ◌<◌, ◌≤◌}
-use Rattle.std.proofs.lemmas.Result.{on_ok_weaker}
+use Rattle.std.proofs.Common.{arith}
 use Rattle.zone_rdata.proofs.StringFields.{first_string}
-use Rattle.zone_rdata.proofs.StringTexts.{quoted_first, quoted_more, quoted_all, first_of_rest, behind_shorter, text_is}
+use Rattle.zone_rdata.proofs.StringTexts.{quoted_first, quoted_more, quoted_all, first_of_rest, text_is}
 use Rattle.zone_rdata.proofs.printing.push_strings.Goals as goal
 
 pub split_string-requires : goal.split_string-requires

@@ -1,4 +1,3 @@
-use Rattle.std.proofs.Common.{ap, ◌∙◌}
 use Rattle.zone_rdata.specs.DataFault.{malformed}
 use Rattle.zone_rdata.proofs.Faults.{fault_handed}
 use Rattle.zone_rdata.proofs.Forms.{form_value}

@@ -15,5 +15,5 @@ loop-place-preserved c = reads_more _ _ _ _ _ _ _ refl _ _ c.loop-place-test.tru
 pub returns-then-items-fields-clause-fault : goal.returns-then-items-fields-clause-fault
 returns-then-items-fields-clause-fault c = short_at _ _ _ _ _ (omega (arith, c.loop-place-test.false, c.loop-place.auto.place-end)) (subst (λ fields. length c.args.items.now < length fields) c.fields.ensures c.if-items-fields.true) c.loop-place.invariant
 
-pub returns-then-len-gt-GREATEST-clause-fault : goal.returns-then-len-gt-GREATEST-clause-fault
-returns-then-len-gt-GREATEST-clause-fault c = long_at _ _ _ _ _ (omega (arith, c.loop-place-test.false, c.loop-place.auto.place-end)) (subst (λ fields. length fields ≤ length c.args.items.now) c.fields.ensures c.if-items-fields.false) (omega (arith, c.len.ensures, c.if-len-gt-GREATEST.true)) c.loop-place.invariant
+pub returns-then-len-gt-LONGEST_DATA-clause-fault : goal.returns-then-len-gt-LONGEST_DATA-clause-fault
+returns-then-len-gt-LONGEST_DATA-clause-fault c = long_at _ _ _ _ _ (omega (arith, c.loop-place-test.false, c.loop-place.auto.place-end)) (subst (λ fields. length fields ≤ length c.args.items.now) c.fields.ensures c.if-items-fields.false) (omega (arith, c.len.ensures, c.if-len-gt-LONGEST_DATA.true)) c.loop-place.invariant

@@ -1,4 +1,4 @@
-use Rattle.std.proofs.Common.{take, map}
+use Rattle.std.proofs.Common.{map}
 use Rattle.zone_rdata.specs.Item.{raw}
 use Rattle.zone_rdata.specs.Spelling.{item_fields}
 use Rattle.zone_rdata.specs.Layout.{fields_of}

@@ -1,4 +1,4 @@
-use Rattle.std.proofs.Common.{◌+◌, get_or, drop, refl, sym, ap}
+use Rattle.std.proofs.Common.{◌+◌, get_or, drop, ap}
 use Rattle.std.proofs.lemmas.Result.{IfOk-weaker}
 use Rattle.zone_rdata.proofs.Failings.{IfErr-fault}
 use Rattle.zone_rdata.proofs.Fronts.{appends_string, none_string, first_behind}

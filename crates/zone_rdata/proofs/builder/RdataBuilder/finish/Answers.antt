@@ -1,7 +1,5 @@
-use Rattle.std.proofs.Common.{◌≡◌, ◌<◌, ◌≤◌, refl, sym, subst, arith}
+use Rattle.std.proofs.Common.{◌<◌, refl, subst, arith}
 use Rattle.std.specs.List.{AllByRecursion}
-use Rattle.zone_rdata.specs.Builder.{least_of}
-use Rattle.zone_rdata.specs.Layout.{layout}
 use Rattle.zone_rdata.proofs.Building.{finish_missing, finish_made, parts_data}
 use Rattle.zone_rdata.proofs.builder.RdataBuilder.finish.Goals as goal
 

@@ -1,4 +1,4 @@
-use Rattle.std.proofs.Common.{sym, subst, ◌<◌}
+use Rattle.std.proofs.Common.{subst, ◌<◌}
 use Rattle.std.specs.List.{AllByRecursion}
 use Rattle.zone_rdata.proofs.Fields.{stated_data, states_for, first_for}
 use Rattle.zone_rdata.proofs.Wire.{table_last}

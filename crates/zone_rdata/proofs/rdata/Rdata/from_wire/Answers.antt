@@ -1,4 +1,4 @@
-use Rattle.std.proofs.Common.{◌<◌, ◌≤◌, length, sym, subst, arith}
+use Rattle.std.proofs.Common.{◌<◌, subst, arith}
 use Rattle.std.specs.List.{AllByRecursion}
 use Rattle.zone_rdata.specs.Wire.{beyond}
 use Rattle.zone_rdata.proofs.Failings.{if_fault_passed}
@@ -25,5 +25,5 @@ pub returns-in_err-octets-clause-fault : goal.returns-in_err-octets-clause-fault
 returns-in_err-octets-clause-fault c =
     if_fault_passed c.from_residual.result c.in_err-octets.field-0.0 _ _ c.from_residual.ensures.1 (λ fault bad. wire_fault c.args.class c.args.kind _ _ fault c.layout_of.ensures (omega arith) bad) c.in_err-octets.ensures.fault
 
-pub returns-then-octets-gt65535-clause-fault : goal.returns-then-octets-gt65535-clause-fault
-returns-then-octets-gt65535-clause-fault c = beyond (omega arith)
+pub returns-then-octets-gt-LONGEST_DATA-clause-fault : goal.returns-then-octets-gt-LONGEST_DATA-clause-fault
+returns-then-octets-gt-LONGEST_DATA-clause-fault c = beyond (omega arith)

@@ -1,4 +1,4 @@
-use Rattle.zone_rdata.proofs.Times.{ends_grouped, ends_plain, ends_both, ends_none}
+use Rattle.zone_rdata.proofs.Times.{ends_grouped, ends_both, ends_none}
 use Rattle.zone_rdata.proofs.time.Progress.seconds.Goals as goal
 
 pub returns-then-self-2-clause-none : goal.returns-then-self-2-clause-none
