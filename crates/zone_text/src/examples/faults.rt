@@ -47,6 +47,11 @@ pub fn a_record_without_a_ttl()
     kind_word_is_unique();
 }
 
+/// A MINIMUM of more than 31 bits is no TTL.
+pub fn a_minimum_that_is_no_ttl()
+    ensures { Reads (codes "@ SOA n h 1 2 3 4 2147483648\n") [] (fault_at 1 BadTtl) }
+{}
+
 /// A break stands at the line of its entry and hides what else is wrong there.
 pub fn breaks_come_first()
     ensures escape { Reads (codes "$INCLUDE \\04") [] (fault_at 1 BadEscape) }
