@@ -6,7 +6,7 @@ use Rattle.zone_name.specs.Spelling.{plain, at_origin, absolute, relative, Spell
 use Rattle.zone_name.specs.declared.fault.NameFault.TheVariants.{EmptyLabel}
 use Rattle.zone_rdata.specs.declared.layout.Field.TheVariants.{Name}
 use Rattle.zone_rdata.specs.Field.{name}
-use Rattle.zone_rdata.specs.Number.{IsTime, IsDecimal}
+use Rattle.zone_rdata.specs.Number.{IsTime}
 use Rattle.zone_rdata.specs.Number as number
 use Rattle.zone_rdata.specs.Record.{IsRecord}
 use Rattle.zone_rdata.specs.Spelling.{RawItem, bare, States, in_words}

@@ -16,7 +16,7 @@ pub mod Seconds
 pub mod CutAgain
 pub mod Decides
 pub mod ExampleFacts
-pub mod ExampleSoa
+pub mod ExampleRecords
 pub mod Octets
 pub mod Fronts
 pub mod Cuttings

@@ -26,6 +26,10 @@ long n = 0 ∷ 0 ∷ 0 ∷ n ∷ []
 abbrev pub soa : ℕ → Record
 soa ttl = record { owner = x; class = 1; kind = 6; ttl = ttl; octets = wire (under 110 x) ++ wire (under 104 x) ++ long 1 ++ long 2 ++ long 3 ++ long 4 ++ long 5 }
 
+-- the address 10.0.0.1 of an owner, in class IN (RFC 1035 3.4.1)
+abbrev pub address : List (List ℕ) → ℕ → Record
+address owner ttl = record { owner = owner; class = 1; kind = 1; ttl = ttl; octets = 10 ∷ 0 ∷ 0 ∷ 1 ∷ [] }
+
 abbrev pub at_line : ℕ → Record → Placed
 at_line line r = record { rr = r; place = Line line }
 

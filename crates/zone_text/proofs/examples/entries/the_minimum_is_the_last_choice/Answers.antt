@@ -4,7 +4,7 @@ use Rattle.zone_text.specs.ExampleEntries.{x}
 use Rattle.zone_text.specs.FileReads.{reads_one, whole}
 use Rattle.zone_text.proofs.Cuttings.{cut_is_read}
 use Rattle.zone_text.proofs.ExampleFacts.{x_name, at_spells, ns_has_no_minimum}
-use Rattle.zone_text.proofs.ExampleSoa.{five, states_soa, states_ns_below, states_minimum, minimum_five}
+use Rattle.zone_text.proofs.ExampleRecords.{five, states_soa, states_ns_below, states_minimum, minimum_five}
 use Rattle.zone_text.proofs.examples.entries.the_minimum_is_the_last_choice.Goals as goal
 
 pub returns : goal.returns

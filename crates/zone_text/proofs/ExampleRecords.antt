@@ -1,20 +1,21 @@
--- The SOA of `x.` that files spell, for examples.
-use Rattle.std.proofs.Common.{◌≡◌, ◌≢◌, ℕ, ◌-◌, ◌<◌, ◌≤◌, ◌^◌, List, [], ◌∷◌, codes, Some, refl, arith, true, lit<, lit≤}
+-- The SOA of `x.` and the addresses that files spell, for examples.
+use Rattle.std.proofs.Common.{◌≡◌, ℕ, ◌<◌, ◌≤◌, ◌^◌, List, [], ◌∷◌, codes, Some, refl, arith, true, lit<, lit≤}
 use Rattle.std.specs.List.{AllByRecursion}
 use Rattle.zone_name.specs.Name.{IsName, labels_of}
 use Rattle.zone_name.specs.Spelling.{Spells, is_digit}
-use Rattle.zone_rdata.specs.declared.layout.Field.TheVariants.{Name, Serial, Time}
-use Rattle.zone_rdata.specs.Field.{FieldValue, name, long, octets_of}
+use Rattle.zone_rdata.specs.declared.layout.Field.TheVariants.{Name, Serial, Time, Octets}
+use Rattle.zone_rdata.specs.Address.{IsOctetNumber}
+use Rattle.zone_rdata.specs.Field.{FieldValue, name, long, fixed, octets_of}
 use Rattle.zone_rdata.specs.Minimum.{minimum}
 use Rattle.zone_rdata.specs.Number.{IsTime, IsDecimal, decimal_value, plain}
 use Rattle.zone_rdata.specs.Record.{IsRecord}
-use Rattle.zone_rdata.specs.Spelling.{RawItem, bare, States, in_words}
+use Rattle.zone_rdata.specs.Spelling.{RawItem, bare, States, in_words, of_four}
 use Rattle.zone_rdata.specs.Words.{IsKind, IsKindWord, kind_named}
 use Rattle.zone_text.specs.Entries.{Entry}
-use Rattle.zone_text.specs.Forms.{Parts, parts_of, form_of, Word}
+use Rattle.zone_text.specs.Forms.{parts_of, form_of, Word}
 use Rattle.zone_text.specs.Inherited.{IsOrigin, IsOwner, HasClass}
-use Rattle.zone_text.specs.Records.{HasValue, HasHead, StatesData, HasTtl, StatesRecord, StatesMinimum}
-use Rattle.zone_text.specs.ExampleEntries.{x, under, ns, soa}
+use Rattle.zone_text.specs.Records.{HasValue, HasHead, HasTtl, StatesRecord, StatesMinimum}
+use Rattle.zone_text.specs.ExampleEntries.{x, under, ns, soa, address}
 use Rattle.zone_text.proofs.ExampleFacts.{x_name, n_name, in_class, one_octet, states_server_by}
 
 h_name : IsName (under 104 x)
@@ -111,3 +112,66 @@ minimum_too_long = refl
 -- an entry of the items `NS n`
 pub states_ns_below : (before : List Entry) (entry : Entry) (ttl : ℕ) (words : List Word) → parts_of entry ≡ Some (record { words = words; rest = bare (codes "NS") ∷ bare (codes "n") ∷ [] }) → IsOwner x before (form_of entry) x → AllByRecursion HasValue words → HasClass before entry 1 → IsOrigin x before x → HasTtl x before entry ttl → ttl ≤ 2147483647 → StatesRecord x before entry (ns x 1 ttl)
 states_ns_below before entry ttl words split owns values has under_it lasts short = states_server_by (codes "n") x before entry x x 1 ttl words (λ e. absurd (let t : ⊥ = cc in t)) n_spells split owns values has under_it lasts x_name in_class short
+
+pub sixty_one : IsTime (codes "61") 61
+sixty_one = plain (record { some = lit< tt; digits = (refl, (refl, tt)); value = refl })
+
+ten : IsOctetNumber (codes "10") 10
+ten = record { number = record { some = lit< tt; digits = (refl, (refl, tt)); value = refl }; short = lit≤ tt }
+
+one_digit : (c n : ℕ) → is_digit c ≡ true → n ≡ decimal_value (c ∷ []) → n ≤ 255 → IsOctetNumber (c ∷ []) n
+one_digit c n is value short = record { number = digit c n is value; short = short }
+
+address_states : States x 1 1 (bare (codes "10.0.0.1") ∷ []) (10 ∷ 0 ∷ 0 ∷ 1 ∷ [])
+address_states = record {
+  stated = in_words (Octets 4 ∷ []) (fixed (10 ∷ 0 ∷ 0 ∷ 1 ∷ []) ∷ []) refl (λ is. let e = is.1 in absurd (let t : ⊥ = cc in t)) (
+    of_four refl (record {
+      numbers = codes "10" ∷ codes "0" ∷ codes "0" ∷ codes "1" ∷ [];
+      counted = refl;
+      parted = refl;
+      each = (ten, (one_digit 48 0 refl refl (lit≤ tt), (one_digit 48 0 refl refl (lit≤ tt), (one_digit 49 1 refl refl (lit≤ tt), tt))));
+    }),
+    tt,
+  ) refl (lit≤ tt);
+}
+
+is_a : IsKindWord (codes "A") 1
+is_a = kind_named (record { name = codes "A"; row = refl; same = refl })
+
+address_kind : IsKind 1
+address_kind = record { short = lit< tt; stored = refl }
+
+address_fits : (owner : List (List ℕ)) (ttl : ℕ) → IsName owner → ttl ≤ 2147483647 → IsRecord (address owner ttl)
+address_fits owner ttl good short = record {
+  owner = good;
+  ttl = short;
+  rdata = record {
+    class = in_class;
+    kind = address_kind;
+    octets = record {
+      short = lit≤ tt;
+      each = (lit< tt, (lit< tt, (lit< tt, (lit< tt, tt))));
+      value = record { held = (record { size = refl; each = (lit< tt, (lit< tt, (lit< tt, (lit< tt, tt)))) }, tt); whole = refl };
+    };
+  };
+}
+
+-- an entry of the items `A 10.0.0.1` behind words and an owner
+pub states_address : (before : List Entry) (entry : Entry) (owner : List (List ℕ)) (ttl : ℕ) (words : List Word) → parts_of entry ≡ Some (record { words = words; rest = bare (codes "A") ∷ bare (codes "10.0.0.1") ∷ [] }) → IsOwner x before (form_of entry) owner → AllByRecursion HasValue words → HasClass before entry 1 → IsOrigin x before x → HasTtl x before entry ttl → IsName owner → ttl ≤ 2147483647 → StatesRecord x before entry (address owner ttl)
+states_address before entry owner ttl words split owns values has under_it lasts good short = record {
+  items = bare (codes "10.0.0.1") ∷ [];
+  head = record {
+    parts = record { words = words; rest = bare (codes "A") ∷ bare (codes "10.0.0.1") ∷ [] };
+    word = codes "A";
+    split = split;
+    owner = owns;
+    words = values;
+    class = has;
+    rest = refl;
+    named = is_a;
+    kind = address_kind;
+  };
+  rdata = record { above = x; under = under_it; states = address_states };
+  ttl = lasts;
+  fits = address_fits owner ttl good short;
+}
