@@ -1,30 +1,26 @@
 -- An entry behind others that state nothing or a record states nothing or a record itself, or has a first fault.
-use Rattle.std.proofs.Common.{◌≡◌, ◌≢◌, ℕ, ◌+◌, ◌<◌, ◌≤◌, Bool, true, false, if◌then◌else◌, List, [], ◌∷◌, ◌++◌, Option, Some, None, MatchOption, ◌⊎◌, inl, inr, refl, sym, ◌∙◌, ap, subst, arith}
+use Rattle.std.proofs.Common.{◌≡◌, ℕ, ◌<◌, Bool, true, false, if◌then◌else◌, List, [], ◌∷◌, ◌++◌, Option, Some, None, MatchOption, ◌⊎◌, inl, inr, refl, sym, ◌∙◌, subst, arith}
 use Rattle.std.specs.List.{AllByRecursion}
 use Rattle.std.proofs.lemmas.Bool.{cases_lt, cases_eq}
 use Rattle.zone_name.specs.Name.{IsName}
 use Rattle.zone_name.specs.Spelling.{Spells, FirstFault}
 use Rattle.zone_name.specs.declared.fault.NameFault.{NameFault}
-use Rattle.zone_rdata.specs.DataFault.{IsDataFault}
 use Rattle.zone_rdata.specs.Fault.{fault_of}
-use Rattle.zone_rdata.specs.Minimum.{minimum}
 use Rattle.zone_rdata.specs.Number.{IsTime}
 use Rattle.zone_rdata.specs.Record.{Record}
-use Rattle.zone_rdata.specs.Spelling.{RawItem, bare, quoted, States}
-use Rattle.zone_rdata.specs.Strings.{item_text}
-use Rattle.zone_rdata.specs.Words.{IsClass, IsClassWord, IsKind, IsKindWord, IsWordFault}
+use Rattle.zone_rdata.specs.Spelling.{RawItem, bare, quoted}
+use Rattle.zone_rdata.specs.Words.{IsClass, IsClassWord}
 use Rattle.zone_rdata.specs.declared.fault.Fault.{Fault}
-use Rattle.zone_rdata.specs.declared.fault.Fault.TheVariants.{IncludeDirective, UnknownDirective, BadDirective, NoOwner, NoTtl, BadTtl, BadClass, UnknownType}
+use Rattle.zone_rdata.specs.declared.fault.Fault.TheVariants.{BadTtl, BadClass}
 use Rattle.zone_text.specs.Entries.{Entry}
-use Rattle.zone_text.specs.EntryFault.{IsNameFault, OriginFault, DefaultTtlFault, DirectiveFault, OwnerFault, WordFault, WordsFault, KindFault, TtlFault, none, long, EntryFault, of_directive, of_owner, of_words, of_kind, of_rdata, of_ttl}
-use Rattle.zone_text.specs.Forms.{Form, no_items, sets_origin, sets_ttl, includes, unknown, owned, unowned, form_of, form_by, directive, Word, ttl, class, Parts, parts_of, parts_in, parts_behind, class_among, word_behind, begins_with_digit, is_class_word, ttl_among, unless_stated}
-use Rattle.zone_text.specs.Inherited.{IsOrigin, SpellsBehind, IsLastOwner, IsOwner, HasClass, stated_ttl, IsTtl, or_else, latest, origin_in, owner_in, origin_text, owner_text, class_in, class_word, one_bare}
+use Rattle.zone_text.specs.EntryFault.{IsNameFault, WordFault, WordsFault}
+use Rattle.zone_text.specs.Forms.{Form, no_items, sets_origin, sets_ttl, includes, unknown, owned, unowned, form_of, Word, ttl, class, Parts, parts_of, parts_in, parts_behind, class_among, word_behind, begins_with_digit, is_class_word, ttl_among, unless_stated}
+use Rattle.zone_text.specs.Inherited.{IsOrigin, SpellsBehind, IsLastOwner, IsOwner, HasClass, IsTtl, or_else, latest, origin_in, owner_in, owner_text, class_in, class_word}
 use Rattle.zone_text.specs.Lower.{Lower, Choices}
 use Rattle.zone_text.specs.Outcome.{AllState, AreLowItems}
-use Rattle.zone_text.specs.Records.{HasValue, Head, HasHead, StatesData, StatesMinimum, IsLastMinimum, HasTtl, StatesRecord, StatesNothing}
+use Rattle.zone_text.specs.Records.{HasValue, StatesRecord, StatesNothing}
 use Rattle.zone_text.proofs.ClassWords.{class_word_of}
 use Rattle.zone_text.proofs.Entered.{nothing_or_parts}
-use Rattle.zone_text.proofs.Inherits.{head_once, states_once}
 
 -- ---- the origin
 

@@ -1,5 +1,5 @@
 -- An entry has an outcome: nothing, a record or a first fault.
-use Rattle.std.proofs.Common.{◌≡◌, ℕ, ◌<◌, ◌≤◌, ◌==◌, Bool, true, false, if◌then◌else◌, List, [], ◌∷◌, Option, Some, None, MatchOption, ◌⊎◌, inl, inr, refl, sym, ◌∙◌, ap, subst, arith}
+use Rattle.std.proofs.Common.{◌≡◌, ℕ, ◌==◌, Bool, true, false, if◌then◌else◌, List, [], ◌∷◌, Option, Some, None, MatchOption, ◌⊎◌, inl, inr, refl, sym, ◌∙◌, ap, subst}
 use Rattle.std.specs.List.{AllByRecursion}
 use Rattle.std.proofs.lemmas.Bool.{cases_lt}
 use Rattle.zone_name.specs.Name.{IsName}
@@ -12,9 +12,9 @@ use Rattle.zone_rdata.specs.Words.{IsClass, IsKind, IsKindWord, IsWordFault}
 use Rattle.zone_rdata.specs.declared.fault.Fault.{Fault}
 use Rattle.zone_rdata.specs.declared.fault.Fault.TheVariants.{IncludeDirective, UnknownDirective, BadDirective, NoOwner, NoTtl, BadTtl, UnknownType}
 use Rattle.zone_text.specs.Entries.{Entry}
-use Rattle.zone_text.specs.EntryFault.{IsNameFault, DirectiveFault, OwnerFault, WordsFault, KindFault, TtlFault, none, long, EntryFault, of_directive, of_owner, of_words, of_kind, of_rdata, of_ttl}
+use Rattle.zone_text.specs.EntryFault.{DirectiveFault, OwnerFault, WordsFault, KindFault, none, long, EntryFault, of_directive, of_owner, of_words, of_kind, of_rdata, of_ttl}
 use Rattle.zone_text.specs.Forms.{Form, no_items, sets_origin, sets_ttl, includes, unknown, owned, unowned, form_of, form_by, directive, Parts, parts_of, parts_in, parts_behind}
-use Rattle.zone_text.specs.Inherited.{IsOrigin, SpellsBehind, IsLastOwner, IsOwner, HasClass, stated_ttl, IsTtl}
+use Rattle.zone_text.specs.Inherited.{IsOrigin, IsOwner, stated_ttl, IsTtl}
 use Rattle.zone_text.specs.Lower.{Lower, Choices}
 use Rattle.zone_text.specs.Outcome.{AllState, AreLowItems}
 use Rattle.zone_text.specs.Records.{HasValue, Head, HasHead, head_of, StatesData, StatesMinimum, IsLastMinimum, HasTtl, StatesRecord, StatesNothing}

@@ -1,15 +1,15 @@
 -- Names, words and NS records that files spell, for examples.
-use Rattle.std.proofs.Common.{◌≡◌, ℕ, ◌≤◌, List, [], ◌∷◌, codes, Some, refl, sym, ap, ◌∙◌, arith, subst, true, inr, lit<, lit≤}
+use Rattle.std.proofs.Common.{◌≡◌, ◌≢◌, ℕ, ◌≤◌, List, [], ◌∷◌, codes, Some, refl, sym, ap, ◌∙◌, arith, subst, true, inr, lit<, lit≤}
 use Rattle.std.specs.List.{AllByRecursion}
-use Rattle.zone_name.specs.Name.{IsName, labels_of, wire}
+use Rattle.zone_name.specs.Name.{IsName, folded_octet, labels_of, wire}
 use Rattle.zone_name.specs.Spelling.{plain, at_origin, absolute, relative, Spells, FirstFault, within, empty_label}
 use Rattle.zone_name.specs.declared.fault.NameFault.TheVariants.{EmptyLabel}
 use Rattle.zone_rdata.specs.declared.layout.Field.TheVariants.{Name}
 use Rattle.zone_rdata.specs.Field.{name}
-use Rattle.zone_rdata.specs.Number.{IsTime, IsDecimal}
+use Rattle.zone_rdata.specs.Number.{IsTime}
 use Rattle.zone_rdata.specs.Number as number
 use Rattle.zone_rdata.specs.Record.{IsRecord}
-use Rattle.zone_rdata.specs.Spelling.{bare, States, in_words}
+use Rattle.zone_rdata.specs.Spelling.{RawItem, bare, States, in_words}
 use Rattle.zone_rdata.specs.Minimum.{minimum}
 use Rattle.zone_rdata.specs.Words.{IsClass, IsClassWord, class_named, class_numbered, IsKind, IsKindWord, kind_named, kind_numbered, IsWordFault, beyond, for_queries}
 use Rattle.zone_rdata.specs.declared.fault.Fault.TheVariants.{UnknownType, MetaType}
@@ -36,17 +36,18 @@ bax_name = record { each = (record { some = lit< tt; short = lit≤ tt; each = (
 pub at_spells : (above : List (List ℕ)) → IsName above → Spells (Some above) (codes "@") above
 at_spells above good = record { written = at_origin refl refl; name = good }
 
-pub a_spells : Spells (Some x) (codes "a") (under 97 x)
-a_spells = record {
-  written = relative ((plain 97 ∷ []) ∷ []) x (record { some = lit< tt; each = (record { some = lit< tt; each = ((omega arith, omega arith), tt) }, tt) }) (λ e. absurd (let t : ⊥ = cc in t)) refl refl refl;
-  name = ax_name;
+-- a relative name of one octet
+pub one_octet : (c : ℕ) (above : List (List ℕ)) → c ≢ 46 → c ≢ 92 → c ≢ 64 → IsName (under (folded_octet c) above) → Spells (Some above) (c ∷ []) (under (folded_octet c) above)
+one_octet c above no_dot no_backslash no_at good = record {
+  written = relative ((plain c ∷ []) ∷ []) above (record { some = lit< tt; each = (record { some = lit< tt; each = ((no_dot, no_backslash), tt) }, tt) }) (λ e. no_at (let first : c ≡ 64 = cc in first)) refl refl refl;
+  name = good;
 }
 
+pub a_spells : Spells (Some x) (codes "a") (under 97 x)
+a_spells = one_octet 97 x (omega arith) (omega arith) (omega arith) ax_name
+
 pub b_spells : Spells (Some (under 97 x)) (codes "b") (under 98 (under 97 x))
-b_spells = record {
-  written = relative ((plain 98 ∷ []) ∷ []) (under 97 x) (record { some = lit< tt; each = (record { some = lit< tt; each = ((omega arith, omega arith), tt) }, tt) }) (λ e. absurd (let t : ⊥ = cc in t)) refl refl refl;
-  name = bax_name;
-}
+b_spells = one_octet 98 (under 97 x) (omega arith) (omega arith) (omega arith) bax_name
 
 n_spells : (above : List (List ℕ)) → Spells (Some above) (codes "n.x.") (under 110 x)
 n_spells above = record {
@@ -75,8 +76,11 @@ ch_class = record { short = lit< tt; not_zero = omega arith; not_none = omega ar
 pub ns_kind : IsKind 2
 ns_kind = record { short = lit< tt; stored = refl }
 
+pub states_server : (above : List (List ℕ)) (class : ℕ) (text : List ℕ) → text ≢ codes "\\#" → Spells (Some above) text (under 110 x) → States above class 2 (bare text ∷ []) (wire (under 110 x))
+states_server above class text not_mark spells = record { stated = in_words (Name ∷ []) (name (under 110 x) ∷ []) refl (λ is. let e = is.1 in not_mark (let mark : text ≡ codes "\\#" = cc in mark)) (spells, tt) refl (lit≤ tt) }
+
 pub ns_states : (above : List (List ℕ)) (class : ℕ) → States above class 2 (bare (codes "n.x.") ∷ []) (wire (under 110 x))
-ns_states above class = record { stated = in_words (Name ∷ []) (name (under 110 x) ∷ []) refl (λ is. let e = is.1 in absurd (let t : ⊥ = cc in t)) (n_spells above, tt) refl (lit≤ tt) }
+ns_states above class = states_server above class (codes "n.x.") (λ e. absurd (let t : ⊥ = cc in t)) (n_spells above)
 
 ns_fits : (owner : List (List ℕ)) (class ttl : ℕ) → IsName owner → IsClass class → ttl ≤ 2147483647 → IsRecord (ns owner class ttl)
 unfolding labels_of
@@ -94,12 +98,12 @@ ns_fits owner class ttl good is short = record {
   };
 }
 
--- an entry of the items `NS n.x.` behind words and an owner
-pub states_ns : (origin : List (List ℕ)) (before : List Entry) (entry : Entry) (owner above : List (List ℕ)) (class ttl : ℕ) (words : List Word) → parts_of entry ≡ Some (record { words = words; rest = bare (codes "NS") ∷ bare (codes "n.x.") ∷ [] }) → IsOwner origin before (form_of entry) owner → AllByRecursion HasValue words → HasClass before entry class → IsOrigin origin before above → HasTtl origin before entry ttl → IsName owner → IsClass class → ttl ≤ 2147483647 → StatesRecord origin before entry (ns owner class ttl)
-states_ns origin before entry owner above class ttl words split owns values has under_it lasts good is short = record {
-  items = bare (codes "n.x.") ∷ [];
+-- an entry of `NS` and a text for `n.x.`, behind words and an owner
+pub states_server_by : (text : List ℕ) (origin : List (List ℕ)) (before : List Entry) (entry : Entry) (owner above : List (List ℕ)) (class ttl : ℕ) (words : List Word) → text ≢ codes "\\#" → Spells (Some above) text (under 110 x) → parts_of entry ≡ Some (record { words = words; rest = bare (codes "NS") ∷ bare text ∷ [] }) → IsOwner origin before (form_of entry) owner → AllByRecursion HasValue words → HasClass before entry class → IsOrigin origin before above → HasTtl origin before entry ttl → IsName owner → IsClass class → ttl ≤ 2147483647 → StatesRecord origin before entry (ns owner class ttl)
+states_server_by text origin before entry owner above class ttl words not_mark spells split owns values has under_it lasts good is short = record {
+  items = bare text ∷ [];
   head = record {
-    parts = record { words = words; rest = bare (codes "NS") ∷ bare (codes "n.x.") ∷ [] };
+    parts = record { words = words; rest = bare (codes "NS") ∷ bare text ∷ [] };
     word = codes "NS";
     split = split;
     owner = owns;
@@ -109,10 +113,13 @@ states_ns origin before entry owner above class ttl words split owns values has 
     named = is_ns;
     kind = ns_kind;
   };
-  rdata = record { above = above; under = under_it; states = ns_states above class };
+  rdata = record { above = above; under = under_it; states = states_server above class text not_mark spells };
   ttl = lasts;
   fits = ns_fits owner class ttl good is short;
 }
+
+pub states_ns : (origin : List (List ℕ)) (before : List Entry) (entry : Entry) (owner above : List (List ℕ)) (class ttl : ℕ) (words : List Word) → parts_of entry ≡ Some (record { words = words; rest = bare (codes "NS") ∷ bare (codes "n.x.") ∷ [] }) → IsOwner origin before (form_of entry) owner → AllByRecursion HasValue words → HasClass before entry class → IsOrigin origin before above → HasTtl origin before entry ttl → IsName owner → IsClass class → ttl ≤ 2147483647 → StatesRecord origin before entry (ns owner class ttl)
+states_ns origin before entry owner above class ttl words = states_server_by (codes "n.x.") origin before entry owner above class ttl words (λ e. absurd (let t : ⊥ = cc in t)) (n_spells above)
 
 pub long_time : IsTime (codes "2147483648") 2147483648
 long_time = number.plain (record { some = lit< tt; digits = (refl, (refl, (refl, (refl, (refl, (refl, (refl, (refl, (refl, (refl, tt)))))))))); value = refl })
@@ -147,11 +154,11 @@ no_minimum class kind octets seconds is field =
     absurd (let t : ⊥ = cc in t)
 
 -- an NS record is no SOA
-pub ns_has_no_minimum : ((word : List ℕ) (a b : ℕ) → IsKindWord word a → IsKindWord word b → a ≡ b) → (before : List Entry) (entry : Entry) (words : List Word) (seconds : ℕ) → parts_of entry ≡ Some (record { words = words; rest = bare (codes "NS") ∷ bare (codes "n.x.") ∷ [] }) → StatesMinimum x before entry seconds → ⊥
-ns_has_no_minimum once before entry words seconds split has =
-    let both : Some has.has.parts ≡ Some (record { words = words; rest = bare (codes "NS") ∷ bare (codes "n.x.") ∷ [] }) = sym has.has.split ∙ split in
-    let parts : has.has.parts ≡ record { words = words; rest = bare (codes "NS") ∷ bare (codes "n.x.") ∷ [] } = cc in
-    let rest : bare has.has.word ∷ has.head.items ≡ bare (codes "NS") ∷ bare (codes "n.x.") ∷ [] = sym has.has.rest ∙ ap (λ (p : Parts). p.rest) parts in
+pub ns_has_no_minimum : ((word : List ℕ) (a b : ℕ) → IsKindWord word a → IsKindWord word b → a ≡ b) → (before : List Entry) (entry : Entry) (words : List Word) (items : List RawItem) (seconds : ℕ) → parts_of entry ≡ Some (record { words = words; rest = bare (codes "NS") ∷ items }) → StatesMinimum x before entry seconds → ⊥
+ns_has_no_minimum once before entry words items seconds split has =
+    let both : Some has.has.parts ≡ Some (record { words = words; rest = bare (codes "NS") ∷ items }) = sym has.has.split ∙ split in
+    let parts : has.has.parts ≡ record { words = words; rest = bare (codes "NS") ∷ items } = cc in
+    let rest : bare has.has.word ∷ has.head.items ≡ bare (codes "NS") ∷ items = sym has.has.rest ∙ ap (λ (p : Parts). p.rest) parts in
     let word : has.has.word ≡ codes "NS" = cc in
     let kind : has.head.kind ≡ 2 = once (codes "NS") has.head.kind 2 (rw (← word) (has.has.named)) is_ns in
     no_minimum has.head.class has.head.kind has.octets seconds kind has.field

@@ -16,6 +16,7 @@ pub mod Seconds
 pub mod CutAgain
 pub mod Decides
 pub mod ExampleFacts
+pub mod ExampleRecords
 pub mod Octets
 pub mod Fronts
 pub mod Cuttings

@@ -3,7 +3,7 @@ use Rattle.std.proofs.Common.{◌≡◌, ◌≢◌, ℕ, ◌≤◌, ◌<◌, Lis
 use Rattle.std.specs.Prelude.{get_or, ◌==◌, ◌&&◌, ◌⊎◌, not, Option, Some, None, Result, Ok, Err, if◌then◌else◌, ⊤}
 use Rattle.std.specs.List.{AllByRecursion, list_any}
 use Rattle.std.specs.Cmp.Lexicographic.{pointwise, pointwise_decides, bytes_decides}
-use Rattle.std.proofs.lemmas.Bool.{or_parts, and_cases, eqb-true, eq-eqb}
+use Rattle.std.proofs.lemmas.Bool.{or_parts, and_cases, eqb-true, eq-eqb, not-false}
 use Rattle.zone_rdata.specs.Record.{Record, IsRecord}
 use Rattle.zone_rdata.specs.Words.{is_meta}
 use Rattle.zone_rdata.specs.declared.fault.Fault.{Fault}
@@ -17,6 +17,7 @@ use Rattle.zone_wire.specs.Transfer.{ttl_of, compressible, StatesRecord, StateEa
 use Rattle.zone_wire.proofs.Answering.{is_soa}
 use Rattle.zone_wire.proofs.ReadFields.{data_shown}
 use Rattle.zone_wire.proofs.ReadSections.{ok_same, leads, passes_on, no_fault, both}
+use Rattle.zone_wire.proofs.Transfers.{equal_parts}
 
 pub unequal : (a b : ℕ) → nat_eq a b ≡ false → a ≢ b
 unequal a b e same = let yes : nat_eq a b ≡ true = eq-eqb a b same in cc
@@ -39,10 +40,6 @@ record_shown octets a r each within e =
 names_equal : (n m : List (List ℕ)) → same_name n m ≡ true → n ≡ m
 names_equal n m e = (pointwise_decides bytes_decides n m).0 e
 
-equal_parts : (r s : Record) → r.owner ≡ s.owner → r.class ≡ s.class → r.kind ≡ s.kind → r.ttl ≡ s.ttl → r.octets ≡ s.octets → r ≡ s
-equal_parts r s owner class kind ttl octets =
-    ap (λ x. record r { owner = x }) owner ∙ ap (λ x. record r { owner = s.owner; class = x }) class ∙ ap (λ x. record r { owner = s.owner; class = s.class; kind = x }) kind ∙ ap (λ x. record s { ttl = x; octets = r.octets }) ttl ∙ ap (λ x. record s { octets = x }) octets
-
 records_equal : (r s : Record) → same_record r s ≡ true → r ≡ s
 records_equal r s e =
     let d = both (same_name r.owner s.owner && r.class == s.class && r.kind == s.kind && r.ttl == s.ttl) (pointwise nat_eq r.octets s.octets) e in
@@ -64,15 +61,11 @@ agreed : (test : Bool) (fault : Fault) → (if test then None else Some fault) �
 agreed true fault e = refl
 agreed false fault e = cc
 
-not_false : (a : Bool) → not a ≡ false → a ≡ true
-not_false true e = refl
-not_false false e = cc
-
 soa_again : (p opening : Placed) → (is_soa p && not (same_record p.rr opening.rr)) ≡ false → (is_soa p ≡ false) ⊎ (p.rr ≡ opening.rr)
-soa_again p opening e = elim (and_cases (is_soa p) (not (same_record p.rr opening.rr)) e) [ inl a ↦ inl a | inr b ↦ inr (records_equal p.rr opening.rr (not_false _ b)) ]
+soa_again p opening e = elim (and_cases (is_soa p) (not (same_record p.rr opening.rr)) e) [ inl a ↦ inl a | inr b ↦ inr (records_equal p.rr opening.rr (not-false _ b)) ]
 
 pub stands_behind : (questions : List QuestionAt) (before : List Placed) (p : Placed) → order_fault questions before p.rr ≡ None → Behind before p
-stands_behind questions [] p e = eqb-true p.rr.kind 6 (not_false _ (no_fault _ _ _ e).0)
+stands_behind questions [] p e = eqb-true p.rr.kind 6 (not-false _ (no_fault _ _ _ e).0)
 stands_behind questions (opening ∷ others) p e = let a = no_fault _ _ _ e in (a.0, soa_again p opening (no_fault _ _ _ a.1).0)
 
 pub opening_agrees : (questions : List QuestionAt) (p : Placed) → order_fault questions [] p.rr ≡ None → agrees (zone_of questions []) p.rr.owner p.rr.class ≡ true

@@ -1,7 +1,7 @@
 -- What is read as the sections of a message are its sections.
 use Rattle.std.proofs.Common.{◌≡◌, ℕ, zero, suc, ◌<◌, ◌≤◌, List, length, refl, ap, sym, subst, Bool, true, false, nat_le}
-use Rattle.std.specs.Prelude.{get_or, ◌==◌, ◌&&◌, not, Option, Some, None, Result, Ok, Err, if◌then◌else◌}
-use Rattle.std.proofs.lemmas.Bool.{leb-true, ltb-false, eqb-true}
+use Rattle.std.specs.Prelude.{get_or, ◌==◌, ◌&&◌, Option, Some, None, Result, Ok, Err, if◌then◌else◌}
+use Rattle.std.proofs.lemmas.Bool.{leb-true, ltb-false, eqb-true, not-false}
 use Rattle.zone_rdata.specs.declared.fault.Fault.{Fault}
 use Rattle.zone_wire.specs.Message.{word_at, HasHeader, QuestionAt, question_by, IsQuestionAt, RecordAt, record_by, IsRecordAt, AreAt, Sections, IsMessage}
 use Rattle.zone_wire.specs.Name.{Found}
@@ -40,10 +40,6 @@ pub both : (a b : Bool) → (a && b) ≡ true → (a ≡ true) × (b ≡ true)
 both true b e = (refl, e)
 both false b e = cc
 
-not_false : (a : Bool) → not a ≡ false → a ≡ true
-not_false true e = refl
-not_false false e = cc
-
 header_shows : (octets : List ℕ) → header_fault octets ≡ None → HasHeader octets
 unfolding header_fault
 header_shows octets e =
@@ -51,12 +47,12 @@ header_shows octets e =
     let b = no_fault _ _ _ a.1 in
     let c = no_fault _ _ _ b.1 in
     let d = no_fault _ _ _ c.1 in
-    let counts = both (nat_le (word_at octets 4) 1) (word_at octets 8 == 0) (not_false _ (no_fault _ _ _ d.1).0) in
+    let counts = both (nat_le (word_at octets 4) 1) (word_at octets 8 == 0) (not-false _ (no_fault _ _ _ d.1).0) in
     record {
       twelve = ltb-false _ _ a.0;
-      response = eqb-true _ _ (not_false _ b.0);
-      whole = eqb-true _ _ (not_false _ c.0);
-      no_error = eqb-true _ _ (not_false _ d.0);
+      response = eqb-true _ _ (not-false _ b.0);
+      whole = eqb-true _ _ (not-false _ c.0);
+      no_error = eqb-true _ _ (not-false _ d.0);
       questions = leb-true _ _ counts.0;
       no_authority = eqb-true _ _ counts.1;
     }

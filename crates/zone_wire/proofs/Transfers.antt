@@ -38,8 +38,9 @@ frame_unique a b c d e =
 placed_same : (p q : Placed) → p.rr ≡ q.rr → p.place ≡ q.place → p ≡ q
 placed_same p q rr place = ap (λ x. record p { rr = x }) rr ∙ ap (λ x. record q { place = x }) place
 
-same_record : (r t : Record) → r.owner ≡ t.owner → r.class ≡ t.class → r.kind ≡ t.kind → r.ttl ≡ t.ttl → r.octets ≡ t.octets → r ≡ t
-same_record r t owner class kind ttl octets =
+-- records that agree in each part
+pub equal_parts : (r t : Record) → r.owner ≡ t.owner → r.class ≡ t.class → r.kind ≡ t.kind → r.ttl ≡ t.ttl → r.octets ≡ t.octets → r ≡ t
+equal_parts r t owner class kind ttl octets =
     ap (λ x. record r { owner = x }) owner ∙ ap (λ x. record r { owner = t.owner; class = x }) class ∙ ap (λ x. record r { owner = t.owner; class = t.class; kind = x }) kind ∙ ap (λ x. record t { ttl = x; octets = r.octets }) ttl ∙ ap (λ x. record t { octets = x }) octets
 
 -- the data of a record
@@ -48,7 +49,7 @@ one_data octets a c d inside is too = let e = data_reads octets a c inside is in
 
 record_unique : (octets : List ℕ) (a : RecordAt) (r t : Record) → a.end ≤ length octets → StatesRecord octets a r → StatesRecord octets a t → r ≡ t
 record_unique octets a r t inside x y =
-    same_record r t (x.owner ∙ sym y.owner) (x.class ∙ sym y.class) (x.kind ∙ sym y.kind) (x.ttl ∙ sym y.ttl) (one_data octets a r.octets t.octets inside x.rdata y.rdata)
+    equal_parts r t (x.owner ∙ sym y.owner) (x.class ∙ sym y.class) (x.kind ∙ sym y.kind) (x.ttl ∙ sym y.ttl) (one_data octets a r.octets t.octets inside x.rdata y.rdata)
 
 -- the records that the answers of a message state
 placed_unique : (number : ℕ) (octets : List ℕ) (offset end : ℕ) (answers : List RecordAt) (ps qs : List Placed) → AreRecordsAt octets offset answers end → StateEach number octets answers ps → StateEach number octets answers qs → ps ≡ qs

@@ -43,6 +43,14 @@ pub fn a_differing_ttl_before_an_open_quote()
     ensures { RefusesReading (from_line 1 (soa_of 1 60 1 ∷ address_of a_x 60 1 ∷ address_of a_x 61 1 ∷ [])) (Some (UnclosedQuote, Line 4)) DifferingTtl (Line 3) }
 {}
 
+/// A file in which a differing TTL of the third line hides the open quote of the fourth.
+pub fn a_file_with_a_differing_ttl()
+    ensures { IsRefusal (file x (codes "@ 60 SOA n h 1 2 3 4 5\na 60 A 10.0.0.1\na 61 A 10.0.0.1\nb 60 TXT \"\n")) DifferingTtl (Line 3) }
+{
+    zone_text::examples::faults::records_before_an_open_quote();
+    a_differing_ttl_before_an_open_quote();
+}
+
 /// An open quote hides that no SOA is there.
 pub fn an_open_quote_before_a_missing_soa()
     ensures { RefusesReading (from_line 1 (server_of (top (codes "a")) 60 ∷ [])) (Some (UnclosedQuote, Line 2)) UnclosedQuote (Line 2) }

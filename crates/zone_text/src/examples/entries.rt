@@ -1,8 +1,10 @@
 //! Files whose records are computed: what an entry inherits from those before it.
 ghost use Rattle.std.specs.Prelude.{◌≡◌, ◌∷◌, [], codes, Some, None};
 ghost use Rattle.zone_rdata.specs.Spelling.{bare};
-ghost use Rattle.zone_text.specs.ExampleEntries.{at_line, ns, Reads, under, x};
+ghost use Rattle.zone_text.specs.ExampleEntries.{at_line, ns, Reads, soa, under, x};
 ghost use Rattle.zone_text.specs.Forms.{class, parts_behind, ttl};
+
+use zone_rdata::laws::word::kind_word_is_unique;
 
 /// A TTL and a class stand in either order, each once: a second one is the type's word.
 pub fn words_before_the_type()
@@ -34,4 +36,17 @@ pub fn an_owner_keeps_its_origin()
 /// A class left out is the one stated last.
 pub fn a_class_is_inherited()
     ensures { Reads (codes "@ 60 CH NS n.x.\n@ NS n.x.\n") (at_line 1 (ns x 3 60) ∷ at_line 2 (ns x 3 60) ∷ []) None }
+{}
+
+/// Where no TTL is stated, the MINIMUM of the SOA is that of the records behind it and its own.
+pub fn the_minimum_is_the_last_choice()
+    ensures { Reads (codes "@ SOA n h 1 2 3 4 5\n NS n\n") (at_line 1 (soa 5) ∷ at_line 2 (ns x 1 5) ∷ []) None }
+{
+    kind_word_is_unique();
+}
+
+/// A stated TTL comes before the MINIMUM, that of `$TTL` before the one stated last.
+pub fn a_stated_ttl_comes_before_the_minimum()
+    ensures by_a_record { Reads (codes "@ 60 SOA n h 1 2 3 4 5\n NS n\n") (at_line 1 (soa 60) ∷ at_line 2 (ns x 1 60) ∷ []) None }
+    ensures by_a_directive { Reads (codes "@ 60 SOA n h 1 2 3 4 5\n$TTL 300\n NS n\n") (at_line 1 (soa 60) ∷ at_line 3 (ns x 1 300) ∷ []) None }
 {}

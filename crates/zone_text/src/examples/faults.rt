@@ -2,7 +2,7 @@
 ghost use Rattle.std.specs.Prelude.{◌∷◌, [], codes};
 ghost use Rattle.zone_rdata.specs.declared.fault.Fault.TheVariants.{BadClass, BadDirective, BadEscape, BadTtl, EmptyLabel, IncludeDirective, MetaType, NoOwner, NoTtl, UnbalancedParenthesis, UnclosedQuote, UnknownDirective, UnknownType};
 ghost use Rattle.zone_text.specs.Decided.{Decided};
-ghost use Rattle.zone_text.specs.ExampleEntries.{at_line, fault_at, ns, Reads, x};
+ghost use Rattle.zone_text.specs.ExampleEntries.{address, at_line, fault_at, ns, Reads, soa, under, x};
 
 use zone_rdata::laws::word::{kind_word_is_unique, time_is_unique};
 
@@ -47,12 +47,22 @@ pub fn a_record_without_a_ttl()
     kind_word_is_unique();
 }
 
+/// A MINIMUM of more than 31 bits is no TTL.
+pub fn a_minimum_that_is_no_ttl()
+    ensures { Reads (codes "@ SOA n h 1 2 3 4 2147483648\n") [] (fault_at 1 BadTtl) }
+{}
+
 /// A break stands at the line of its entry and hides what else is wrong there.
 pub fn breaks_come_first()
     ensures escape { Reads (codes "$INCLUDE \\04") [] (fault_at 1 BadEscape) }
     ensures parenthesis { Reads (codes "@ 60 NS n.x.\n$FOO )\n") (at_line 1 (ns x 1 60) ∷ []) (fault_at 2 UnbalancedParenthesis) }
     ensures quote { Reads (codes "@ 60 NS n.x.\n( \"a") (at_line 1 (ns x 1 60) ∷ []) (fault_at 2 UnclosedQuote) }
     ensures open_at_the_end { Reads (codes "( ; c") [] (fault_at 1 UnbalancedParenthesis) }
+{}
+
+/// The records in front of a break are given.
+pub fn records_before_an_open_quote()
+    ensures { Reads (codes "@ 60 SOA n h 1 2 3 4 5\na 60 A 10.0.0.1\na 61 A 10.0.0.1\nb 60 TXT \"\n") (at_line 1 (soa 60) ∷ at_line 2 (address (under 97 x) 60) ∷ at_line 3 (address (under 97 x) 61) ∷ []) (fault_at 4 UnclosedQuote) }
 {}
 
 /// What is decided of a front: the entries that a line feed has ended, and no open one.

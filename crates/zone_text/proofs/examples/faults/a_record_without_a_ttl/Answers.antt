@@ -15,4 +15,4 @@ returns c =
     (refused _ (of_ttl (record { owner = x; class = 1; kind = 2; items = bare (codes "n.x.") ∷ [] }) _
     (record { parts = record { words = []; rest = bare (codes "NS") ∷ bare (codes "n.x.") ∷ [] }; word = codes "NS"; split = refl; owner = (x, (refl, at_spells x x_name)); words = tt; class = refl; rest = refl; named = is_ns; kind = ns_kind })
     (record { above = x; under = refl; states = ns_states x 1 })
-    (none (λ seconds has. elim has [ inl states ↦ ns_has_no_minimum c.kind_word_is_unique.ensures [] _ [] seconds refl states | inr others ↦ others.1 ]))) refl refl)
+    (none (λ seconds has. elim has [ inl states ↦ ns_has_no_minimum c.kind_word_is_unique.ensures [] _ [] _ seconds refl states | inr others ↦ others.1 ]))) refl refl)

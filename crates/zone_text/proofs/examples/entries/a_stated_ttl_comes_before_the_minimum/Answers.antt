@@ -1,0 +1,21 @@
+use Rattle.std.proofs.Common.{refl, lit≤}
+use Rattle.zone_text.specs.Cutting.{units_by, units_first, before_line_feed, from_line_feed, front_of, cut_by, cutting}
+use Rattle.zone_text.specs.ExampleEntries.{x}
+use Rattle.zone_text.specs.FileReads.{reads_none, reads_one, whole}
+use Rattle.zone_text.proofs.Cuttings.{cut_is_read}
+use Rattle.zone_text.proofs.ExampleFacts.{x_name, at_spells, sixty, three_hundred}
+use Rattle.zone_text.proofs.ExampleRecords.{states_soa, states_ns_below}
+use Rattle.zone_text.proofs.examples.entries.a_stated_ttl_comes_before_the_minimum.Goals as goal
+
+pub returns : goal.returns
+unfolding units_by units_first before_line_feed from_line_feed front_of cut_by cutting
+returns c =
+    record {
+      by_a_record = whole _ (cut_is_read _ _ refl)
+          (reads_one _ _ (states_soa _ _ 60 _ refl (x, (refl, at_spells x x_name)) ((60, record { time = sixty; short = lit≤ tt }), tt) refl refl sixty (lit≤ tt)) refl refl
+          (reads_one _ _ (states_ns_below _ _ 60 _ refl (x, (refl, at_spells x x_name)) tt refl refl sixty (lit≤ tt)) refl refl (refl, refl)));
+      by_a_directive = whole _ (cut_is_read _ _ refl)
+          (reads_one _ _ (states_soa _ _ 60 _ refl (x, (refl, at_spells x x_name)) ((60, record { time = sixty; short = lit≤ tt }), tt) refl refl sixty (lit≤ tt)) refl refl
+          (reads_none (300, record { time = three_hundred; short = lit≤ tt })
+          (reads_one _ _ (states_ns_below _ _ 300 _ refl (x, (refl, at_spells x x_name)) tt refl refl three_hundred (lit≤ tt)) refl refl (refl, refl))));
+    }

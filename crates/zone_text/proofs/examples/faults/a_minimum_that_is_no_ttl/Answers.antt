@@ -1,0 +1,15 @@
+use Rattle.std.proofs.Common.{[], codes, refl, lit<, inl}
+use Rattle.zone_text.specs.Cutting.{units_by, units_first, before_line_feed, from_line_feed, front_of, cut_by, cutting}
+use Rattle.zone_text.specs.ExampleEntries.{x}
+use Rattle.zone_text.specs.EntryFault.{of_ttl, long}
+use Rattle.zone_text.specs.FileReads.{refused, whole}
+use Rattle.zone_text.proofs.Cuttings.{cut_is_read}
+use Rattle.zone_text.proofs.ExampleFacts.{x_name, at_spells, long_time}
+use Rattle.zone_text.proofs.ExampleRecords.{states_minimum, minimum_too_long}
+use Rattle.zone_text.proofs.examples.faults.a_minimum_that_is_no_ttl.Goals as goal
+
+pub returns : goal.returns
+unfolding units_by units_first before_line_feed from_line_feed front_of cut_by cutting
+returns c =
+    let states = states_minimum (codes "2147483648") 2147483648 [] _ [] long_time (lit< tt) minimum_too_long refl (x, (refl, at_spells x x_name)) tt refl refl in
+    whole _ (cut_is_read _ _ refl) (refused _ (of_ttl states.head states.octets states.has states.rdata (long 2147483648 (inl states) (lit< tt))) refl refl)

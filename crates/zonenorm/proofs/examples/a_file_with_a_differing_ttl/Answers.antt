@@ -1,0 +1,9 @@
+use Rattle.std.proofs.Common.{lit≤}
+use Rattle.std.specs.Prelude.{Some}
+use Rattle.zone_rdata.specs.declared.fault.Fault.TheVariants.{DifferingTtl, UnclosedQuote}
+use Rattle.zone_rdata.specs.declared.fault.Place.TheVariants.{Line}
+use Rattle.zonenorm.specs.Refusal.{reading}
+use Rattle.zonenorm.proofs.examples.a_file_with_a_differing_ttl.Goals as goal
+
+pub returns : goal.returns
+returns c = reading _ (Some (UnclosedQuote, Line 4)) DifferingTtl (Line 3) (lit≤ tt) c.records_before_an_open_quote.ensures c.a_differing_ttl_before_an_open_quote.ensures
