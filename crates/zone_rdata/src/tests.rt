@@ -5,7 +5,10 @@ use std::test::Fail;
 use zone_name::{Name, NameFault};
 
 mod builder;
+mod faults;
+mod growth;
 mod items;
+mod spellings;
 mod wire;
 
 fn name_of(text: &[u8]) -> Result<Name, NameFault> {
@@ -21,6 +24,21 @@ fn class_of(word: &[u8]) -> Result<Class, &'static str> {
 
 fn kind_of(word: &[u8]) -> Result<Kind, &'static str> {
     Kind::from_word(word).map_err(|_| "no type")
+}
+
+/// What the items state under the origin `x.`.
+fn stated(alloc: Global, class: u64, number: u64, items: &[Item]) -> Result<Rdata, Failing> {
+    let class = Class::from_number(class)?;
+    let origin = Name::from_text(b"x.", None)?;
+    Rdata::from_items(alloc, class, Kind::from_number(number)?, items, &origin)
+}
+
+/// The canonical text of data.
+fn text_of(alloc: Global, data: Result<Rdata, Failing>) -> Result<Vec<u8>, Fail> {
+    let data = data.map_err(|_| Fail::from("refused"))?;
+    let mut out = Vec::new(alloc);
+    data.push_text(&mut out)?;
+    Ok(out)
 }
 
 fn items_of(text: &'static [u8]) -> [Item<'static>; 1] {

@@ -1,11 +1,5 @@
 use super::*;
 
-fn stated(alloc: Global, class: u64, number: u64, items: &[Item]) -> Result<Rdata, Failing> {
-    let class = Class::from_number(class)?;
-    let origin = Name::from_text(b"x.", None)?;
-    Rdata::from_items(alloc, class, Kind::from_number(number)?, items, &origin)
-}
-
 /// What is printed in class IN for the items.
 fn printed(alloc: Global, number: u64, items: &[Item]) -> Result<Vec<u8>, Fail> {
     let rdata = stated(alloc, 1, number, items).map_err(|_| Fail::from("refused"))?;
@@ -65,5 +59,101 @@ fn addresses_refused(rt: HostRuntime) -> Result<(), Fail> {
             Err(Failing::Fault(Fault::BadGeneric))
         )
     );
+    Ok(())
+}
+
+#[test]
+fn names_and_numbers(rt: HostRuntime) -> Result<(), Fail> {
+    let mx = printed(rt.alloc(), 15, &[Item::Bare(b"010"), Item::Bare(b"M")])?;
+    assert_eq!(rt; mx.as_slice(), b"10 m.x.".as_slice());
+    let escaped = printed(rt.alloc(), 2, &[Item::Bare(b"\\035")])?;
+    assert_eq!(rt; escaped.as_slice(), b"#.x.".as_slice());
+    Ok(())
+}
+
+#[test]
+fn strings_keep_case_and_division(rt: HostRuntime) -> Result<(), Fail> {
+    let joined = printed(rt.alloc(), 16, &[Item::Quoted(b"ab")])?;
+    assert_eq!(rt; joined.as_slice(), b"\"ab\"".as_slice());
+    let divided = printed(rt.alloc(), 16, &[Item::Quoted(b"a"), Item::Quoted(b"b")])?;
+    assert_eq!(rt; divided.as_slice(), b"\"a\" \"b\"".as_slice());
+    let bare = printed(rt.alloc(), 16, &[Item::Bare(b"a"), Item::Bare(b"b")])?;
+    assert_eq!(rt; bare.as_slice(), b"\"a\" \"b\"".as_slice());
+    let upper = printed(rt.alloc(), 16, &[Item::Bare(b"A")])?;
+    assert_eq!(rt; upper.as_slice(), b"\"A\"".as_slice());
+    Ok(())
+}
+
+#[test]
+fn naptr_strings_keep_their_case(rt: HostRuntime) -> Result<(), Fail> {
+    let lower = [
+        Item::Bare(b"1"),
+        Item::Bare(b"2"),
+        Item::Bare(b"u"),
+        Item::Bare(b"s"),
+        Item::Bare(b"r"),
+        Item::Bare(b"N"),
+    ];
+    let lower = printed(rt.alloc(), 35, &lower)?;
+    assert_eq!(rt; lower.as_slice(), b"1 2 \"u\" \"s\" \"r\" n.x.".as_slice());
+    let upper = [
+        Item::Bare(b"1"),
+        Item::Bare(b"2"),
+        Item::Bare(b"U"),
+        Item::Bare(b"s"),
+        Item::Bare(b"r"),
+        Item::Bare(b"n"),
+    ];
+    let upper = printed(rt.alloc(), 35, &upper)?;
+    assert_eq!(rt; upper.as_slice(), b"1 2 \"U\" \"s\" \"r\" n.x.".as_slice());
+    Ok(())
+}
+
+#[test]
+fn services(rt: HostRuntime) -> Result<(), Fail> {
+    let words = [
+        Item::Bare(b"00"),
+        Item::Bare(b"05"),
+        Item::Bare(b"5060"),
+        Item::Bare(b"H"),
+    ];
+    let form = [
+        Item::Bare(b"\\#"),
+        Item::Bare(b"11"),
+        Item::Bare(b"0000000513c40148017800"),
+    ];
+    let from_words = stated(rt.alloc(), 1, 33, &words).map_err(|_| "refused")?;
+    let from_form = stated(rt.alloc(), 1, 33, &form).map_err(|_| "refused")?;
+    assert!(rt; from_words == from_form);
+    let in_ch = text_of(rt.alloc(), stated(rt.alloc(), 3, 33, &words))?;
+    assert_eq!(rt; in_ch.as_slice(), b"0 5 5060 h.x.".as_slice());
+    Ok(())
+}
+
+#[test]
+fn generic_forms_of_one_value(rt: HostRuntime) -> Result<(), Fail> {
+    let upper = [
+        Item::Bare(b"\\#"),
+        Item::Bare(b"9"),
+        Item::Bare(b"0000000513c4014800"),
+    ];
+    let lower = [
+        Item::Bare(b"\\#"),
+        Item::Bare(b"9"),
+        Item::Bare(b"0000000513c4016800"),
+    ];
+    let upper = stated(rt.alloc(), 1, 33, &upper).map_err(|_| "refused")?;
+    let lower = stated(rt.alloc(), 1, 33, &lower).map_err(|_| "refused")?;
+    assert!(rt; upper == lower);
+    let sixteen = [
+        Item::Bare(b"\\#"),
+        Item::Bare(b"16"),
+        Item::Bare(b"20010db8000000000000000000000001"),
+    ];
+    let sixteen = printed(rt.alloc(), 28, &sixteen)?;
+    assert_eq!(rt; sixteen.as_slice(), b"2001:db8::1".as_slice());
+    let unlisted = [Item::Bare(b"\\#"), Item::Bare(b"2"), Item::Bare(b"0000")];
+    let unlisted = printed(rt.alloc(), 257, &unlisted)?;
+    assert_eq!(rt; unlisted.as_slice(), b"\\# 2 0000".as_slice());
     Ok(())
 }

@@ -5,19 +5,6 @@ fn from_wire(alloc: Global, number: u64, octets: &[u8]) -> Result<Rdata, Failing
     Rdata::from_wire(alloc, class, Kind::from_number(number)?, octets)
 }
 
-fn stated(alloc: Global, class: u64, number: u64, items: &[Item]) -> Result<Rdata, Failing> {
-    let class = Class::from_number(class)?;
-    let origin = Name::from_text(b"x.", None)?;
-    Rdata::from_items(alloc, class, Kind::from_number(number)?, items, &origin)
-}
-
-fn text_of(alloc: Global, data: Result<Rdata, Failing>) -> Result<Vec<u8>, Fail> {
-    let data = data.map_err(|_| Fail::from("refused"))?;
-    let mut out = Vec::new(alloc);
-    data.push_text(&mut out)?;
-    Ok(out)
-}
-
 #[test]
 fn wire_data(rt: HostRuntime) -> Result<(), Fail> {
     let mx = from_wire(rt.alloc(), 15, b"\x00\x0a\x01M\x01x\x00").map_err(|_| "refused")?;
