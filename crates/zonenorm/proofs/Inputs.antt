@@ -1,8 +1,9 @@
 -- From readings to inputs.
-use Rattle.std.proofs.Common.{◌≡◌, ◌⊎◌, ◌↔◌, ℕ, ◌≤◌, List, [], ◌∷◌, length, refl, sym, subst, inl, inr, ⊎_elim, arith}
-use Rattle.std.specs.Prelude.{Option, Some, None}
+use Rattle.std.proofs.Common.{◌≡◌, ◌⊎◌, ◌↔◌, ℕ, zero, suc, ◌≤◌, ◌<◌, lit<, List, [], ◌∷◌, length, refl, sym, subst, inl, inr, ⊎_elim, arith}
+use Rattle.std.specs.Prelude.{get_or, Option, Some, None}
 use Rattle.std.proofs.lemmas.Bool.Decides.{leb_tells}
 use Rattle.std.specs.List.{AllByRecursion}
+use Rattle.zone_name.specs.Name.{IsName}
 use Rattle.zone_rdata.specs.Record.{IsRecord}
 use Rattle.zone_rdata.specs.declared.fault.Fault.{Fault}
 use Rattle.zone_rdata.specs.declared.fault.Fault.TheVariants.{InputTooLong}
@@ -17,7 +18,7 @@ use Rattle.zone_set.specs.Zone.{Zone, IsZone, SameRecords}
 use Rattle.zone_print.specs.Canonical.{text_limit}
 use Rattle.zone_wire.specs.Stream.{StreamReads}
 use Rattle.zone_wire.specs.Transfer.{StreamStates}
-use Rattle.zonenorm.specs.Input.{Input, file, transfer, octets_of, States, Reads, InputDenotes}
+use Rattle.zonenorm.specs.Input.{Input, file, transfer, octets_of, IsInput, States, Reads, InputDenotes}
 use Rattle.zonenorm.specs.Refusal.{RefusesReading, MakesZone, IsRefusal, too_long, reading}
 
 -- what a file states are records
@@ -36,6 +37,16 @@ file_fits origin octets placed states = each_fits origin [] (entries_of states.p
 pub placed_fit : (placed : List Placed) → AllByRecursion (λ p. IsRecord p.rr) placed → AllByRecursion IsRecord (records_of placed)
 placed_fit [] fits = tt
 placed_fit (p ∷ placed) fits = (fits.0, placed_fit placed fits.1)
+
+octet_at : (octets : List ℕ) → AllByRecursion (λ c. c < 256) octets → (i : ℕ) → get_or octets i 0 < 256
+octet_at [] each i = lit< tt
+octet_at (c ∷ octets) each zero = each.0
+octet_at (c ∷ octets) each (suc i) = octet_at octets each.1 i
+
+-- what holds of files of octets and of streams of octets holds of inputs
+pub of_both_forms : (P : Input → Type 0) → ((origin : List (List ℕ)) (octets : List ℕ) → IsName origin → AllByRecursion (λ c. c < 256) octets → P (file origin octets)) → ((stream : List ℕ) → ((i : ℕ) → get_or stream i 0 < 256) → P (transfer stream)) → (input : Input) → IsInput input → P input
+of_both_forms P files streams (file origin octets) is = files origin octets is.0 is.1
+of_both_forms P files streams (transfer stream) each = streams stream (octet_at stream each)
 
 abbrev OneReadingOf : (List Placed → Option (Fault × Place) → Type 0) → Type 0
 OneReadingOf R = (a b : List Placed) (e f : Option (Fault × Place)) → R a e → R b f → (a ≡ b) × (e ≡ f)
@@ -82,7 +93,7 @@ module _ (input : Input) where
       let same = subst (λ placed. SameRecords z.records (records_of placed)) (lists left.placed right.placed left.states right.states) left.same in
       once z w left.zone right.zone (λ r. ((λ has. (right.same r).1 ((same r).0 has)), (λ has. (same r).1 ((right.same r).0 has))))
 
-  abbrev Outcome : Type 0
+  abbrev pub Outcome : Type 0
   Outcome = ((fault : Fault) × (place : Place) × IsRefusal input fault place) ⊎ ((z : Zone) × InputDenotes input z)
 
   abbrev WholeOutcome : Type 0

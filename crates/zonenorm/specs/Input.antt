@@ -1,6 +1,8 @@
 -- The inputs that state records: a master file with its origin (RFC 1035 5), or the octets of a zone transfer as they
 -- came over TCP (RFC 5936 2.2).
-use Rattle.std.specs.Prelude.{ℕ, List, Option}
+use Rattle.std.specs.Prelude.{ℕ, ◌<◌, List, Option}
+use Rattle.std.specs.List.{AllByRecursion}
+use Rattle.zone_name.specs.Name.{IsName}
 use Rattle.zone_rdata.specs.declared.fault.Fault.{Fault}
 use Rattle.zone_rdata.specs.declared.fault.Place.{Place}
 use Rattle.zone_rdata.specs.declared.record.Placed.{Placed}
@@ -18,6 +20,11 @@ pub data Input : Type 0 where
 abbrev pub octets_of : Input → List ℕ
 octets_of (file origin octets) = octets
 octets_of (transfer octets) = octets
+
+-- what can be given as an input: octets, a file's under an origin that is a name
+abbrev pub IsInput : Input → Type 0
+IsInput (file origin octets) = IsName origin × AllByRecursion (λ c. c < 256) octets
+IsInput (transfer octets) = AllByRecursion (λ c. c < 256) octets
 
 -- the records that an input states, in order and with their places
 abbrev pub States : Input → List Placed → Type 0

@@ -1,14 +1,13 @@
 //! Laws of inputs over the definitions alone. The functions only call other laws: their contracts are the laws.
-ghost use Rattle.std.specs.Prelude.{◌≡◌, ◌⊎◌, ◌<◌, ℕ, List, Option, Some, None, slice_index};
+ghost use Rattle.std.specs.Prelude.{◌≡◌, ◌⊎◌, List, Option, Some, None};
 ghost use Rattle.std.specs.List.{AllByRecursion};
-ghost use Rattle.zone_name.specs.Name.{IsName};
 ghost use Rattle.zone_rdata.specs.Record.{IsRecord};
 ghost use Rattle.zone_rdata.specs.declared.fault.Fault.{Fault};
 ghost use Rattle.zone_rdata.specs.declared.fault.Place.{Place};
 ghost use Rattle.zone_rdata.specs.declared.record.Placed.{Placed};
 ghost use Rattle.zone_set.specs.Refusal.{records_of};
 ghost use Rattle.zone_set.specs.Zone.{Zone};
-ghost use Rattle.zonenorm.specs.Input.{Input, file, transfer, InputDenotes};
+ghost use Rattle.zonenorm.specs.Input.{Input, InputDenotes, IsInput};
 ghost use Rattle.zonenorm.specs.Refusal.{IsRefusal, MakesZone, RefusesReading};
 
 /// A reading is refused for at most one fault, at one place.
@@ -66,12 +65,9 @@ pub fn no_zone_of_a_refused_input()
     zone_wire::laws::a_transfer_is_read();
 }
 
-/// Every input of octets is refused or denotes a zone, the origin of a file being a name.
+/// Every input of octets is refused or denotes a zone.
 pub fn refusal_or_zone()
-    ensures file { (origin : List (List ℕ)) (octets : List ℕ) → IsName origin → AllByRecursion (λ c. c < 256) octets
-        → ((fault : Fault) × (place : Place) × IsRefusal (file origin octets) fault place) ⊎ ((z : Zone) × InputDenotes (file origin octets) z) }
-    ensures transfer { (stream : List ℕ) → ((i : ℕ) → slice_index stream i < 256)
-        → ((fault : Fault) × (place : Place) × IsRefusal (transfer stream) fault place) ⊎ ((z : Zone) × InputDenotes (transfer stream) z) }
+    ensures { (input : Input) → IsInput input → ((fault : Fault) × (place : Place) × IsRefusal input fault place) ⊎ ((z : Zone) × InputDenotes input z) }
 {
     refusal_or_zone_of_a_reading();
     zone_text::laws::file::a_file_has_a_reading();
