@@ -1,7 +1,7 @@
 //! Names in messages, computed from the definitions.
 ghost use Rattle.std.specs.Prelude.{◌∷◌, ◌++◌, [], Some, None};
 ghost use Rattle.zone_wire.specs.Examples.{behind_header, chain, longest_walk, root_soa, soa_message, placed_soa, WalkEnds};
-ghost use Rattle.zone_wire.specs.Examples.{answer_header, question_x, opening_x, server_x, record_x, closing_x, message_with, small_body, small_message, first_message, second_message, soa_x, ns_x, srv_x, naptr_x, address_n, placed_at, small_records};
+ghost use Rattle.zone_wire.specs.Examples.{answer_header, numbers, question_x, opening_x, server_x, record_x, closing_x, message_with, small_body, small_message, first_message, second_message, soa_x, ns_x, srv_x, naptr_x, address_n, placed_at, small_records};
 ghost use Rattle.zone_rdata.specs.Record.{IsRecord};
 ghost use Rattle.zone_wire.specs.Name.{IsNameAt};
 ghost use Rattle.zone_wire.specs.Stream.{StreamReads};
@@ -71,7 +71,7 @@ pub fn streams_cut_short()
     ensures half_a_message { StreamReads (0 ∷ 109 ∷ answer_header 1 3 0) [] (Some (ShortFrame, Message 1 0)) }
 {}
 
-/// Faults in the structure of a message: none of its records is read.
+/// Faults in the structure of a message: none of its records is read, nor is their data judged.
 pub fn faults_of_messages()
     ensures no_octets { StreamReads (0 ∷ 0 ∷ []) [] (Some (ShortMessage, Message 1 0)) }
     ensures query { StreamReads (frame ((0 ∷ 1 ∷ 4 ∷ 0 ∷ 0 ∷ 1 ∷ 0 ∷ 3 ∷ 0 ∷ 0 ∷ 0 ∷ 0 ∷ []) ++ small_body)) [] (Some (NotAResponse, Message 1 0)) }
@@ -79,10 +79,13 @@ pub fn faults_of_messages()
     ensures truncated { StreamReads (frame ((0 ∷ 1 ∷ 134 ∷ 0 ∷ 0 ∷ 1 ∷ 0 ∷ 3 ∷ 0 ∷ 0 ∷ 0 ∷ 0 ∷ []) ++ small_body)) [] (Some (Truncated, Message 1 0)) }
     ensures error { StreamReads (frame ((0 ∷ 1 ∷ 132 ∷ 5 ∷ 0 ∷ 1 ∷ 0 ∷ 3 ∷ 0 ∷ 0 ∷ 0 ∷ 0 ∷ []) ++ small_body)) [] (Some (ErrorCode 5, Message 1 0)) }
     ensures two_questions { StreamReads (frame (answer_header 2 3 0 ++ small_body)) [] (Some (BadCounts, Message 1 0)) }
+    ensures authority { StreamReads (frame ((0 ∷ 1 ∷ 132 ∷ 0 ∷ 0 ∷ 1 ∷ 0 ∷ 3 ∷ 0 ∷ 1 ∷ 0 ∷ 0 ∷ []) ++ small_body)) [] (Some (BadCounts, Message 1 0)) }
     ensures too_many_answers { StreamReads (frame (answer_header 1 4 0 ++ small_body)) [] (Some (ShortMessage, Message 1 109)) }
     ensures trailing { StreamReads (frame (answer_header 1 3 0 ++ small_body ++ 0 ∷ [])) [] (Some (TrailingOctets, Message 1 0)) }
     ensures question_type { StreamReads (frame (answer_header 1 3 0 ++ (1 ∷ 120 ∷ 0 ∷ 0 ∷ 1 ∷ 0 ∷ 1 ∷ []) ++ opening_x ++ server_x ++ closing_x 1)) [] (Some (BadQuestion, Message 1 12)) }
     ensures reserved_owner { StreamReads (frame (message_with (64 ∷ 12 ∷ 0 ∷ 2 ∷ 0 ∷ 1 ∷ 0 ∷ 0 ∷ 14 ∷ 16 ∷ 0 ∷ 2 ∷ 192 ∷ 31 ∷ []))) [] (Some (ReservedLabel, Message 1 59)) }
+    ensures owner_at_itself { StreamReads (frame (message_with (192 ∷ 59 ∷ 0 ∷ 2 ∷ 0 ∷ 1 ∷ 0 ∷ 0 ∷ 14 ∷ 16 ∷ 0 ∷ 2 ∷ 192 ∷ 31 ∷ []))) [] (Some (BadPointer, Message 1 59)) }
+    ensures before_bad_data { StreamReads (frame (answer_header 1 3 0 ++ question_x ++ opening_x ++ record_x 2 (192 ∷ 71 ∷ []) ++ (192 ∷ 73 ∷ 0 ∷ 6 ∷ 0 ∷ 1 ∷ 0 ∷ 0 ∷ 14 ∷ 16 ∷ 0 ∷ 24 ∷ 192 ∷ 31 ∷ 192 ∷ 35 ∷ []) ++ numbers 1)) [] (Some (BadPointer, Message 1 73)) }
     ensures second_id { StreamReads (frame small_message ++ frame ((0 ∷ 2 ∷ 132 ∷ 0 ∷ 0 ∷ 1 ∷ 0 ∷ 3 ∷ 0 ∷ 0 ∷ 0 ∷ 0 ∷ []) ++ small_body)) small_records (Some (IdMismatch, Message 2 0)) }
     ensures later_question { StreamReads (frame first_message ++ frame (answer_header 1 0 0 ++ 1 ∷ 121 ∷ 0 ∷ 0 ∷ 252 ∷ 0 ∷ 1 ∷ [])) small_records (Some (BadQuestion, Message 2 12)) }
 {}

@@ -2,7 +2,7 @@
 use Rattle.std.proofs.Common.{◌≡◌, ℕ, List, sym, ◌∙◌, subst, ap₂, codes}
 use Rattle.std.specs.Prelude.{Option, Some, None, Result, Ok, Err, IfOk, IfErr, IfSome, option_map}
 use Rattle.std.specs.Borrow.{Bor}
-use Rattle.clap.specs.Words.{Row, Text, first_of, subcommand_of, subcommand_name_of, subcommand_rows_of, found_of, first_value, rows_of}
+use Rattle.clap.specs.Words.{Row, Text, subcommand_of, subcommand_name_of, subcommand_rows_of, found_of, first_value, rows_of}
 use Rattle.clap.specs.declared.parser.ArgMatches.{ArgMatches}
 use Rattle.clap.proofs.WalkLemmas.{first_value-rows}
 use Rattle.zone_name.specs.Spelling.{Spells}

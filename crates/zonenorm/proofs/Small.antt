@@ -9,7 +9,7 @@ use Rattle.zone_set.specs.Refusal.{AllAccepted}
 use Rattle.zone_set.specs.Zone.{Has, InOneSet}
 use Rattle.zonenorm.proofs.Deciding.{AllAccepted-push, none_before}
 
-each_Has : (P : Record → Type 0) (records : List Record) (r : Record) → AllByRecursion P records → Has records r → P r
+pub each_Has : (P : Record → Type 0) (records : List Record) (r : Record) → AllByRecursion P records → Has records r → P r
 each_Has P [] r each has = absurd has
 each_Has P (s ∷ records) r each has = ⊎_elim (λ same. subst P (sym same) each.0) (λ more. each_Has P records r each.1 more) has
 

@@ -4,6 +4,7 @@ use Rattle.zone_name.specs.Name.{wire}
 use Rattle.zone_rdata.specs.Record.{Record}
 use Rattle.zone_rdata.specs.declared.fault.Place.TheVariants.{Line}
 use Rattle.zone_rdata.specs.declared.record.Placed.{Placed}
+use Rattle.zone_set.specs.Zone.{Zone}
 
 -- the name of one label, and that label under another name
 abbrev pub top : List ℕ → List (List ℕ)
@@ -36,6 +37,10 @@ soa_of class ttl serial = record { owner = x; class = class; kind = 6; ttl = ttl
 -- the name server n.x. of an owner, in class IN (RFC 1035 3.3.11)
 abbrev pub server_of : List (List ℕ) → ℕ → Record
 server_of owner ttl = record { owner = owner; class = 1; kind = 2; ttl = ttl; octets = wire n_x }
+
+-- the zone of x. with both, in class IN
+abbrev pub zone_of : ℕ → Zone
+zone_of ttl = record { apex = x; class = 1; records = soa_of 1 ttl 1 ∷ server_of x ttl ∷ [] }
 
 -- the address 10.0.0.n of an owner, in class IN (RFC 1035 3.4.1)
 abbrev pub address_of : List (List ℕ) → ℕ → ℕ → Record

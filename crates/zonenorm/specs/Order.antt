@@ -1,6 +1,6 @@
 -- What a command line asks for, and what a run of it leaves.
-use Rattle.std.specs.Prelude.{◌≡◌, ℕ, List, codes, string_bytes, Option, Some, None, ◌⊎◌, true, false}
-use Rattle.clap.specs.Words.{App, Row, Rule, Shape, Text, new_rule, new_app, with_rule, with_subcommand, subcommand_of, first_of, takes}
+use Rattle.std.specs.Prelude.{◌≡◌, ℕ, List, codes, string_bytes, Option, Some, None, ◌⊎◌, true}
+use Rattle.clap.specs.Words.{App, Row, Text, new_rule, new_app, with_rule, with_subcommand, subcommand_of, first_of}
 use Rattle.zone_name.specs.Spelling.{Spells}
 use Rattle.zone_rdata.specs.declared.fault.Stop.{Stop}
 use Rattle.zone_rdata.specs.declared.fault.Stop.TheVariants.{Refused, Read, Write, Memory}

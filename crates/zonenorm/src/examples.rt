@@ -4,14 +4,23 @@ ghost use Rattle.zone_rdata.specs.declared.fault.Fault.TheVariants.{ClassMismatc
 ghost use Rattle.zone_rdata.specs.declared.fault.Place.TheVariants.{Line, Whole};
 ghost use Rattle.zone_set.specs.Refusal.{IsFirstRefused};
 ghost use Rattle.zone_print.specs.Canonical.{canon};
-ghost use Rattle.zonenorm.specs.Examples.{top, under, x, a_x, soa_of, server_of, address_of, from_line};
-ghost use Rattle.zonenorm.specs.Input.{file};
+ghost use Rattle.zonenorm.specs.Examples.{top, under, x, a_x, soa_of, server_of, address_of, from_line, zone_of};
+ghost use Rattle.zonenorm.specs.Input.{file, InputDenotes};
 ghost use Rattle.zonenorm.specs.Refusal.{IsRefusal, RefusesReading};
 
 /// The canonical text of a zone with an SOA and a name server.
 pub fn a_canonical_text()
-    ensures { canon (record { apex = x; class = 1; records = soa_of 1 3600 1 ∷ server_of x 3600 ∷ [] }) ≡ codes "x. 3600 IN SOA n.x. h.x. 1 2 3 4 5" ++ 10 ∷ codes "x. 3600 IN NS n.x." ++ 10 ∷ [] }
+    ensures { canon (zone_of 3600) ≡ codes "x. 3600 IN SOA n.x. h.x. 1 2 3 4 5" ++ 10 ∷ codes "x. 3600 IN NS n.x." ++ 10 ∷ [] }
 {}
+
+/// A file, the zone that it denotes and its canonical text: the MINIMUM of the SOA is the TTL.
+pub fn a_file_and_its_zone()
+    ensures zone { InputDenotes (file x (codes "@ SOA n h 1 2 3 4 5\n NS n\n")) (zone_of 5) }
+    ensures text { canon (zone_of 5) ≡ codes "x. 5 IN SOA n.x. h.x. 1 2 3 4 5" ++ 10 ∷ codes "x. 5 IN NS n.x." ++ 10 ∷ [] }
+{
+    zone_text::examples::entries::the_minimum_is_the_last_choice();
+    zone_text::laws::file::a_file_states_what_is_read();
+}
 
 /// A record whose class, SOA data and TTL differ is refused for its class.
 pub fn a_record_of_another_class()

@@ -1,5 +1,5 @@
-use Rattle.std.proofs.Common.{rules, arith, ◌≡◌, ◌+◌, ◌≤◌, ◌<◌, ◌++◌, ℕ, List, length, refl}
-use Rattle.zonenorm.proofs.Known.{consumes_nothing, consumes_both, consumes_all, consumes_long}
+use Rattle.std.proofs.Common.{rules, refl}
+use Rattle.zonenorm.proofs.Known.{consumes_nothing, consumes_both, consumes_long}
 use Rattle.zonenorm.proofs.input.read_in_pieces.Goals as goal
 
 pub loop-octets-init : goal.loop-octets-init

@@ -1,4 +1,4 @@
-use Rattle.std.proofs.Common.{ap, ◌≡◌, ◌∙◌, List, map, string_bytes}
+use Rattle.std.proofs.Common.{ap, ◌∙◌, List, map, string_bytes}
 use Rattle.clap.specs.Words.{App, Text, is_simple, subcommand_of}
 use Rattle.zonenorm.proofs.Asked.{order_found, fault_found, fault_told}
 use Rattle.zonenorm.proofs.order.order_of.Goals as goal

@@ -1,5 +1,4 @@
-use Rattle.std.proofs.Common.{◌≡◌, ℕ, List, refl, None}
-use Rattle.zone_name.specs.Spelling.{Spells}
+use Rattle.std.proofs.Common.{refl}
 use Rattle.zonenorm.proofs.order.order_with.Goals as goal
 
 pub returns-in-Ok-clause-ordered : goal.returns-in-Ok-clause-ordered

@@ -1,4 +1,4 @@
-use Rattle.std.proofs.Common.{◌≡◌, codes, refl}
+use Rattle.std.proofs.Common.{codes, refl}
 use Rattle.zonenorm.proofs.Asked.{asks}
 use Rattle.zonenorm.proofs.order.origin_text.Goals as goal
 

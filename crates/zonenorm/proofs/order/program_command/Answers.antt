@@ -1,7 +1,7 @@
 use Rattle.std.proofs.Common.{rules, ap, ap₂, codes, true, ◌≡◌, ◌∙◌}
 use Rattle.clap.specs.Words.{App, Rule, app_of, new_rule, rule_of, with_rule, with_subcommand}
 use Rattle.clap.specs.Simple.{app_of_fields}
-use Rattle.zonenorm.specs.Order.{bare_app, normalise_app, program_app}
+use Rattle.zonenorm.specs.Order.{bare_app, normalise_app}
 use Rattle.zonenorm.proofs.order.program_command.Goals as goal
 
 abbrev origin_rule : Rule
