@@ -16,6 +16,8 @@ const BAD_GENERIC: &str = "F10 BadGeneric at line 2: the generic data is malform
 
 const BAD_NUMBER: &str = "F13 BadNumber at line 2: a number is malformed or out of range\n";
 
+const BAD_TTL: &str = "F21 BadTtl at line 2: the TTL is malformed or out of range\n";
+
 /// Checks that a file under the origin has this canonical text.
 fn accepts(rt: &(impl Abort + AllocGlobal), origin: &str, file: &str, text: &str) {
     let origin = name(rt, origin);
@@ -108,7 +110,7 @@ fn generic_data(rt: HostRuntime) {
 }
 
 /// Addresses, names, strings and TTLs in words.
-static WORDS: [(&str, &str); 5] = [
+static WORDS: [(&str, &str); 6] = [
     (
         "t 60 IN TXT ab\nt 60 IN TXT a b\nt 60 IN TXT a\nt 60 IN TXT A\n",
         "t.x. 60 IN TXT \"A\"\nt.x. 60 IN TXT \"a\"\nt.x. 60 IN TXT \"a\" \"b\"\nt.x. 60 IN TXT \"ab\"\n",
@@ -116,6 +118,7 @@ static WORDS: [(&str, &str); 5] = [
     ("t 60 IN TXT \\035\n", "t.x. 60 IN TXT \"#\"\n"),
     ("@ 60 IN NS \\035\n", "x. 60 IN NS #.x.\n"),
     ("k 60 IN A 010.000.00.001\n", "k.x. 60 IN A 10.0.0.1\n"),
+    ("k 1h30m IN A 10.0.0.1\n", "k.x. 5400 IN A 10.0.0.1\n"),
     (
         "k 2147483647 IN A 10.0.0.1\n",
         "k.x. 2147483647 IN A 10.0.0.1\n",
@@ -123,17 +126,15 @@ static WORDS: [(&str, &str); 5] = [
 ];
 
 /// Lines with a word that is missing, left over, malformed or out of range.
-static BAD_WORDS: [(&str, &str); 9] = [
+static BAD_WORDS: [(&str, &str); 10] = [
     ("t 60 IN TXT\n", BAD_RDATA),
     ("k 60 IN A\n", BAD_RDATA),
     ("k 60 IN A 10.0.0.1 10.0.0.2\n", BAD_RDATA),
     ("k 60 IN A 10.0.0\n", BAD_RDATA),
     ("k 60 IN A 10.0.0.256\n", BAD_RDATA),
     ("@ 60 IN MX 65536 m\n", BAD_NUMBER),
-    (
-        "k 2147483648 IN A 10.0.0.1\n",
-        "F21 BadTtl at line 2: the TTL is malformed or out of range\n",
-    ),
+    ("k 2147483648 IN A 10.0.0.1\n", BAD_TTL),
+    ("k 1h30 IN A 10.0.0.1\n", BAD_TTL),
     (
         "k 60 CLASS255 A 10.0.0.1\n",
         "F6 BadClass at line 2: the class can't hold zone data\n",
