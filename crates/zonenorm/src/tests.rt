@@ -12,6 +12,8 @@ use std::test::Fail;
 use zone_name::Name;
 use zone_rdata::{Fault, Place, Stop};
 
+mod data;
+
 /// Inputs under the origin `x.`, their canonical texts and the numbers of records.
 static ACCEPTED: [(&[u8], &[u8], u64); 3] = [
     (
