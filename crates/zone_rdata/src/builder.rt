@@ -10,6 +10,7 @@ use crate::class::Class;
 use crate::fault::{Failing, Fault};
 use crate::kind::Kind;
 use crate::layout::{Field, layout_of};
+use crate::number::{long_octets, short_octets};
 use crate::rdata::Rdata;
 use crate::reading::are_octets;
 use crate::record::LONGEST_DATA;
@@ -214,8 +215,8 @@ fn append(part: Part, out: &mut Vec<u8>) -> Result<(), Failing>
 {
     match part {
         Part::Octets(octets) => append_octets(octets, out),
-        Part::U16(number) => append_octets(&number.to_be_bytes(), out),
-        Part::U32(number) => append_octets(&number.to_be_bytes(), out),
+        Part::U16(number) => append_octets(&short_octets(number), out),
+        Part::U32(number) => append_octets(&long_octets(number), out),
         Part::Name(name) => append_octets(name.wire(), out),
         Part::String(octets) => append_string(octets, out),
     }

@@ -5,6 +5,7 @@ ghost use Rattle.zone_rdata.specs.Field.{BeginsWithString, string_at};
 ghost use Rattle.zone_rdata.specs.Text.{BeginsWithField, after_field};
 
 use crate::layout::Field;
+use byteorder::{BigEndian, ByteOrder};
 use zone_name::Name;
 
 /// The name at the front of octets, and the octets after it.
@@ -25,8 +26,7 @@ pub(crate) fn split_long(octets: &[u8]) -> (u32, &[u8])
     ensures rest { result.1.now ≡ drop 4 octets.now }
 {
     let (front, rest) = octets.split_at(4);
-    let number = u32::from_be_bytes([front[0], front[1], front[2], front[3]]);
-    (number, rest)
+    (BigEndian::read_u32(front), rest)
 }
 
 /// The number of 16 bits at the front of octets, and the octets after it.
@@ -36,8 +36,7 @@ pub(crate) fn split_short(octets: &[u8]) -> (u16, &[u8])
     ensures rest { result.1.now ≡ drop 2 octets.now }
 {
     let (front, rest) = octets.split_at(2);
-    let number = u16::from_be_bytes([front[0], front[1]]);
-    (number, rest)
+    (BigEndian::read_u16(front), rest)
 }
 
 /// The string at the front of octets, and the octets after it.

@@ -1,5 +1,8 @@
 ghost use Rattle.std.specs.Prelude.{◌≡◌, ℕ, min, IfSome, IfNone};
+ghost use Rattle.std.specs.Int.{w16, w32, to_be_bytes};
 ghost use Rattle.zone_rdata.specs.Number.{IsDecimal};
+
+use byteorder::{BigEndian, ByteOrder};
 
 /// What a number is cut off at: one over the greatest number of 32 bits.
 pub(crate) const CAP: u64 = 4294967296;
@@ -20,4 +23,22 @@ pub(crate) fn decimal_of(text: &[u8]) -> Option<u64>
         number = CAP.min(number * 10 + u64::from(*octet - b'0'));
     }
     Some(number)
+}
+
+/// The octets of a number of 16 bits, the highest first.
+pub(crate) fn short_octets(number: u16) -> [u8; 2]
+    ensures { result ≡ to_be_bytes w16 number }
+{
+    let mut octets = [0; 2];
+    BigEndian::write_u16(&mut octets, number);
+    octets
+}
+
+/// The octets of a number of 32 bits, the highest first.
+pub(crate) fn long_octets(number: u32) -> [u8; 4]
+    ensures { result ≡ to_be_bytes w32 number }
+{
+    let mut octets = [0; 4];
+    BigEndian::write_u32(&mut octets, number);
+    octets
 }

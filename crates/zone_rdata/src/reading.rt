@@ -12,7 +12,7 @@ use crate::address::{four_octets_of, sixteen_octets_of};
 use crate::fault::{Failing, Fault};
 use crate::item::Item;
 use crate::layout::{Field, Layout};
-use crate::number::decimal_of;
+use crate::number::{decimal_of, long_octets, short_octets};
 use crate::record::LONGEST_DATA;
 use crate::string::push_string;
 use crate::time::seconds_of;
@@ -66,7 +66,7 @@ fn push_serial(text: &[u8], octets: &mut Vec<u8>) -> Result<(), Failing>
     ensures fault { IfErr result (IfFault (λ f. (f ≡ Fault.BadNumber) × ((n : ℕ) → IsDecimal text.now n → n < 2 ^ 32 → ⊥))) }
 {
     let number = long_of(text)?;
-    octets.extend_from_slice(&number.to_be_bytes())?;
+    octets.extend_from_slice(&long_octets(number))?;
     Ok(())
 }
 
@@ -75,7 +75,7 @@ fn push_time(text: &[u8], octets: &mut Vec<u8>) -> Result<(), Failing>
     ensures fault { IfErr result (IfFault (λ f. (f ≡ Fault.BadNumber) × ((n : ℕ) → IsTime text.now n → n < 2 ^ 32 → ⊥))) }
 {
     let number = time_of(text)?;
-    octets.extend_from_slice(&number.to_be_bytes())?;
+    octets.extend_from_slice(&long_octets(number))?;
     Ok(())
 }
 
@@ -84,7 +84,7 @@ fn push_short(text: &[u8], octets: &mut Vec<u8>) -> Result<(), Failing>
     ensures fault { IfErr result (IfFault (λ f. (f ≡ Fault.BadNumber) × ((n : ℕ) → IsDecimal text.now n → n < 2 ^ 16 → ⊥))) }
 {
     let number = short_of(text)?;
-    octets.extend_from_slice(&number.to_be_bytes())?;
+    octets.extend_from_slice(&short_octets(number))?;
     Ok(())
 }
 

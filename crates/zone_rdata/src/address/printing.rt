@@ -4,7 +4,9 @@ ghost use Rattle.std.specs.Net.Text as std_text;
 ghost use Rattle.arrayvec.specs.ArrayVec.{array_vec_len};
 ghost use Rattle.zone_rdata.specs.Address.{four_text, groups_text, parted_groups};
 
+use crate::number::short_octets;
 use arrayvec::ArrayVec;
+use byteorder::{BigEndian, ByteOrder};
 use hex::encode_to_slice;
 use itoa::Buffer;
 use std::alloc::AllocError;
@@ -67,7 +69,7 @@ fn push_group(text: &mut ArrayVec<u8, ROOM>, group: u16)
     ensures short { array_vec_len text.new ≤ array_vec_len text.old + 4 }
 {
     let mut digits = [0; 4];
-    let _ = encode_to_slice(group.to_be_bytes(), &mut digits);
+    let _ = encode_to_slice(short_octets(group), &mut digits);
     push_octets(text, &digits[leading_zeros(group)..]);
 }
 
@@ -117,7 +119,7 @@ fn group_at(octets: &[u8], at: usize) -> u16
     requires { at + 1 < length octets.now }
     ensures { result ≡ slice_index octets.now at * 256 + slice_index octets.now (at + 1) }
 {
-    u16::from_be_bytes([octets[at], octets[at + 1]])
+    BigEndian::read_u16(&octets[at..])
 }
 
 /// The groups of sixteen octets.

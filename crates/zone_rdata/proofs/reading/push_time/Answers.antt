@@ -6,5 +6,5 @@ returns-clause-found c = record {
   number = c.in_ok-number.number;
   short = c.in_ok-number.ensures.found.1;
   time = c.in_ok-number.ensures.found.0;
-  written = c.in_ok-extend_from_slice.ensures.items ∙ ap (λ o. c.args.octets.now.items ++ o) c.to_be_bytes.ensures;
+  written = c.in_ok-extend_from_slice.ensures.items ∙ ap (λ o. c.args.octets.now.items ++ o) c.long_octets.ensures;
 }
