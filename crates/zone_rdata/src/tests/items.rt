@@ -150,3 +150,22 @@ fn generic_forms_of_one_value(rt: HostRuntime) -> Result<(), Fail> {
     assert_eq!(rt; unlisted.as_slice(), b"\\# 2 0000".as_slice());
     Ok(())
 }
+
+#[test]
+fn opaque_data(rt: HostRuntime) -> Result<(), Fail> {
+    let pieces = [
+        Item::Bare(b"\\#"),
+        Item::Bare(b"6"),
+        Item::Bare(b"abcd"),
+        Item::Bare(b"ef"),
+        Item::Bare(b"01"),
+        Item::Bare(b"23"),
+        Item::Bare(b"45"),
+    ];
+    let pieces = text_of(rt.alloc(), stated(rt.alloc(), 32, 731, &pieces)?)?;
+    assert_eq!(rt; pieces.as_slice(), b"\\# 6 abcdef012345".as_slice());
+    let none = [Item::Bare(b"\\#"), Item::Bare(b"0")];
+    let none = text_of(rt.alloc(), stated(rt.alloc(), 32, 731, &none)?)?;
+    assert_eq!(rt; none.as_slice(), b"\\# 0".as_slice());
+    Ok(())
+}

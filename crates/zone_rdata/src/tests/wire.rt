@@ -46,6 +46,11 @@ fn strings(rt: HostRuntime) -> Result<(), Fail> {
     let escaped = [Item::Bare(b"\\035")];
     let text = text_of(rt.alloc(), stated(rt.alloc(), 1, 16, &escaped)?)?;
     assert_eq!(rt; text.as_slice(), b"\"#\"".as_slice());
+    Ok(())
+}
+
+#[test]
+fn strings_of_many_lengths(rt: HostRuntime) -> Result<(), Fail> {
     let none = stated(rt.alloc(), 1, 16, &[])?;
     assert!(rt; matches!(none, Err(Failing::Fault(Fault::BadRdata))));
     let mut letters = Vec::new(rt.alloc());
