@@ -27,10 +27,27 @@ fn kind_of(word: &[u8]) -> Result<Kind, &'static str> {
 }
 
 /// What the items state under the origin `x.`.
-fn stated(alloc: Global, class: u64, number: u64, items: &[Item]) -> Result<Rdata, Failing> {
-    let class = Class::from_number(class)?;
-    let origin = Name::from_text(b"x.", None)?;
-    Rdata::from_items(alloc, class, Kind::from_number(number)?, items, &origin)
+///
+/// # Errors
+///
+/// Want of memory, so that a test whose growths are refused in turn ends with it.
+fn stated(
+    alloc: Global,
+    class: u64,
+    number: u64,
+    items: &[Item],
+) -> Result<Result<Rdata, Failing>, &'static str> {
+    let class = Class::from_number(class).map_err(|_| "no class")?;
+    let kind = Kind::from_number(number).map_err(|_| "no type")?;
+    let origin = Name::from_text(b"x.", None).map_err(|_| "no name")?;
+    answered(Rdata::from_items(alloc, class, kind, items, &origin))
+}
+
+fn answered(answer: Result<Rdata, Failing>) -> Result<Result<Rdata, Failing>, &'static str> {
+    if matches!(answer, Err(Failing::Memory)) {
+        return Err("memory");
+    }
+    Ok(answer)
 }
 
 /// The canonical text of data.
@@ -125,38 +142,21 @@ fn soa(rt: HostRuntime) -> Result<(), Fail> {
 
 #[test]
 fn refused(rt: HostRuntime) -> Result<(), Fail> {
-    let class = class_of(b"IN")?;
-    let ns = kind_of(b"NS")?;
-    let soa = kind_of(b"SOA")?;
-    let origin = name_of(b"example.")?;
-    let refuse = |kind: Kind, items: &[Item]| -> Option<Failing> {
-        Rdata::from_items(rt.alloc(), class, kind, items, &origin).err()
-    };
-    assert!(rt; matches!(refuse(ns, &[]), Some(Failing::Fault(Fault::BadRdata))));
-    assert!(rt;
-        matches!(
-            refuse(ns, &[Item::Quoted(b"a")]),
-            Some(Failing::Fault(Fault::BadRdata))
-        )
-    );
-    assert!(rt;
-        matches!(
-            refuse(ns, &[Item::Bare(b"a..b")]),
-            Some(Failing::Fault(Fault::EmptyLabel))
-        )
-    );
-    assert!(rt;
-        matches!(
-            refuse(ns, &[Item::Bare(b"\\#")]),
-            Some(Failing::Fault(Fault::BadGeneric))
-        )
-    );
+    let none = stated(rt.alloc(), 1, 2, &[])?;
+    assert!(rt; matches!(none, Err(Failing::Fault(Fault::BadRdata))));
+    let quoted = stated(rt.alloc(), 1, 2, &[Item::Quoted(b"a")])?;
+    assert!(rt; matches!(quoted, Err(Failing::Fault(Fault::BadRdata))));
+    let gap = stated(rt.alloc(), 1, 2, &[Item::Bare(b"a..b")])?;
+    assert!(rt; matches!(gap, Err(Failing::Fault(Fault::EmptyLabel))));
+    let mark = stated(rt.alloc(), 1, 2, &[Item::Bare(b"\\#")])?;
+    assert!(rt; matches!(mark, Err(Failing::Fault(Fault::BadGeneric))));
     let over = [
         Item::Bare(b"a"),
         Item::Bare(b"b"),
         Item::Bare(b"4294967296"),
     ];
-    assert!(rt; matches!(refuse(soa, &over), Some(Failing::Fault(Fault::BadNumber))));
+    let over = stated(rt.alloc(), 1, 6, &over)?;
+    assert!(rt; matches!(over, Err(Failing::Fault(Fault::BadNumber))));
     Ok(())
 }
 

@@ -1,9 +1,9 @@
 use super::*;
 
 #[test]
-fn numbers_over_their_field(rt: HostRuntime) {
+fn numbers_over_their_field(rt: HostRuntime) -> Result<(), Fail> {
     let preference = [Item::Bare(b"65536"), Item::Bare(b"m")];
-    let preference = stated(rt.alloc(), 1, 15, &preference);
+    let preference = stated(rt.alloc(), 1, 15, &preference)?;
     assert!(rt; matches!(preference, Err(Failing::Fault(Fault::BadNumber))));
     let port = [
         Item::Bare(b"0"),
@@ -11,12 +11,17 @@ fn numbers_over_their_field(rt: HostRuntime) {
         Item::Bare(b"65536"),
         Item::Bare(b"h"),
     ];
-    let port = stated(rt.alloc(), 1, 33, &port);
+    let port = stated(rt.alloc(), 1, 33, &port)?;
     assert!(rt; matches!(port, Err(Failing::Fault(Fault::BadNumber))));
+    Ok(())
 }
 
 /// SOA data of the names `n` and `h` with these items behind them.
-fn soa_of<'t>(alloc: Global, serial: &'t [u8], times: [&'t [u8]; 4]) -> Result<Rdata, Failing> {
+fn soa_of<'t>(
+    alloc: Global,
+    serial: &'t [u8],
+    times: [&'t [u8]; 4],
+) -> Result<Result<Rdata, Failing>, &'static str> {
     let items = [
         Item::Bare(b"n"),
         Item::Bare(b"h"),
@@ -31,17 +36,17 @@ fn soa_of<'t>(alloc: Global, serial: &'t [u8], times: [&'t [u8]; 4]) -> Result<R
 
 #[test]
 fn serials_and_times(rt: HostRuntime) -> Result<(), Fail> {
-    let unit = soa_of(rt.alloc(), b"1h", [b"2", b"3", b"4", b"5"]);
+    let unit = soa_of(rt.alloc(), b"1h", [b"2", b"3", b"4", b"5"])?;
     assert!(rt; matches!(unit, Err(Failing::Fault(Fault::BadNumber))));
-    let over = soa_of(rt.alloc(), b"4294967296", [b"2", b"3", b"4", b"5"]);
+    let over = soa_of(rt.alloc(), b"4294967296", [b"2", b"3", b"4", b"5"])?;
     assert!(rt; matches!(over, Err(Failing::Fault(Fault::BadNumber))));
-    let greatest = soa_of(rt.alloc(), b"4294967295", [b"2", b"3", b"4", b"5"]);
+    let greatest = soa_of(rt.alloc(), b"4294967295", [b"2", b"3", b"4", b"5"])?;
     let greatest = text_of(rt.alloc(), greatest)?;
     assert_eq!(rt;
         greatest.as_slice(),
         b"n.x. h.x. 4294967295 2 3 4 5".as_slice()
     );
-    let units = soa_of(rt.alloc(), b"1", [b"1h30m", b"1W1s", b"2d", b"5"]);
+    let units = soa_of(rt.alloc(), b"1", [b"1h30m", b"1W1s", b"2d", b"5"])?;
     let units = text_of(rt.alloc(), units)?;
     assert_eq!(rt;
         units.as_slice(),
@@ -51,7 +56,7 @@ fn serials_and_times(rt: HostRuntime) -> Result<(), Fail> {
 }
 
 #[test]
-fn items_missing(rt: HostRuntime) {
+fn items_missing(rt: HostRuntime) -> Result<(), Fail> {
     let minimum = [
         Item::Bare(b"n"),
         Item::Bare(b"h"),
@@ -60,13 +65,14 @@ fn items_missing(rt: HostRuntime) {
         Item::Bare(b"3"),
         Item::Bare(b"4"),
     ];
-    let minimum = stated(rt.alloc(), 1, 6, &minimum);
+    let minimum = stated(rt.alloc(), 1, 6, &minimum)?;
     assert!(rt; matches!(minimum, Err(Failing::Fault(Fault::BadRdata))));
     let target = [Item::Bare(b"0"), Item::Bare(b"5"), Item::Bare(b"5060")];
-    let target = stated(rt.alloc(), 1, 33, &target);
+    let target = stated(rt.alloc(), 1, 33, &target)?;
     assert!(rt; matches!(target, Err(Failing::Fault(Fault::BadRdata))));
-    let opaque = stated(rt.alloc(), 1, 731, &[]);
+    let opaque = stated(rt.alloc(), 1, 731, &[])?;
     assert!(rt; matches!(opaque, Err(Failing::Fault(Fault::BadGeneric))));
+    Ok(())
 }
 
 #[test]
@@ -79,7 +85,7 @@ fn naptr_refused(rt: HostRuntime) -> Result<(), Fail> {
         Item::Quoted(b""),
         Item::Bare(b"."),
     ];
-    let number = stated(rt.alloc(), 1, 35, &number);
+    let number = stated(rt.alloc(), 1, 35, &number)?;
     assert!(rt; matches!(number, Err(Failing::Fault(Fault::BadRdata))));
     let mut letters = Vec::new(rt.alloc());
     letters.resize(256, b'a')?;
@@ -91,7 +97,7 @@ fn naptr_refused(rt: HostRuntime) -> Result<(), Fail> {
         Item::Quoted(b""),
         Item::Bare(b"."),
     ];
-    let long = stated(rt.alloc(), 1, 35, &long);
+    let long = stated(rt.alloc(), 1, 35, &long)?;
     assert!(rt; matches!(long, Err(Failing::Fault(Fault::StringTooLong))));
     Ok(())
 }
@@ -99,17 +105,17 @@ fn naptr_refused(rt: HostRuntime) -> Result<(), Fail> {
 #[test]
 fn service_octets_too_short(rt: HostRuntime) -> Result<(), Fail> {
     let items = [Item::Bare(b"\\#"), Item::Bare(b"2"), Item::Bare(b"0000")];
-    let generic = stated(rt.alloc(), 1, 33, &items);
+    let generic = stated(rt.alloc(), 1, 33, &items)?;
     assert!(rt; matches!(generic, Err(Failing::Fault(Fault::BadRdata))));
     let class = class_of(b"IN")?;
     let kind = kind_of(b"SRV")?;
-    let wire = Rdata::from_wire(rt.alloc(), class, kind, b"\xc0\x1f");
+    let wire = answered(Rdata::from_wire(rt.alloc(), class, kind, b"\xc0\x1f"))?;
     assert!(rt; matches!(wire, Err(Failing::Fault(Fault::BadRdata))));
     Ok(())
 }
 
 #[test]
-fn addresses_of_sixteen_refused(rt: HostRuntime) {
+fn addresses_of_sixteen_refused(rt: HostRuntime) -> Result<(), Fail> {
     let texts: [&[u8]; 6] = [
         b"1::2::3",
         b"12345::",
@@ -119,7 +125,8 @@ fn addresses_of_sixteen_refused(rt: HostRuntime) {
         b"::10.0.0.1:1",
     ];
     for text in texts {
-        let address = stated(rt.alloc(), 1, 28, &[Item::Bare(text)]);
+        let address = stated(rt.alloc(), 1, 28, &[Item::Bare(text)])?;
         assert!(rt; matches!(address, Err(Failing::Fault(Fault::BadRdata))));
     }
+    Ok(())
 }

@@ -11,7 +11,7 @@ fn a_refused_text_appends_nothing(rt: HostRuntime) -> Result<(), Fail> {
         Item::Bare(b"5060"),
         Item::Bare(b"h."),
     ];
-    let service = stated(rt.alloc(), 1, 33, &items).map_err(|_| "refused")?;
+    let service = stated(rt.alloc(), 1, 33, &items)?.map_err(|_| "refused")?;
     let mut out = Vec::new(rt.alloc());
     for _ in 0..4 {
         let before = out.len();

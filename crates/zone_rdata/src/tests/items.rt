@@ -2,7 +2,7 @@ use super::*;
 
 /// What is printed in class IN for the items.
 fn printed(alloc: Global, number: u64, items: &[Item]) -> Result<Vec<u8>, Fail> {
-    let rdata = stated(alloc, 1, number, items).map_err(|_| Fail::from("refused"))?;
+    let rdata = stated(alloc, 1, number, items)?.map_err(|_| Fail::from("refused"))?;
     let mut out = Vec::new(alloc);
     rdata.push_text(&mut out)?;
     if rdata.text_len() != out.len() {
@@ -32,33 +32,26 @@ fn addresses(rt: HostRuntime) -> Result<(), Fail> {
     Ok(())
 }
 
+/// Whether the items state no address in class IN.
+fn are_bad(alloc: Global, number: u64, items: &[Item]) -> Result<bool, &'static str> {
+    let answer = stated(alloc, 1, number, items)?;
+    Ok(matches!(answer, Err(Failing::Fault(Fault::BadRdata))))
+}
+
 #[test]
 fn addresses_refused(rt: HostRuntime) -> Result<(), Fail> {
-    let bad = |number: u64, items: &[Item]| -> bool {
-        matches!(
-            stated(rt.alloc(), 1, number, items),
-            Err(Failing::Fault(Fault::BadRdata))
-        )
-    };
-    assert!(rt; bad(1, &[]));
-    assert!(rt; bad(1, &[Item::Bare(b"10.0.0.1"), Item::Bare(b"10.0.0.2")]));
-    assert!(rt; bad(1, &[Item::Quoted(b"10.0.0.1")]));
-    assert!(rt; bad(1, &[Item::Bare(b"10.0.0")]));
-    assert!(rt; bad(1, &[Item::Bare(b"10.0.0.256")]));
-    assert!(rt;
-        bad(
-            1,
-            &[Item::Bare(b"\\#"), Item::Bare(b"3"), Item::Bare(b"0A0000")]
-        )
-    );
-    assert!(rt; bad(28, &[Item::Bare(b"1:2:3:4:5:6:7::8")]));
-    assert!(rt; bad(28, &[Item::Quoted(b"::1")]));
-    assert!(rt;
-        matches!(
-            stated(rt.alloc(), 3, 1, &[Item::Bare(b"10.0.0.1")]),
-            Err(Failing::Fault(Fault::BadGeneric))
-        )
-    );
+    let two = [Item::Bare(b"10.0.0.1"), Item::Bare(b"10.0.0.2")];
+    let short = [Item::Bare(b"\\#"), Item::Bare(b"3"), Item::Bare(b"0A0000")];
+    assert!(rt; are_bad(rt.alloc(), 1, &[])?);
+    assert!(rt; are_bad(rt.alloc(), 1, &two)?);
+    assert!(rt; are_bad(rt.alloc(), 1, &[Item::Quoted(b"10.0.0.1")])?);
+    assert!(rt; are_bad(rt.alloc(), 1, &[Item::Bare(b"10.0.0")])?);
+    assert!(rt; are_bad(rt.alloc(), 1, &[Item::Bare(b"10.0.0.256")])?);
+    assert!(rt; are_bad(rt.alloc(), 1, &short)?);
+    assert!(rt; are_bad(rt.alloc(), 28, &[Item::Bare(b"1:2:3:4:5:6:7::8")])?);
+    assert!(rt; are_bad(rt.alloc(), 28, &[Item::Quoted(b"::1")])?);
+    let in_ch = stated(rt.alloc(), 3, 1, &[Item::Bare(b"10.0.0.1")])?;
+    assert!(rt; matches!(in_ch, Err(Failing::Fault(Fault::BadGeneric))));
     Ok(())
 }
 
@@ -122,10 +115,10 @@ fn services(rt: HostRuntime) -> Result<(), Fail> {
         Item::Bare(b"11"),
         Item::Bare(b"0000000513c40148017800"),
     ];
-    let from_words = stated(rt.alloc(), 1, 33, &words).map_err(|_| "refused")?;
-    let from_form = stated(rt.alloc(), 1, 33, &form).map_err(|_| "refused")?;
+    let from_words = stated(rt.alloc(), 1, 33, &words)?.map_err(|_| "refused")?;
+    let from_form = stated(rt.alloc(), 1, 33, &form)?.map_err(|_| "refused")?;
     assert!(rt; from_words == from_form);
-    let in_ch = text_of(rt.alloc(), stated(rt.alloc(), 3, 33, &words))?;
+    let in_ch = text_of(rt.alloc(), stated(rt.alloc(), 3, 33, &words)?)?;
     assert_eq!(rt; in_ch.as_slice(), b"0 5 5060 h.x.".as_slice());
     Ok(())
 }
@@ -142,8 +135,8 @@ fn generic_forms_of_one_value(rt: HostRuntime) -> Result<(), Fail> {
         Item::Bare(b"9"),
         Item::Bare(b"0000000513c4016800"),
     ];
-    let upper = stated(rt.alloc(), 1, 33, &upper).map_err(|_| "refused")?;
-    let lower = stated(rt.alloc(), 1, 33, &lower).map_err(|_| "refused")?;
+    let upper = stated(rt.alloc(), 1, 33, &upper)?.map_err(|_| "refused")?;
+    let lower = stated(rt.alloc(), 1, 33, &lower)?.map_err(|_| "refused")?;
     assert!(rt; upper == lower);
     let sixteen = [
         Item::Bare(b"\\#"),
@@ -155,5 +148,24 @@ fn generic_forms_of_one_value(rt: HostRuntime) -> Result<(), Fail> {
     let unlisted = [Item::Bare(b"\\#"), Item::Bare(b"2"), Item::Bare(b"0000")];
     let unlisted = printed(rt.alloc(), 257, &unlisted)?;
     assert_eq!(rt; unlisted.as_slice(), b"\\# 2 0000".as_slice());
+    Ok(())
+}
+
+#[test]
+fn opaque_data(rt: HostRuntime) -> Result<(), Fail> {
+    let pieces = [
+        Item::Bare(b"\\#"),
+        Item::Bare(b"6"),
+        Item::Bare(b"abcd"),
+        Item::Bare(b"ef"),
+        Item::Bare(b"01"),
+        Item::Bare(b"23"),
+        Item::Bare(b"45"),
+    ];
+    let pieces = text_of(rt.alloc(), stated(rt.alloc(), 32, 731, &pieces)?)?;
+    assert_eq!(rt; pieces.as_slice(), b"\\# 6 abcdef012345".as_slice());
+    let none = [Item::Bare(b"\\#"), Item::Bare(b"0")];
+    let none = text_of(rt.alloc(), stated(rt.alloc(), 32, 731, &none)?)?;
+    assert_eq!(rt; none.as_slice(), b"\\# 0".as_slice());
     Ok(())
 }
