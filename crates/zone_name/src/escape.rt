@@ -1,4 +1,4 @@
-ghost use Rattle.std.specs.Prelude.{◌≡◌, ◌∷◌, List, ℕ, true, Option, Some, None, IfSome, IfNone, option_map};
+ghost use Rattle.std.specs.Prelude.{◌≡◌, ◌∷◌, true, IfSome, IfNone, option_map};
 ghost use Rattle.zone_name.specs.Escape.{digits_of};
 ghost use Rattle.zone_name.specs.Spelling.{BeginsWithEscape, IsBadEscape, is_digit};
 

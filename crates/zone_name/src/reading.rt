@@ -1,4 +1,4 @@
-ghost use Rattle.std.specs.Prelude.{◌≡◌, ℕ, ◌≤◌, List, length, true, IfOk, IfErr, Ok, Err, option_copied};
+ghost use Rattle.std.specs.Prelude.{◌≡◌, ℕ, ◌≤◌, List, length, IfOk, IfErr, Ok, Err, option_copied};
 ghost use Rattle.zone_name.specs.Name.{IsName};
 ghost use Rattle.zone_name.specs.Reading.{Collects, place_of, reading, under};
 ghost use Rattle.zone_name.specs.Seen.{seen, Closes, HasForm};
