@@ -2,6 +2,7 @@ pub mod Octets
 pub mod Comparing
 pub mod Pushing
 pub mod Printing
+pub mod Escapes
 pub mod Places
 pub mod Steps
 pub mod Spelled

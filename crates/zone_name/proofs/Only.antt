@@ -1,24 +1,22 @@
 -- What a text spells, and its own first fault, is what the walk over it finds.
-use Rattle.std.proofs.Common.{◌≡◌, ℕ, zero, suc, ◌+◌, ◌<◌, ◌≤◌, Bool, true, false, nat_eq, if◌then◌else◌, List, [], ◌∷◌, ◌++◌, length, get_or, Ok, Err, inl, inr, refl, sym, ap, ◌∙◌, subst, arith, append_assoc, length-append}
+use Rattle.std.proofs.Common.{◌≡◌, ℕ, zero, suc, ◌+◌, ◌<◌, ◌≤◌, Bool, true, false, if◌then◌else◌, List, [], ◌∷◌, ◌++◌, length, Ok, Err, inl, inr, refl, sym, ap, ◌∙◌, subst, arith, append_assoc, length-append}
 use Rattle.std.specs.List.{AllByRecursion}
 use Rattle.std.proofs.lemmas.List.{append-nil, length-map}
-use Rattle.std.proofs.lemmas.Bool.{false≢true, le-leb, lt-leb}
+use Rattle.std.proofs.lemmas.Bool.{le-leb}
 use Rattle.zone_name.specs.Name.{folded_label}
-use Rattle.zone_name.specs.Spelling.{Written, text_of, octet_of, IsWritten, IsWrittenLabel, AreWrittenLabels, written_text, written_octets, dotted, parted, named, EndsLabel, IsBadEscape, Reaches, FaultAt, empty_label, long_label, bad_escape}
+use Rattle.zone_name.specs.Spelling.{Written, text_of, octet_of, IsWritten, IsWrittenLabel, AreWrittenLabels, written_text, written_octets, dotted, parted, named, EndsLabel, Reaches, FaultAt, empty_label, long_label, bad_escape}
 use Rattle.zone_name.specs.declared.fault.NameFault.{NameFault}
 use Rattle.zone_name.specs.declared.fault.NameFault.TheVariants.{EmptyLabel, LabelTooLong, BadEscape}
-use Rattle.zone_name.specs.Reading.{Place, at_end, at_dot, at_octet, at_fault, place_of, goes, failed, step_at, read, reading}
-use Rattle.zone_name.proofs.Places.{IsPlace, place_is, place-written, text_of-some}
-use Rattle.zone_name.proofs.Steps.{after_step, read_step, reading-nil}
+use Rattle.zone_name.specs.Reading.{Place, at_dot, at_octet, at_fault, place_of, goes, failed, step_at, read, reading}
+use Rattle.zone_name.proofs.Places.{place-written, place-bad, text_of-some}
+use Rattle.zone_name.proofs.Steps.{after_step, read_step, octet_step, reading-nil}
 use Rattle.zone_name.proofs.Spelled.{AreShort}
 
 -- one written octet is read
 octet_reads : (w : Written) (rest open_label : List ℕ) (labels : List (List ℕ)) (n : ℕ) → IsWritten w → length open_label < 63 → read (suc n) labels open_label (text_of w ++ rest) ≡ read n labels (open_label ++ octet_of w ∷ []) rest
-octet_reads w rest [] labels n is room =
-    read_step n labels [] (text_of w ++ rest) (at_octet (octet_of w) rest) (place-written w rest is)
-octet_reads w rest (c ∷ open_label) labels n is room =
-    read_step n labels (c ∷ open_label) (text_of w ++ rest) (at_octet (octet_of w) rest) (place-written w rest is)
-    ∙ ap (λ (b : Bool). after_step n (if b then failed LabelTooLong else goes labels (c ∷ open_label ++ octet_of w ∷ []) rest)) (lt-leb 63 (length (c ∷ open_label)) room)
+octet_reads w rest open_label labels n is room =
+    read_step n labels open_label (text_of w ++ rest) (at_octet (octet_of w) rest) (place-written w rest is)
+    ∙ octet_step n labels open_label rest (octet_of w) room
 
 -- a written label is read
 label_reads : (label : List Written) (tail open_label : List ℕ) (labels : List (List ℕ)) (n : ℕ) → AllByRecursion IsWritten label → length open_label + length label ≤ 63 → length (written_text label ++ tail) < n → (m : ℕ) × (length tail < m) × (read n labels open_label (written_text label ++ tail) ≡ read m labels (open_label ++ written_octets label) tail)
@@ -144,13 +142,6 @@ bad_step : (labels : List (List ℕ)) (open_label : List ℕ) → step_at labels
 bad_step labels [] = refl
 bad_step labels (c ∷ open_label) = refl
 
--- a backslash that begins no escape stands at a fault
-bad_place : (rest : List ℕ) (place : Place) → IsBadEscape rest → IsPlace rest place → place ≡ at_fault
-bad_place rest at_end bad is = absurd (omega (arith, ap length bad.1, ap length is))
-bad_place rest (at_dot after) bad is = absurd (false≢true (ap (λ t. nat_eq (get_or t 0 0) 46) (sym bad.1 ∙ is)))
-bad_place rest (at_octet c after) bad is = absurd (bad.2 is.0 after is.1 is.3)
-bad_place rest at_fault bad is = refl
-
 empty_reads : (text : List ℕ) (before : List (List Written)) (rest : List ℕ) → Reaches text before [] rest → EndsLabel rest → (rest ≡ [] → before ≡ []) → reading text ≡ Err EmptyLabel
 empty_reads text before rest r (inl e) first =
     let none : text ≡ [] = r.parts ∙ ap (λ t. dotted t ++ [] ++ rest) (first e) ∙ e in
@@ -165,4 +156,4 @@ reading-fault text fault (long_label before open_label w rest r full is) =
     reads_fault text before open_label (text_of w ++ rest) (at_octet (octet_of w) rest) LabelTooLong (omega (arith, length-append (text_of w) rest, text_of-some w)) r (place-written w rest is)
     (full_step (named before) (written_octets open_label) (octet_of w) rest (omega (arith, length-map open_label octet_of)))
 reading-fault text fault (bad_escape before open_label rest r bad) =
-    reads_fault text before open_label rest at_fault BadEscape (omega (arith, ap length bad.1)) r (bad_place rest (place_of rest) bad (place_is rest)) (bad_step (named before) (written_octets open_label))
+    reads_fault text before open_label rest at_fault BadEscape (omega (arith, ap length bad.1)) r (place-bad rest bad) (bad_step (named before) (written_octets open_label))

@@ -1,8 +1,10 @@
 -- What stands at a place of a text, in the words of its spelling.
-use Rattle.std.proofs.Common.{◌≡◌, ◌≢◌, ℕ, ◌<◌, Bool, true, false, ◌&&◌, ◌||◌, ◌==◌, nat_le, if◌then◌else◌, List, [], ◌∷◌, ◌++◌, length, refl, sym, ap, ◌∙◌, subst, arith, length-append}
-use Rattle.std.proofs.lemmas.Bool.{false≢true, le-leb, leb-true, eqb-true, eqb-false, ne_eqb, or_parts}
-use Rattle.zone_name.specs.Spelling.{Written, plain, escaped, decimal, text_of, octet_of, IsWritten, IsBadEscape, is_digit}
-use Rattle.zone_name.specs.Reading.{Place, at_end, at_dot, at_octet, at_fault, digits_place, escape_place, place_of}
+use Rattle.std.proofs.Common.{◌≡◌, ◌≢◌, ℕ, ◌<◌, Bool, true, false, ◌||◌, ◌==◌, nat_eq, if◌then◌else◌, List, [], ◌∷◌, ◌++◌, length, get_or, Option, Some, None, refl, sym, ap, ◌∙◌, subst, arith, length-append}
+use Rattle.std.proofs.lemmas.Bool.{false≢true, eqb-true, eqb-false, ne_eqb}
+use Rattle.zone_name.specs.Spelling.{Written, plain, escaped, decimal, text_of, octet_of, IsWritten, IsBadEscape}
+use Rattle.zone_name.specs.Escape.{digits_of, escape_of}
+use Rattle.zone_name.specs.Reading.{Place, at_end, at_dot, at_octet, at_fault, escape_place, place_of}
+use Rattle.zone_name.proofs.Escapes.{SaysEscape, escape_is, passes}
 
 -- what a place says of the text there
 abbrev pub IsPlace : List ℕ → Place → Type 0
@@ -11,90 +13,15 @@ IsPlace rest (at_dot after) = rest ≡ 46 ∷ after
 IsPlace rest (at_octet c after) = (w : Written) × IsWritten w × (octet_of w ≡ c) × (rest ≡ text_of w ++ after)
 IsPlace rest at_fault = IsBadEscape rest
 
--- a digit that is tested both ways
-two_ways : (b : Bool) → b ≡ true → b ≡ false → ⊥
-two_ways b e f = false≢true (sym f ∙ e)
+escape_says : (rest : List ℕ) (read : Option (ℕ × List ℕ)) → SaysEscape rest read → IsPlace (92 ∷ rest) (escape_place read)
+escape_says rest None says = says
+escape_says rest (Some (c, after)) says = (says.escape, says.is_written, says.value, says.parts)
 
--- a backslash with nothing behind it
-bare_backslash : (w : Written) (after : List ℕ) → IsWritten w → 92 ∷ [] ≡ text_of w ++ after → ⊥
-bare_backslash (plain c) after is e = is.1 (cc)
-bare_backslash (escaped c) after is e = cc
-bare_backslash (decimal x y z) after is e = cc
-
--- a digit with none behind it
-one_digit : (x : ℕ) → is_digit x ≡ true → (w : Written) (after : List ℕ) → IsWritten w → 92 ∷ x ∷ [] ≡ text_of w ++ after → ⊥
-one_digit x d (plain c) after is e = is.1 (cc)
-one_digit x d (escaped c) after is e = let same : x ≡ c = cc in two_ways (is_digit c) (ap is_digit (sym same) ∙ d) is.0
-one_digit x d (decimal u v w) after is e = cc
-
-two_digits : (x y : ℕ) → is_digit x ≡ true → (w : Written) (after : List ℕ) → IsWritten w → 92 ∷ x ∷ y ∷ [] ≡ text_of w ++ after → ⊥
-two_digits x y d (plain c) after is e = is.1 (cc)
-two_digits x y d (escaped c) after is e = let same : x ≡ c = cc in two_ways (is_digit c) (ap is_digit (sym same) ∙ d) is.0
-two_digits x y d (decimal u v w) after is e = cc
-
--- the test of three digits
-abbrev is_decimal : ℕ → ℕ → ℕ → Bool
-is_decimal x y z = is_digit x && is_digit y && is_digit z && nat_le (octet_of (decimal x y z)) 255
-
-passes : (x y z : ℕ) → IsWritten (decimal x y z) → is_decimal x y z ≡ true
-passes x y z is = rw (is.0, is.1, is.2) (le-leb (octet_of (decimal x y z)) 255 is.3)
-
-and_parts : (a b c d : Bool) → (a && b && c && d) ≡ true → (a ≡ true) × (b ≡ true) × (c ≡ true) × (d ≡ true)
-and_parts true true true d e = (refl, refl, refl, e)
-and_parts true true false d e = absurd (false≢true e)
-and_parts true false c d e = absurd (false≢true e)
-and_parts false b c d e = absurd (false≢true e)
-
-is_written_decimal : (x y z : ℕ) → is_decimal x y z ≡ true → IsWritten (decimal x y z)
-is_written_decimal x y z e =
-    let parts = and_parts (is_digit x) (is_digit y) (is_digit z) (nat_le (octet_of (decimal x y z)) 255) e in
-    (parts.0, parts.1, parts.2, leb-true (octet_of (decimal x y z)) 255 parts.3)
-
-no_decimal : (x y z : ℕ) (rest : List ℕ) → is_digit x ≡ true → is_decimal x y z ≡ false → (w : Written) (after : List ℕ) → IsWritten w → 92 ∷ x ∷ y ∷ z ∷ rest ≡ text_of w ++ after → ⊥
-no_decimal x y z rest d f (plain c) after is e = is.1 (cc)
-no_decimal x y z rest d f (escaped c) after is e = let same : x ≡ c = cc in two_ways (is_digit c) (ap is_digit (sym same) ∙ d) is.0
-no_decimal x y z rest d f (decimal u v w) after is e =
-    let one : u ≡ x = cc in
-    let two : v ≡ y = cc in
-    let three : w ≡ z = cc in
-    two_ways (is_decimal x y z) (subst (λ t. is_decimal x y t ≡ true) three (subst (λ t. is_decimal x t w ≡ true) two (subst (λ t. is_decimal t v w ≡ true) one (passes u v w is)))) f
-
-decimal_is : (x y z : ℕ) (rest : List ℕ) → is_digit x ≡ true → (b : Bool) → is_decimal x y z ≡ b → IsPlace (92 ∷ x ∷ y ∷ z ∷ rest) (if b then at_octet (octet_of (decimal x y z)) rest else at_fault)
-decimal_is x y z rest d true e = (decimal x y z, is_written_decimal x y z e, refl, refl)
-decimal_is x y z rest d false e = (x ∷ y ∷ z ∷ rest, refl, no_decimal x y z rest d e)
-
-digits_are : (x : ℕ) (rest : List ℕ) → is_digit x ≡ true → IsPlace (92 ∷ x ∷ rest) (digits_place x rest)
-digits_are x [] d = (x ∷ [], refl, one_digit x d)
-digits_are x (y ∷ []) d = (x ∷ y ∷ [], refl, two_digits x y d)
-digits_are x (y ∷ z ∷ rest) d = decimal_is x y z rest d (is_decimal x y z) refl
-
--- the ends of a line take no backslash
-no_escaped : (x : ℕ) (rest : List ℕ) → is_digit x ≡ false → (x == 10 || x == 13) ≡ true → (w : Written) (after : List ℕ) → IsWritten w → 92 ∷ x ∷ rest ≡ text_of w ++ after → ⊥
-no_escaped x rest d t (plain c) after is e = is.1 (cc)
-no_escaped x rest d t (escaped c) after is e = let same : x ≡ c = cc in or_neither (x == 10) (x == 13) t (λ h. is.1 (sym same ∙ eqb-true x 10 h)) (λ h. is.2 (sym same ∙ eqb-true x 13 h))
-  where
-    or_neither : (a b : Bool) → (a || b) ≡ true → (a ≡ true → ⊥) → (b ≡ true → ⊥) → ⊥
-    or_neither true b e f g = f refl
-    or_neither false b e f g = g e
-no_escaped x rest d t (decimal u v w) after is e = let same : x ≡ u = cc in two_ways (is_digit u) is.0 (ap is_digit (sym same) ∙ d)
-
-end_is : (x : ℕ) (rest : List ℕ) → is_digit x ≡ false → (b : Bool) → (x == 10 || x == 13) ≡ b → IsPlace (92 ∷ x ∷ rest) (if b then at_fault else at_octet x rest)
-end_is x rest d true e = (x ∷ rest, refl, no_escaped x rest d e)
-end_is x rest d false e = let parts = or_parts (x == 10) (x == 13) e in (escaped x, (d, eqb-false x 10 parts.0, eqb-false x 13 parts.1), refl, refl)
-
-escape_by : (x : ℕ) (rest : List ℕ) (b : Bool) → is_digit x ≡ b → IsPlace (92 ∷ x ∷ rest) (if b then digits_place x rest else (if x == 10 || x == 13 then at_fault else at_octet x rest))
-escape_by x rest true d = digits_are x rest d
-escape_by x rest false d = end_is x rest d (x == 10 || x == 13) refl
-
-escape_is : (rest : List ℕ) → IsPlace (92 ∷ rest) (escape_place rest)
-escape_is [] = ([], refl, bare_backslash)
-escape_is (x ∷ rest) = escape_by x rest (is_digit x) refl
-
-octet_is : (c : ℕ) (rest : List ℕ) → c ≢ 46 → (b : Bool) → (c == 92) ≡ b → IsPlace (c ∷ rest) (if b then escape_place rest else at_octet c rest)
-octet_is c rest n true e = let P : ℕ → Type 0 = λ t. IsPlace (t ∷ rest) (escape_place rest) in subst P (sym (eqb-true c 92 e)) (escape_is rest)
+octet_is : (c : ℕ) (rest : List ℕ) → c ≢ 46 → (b : Bool) → (c == 92) ≡ b → IsPlace (c ∷ rest) (if b then escape_place (escape_of rest) else at_octet c rest)
+octet_is c rest n true e = let P : ℕ → Type 0 = λ t. IsPlace (t ∷ rest) (escape_place (escape_of rest)) in subst P (sym (eqb-true c 92 e)) (escape_says rest (escape_of rest) (escape_is rest))
 octet_is c rest n false e = (plain c, (n, eqb-false c 92 e), refl, refl)
 
-dot_is : (c : ℕ) (rest : List ℕ) (b : Bool) → (c == 46) ≡ b → IsPlace (c ∷ rest) (if b then at_dot rest else (if c == 92 then escape_place rest else at_octet c rest))
+dot_is : (c : ℕ) (rest : List ℕ) (b : Bool) → (c == 46) ≡ b → IsPlace (c ∷ rest) (if b then at_dot rest else (if c == 92 then escape_place (escape_of rest) else at_octet c rest))
 dot_is c rest true e = ap (λ t. t ∷ rest) (eqb-true c 46 e)
 dot_is c rest false e = octet_is c rest (eqb-false c 46 e) (c == 92) refl
 
@@ -130,5 +57,15 @@ pub place-written : (w : Written) (rest : List ℕ) → IsWritten w → place_of
 place-written (plain c) rest is = rw (ne_eqb c 46 is.0, ne_eqb c 92 is.1) refl
 place-written (escaped x) rest is = rw (is.0, ne_eqb x 10 is.1, ne_eqb x 13 is.2) refl
 place-written (decimal x y z) rest is =
-    ap (λ (b : Bool). if b then digits_place x (y ∷ z ∷ rest) else (if x == 10 || x == 13 then at_fault else at_octet x (y ∷ z ∷ rest))) is.0
-    ∙ ap (λ (b : Bool). if b then at_octet (octet_of (decimal x y z)) rest else at_fault) (passes x y z is)
+    ap (λ (b : Bool). escape_place (if b then digits_of x (y ∷ z ∷ rest) else (if x == 10 || x == 13 then None else Some (x, y ∷ z ∷ rest)))) is.0
+    ∙ ap (λ (b : Bool). escape_place (if b then Some (octet_of (decimal x y z), rest) else None)) (passes x y z is)
+
+bad_by : (rest : List ℕ) (place : Place) → IsBadEscape rest → IsPlace rest place → place ≡ at_fault
+bad_by rest at_end bad is = absurd (omega (arith, ap length bad.1, ap length is))
+bad_by rest (at_dot after) bad is = absurd (false≢true (ap (λ t. nat_eq (get_or t 0 0) 46) (sym bad.1 ∙ is)))
+bad_by rest (at_octet c after) bad is = absurd (bad.2 is.0 after is.1 is.3)
+bad_by rest at_fault bad is = refl
+
+-- a backslash that begins no escape stands at a fault
+pub place-bad : (rest : List ℕ) → IsBadEscape rest → place_of rest ≡ at_fault
+place-bad rest bad = bad_by rest (place_of rest) bad (place_is rest)

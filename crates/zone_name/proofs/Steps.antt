@@ -1,11 +1,13 @@
 -- The walk over a text: what was read so far, and what it leads to.
-use Rattle.std.proofs.Common.{◌≡◌, ℕ, zero, suc, ◌<◌, Bool, true, false, List, [], ◌∷◌, ◌++◌, length, Result, Ok, Err, refl, sym, ap, ◌∙◌, arith}
+use Rattle.std.proofs.Common.{◌≡◌, ℕ, zero, suc, ◌<◌, Bool, true, false, if◌then◌else◌, List, [], ◌∷◌, ◌++◌, length, Result, Ok, Err, refl, sym, ap, ◌∙◌, subst, arith}
+use Rattle.std.proofs.lemmas.Bool.{lt-leb}
 use Rattle.zone_name.specs.Name.{folded_label}
 use Rattle.zone_name.specs.declared.fault.NameFault.{NameFault}
-use Rattle.zone_name.specs.declared.fault.NameFault.TheVariants.{EmptyLabel}
-use Rattle.zone_name.specs.Reading.{Place, at_end, place_of, Step, done, failed, goes, step_at, read, reading, Collects}
+use Rattle.zone_name.specs.declared.fault.NameFault.TheVariants.{EmptyLabel, LabelTooLong}
+use Rattle.zone_name.specs.Reading.{Place, at_end, at_octet, place_of, Step, done, failed, goes, step_at, read, reading, Collects}
 use Rattle.zone_name.specs.Seen.{Closes}
 use Rattle.zone_name.specs.declared.reading.Spelled.{Spelled}
+use Rattle.zone_name.proofs.Places.{Shrinks, place_shrinks}
 
 -- the labels that were closed lead to what the whole text leads to
 pub record Reads (text : List ℕ) (held : List (List ℕ)) (is_too_long : Bool) (open_label rest : List ℕ) : Type 0 where
@@ -37,6 +39,28 @@ read_step n labels open_label rest place e = by (step_at labels open_label (plac
   where
     by : (s : Step) → step_at labels open_label (place_of rest) ≡ s → read (suc n) labels open_label rest ≡ after_step n (step_at labels open_label (place_of rest))
     by s h = refl
+
+-- an octet of a label that has room
+pub octet_step : (n : ℕ) (labels : List (List ℕ)) (open_label after : List ℕ) (c : ℕ) → length open_label < 63 → after_step n (step_at labels open_label (at_octet c after)) ≡ read n labels (open_label ++ c ∷ []) after
+octet_step n labels [] after c room = refl
+octet_step n labels (x ∷ open_label) after c room = ap (λ (b : Bool). after_step n (if b then failed LabelTooLong else goes labels (x ∷ open_label ++ c ∷ []) after)) (lt-leb 63 (length (x ∷ open_label)) room)
+
+octet_by : (fuel : ℕ) (text : List ℕ) (labels : List (List ℕ)) (open_label rest after : List ℕ) (c : ℕ) → length rest < fuel → read fuel labels open_label rest ≡ reading text → place_of rest ≡ at_octet c after → length open_label < 63 → (n : ℕ) × (length rest < suc n) × (read n labels (open_label ++ c ∷ []) after ≡ reading text)
+octet_by zero text labels open_label rest after c enough leads e room = absurd (omega arith)
+octet_by (suc n) text labels open_label rest after c enough leads e room =
+    (n, enough, sym (octet_step n labels open_label after c room) ∙ sym (read_step n labels open_label rest (at_octet c after) e) ∙ leads)
+
+pub Reads-octet : (text : List ℕ) (held : List (List ℕ)) (is_too_long : Bool) (open_label rest after new : List ℕ) (c : ℕ) → Reads text held is_too_long open_label rest → at_octet c after ≡ place_of rest → length open_label < 63 → new ≡ open_label ++ c ∷ [] → Reads text held is_too_long new after
+Reads-octet text held is_too_long open_label rest after new c reads e room grown =
+    let next = octet_by reads.fuel text reads.labels open_label rest after c reads.enough reads.leads (sym e) room in
+    let shorter : length after < length rest = subst (Shrinks rest) (sym e) (place_shrinks rest) in
+    record {
+      labels = reads.labels;
+      collects = reads.collects;
+      fuel = next.0;
+      enough = omega (arith, next.1, shorter);
+      leads = ap (λ t. read next.0 reads.labels t after) grown ∙ next.2;
+    }
 
 -- no text spells no label
 pub reading-nil : (text : List ℕ) → length text ≡ 0 → reading text ≡ Err EmptyLabel

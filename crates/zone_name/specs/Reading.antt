@@ -1,7 +1,7 @@
 -- How a name's text is read from the left: what stands at a place, and what that makes of the labels so far.
-use Rattle.std.specs.Prelude.{◌≡◌, ℕ, zero, suc, ◌<◌, List, [], ◌∷◌, ◌++◌, length, Bool, true, false, ◌==◌, ◌&&◌, ◌||◌, nat_le, if◌then◌else◌, Option, Some, None, Result, Ok, Err}
+use Rattle.std.specs.Prelude.{◌≡◌, ℕ, zero, suc, ◌<◌, List, [], ◌∷◌, ◌++◌, length, Bool, true, false, ◌==◌, nat_le, if◌then◌else◌, Option, Some, None, Result, Ok, Err}
 use Rattle.zone_name.specs.Name.{folded_label, wire}
-use Rattle.zone_name.specs.Spelling.{decimal, octet_of, is_digit}
+use Rattle.zone_name.specs.Escape.{escape_of}
 use Rattle.zone_name.specs.declared.fault.NameFault.{NameFault}
 use Rattle.zone_name.specs.declared.fault.NameFault.TheVariants.{EmptyLabel, LabelTooLong, NameTooLong, BadEscape, RelativeName}
 
@@ -12,23 +12,14 @@ pub data Place : Type 0 where
   at_octet : ℕ → List ℕ → Place
   at_fault : Place
 
-abbrev pub decimal_place : ℕ → ℕ → ℕ → List ℕ → Place
-decimal_place x y z rest = if is_digit x && is_digit y && is_digit z && nat_le (octet_of (decimal x y z)) 255 then at_octet (octet_of (decimal x y z)) rest else at_fault
-
--- behind a backslash and a digit
-abbrev pub digits_place : ℕ → List ℕ → Place
-digits_place x [] = at_fault
-digits_place x (y ∷ []) = at_fault
-digits_place x (y ∷ z ∷ rest) = decimal_place x y z rest
-
 -- behind a backslash
-abbrev pub escape_place : List ℕ → Place
-escape_place [] = at_fault
-escape_place (x ∷ rest) = if is_digit x then digits_place x rest else (if x == 10 || x == 13 then at_fault else at_octet x rest)
+abbrev pub escape_place : Option (ℕ × List ℕ) → Place
+escape_place None = at_fault
+escape_place (Some (c, rest)) = at_octet c rest
 
 abbrev pub place_of : List ℕ → Place
 place_of [] = at_end
-place_of (c ∷ rest) = if c == 46 then at_dot rest else (if c == 92 then escape_place rest else at_octet c rest)
+place_of (c ∷ rest) = if c == 46 then at_dot rest else (if c == 92 then escape_place (escape_of rest) else at_octet c rest)
 
 -- a step: the labels and whether the name is absolute, a fault, or the labels so far, the open label's octets and the rest
 pub data Step : Type 0 where

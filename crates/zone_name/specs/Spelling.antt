@@ -87,6 +87,13 @@ EndsLabel rest = (rest ≡ []) ⊎ ((more : List ℕ) × (rest ≡ 46 ∷ more))
 abbrev pub IsBadEscape : List ℕ → Type 0
 IsBadEscape rest = (more : List ℕ) × (rest ≡ 92 ∷ more) × ((w : Written) (after : List ℕ) → IsWritten w → rest ≢ text_of w ++ after)
 
+-- a text from a backslash on: an escape, which stands for the octet, and the rest
+pub record BeginsWithEscape (text : List ℕ) (octet : ℕ) (rest : List ℕ) : Type 0 where
+  pub escape : Written
+  pub is_written : IsWritten escape
+  pub value : octet_of escape ≡ octet
+  pub parts : text ≡ text_of escape ++ rest
+
 -- A text up to a place: labels of at most 63 octets with their dots, and the octets of the label that is open
 pub record Reaches (text : List ℕ) (before : List (List Written)) (open_label : List Written) (rest : List ℕ) : Type 0 where
   pub labels : AllByRecursion IsWrittenLabel before

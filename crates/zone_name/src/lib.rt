@@ -2,6 +2,7 @@
 #![tactic(auto)]
 
 mod builder;
+mod escape;
 mod fault;
 mod labels;
 pub mod laws;
@@ -13,6 +14,7 @@ mod tests;
 mod text;
 
 pub use builder::NameBuilder;
+pub use escape::escape_at;
 pub use fault::NameFault;
 pub use labels::Labels;
 pub use name::Name;

@@ -1,10 +1,10 @@
-ghost use Rattle.std.specs.Prelude.{◌≡◌, ℕ, ◌≤◌, List, length, true, IfOk, IfErr, Ok, Err, option_copied};
+ghost use Rattle.std.specs.Prelude.{◌≡◌, ℕ, ◌≤◌, List, length, IfOk, IfErr, Ok, Err, option_copied};
 ghost use Rattle.zone_name.specs.Name.{IsName};
-ghost use Rattle.zone_name.specs.Spelling.{is_digit};
-ghost use Rattle.zone_name.specs.Reading.{Collects, digits_place, escape_place, place_of, reading, under};
+ghost use Rattle.zone_name.specs.Reading.{Collects, place_of, reading, under};
 ghost use Rattle.zone_name.specs.Seen.{seen, Closes, HasForm};
 
 use crate::builder::NameBuilder;
+use crate::escape::escape_at;
 use crate::fault::NameFault;
 use crate::name::Name;
 use arrayvec::ArrayVec;
@@ -152,54 +152,11 @@ fn next_at(rest: &[u8]) -> Next<'_>
     if *first == b'.' {
         Next::Dot(after)
     } else if *first == b'\\' {
-        escape_at(after)
+        match escape_at(after) {
+            Some((octet, rest)) => Next::Octet(octet, rest),
+            None => Next::BadEscape,
+        }
     } else {
         Next::Octet(*first, after)
     }
-}
-
-/// What an escape stands for, behind its backslash (RFC 1035 5.1).
-fn escape_at(after: &[u8]) -> Next<'_>
-    ensures { seen result ≡ escape_place after.now }
-{
-    let Some((first, rest)) = after.split_first() else {
-        return Next::BadEscape;
-    };
-    if is_decimal_digit(*first) {
-        digits_at(*first, rest)
-    } else if *first == b'\n' || *first == b'\r' {
-        Next::BadEscape
-    } else {
-        Next::Octet(*first, rest)
-    }
-}
-
-/// The octet of three digits, of which the first was read.
-fn digits_at(first: u8, after: &[u8]) -> Next<'_>
-    requires { is_digit first ≡ true }
-    ensures { seen result ≡ digits_place first after.now }
-{
-    match after {
-        [second, third, rest @ ..] => {
-            if !is_decimal_digit(*second) || !is_decimal_digit(*third) {
-                return Next::BadEscape;
-            }
-            let value = 100 * (first - b'0') as u16
-                + 10 * (*second - b'0') as u16
-                + (*third - b'0') as u16;
-            if value <= 255 {
-                Next::Octet(value as u8, rest)
-            } else {
-                Next::BadEscape
-            }
-        }
-        _ => Next::BadEscape,
-    }
-}
-
-/// Whether the octet is a digit.
-fn is_decimal_digit(octet: u8) -> bool
-    ensures { result ≡ is_digit octet }
-{
-    octet >= b'0' && octet <= b'9'
 }

@@ -1,4 +1,4 @@
-use crate::{Name, NameBuilder, NameFault};
+use crate::{Name, NameBuilder, NameFault, escape_at};
 use std::test::Fail;
 
 /// The origin of a row; none for an empty text.
@@ -87,6 +87,18 @@ fn texts_are_refused(rt: HostRuntime) {
         let origin = origin_of(origin);
         assert_eq!(rt; Name::from_text(text, origin.as_ref()).err(), Some(fault));
     }
+}
+
+#[test]
+fn escapes_stand_for_octets(rt: HostRuntime) -> Result<(), Fail> {
+    // What is behind a backslash, the octet, and what is behind the escape (RFC 1035 5.1).
+    let rows: [(&[u8], u8, &[u8]); 2] = [(b".b", b'.', b"b"), (b"046b", b'.', b"b")];
+    for (after, octet, rest) in rows {
+        let (found, behind) = escape_at(after).ok_or("no escape")?;
+        assert_eq!(rt; found, octet);
+        assert_eq!(rt; behind, rest);
+    }
+    Ok(())
 }
 
 #[test]

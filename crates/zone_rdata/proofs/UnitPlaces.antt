@@ -1,16 +1,22 @@
 -- What stands at a place of a string's text, in the words of its spelling.
-use Rattle.std.proofs.Common.{◌≡◌, ◌≢◌, ℕ, ◌<◌, ◌≤◌, Bool, true, false, ◌&&◌, ◌||◌, ◌==◌, nat_le, if◌then◌else◌, List, [], ◌∷◌, ◌++◌, length, refl, sym, ap, ◌∙◌, subst, arith, length-append}
+use Rattle.std.proofs.Common.{◌≡◌, ◌≢◌, ℕ, ◌<◌, ◌≤◌, Bool, true, false, ◌&&◌, ◌||◌, ◌==◌, nat_le, if◌then◌else◌, List, [], ◌∷◌, ◌++◌, length, Option, Some, None, refl, sym, ap, ◌∙◌, subst, arith, length-append}
 use Rattle.std.proofs.lemmas.Bool.Decides.{nat_tests}
 use Rattle.std.proofs.lemmas.Bool.{false≢true}
-use Rattle.zone_name.specs.Spelling.{Written, plain, escaped, decimal, text_of, octet_of, IsWritten, IsBadEscape, is_digit}
+use Rattle.zone_name.specs.Spelling.{Written, plain, escaped, decimal, text_of, octet_of, IsWritten, IsBadEscape, BeginsWithEscape, is_digit}
+use Rattle.zone_name.specs.Escape.{digits_of, escape_of}
 use Rattle.zone_rdata.specs.Strings.{IsUnit}
-use Rattle.zone_rdata.specs.StringReading.{Place, at_end, at_octet, at_fault, digits_place, escape_place, place_of}
+use Rattle.zone_rdata.specs.StringReading.{Place, at_end, at_octet, at_fault, escape_place, place_of}
 
 -- what a place says of the text there
 abbrev pub IsPlace : List ℕ → Place → Type 0
 IsPlace rest at_end = rest ≡ []
 IsPlace rest (at_octet c after) = (w : Written) × IsUnit w × (octet_of w ≡ c) × (rest ≡ text_of w ++ after)
 IsPlace rest at_fault = IsBadEscape rest
+
+-- what the reading of an escape says of the text
+abbrev SaysEscape : List ℕ → Option (ℕ × List ℕ) → Type 0
+SaysEscape after None = IsBadEscape (92 ∷ after)
+SaysEscape after (Some (c, rest)) = BeginsWithEscape (92 ∷ after) c rest
 
 -- a digit that is tested both ways
 two_ways : (b : Bool) → b ≡ true → b ≡ false → ⊥
@@ -72,11 +78,11 @@ no_decimal x y z rest d f (decimal u v w) after is e =
     let three : w ≡ z = cc in
     two_ways (is_decimal x y z) (subst (λ t. is_decimal x y t ≡ true) three (subst (λ t. is_decimal x t w ≡ true) two (subst (λ t. is_decimal t v w ≡ true) one (passes u v w is)))) f
 
-decimal_is : (x y z : ℕ) (rest : List ℕ) → is_digit x ≡ true → (b : Bool) → is_decimal x y z ≡ b → IsPlace (92 ∷ x ∷ y ∷ z ∷ rest) (if b then at_octet (octet_of (decimal x y z)) rest else at_fault)
-decimal_is x y z rest d true e = (decimal x y z, is_written_decimal x y z e, refl, refl)
+decimal_is : (x y z : ℕ) (rest : List ℕ) → is_digit x ≡ true → (b : Bool) → is_decimal x y z ≡ b → SaysEscape (x ∷ y ∷ z ∷ rest) (if b then Some (octet_of (decimal x y z), rest) else None)
+decimal_is x y z rest d true e = record { escape = decimal x y z; is_written = is_written_decimal x y z e; value = refl; parts = refl }
 decimal_is x y z rest d false e = (x ∷ y ∷ z ∷ rest, refl, no_decimal x y z rest d e)
 
-digits_are : (x : ℕ) (rest : List ℕ) → is_digit x ≡ true → IsPlace (92 ∷ x ∷ rest) (digits_place x rest)
+digits_are : (x : ℕ) (rest : List ℕ) → is_digit x ≡ true → SaysEscape (x ∷ rest) (digits_of x rest)
 digits_are x [] d = (x ∷ [], refl, one_digit x d)
 digits_are x (y ∷ []) d = (x ∷ y ∷ [], refl, two_digits x y d)
 digits_are x (y ∷ z ∷ rest) d = decimal_is x y z rest d (is_decimal x y z) refl
@@ -95,20 +101,29 @@ or_parts : (a b : Bool) → (a || b) ≡ false → (a ≡ false) × (b ≡ false
 or_parts true b e = absurd (false≢true (sym e))
 or_parts false b e = (refl, e)
 
-end_is : (x : ℕ) (rest : List ℕ) → is_digit x ≡ false → (b : Bool) → (x == 10 || x == 13) ≡ b → IsPlace (92 ∷ x ∷ rest) (if b then at_fault else at_octet x rest)
+end_is : (x : ℕ) (rest : List ℕ) → is_digit x ≡ false → (b : Bool) → (x == 10 || x == 13) ≡ b → SaysEscape (x ∷ rest) (if b then None else Some (x, rest))
 end_is x rest d true e = (x ∷ rest, refl, no_escaped x rest d e)
-end_is x rest d false e = let parts = or_parts (x == 10) (x == 13) e in (escaped x, (d, ne_of_test x 10 parts.0, ne_of_test x 13 parts.1), refl, refl)
+end_is x rest d false e = let parts = or_parts (x == 10) (x == 13) e in record { escape = escaped x; is_written = (d, ne_of_test x 10 parts.0, ne_of_test x 13 parts.1); value = refl; parts = refl }
 
-escape_by : (x : ℕ) (rest : List ℕ) (b : Bool) → is_digit x ≡ b → IsPlace (92 ∷ x ∷ rest) (if b then digits_place x rest else (if x == 10 || x == 13 then at_fault else at_octet x rest))
+escape_by : (x : ℕ) (rest : List ℕ) (b : Bool) → is_digit x ≡ b → SaysEscape (x ∷ rest) (if b then digits_of x rest else (if x == 10 || x == 13 then None else Some (x, rest)))
 escape_by x rest true d = digits_are x rest d
 escape_by x rest false d = end_is x rest d (x == 10 || x == 13) refl
 
-escape_is : (rest : List ℕ) → IsPlace (92 ∷ rest) (escape_place rest)
+escape_is : (rest : List ℕ) → SaysEscape rest (escape_of rest)
 escape_is [] = ([], refl, bare_backslash)
 escape_is (x ∷ rest) = escape_by x rest (is_digit x) refl
 
-octet_is : (c : ℕ) (rest : List ℕ) (b : Bool) → (c == 92) ≡ b → IsPlace (c ∷ rest) (if b then escape_place rest else at_octet c rest)
-octet_is c rest true e = let P : ℕ → Type 0 = λ t. IsPlace (t ∷ rest) (escape_place rest) in subst P (sym (eq_of_test c 92 e)) (escape_is rest)
+unit_of_escape : (w : Written) (text rest : List ℕ) → IsWritten w → 92 ∷ text ≡ text_of w ++ rest → IsUnit w
+unit_of_escape (plain c) text rest is e = is.1
+unit_of_escape (escaped c) text rest is e = is
+unit_of_escape (decimal x y z) text rest is e = is
+
+escape_says : (rest : List ℕ) (read : Option (ℕ × List ℕ)) → SaysEscape rest read → IsPlace (92 ∷ rest) (escape_place read)
+escape_says rest None says = says
+escape_says rest (Some (c, after)) says = (says.escape, unit_of_escape says.escape rest after says.is_written says.parts, says.value, says.parts)
+
+octet_is : (c : ℕ) (rest : List ℕ) (b : Bool) → (c == 92) ≡ b → IsPlace (c ∷ rest) (if b then escape_place (escape_of rest) else at_octet c rest)
+octet_is c rest true e = let P : ℕ → Type 0 = λ t. IsPlace (t ∷ rest) (escape_place (escape_of rest)) in subst P (sym (eq_of_test c 92 e)) (escape_says rest (escape_of rest) (escape_is rest))
 octet_is c rest false e = (plain c, ne_of_test c 92 e, refl, refl)
 
 -- each place is what the text's spelling says
@@ -144,8 +159,8 @@ pub place-unit : (w : Written) (rest : List ℕ) → IsUnit w → place_of (text
 place-unit (plain c) rest is = rw (test_not c 92 is) refl
 place-unit (escaped x) rest is = rw (is.0, test_not x 10 is.1, test_not x 13 is.2) refl
 place-unit (decimal x y z) rest is =
-    ap (λ (b : Bool). if b then digits_place x (y ∷ z ∷ rest) else (if x == 10 || x == 13 then at_fault else at_octet x (y ∷ z ∷ rest))) is.0
-    ∙ ap (λ (b : Bool). if b then at_octet (octet_of (decimal x y z)) rest else at_fault) (passes x y z is)
+    ap (λ (b : Bool). escape_place (if b then digits_of x (y ∷ z ∷ rest) else (if x == 10 || x == 13 then None else Some (x, y ∷ z ∷ rest)))) is.0
+    ∙ ap (λ (b : Bool). escape_place (if b then Some (octet_of (decimal x y z), rest) else None)) (passes x y z is)
 
 -- a backslash that begins no escape is no unit
 no_unit : (rest more : List ℕ) (w : Written) (after : List ℕ) → rest ≡ 92 ∷ more → IsUnit w → rest ≡ text_of w ++ after → ((u : Written) (behind : List ℕ) → IsWritten u → rest ≢ text_of u ++ behind) → ⊥

@@ -1,10 +1,9 @@
-ghost use Rattle.std.specs.Prelude.{◌≡◌, ◌++◌, ◌↔◌, [], ◌≤◌, List, length, IsTrue, IfOk, IfErr, OnOk, OnErr};
+ghost use Rattle.std.specs.Prelude.{◌≡◌, ◌↔◌, [], ◌≤◌, length, IsTrue, IfOk, IfErr, OnOk, OnErr};
 ghost use Rattle.zone_rdata.specs.Builder.{Built, Grows, IsNext, IsOver, IsPushFault, IsReal, IsWhole, Pushes, least_of};
 ghost use Rattle.zone_rdata.specs.BuilderPart.{value_of};
 ghost use Rattle.zone_rdata.specs.Fault.{IfFault};
 ghost use Rattle.zone_rdata.specs.Field.{fixed, long, name, octets_of, string, two_octets};
 ghost use Rattle.zone_rdata.specs.Layout.{layout};
-ghost use Rattle.zone_rdata.specs.Record.{Data};
 
 use crate::class::Class;
 use crate::fault::{Failing, Fault};

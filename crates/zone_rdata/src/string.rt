@@ -1,8 +1,7 @@
-ghost use Rattle.std.specs.Prelude.{◌≡◌, ◌++◌, ◌+◌, ◌*◌, ◌≤◌, List, ℕ, length, true, IfOk, IfErr, OnOk, OnErr, Ok, Err};
+ghost use Rattle.std.specs.Prelude.{◌≡◌, ◌++◌, ◌+◌, ◌*◌, ◌≤◌, length, IfOk, IfErr, OnOk, OnErr, Ok, Err};
 ghost use Rattle.zone_name.specs.Name.{frame};
-ghost use Rattle.zone_name.specs.Spelling.{is_digit};
 ghost use Rattle.zone_rdata.specs.Item.{raw};
-ghost use Rattle.zone_rdata.specs.StringReading.{digits_place, escape_place, place_of, reading, seen};
+ghost use Rattle.zone_rdata.specs.StringReading.{place_of, reading, seen};
 ghost use Rattle.zone_rdata.specs.Strings.{AppendsString, StringFault, item_text, string_text, unit_text};
 ghost use Rattle.zone_rdata.specs.Text.{Extends};
 
@@ -11,6 +10,7 @@ use crate::item::Item;
 use crate::reading::are_octets;
 use arrayvec::ArrayVec;
 use std::alloc::AllocError;
+use zone_name::escape_at;
 
 /// What stands at the place of a string's next octet, and what is behind it.
 #[derive(Drop)]
@@ -93,57 +93,13 @@ fn next_at(rest: &[u8]) -> Next<'_>
     let Some((first, after)) = rest.split_first() else {
         return Next::End;
     };
-    if *first == b'\\' {
-        escape_at(after)
-    } else {
-        Next::Octet(*first, after)
+    if *first != b'\\' {
+        return Next::Octet(*first, after);
     }
-}
-
-/// What an escape stands for, behind its backslash (RFC 1035 5.1).
-fn escape_at(after: &[u8]) -> Next<'_>
-    ensures { seen result ≡ escape_place after.now }
-{
-    let Some((first, rest)) = after.split_first() else {
-        return Next::BadEscape;
-    };
-    if is_decimal_digit(*first) {
-        digits_at(*first, rest)
-    } else if *first == b'\n' || *first == b'\r' {
-        Next::BadEscape
-    } else {
-        Next::Octet(*first, rest)
+    match escape_at(after) {
+        Some((octet, rest)) => Next::Octet(octet, rest),
+        None => Next::BadEscape,
     }
-}
-
-/// The octet of three digits, of which the first was read.
-fn digits_at(first: u8, after: &[u8]) -> Next<'_>
-    requires { is_digit first ≡ true }
-    ensures { seen result ≡ digits_place first after.now }
-{
-    match after {
-        [second, third, rest @ ..] => {
-            if !is_decimal_digit(*second) || !is_decimal_digit(*third) {
-                return Next::BadEscape;
-            }
-            let value = 100 * (first - b'0') as u16
-                + 10 * (*second - b'0') as u16
-                + (*third - b'0') as u16;
-            if value <= 255 {
-                Next::Octet(value as u8, rest)
-            } else {
-                Next::BadEscape
-            }
-        }
-        _ => Next::BadEscape,
-    }
-}
-
-/// Whether the octet is a digit.
-fn is_decimal_digit(octet: u8) -> bool
-    ensures { result ≡ is_digit octet }
-{
-    octet >= b'0' && octet <= b'9'
 }
 
 /// The octets of a string's canonical text.

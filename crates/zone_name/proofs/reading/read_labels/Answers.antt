@@ -2,7 +2,7 @@ use Rattle.std.proofs.Common.{◌≡◌, ◌<◌, length, arith, subst, refl}
 use Rattle.zone_name.specs.Seen.{Closes}
 use Rattle.std.proofs.lemmas.Bool.Decides.{nat_tests}
 use Rattle.std.proofs.lemmas.List.{nil_from_length}
-use Rattle.zone_name.proofs.Steps.{Reads-start, reading-nil, Reads-absolute, Reads-relative}
+use Rattle.zone_name.proofs.Steps.{Reads-start, reading-nil, Reads-octet, Reads-absolute, Reads-relative}
 use Rattle.zone_name.proofs.reading.read_labels.Goals as goal
 use Rattle.zone_name.proofs.reading.read_labels.Goals.{then-not-is_empty+in_ok-close-in-End, else-not-is_empty}
 
@@ -11,6 +11,10 @@ returns-then-is_empty-clause-fault c = reading-nil c.args.text.now (grind (arith
 
 pub loop-open-init : goal.loop-open-init
 loop-open-init c = (refl, Reads-start c.args.text.now c.new-open.result.items c.new.result (grind (arith, nat_tests, c.is_empty.ensures, c.if-is_empty.false)) c.new.ensures c.new-open.ensures)
+
+pub loop-open-preserved : goal.loop-open-preserved
+loop-open-preserved c =
+    (c.loop-open.invariant.0, Reads-octet c.args.text.now c.loop-open.spelled.labels c.loop-open.spelled.is_too_long c.loop-open.open.items c.loop-open.rest.now c.in-Octet.after.now c.push.new.self.items c.in-Octet.octet c.loop-open.invariant.1 c.in-Octet.ensures (grind (arith, nat_tests, c.is_full.ensures, c.if-is_full.false)) c.push.ensures.items)
 
 pub returns-in-End-clause-labels : goal.returns-in-End-clause-labels
 returns-in-End-clause-labels c =
