@@ -8,7 +8,7 @@ use Rattle.zone_rdata.specs.declared.fault.Fault.{Fault}
 use Rattle.zone_rdata.specs.declared.fault.Fault.TheVariants.{BadRdata}
 use Rattle.zone_rdata.specs.declared.layout.Field.{Field}
 use Rattle.zone_rdata.specs.declared.layout.Field.TheVariants as fields
-use Rattle.zone_rdata.specs.Builder.{Built, Suits, IsOpaque, IsNext, FitsString, Pushes, IsPushFault, misplaced, long_string, too_long, IsWhole, part_field, more_fields, part_fields, parts_of, AreParts, IsBuilt, IsReal, IsOver, over_string, over_data, Grows, least_of}
+use Rattle.zone_rdata.specs.Builder.{Built, Suits, IsOpaque, IsNext, FitsString, Pushes, IsPushFault, misplaced, long_string, too_long, IsWhole, part_field, more_fields, part_fields, parts_of, ArePushedParts, IsBuilt, IsReal, IsOver, over_string, over_data, Grows, least_of}
 use Rattle.zone_rdata.specs.Field.{FieldValue, name, long, two_octets, fixed, string, strings, field_octets, octets_of, Holds, HoldEach, values_of}
 use Rattle.zone_rdata.specs.Layout.{AreLaidOut, StringsLast, layout}
 use Rattle.zone_rdata.specs.Reading.{item_field}
@@ -21,12 +21,12 @@ length-values_of : (row : List Field) (octets : List ℕ) → length (values_of 
 length-values_of [] octets = refl
 length-values_of (f ∷ row) octets = ap suc (length-values_of row _)
 
-pub parts_length : (laid : Option (List Field)) (count : ℕ) (octets : List ℕ) → AreParts laid count octets → length (parts_of laid count octets) ≡ count
+pub parts_length : (laid : Option (List Field)) (count : ℕ) (octets : List ℕ) → ArePushedParts laid count octets → length (parts_of laid count octets) ≡ count
 parts_length None zero octets held = refl
 parts_length None (suc n) octets held = omega (arith, held)
 parts_length (Some row) n octets held = length-values_of (part_fields row n) octets ∙ held.0
 
-pub parts_octets : (laid : Option (List Field)) (count : ℕ) (octets : List ℕ) → AreParts laid count octets → octets_of (parts_of laid count octets) ≡ octets
+pub parts_octets : (laid : Option (List Field)) (count : ℕ) (octets : List ℕ) → ArePushedParts laid count octets → octets_of (parts_of laid count octets) ≡ octets
 parts_octets None zero octets held = sym held
 parts_octets None (suc n) octets held = append-nil octets
 parts_octets (Some row) n octets held = held.1.whole
@@ -106,11 +106,11 @@ some_field None v s = absurd s
 
 -- the parts with one more
 pub record Pushed (laid : Option (List Field)) (count : ℕ) (octets : List ℕ) (part : FieldValue) : Type 0 where
-  pub held : AreParts laid (suc count) (octets ++ field_octets part)
+  pub held : ArePushedParts laid (suc count) (octets ++ field_octets part)
   pub made : parts_of laid (suc count) (octets ++ field_octets part) ≡ parts_of laid count octets ++ part ∷ []
   pub few : count ≤ length octets + 1 → suc count ≤ length (octets ++ field_octets part) + 1
 
-pushed_field : (row : List Field) (f : Field) (count : ℕ) (octets : List ℕ) (part : FieldValue) → AreParts (Some row) count octets → item_field row count ≡ Some f → Holds (part_field f) part → 0 < length (field_octets part) → Pushed (Some row) count octets part
+pushed_field : (row : List Field) (f : Field) (count : ℕ) (octets : List ℕ) (part : FieldValue) → ArePushedParts (Some row) count octets → item_field row count ≡ Some f → Holds (part_field f) part → 0 < length (field_octets part) → Pushed (Some row) count octets part
 pushed_field row f count octets part held e holds some =
     let here = part_fields row count in
     let values = values_of here octets in
@@ -124,11 +124,11 @@ pushed_field row f count octets part held e holds some =
       few = λ h. omega (arith, length-append octets (field_octets part));
     }
 
-pushed_opaque : (count : ℕ) (octets : List ℕ) (part : FieldValue) → AreParts None count octets → IsOpaque count part → Pushed None count octets part
+pushed_opaque : (count : ℕ) (octets : List ℕ) (part : FieldValue) → ArePushedParts None count octets → IsOpaque count part → Pushed None count octets part
 pushed_opaque zero octets (fixed more) held s = record { held = refl; made = ap (λ o. fixed (o ++ more) ∷ []) held; few = λ h. omega arith }
 pushed_opaque count octets part held s = absurd s
 
-pub pushed_part : (laid : Option (List Field)) (count : ℕ) (octets : List ℕ) (part : FieldValue) → AreParts laid count octets → IsNext laid count part → FitsString part → IsReal part → Pushed laid count octets part
+pub pushed_part : (laid : Option (List Field)) (count : ℕ) (octets : List ℕ) (part : FieldValue) → ArePushedParts laid count octets → IsNext laid count part → FitsString part → IsReal part → Pushed laid count octets part
 pushed_part None count octets part held next fits real = pushed_opaque count octets part held next
 pushed_part (Some row) count octets part held next fits real =
     let f = some_field (item_field row count) part next in
@@ -180,7 +180,7 @@ whole_by (f ∷ g ∷ row) (suc n) (v ∷ values) last past h =
     whole_part fields.Strings v other h = absurd (other refl)
     whole_part f v other h = h
 
-pub whole_laid : (row : List Field) (count : ℕ) (octets : List ℕ) → StringsLast row → length row ≤ count → AreParts (Some row) count octets → AreLaidOut row octets
+pub whole_laid : (row : List Field) (count : ℕ) (octets : List ℕ) → StringsLast row → length row ≤ count → ArePushedParts (Some row) count octets → AreLaidOut row octets
 whole_laid row count octets last past held =
     let whole = whole_by row count (values_of (part_fields row count) octets) last past held.1.held in
     subst (AreLaidOut row) (whole.same ∙ held.1.whole) (laid_out row whole.own last whole.each)
@@ -196,7 +196,7 @@ grows_as octets more new v fits e g = record { string_fits = fits; fits = subst 
 abbrev pub built : ℕ → ℕ → ℕ → List ℕ → Built
 built class kind count octets = record { class = class; kind = kind; parts = parts_of (layout class kind) count octets }
 
-grown_octets : (laid : Option (List Field)) (count : ℕ) (octets : List ℕ) (part : FieldValue) → AreParts laid count octets → octets_of (parts_of laid count octets ++ part ∷ []) ≡ octets ++ field_octets part
+grown_octets : (laid : Option (List Field)) (count : ℕ) (octets : List ℕ) (part : FieldValue) → ArePushedParts laid count octets → octets_of (parts_of laid count octets ++ part ∷ []) ≡ octets ++ field_octets part
 grown_octets laid count octets part held = octets_push (parts_of laid count octets) part ∙ ap (λ o. o ++ field_octets part) (parts_octets laid count octets held)
 
 next_parts : (class kind count : ℕ) (octets : List ℕ) (part : FieldValue) → IsBuilt class kind count octets → IsNext (layout class kind) count part → IsNext (layout class kind) (length (parts_of (layout class kind) count octets)) part
@@ -231,15 +231,15 @@ push_made class kind count octets new b part e is next real g =
     })
 
 -- ---- the end
-pub whole_parts : (laid : Option (List Field)) (count : ℕ) (octets : List ℕ) → AreParts laid count octets → least_of laid ≤ count → IsWhole laid (parts_of laid count octets)
+pub whole_parts : (laid : Option (List Field)) (count : ℕ) (octets : List ℕ) → ArePushedParts laid count octets → least_of laid ≤ count → IsWhole laid (parts_of laid count octets)
 whole_parts None count octets held past = omega (arith, parts_length None count octets held)
 whole_parts (Some row) count octets held past = omega (arith, parts_length (Some row) count octets held)
 
-pub missing_part : (laid : Option (List Field)) (count : ℕ) (octets : List ℕ) → AreParts laid count octets → count < least_of laid → IsWhole laid (parts_of laid count octets) → ⊥
+pub missing_part : (laid : Option (List Field)) (count : ℕ) (octets : List ℕ) → ArePushedParts laid count octets → count < least_of laid → IsWhole laid (parts_of laid count octets) → ⊥
 missing_part None count octets held few whole = omega (arith, parts_length None count octets held)
 missing_part (Some row) count octets held few whole = omega (arith, parts_length (Some row) count octets held)
 
-parts_for : (class kind : ℕ) (laid : Option (List Field)) (count : ℕ) (octets : List ℕ) → laid ≡ layout class kind → AreParts laid count octets → least_of laid ≤ count → AreFor laid octets
+parts_for : (class kind : ℕ) (laid : Option (List Field)) (count : ℕ) (octets : List ℕ) → laid ≡ layout class kind → ArePushedParts laid count octets → least_of laid ≤ count → AreFor laid octets
 parts_for class kind None count octets e held past = tt
 parts_for class kind (Some row) count octets e held past = whole_laid row count octets (table_row class kind row (sym e)).last past held
 

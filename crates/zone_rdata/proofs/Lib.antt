@@ -45,3 +45,4 @@ pub mod UncompressedChoice
 pub mod ItemChoice
 pub mod StatedOctets
 pub mod ValueLaws
+pub mod PrintedWords

@@ -3,7 +3,7 @@ use Rattle.std.proofs.Common.{◌≡◌, ℕ, ◌<◌, Bool, true, false, List, 
 use Rattle.std.specs.List.{AllByRecursion, flat_map, sum_by}
 use Rattle.std.proofs.lemmas.List.{append-nil}
 use Rattle.zone_name.specs.Spelling.{is_digit}
-use Rattle.zone_rdata.specs.Number.{Group, IsGroup, group_text, group_seconds, unit_seconds, IsDecimal, IsTime, plain, grouped}
+use Rattle.zone_rdata.specs.Number.{Group, IsTimeGroup, group_text, group_seconds, unit_seconds, IsDecimal, IsTime, plain, grouped}
 use Rattle.zone_rdata.proofs.Decimal.{digits_push}
 use Rattle.zone_rdata.proofs.GenericLaws.{decimal_or_not}
 use Rattle.zone_rdata.proofs.Times.{AreDigits, run_split, no_run, run_nil, unit_no_digit}
@@ -11,7 +11,7 @@ use Rattle.zone_rdata.proofs.Times.{AreDigits, run_split, no_run, run_nil, unit_
 -- groups whose text this is
 record AreGroups (text : List ℕ) : Type 0 where
   pub groups : List Group
-  pub each : AllByRecursion IsGroup groups
+  pub each : AllByRecursion IsTimeGroup groups
   pub parts : text ≡ flat_map group_text groups
 
 abbrev Choice : List ℕ → Type 0
@@ -22,7 +22,7 @@ first_text : (g : Group) (groups : List Group) → flat_map group_text (g ∷ gr
 first_text g groups = append_assoc g.digits (g.letter ∷ []) (flat_map group_text groups)
 
 -- digits without a unit behind them
-no_unit_by : (digits : List ℕ) (groups : List Group) → AreDigits digits → 0 < length digits → AllByRecursion IsGroup groups → digits ≡ flat_map group_text groups → ⊥
+no_unit_by : (digits : List ℕ) (groups : List Group) → AreDigits digits → 0 < length digits → AllByRecursion IsTimeGroup groups → digits ≡ flat_map group_text groups → ⊥
 no_unit_by digits [] all some each e = omega (arith, ap length e)
 no_unit_by digits (g ∷ groups) all some each e = no_run g.digits g.letter (flat_map group_text groups) digits all (unit_no_digit g.letter g.unit each.0.lasts) (sym (e ∙ first_text g groups))
 
@@ -37,7 +37,7 @@ record FirstGroup (digits : List ℕ) (c : ℕ) (rest : List ℕ) : Type 0 where
   pub lasts : unit_seconds c ≡ Some unit
   pub more : AreGroups rest
 
-first_group_by : (digits rest : List ℕ) (c : ℕ) (groups : List Group) → AreDigits digits → is_digit c ≡ false → AllByRecursion IsGroup groups → digits ++ c ∷ rest ≡ flat_map group_text groups → FirstGroup digits c rest
+first_group_by : (digits rest : List ℕ) (c : ℕ) (groups : List Group) → AreDigits digits → is_digit c ≡ false → AllByRecursion IsTimeGroup groups → digits ++ c ∷ rest ≡ flat_map group_text groups → FirstGroup digits c rest
 first_group_by digits rest c [] all no_digit each e = absurd (run_nil digits c rest e)
 first_group_by digits rest c (g ∷ groups) all no_digit each e =
     let cut = run_split digits g.digits c g.letter rest (flat_map group_text groups) all each.0.each no_digit (unit_no_digit g.letter g.unit each.0.lasts) (e ∙ first_text g groups) in

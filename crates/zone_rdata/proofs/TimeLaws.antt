@@ -5,12 +5,12 @@ use Rattle.std.specs.List.{AllByRecursion, flat_map, sum_by}
 use Rattle.std.proofs.lemmas.List.{append-nil}
 use Rattle.std.proofs.lemmas.List.Sums.{sum_by-append}
 use Rattle.zone_rdata.proofs.Times.{run_split, run_nil, unit_no_digit, first_unit}
-use Rattle.zone_rdata.specs.Number.{Group, IsGroup, group_text, group_seconds, decimal_value, unit_seconds, IsDecimal, IsTime, plain, grouped}
+use Rattle.zone_rdata.specs.Number.{Group, IsTimeGroup, group_text, group_seconds, decimal_value, unit_seconds, IsDecimal, IsTime, plain, grouped}
 
 same_unit : (c d u v : ℕ) → c ≡ d → unit_seconds c ≡ Some u → unit_seconds d ≡ Some v → u ≡ v
 same_unit c d u v e a b = let h : Some u ≡ Some v = sym a ∙ ap unit_seconds e ∙ b in cc
 
-groups_same : (groups other : List Group) → AllByRecursion IsGroup groups → AllByRecursion IsGroup other → flat_map group_text groups ≡ flat_map group_text other → sum_by group_seconds groups ≡ sum_by group_seconds other
+groups_same : (groups other : List Group) → AllByRecursion IsTimeGroup groups → AllByRecursion IsTimeGroup other → flat_map group_text groups ≡ flat_map group_text other → sum_by group_seconds groups ≡ sum_by group_seconds other
 groups_same [] [] x y e = refl
 groups_same [] (h ∷ other) x y e = absurd (run_nil h.digits h.letter (flat_map group_text other) (sym (append_assoc h.digits (h.letter ∷ []) (flat_map group_text other)) ∙ sym e))
 groups_same (g ∷ groups) [] x y e = absurd (run_nil g.digits g.letter (flat_map group_text groups) (sym (append_assoc g.digits (g.letter ∷ []) (flat_map group_text groups)) ∙ e))
@@ -21,7 +21,7 @@ groups_same (g ∷ groups) (h ∷ other) x y e =
     let first : group_seconds g ≡ group_seconds h = ap (λ t. decimal_value t * g.unit) cut.0 ∙ ap (λ u. decimal_value h.digits * u) unit in
     sum_by-append group_seconds (g ∷ []) groups ∙ ap (λ n. sum_by group_seconds (g ∷ []) + n) rest ∙ ap (λ n. 0 + n + sum_by group_seconds other) first ∙ sym (sum_by-append group_seconds (h ∷ []) other)
 
-mixed : (text : List ℕ) (groups : List Group) → 0 < length groups → AllByRecursion IsGroup groups → text ≡ flat_map group_text groups → (n : ℕ) → IsDecimal text n → ⊥
+mixed : (text : List ℕ) (groups : List Group) → 0 < length groups → AllByRecursion IsTimeGroup groups → text ≡ flat_map group_text groups → (n : ℕ) → IsDecimal text n → ⊥
 mixed text groups some each parts n h = first_unit groups [] text each some h.digits (parts ∙ sym (append-nil (flat_map group_text groups)))
 
 pub one_time : (text : List ℕ) (m n : ℕ) → IsTime text m → IsTime text n → m ≡ n

@@ -11,7 +11,7 @@ use Rattle.std.proofs.Math.Nat.{le-mul_of_pos_right, min-eq_left, min-eq_right, 
 use Rattle.zone_rdata.proofs.Decimal.{value_push, digits_push}
 use Rattle.zone_name.specs.Spelling.{is_digit}
 use Rattle.zone_rdata.specs.declared.time.Progress.{Progress}
-use Rattle.zone_rdata.specs.Number.{Group, IsGroup, group_text, group_seconds, decimal_value, unit_seconds, IsTime, plain, grouped}
+use Rattle.zone_rdata.specs.Number.{Group, IsTimeGroup, group_text, group_seconds, decimal_value, unit_seconds, IsTime, plain, grouped}
 use Rattle.zone_rdata.specs.Time.{Reads}
 
 abbrev pub AreDigits : List ℕ → Type 0
@@ -43,12 +43,12 @@ pub run_nil : (a : List ℕ) (c : ℕ) (r : List ℕ) → a ++ c ∷ r ≡ [] �
 run_nil [] c r e = cc
 run_nil (a ∷ as_) c r e = cc
 
-each_push : (groups : List Group) (g : Group) → AllByRecursion IsGroup groups → IsGroup g → AllByRecursion IsGroup (groups ++ g ∷ [])
+each_push : (groups : List Group) (g : Group) → AllByRecursion IsTimeGroup groups → IsTimeGroup g → AllByRecursion IsTimeGroup (groups ++ g ∷ [])
 each_push [] g each h = (h, tt)
 each_push (x ∷ groups) g each h = (each.0, each_push groups g each.1 h)
 
 -- groups and digits: what a text may be cut into
-groups_run : (groups other : List Group) (a : List ℕ) (c : ℕ) (r : List ℕ) → AllByRecursion IsGroup groups → AllByRecursion IsGroup other → AreDigits a → is_digit c ≡ false → (0 < length a → (u : ℕ) → unit_seconds c ≡ Some u → ⊥) → flat_map group_text groups ++ (a ++ c ∷ r) ≡ flat_map group_text other → ⊥
+groups_run : (groups other : List Group) (a : List ℕ) (c : ℕ) (r : List ℕ) → AllByRecursion IsTimeGroup groups → AllByRecursion IsTimeGroup other → AreDigits a → is_digit c ≡ false → (0 < length a → (u : ℕ) → unit_seconds c ≡ Some u → ⊥) → flat_map group_text groups ++ (a ++ c ∷ r) ≡ flat_map group_text other → ⊥
 groups_run [] [] a c r x y digits p none e = run_nil a c r e
 groups_run [] (h ∷ other) a c r x y digits p none e =
     let cut = run_split a h.digits c h.letter r (flat_map group_text other) digits y.0.each p (unit_no_digit h.letter h.unit y.0.lasts) (e ∙ append_assoc h.digits (h.letter ∷ []) (flat_map group_text other)) in
@@ -60,7 +60,7 @@ groups_run (g ∷ groups) (h ∷ other) a c r x y digits p none e =
     groups_run groups other a c r x.1 y.1 digits p none cut.2
 
 -- groups are not followed by digits
-groups_open : (groups other : List Group) (a : List ℕ) → AllByRecursion IsGroup groups → AllByRecursion IsGroup other → AreDigits a → 0 < length a → flat_map group_text groups ++ a ≡ flat_map group_text other → ⊥
+groups_open : (groups other : List Group) (a : List ℕ) → AllByRecursion IsTimeGroup groups → AllByRecursion IsTimeGroup other → AreDigits a → 0 < length a → flat_map group_text groups ++ a ≡ flat_map group_text other → ⊥
 groups_open [] [] a x y digits some e = let k = ap length e in omega arith
 groups_open [] (h ∷ other) a x y digits some e = no_run h.digits h.letter (flat_map group_text other) a digits (unit_no_digit h.letter h.unit y.0.lasts) (sym (e ∙ append_assoc h.digits (h.letter ∷ []) (flat_map group_text other)))
 groups_open (g ∷ groups) [] a x y digits some e = run_nil g.digits g.letter (flat_map group_text groups ++ a) (sym (ap (λ t. t ++ a) (append_assoc g.digits (g.letter ∷ []) (flat_map group_text groups)) ∙ append_assoc g.digits (g.letter ∷ flat_map group_text groups) a) ∙ e)
@@ -127,7 +127,7 @@ no_groups : (groups : List Group) → (0 < length groups → ⊥) → groups ≡
 no_groups [] h = refl
 no_groups (g ∷ groups) h = absurd (h (omega arith))
 
-pub first_unit : (groups : List Group) (digits text : List ℕ) → AllByRecursion IsGroup groups → 0 < length groups → AreDigits text → text ≡ flat_map group_text groups ++ digits → ⊥
+pub first_unit : (groups : List Group) (digits text : List ℕ) → AllByRecursion IsTimeGroup groups → 0 < length groups → AreDigits text → text ≡ flat_map group_text groups ++ digits → ⊥
 first_unit [] digits text each some all e = omega arith
 first_unit (g ∷ groups) digits text each some all e = no_run g.digits g.letter (flat_map group_text groups ++ digits) text all (unit_no_digit g.letter g.unit each.0.lasts) (sym (e ∙ ap (λ t. t ++ digits) (append_assoc g.digits (g.letter ∷ []) (flat_map group_text groups)) ∙ append_assoc g.digits (g.letter ∷ flat_map group_text groups) digits))
 

@@ -1,11 +1,11 @@
 -- Values of a layout are data, and without strings they are short.
-use Rattle.std.proofs.Common.{◌≡◌, ◌≢◌, ℕ, ◌*◌, ◌≤◌, List, [], ◌∷◌, length, Some, refl, sym, subst, arith, length-append, inl, inr}
+use Rattle.std.proofs.Common.{◌≡◌, ◌≢◌, ℕ, ◌*◌, ◌≤◌, List, [], ◌∷◌, length, Some, refl, sym, ap, ◌∙◌, subst, arith, length-append, inl, inr}
 use Rattle.std.specs.List.{AllByRecursion}
 use Rattle.zone_rdata.specs.declared.layout.Field.{Field}
 use Rattle.zone_rdata.specs.declared.layout.Field.TheVariants.{Name, Serial, Time, U16, Octets, OneString, Strings}
-use Rattle.zone_rdata.specs.Field.{FieldValue, name, long, two_octets, fixed, string, field_octets, octets_of, Holds, HoldEach}
+use Rattle.zone_rdata.specs.Field.{FieldValue, name, long, two_octets, fixed, string, field_octets, octets_of, values_of, Holds, HoldEach}
 use Rattle.zone_rdata.specs.Layout.{IsData, IsSized, layout}
-use Rattle.zone_rdata.proofs.Fields.{AreFor, laid_out, table_row}
+use Rattle.zone_rdata.proofs.Fields.{AreFor, laid_out, table_row, values_back}
 use Rattle.zone_rdata.proofs.StatedOctets.{low_values}
 
 pub held_data : (class kind : ℕ) (row : List Field) (values : List FieldValue) → layout class kind ≡ Some row → HoldEach row values → length (octets_of values) ≤ 65535 → IsData class kind (octets_of values)
@@ -41,3 +41,8 @@ stringless_short class kind row values e others held =
     let table = table_row class kind row e in
     let total = short_values row values others table.sized held in
     omega (arith, table.few, total)
+
+pub equal_values : (class kind : ℕ) (row : List Field) (values others : List FieldValue) → layout class kind ≡ Some row → HoldEach row values → HoldEach row others → octets_of values ≡ octets_of others → values ≡ others
+equal_values class kind row values others e held other_held same =
+    let last = (table_row class kind row e).last in
+    sym (values_back row values last held) ∙ ap (values_of row) same ∙ values_back row others last other_held

@@ -8,7 +8,7 @@ use Rattle.zone_rdata.specs.declared.layout.Field.{Field}
 use Rattle.zone_rdata.specs.declared.layout.Layout.{Layout}
 use Rattle.zone_rdata.specs.Layout.{IsData, StringsLast, AreLaidOut, fields_of, layout}
 use Rattle.zone_rdata.specs.Spelling.{IsCanonicalOf}
-use Rattle.zone_rdata.specs.Wire.{IsWireFault, no_value}
+use Rattle.zone_rdata.specs.Wire.{IsWireData, IsWireFault, no_value}
 use Rattle.zone_rdata.proofs.Fields.{AreFor, laid_out, table_row}
 use Rattle.zone_rdata.proofs.SentLengths.{uncompressed_length}
 use Rattle.zone_rdata.proofs.Taken.{canonical-once}
@@ -46,3 +46,7 @@ canonical_only class kind laid octets a b e x y = only_by class kind laid octets
 pub wire_fault : (class kind : ℕ) (laid : Option (List Field)) (octets : List ℕ) (fault : Fault) → laid ≡ layout class kind → length octets ≤ 65535 → (fault ≡ BadRdata) × ((canonical : List ℕ) → IsCanonicalOf laid octets canonical → ⊥) → IsWireFault (layout class kind) octets fault
 wire_fault class kind laid octets fault e short bad =
     subst (IsWireFault (layout class kind) octets) (sym bad.0) (no_value short (λ canonical is. bad.1 canonical (subst (λ l. IsCanonicalOf l octets canonical) (sym e) is)))
+
+-- octets that stand for data aren't refused
+pub wire_data_taken : (class kind : ℕ) (laid : Option (List Field)) (octets canonical : List ℕ) (fault : Fault) → laid ≡ layout class kind → IsWireData (layout class kind) octets canonical → (fault ≡ BadRdata) × ((canonical : List ℕ) → IsCanonicalOf laid octets canonical → ⊥) → ⊥
+wire_data_taken class kind laid octets canonical fault e is bad = bad.1 canonical (subst (λ l. IsCanonicalOf l octets canonical) (sym e) is.stands)

@@ -88,17 +88,17 @@ parts_of None (suc n) octets = fixed octets ∷ []
 parts_of (Some fields) n octets = values_of (part_fields fields n) octets
 
 -- the octets are those of so many parts
-abbrev pub AreParts : Option (List Field) → ℕ → List ℕ → Type 0
-AreParts None zero octets = octets ≡ []
-AreParts None (suc n) octets = n ≡ 0
-AreParts (Some fields) n octets = (length (part_fields fields n) ≡ n) × AreLaidOut (part_fields fields n) octets
+abbrev pub ArePushedParts : Option (List Field) → ℕ → List ℕ → Type 0
+ArePushedParts None zero octets = octets ≡ []
+ArePushedParts None (suc n) octets = n ≡ 0
+ArePushedParts (Some fields) n octets = (length (part_fields fields n) ≡ n) × AreLaidOut (part_fields fields n) octets
 
 pub record IsBuilt (class kind count : ℕ) (octets : List ℕ) : Type 0 where
   pub is_class : IsClass class
   pub is_kind : IsKind kind
   pub short : length octets ≤ 65535
   pub few : count ≤ length octets + 1
-  pub held : AreParts (layout class kind) count octets
+  pub held : ArePushedParts (layout class kind) count octets
 
 -- a value that a part can be
 abbrev pub IsReal : FieldValue → Type 0

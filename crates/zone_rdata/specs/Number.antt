@@ -30,7 +30,7 @@ pub record Group : Type 0 where
   pub letter : ℕ
   pub unit : ℕ
 
-pub record IsGroup (g : Group) : Type 0 where
+pub record IsTimeGroup (g : Group) : Type 0 where
   pub some : 0 < length g.digits
   pub each : AllByRecursion (λ c. is_digit c ≡ true) g.digits
   pub lasts : unit_seconds g.letter ≡ Some g.unit
@@ -44,4 +44,4 @@ group_seconds g = decimal_value g.digits * g.unit
 -- a number of seconds, or one or more groups that are summed
 pub data IsTime (text : List ℕ) (n : ℕ) : Type 0 where
   plain : IsDecimal text n → IsTime text n
-  grouped : (groups : List Group) → 0 < length groups → AllByRecursion IsGroup groups → text ≡ flat_map group_text groups → n ≡ sum_by group_seconds groups → IsTime text n
+  grouped : (groups : List Group) → 0 < length groups → AllByRecursion IsTimeGroup groups → text ≡ flat_map group_text groups → n ≡ sum_by group_seconds groups → IsTime text n

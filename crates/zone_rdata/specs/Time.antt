@@ -3,13 +3,13 @@ use Rattle.std.specs.Prelude.{◌≡◌, ℕ, ◌<◌, ◌↔◌, List, ◌++◌
 use Rattle.std.specs.List.{AllByRecursion, flat_map, sum_by}
 use Rattle.zone_name.specs.Spelling.{is_digit}
 use Rattle.zone_rdata.specs.declared.time.Progress.{Progress}
-use Rattle.zone_rdata.specs.Number.{Group, IsGroup, group_text, group_seconds, decimal_value}
+use Rattle.zone_rdata.specs.Number.{Group, IsTimeGroup, group_text, group_seconds, decimal_value}
 
 pub record Reads (text : List ℕ) (p : Progress) : Type 0 where
   pub groups : List Group
   pub digits : List ℕ
   pub parts : text ≡ flat_map group_text groups ++ digits
-  pub each : AllByRecursion IsGroup groups
+  pub each : AllByRecursion IsTimeGroup groups
   pub last : AllByRecursion (λ c. is_digit c ≡ true) digits
   pub total : p.total ≡ min 4294967296 (sum_by group_seconds groups)
   pub number : p.number ≡ min 4294967296 (decimal_value digits)

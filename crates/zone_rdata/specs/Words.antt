@@ -7,7 +7,7 @@ use Rattle.zone_rdata.specs.declared.layout.Field.{Field}
 use Rattle.zone_rdata.specs.Number.{IsDecimal}
 use Rattle.zone_rdata.specs.Layout.{layout}
 
--- a class that can hold zone data: not 0, NONE 254, ANY 255
+-- a class that can hold zone data: not 0, NONE 254, ANY 255 (RFC 6895 3.2)
 pub record IsClass (n : ℕ) : Type 0 where
   pub short : n < 65536
   pub not_zero : n ≢ 0

@@ -8,7 +8,7 @@ ghost use Rattle.zone_rdata.specs.Minimum.{minimum};
 ghost use Rattle.zone_rdata.specs.Record.{Data, IsRdata};
 ghost use Rattle.zone_rdata.specs.Spelling.{IsCanonicalOf, States, StatesFor};
 ghost use Rattle.zone_rdata.specs.Text.{data_text};
-ghost use Rattle.zone_rdata.specs.Wire.{IsWireFault};
+ghost use Rattle.zone_rdata.specs.Wire.{IsWireData, IsWireFault};
 
 use crate::class::Class;
 use crate::fault::{Failing, Fault};
@@ -126,8 +126,8 @@ impl Rdata {
     ) -> Result<Rdata, Failing>
         ensures class { IfOk result (λ d. d.class ≡ class) }
         ensures kind { IfOk result (λ d. d.kind ≡ kind) }
-        ensures found { IfOk result (λ d. IsCanonicalOf (layout class kind) octets.now d.octets) }
-        ensures only { IfOk result (λ d. (canonical : List ℕ) → IsCanonicalOf (layout class kind) octets.now canonical → d.octets ≡ canonical) }
+        ensures found { IfOk result (λ d. IsWireData (layout class kind) octets.now d.octets) }
+        ensures only { (canonical : List ℕ) → IsWireData (layout class kind) octets.now canonical → IfOk result (λ d. d.octets ≡ canonical) × IfErr result (λ e. e ≡ Failing.Memory) }
         ensures fault { IfErr result (IfFault (IsWireFault (layout class kind) octets.now)) }
     {
         if octets.len() > LONGEST_DATA {

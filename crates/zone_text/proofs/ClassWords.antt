@@ -9,7 +9,7 @@ use Rattle.std.proofs.lemmas.Slice.Eq.{bytes_eq-Decides}
 use Rattle.std.proofs.lemmas.List.{map-append, length-map, take-append-drop, take-map}
 use Rattle.zone_name.specs.Name.{folded_octet, folded_label}
 use Rattle.zone_name.specs.Spelling.{is_digit}
-use Rattle.zone_rdata.specs.Number.{decimal_value, IsDecimal, IsTime, plain, grouped, Group, IsGroup, group_text}
+use Rattle.zone_rdata.specs.Number.{decimal_value, IsDecimal, IsTime, plain, grouped, Group, IsTimeGroup, group_text}
 use Rattle.zone_rdata.specs.Words.{IsNumbered, IsClassWord, class_named, class_numbered, class_mnemonic}
 use Rattle.zone_text.specs.Forms.{begins_with_digit, are_digits, is_class_word}
 
@@ -69,7 +69,7 @@ digits_first : (text rest : List ℕ) → 0 < length text → AllByRecursion (λ
 digits_first [] rest some each = absurd (omega arith)
 digits_first (c ∷ text) rest some each = each.0
 
-groups_first : (groups : List Group) → 0 < length groups → AllByRecursion IsGroup groups → begins_with_digit (flat_map group_text groups) ≡ true
+groups_first : (groups : List Group) → 0 < length groups → AllByRecursion IsTimeGroup groups → begins_with_digit (flat_map group_text groups) ≡ true
 groups_first [] some each = absurd (omega arith)
 groups_first (g ∷ groups) some each = rw (append_assoc) (digits_first g.digits (g.letter ∷ [] ++ flat_map group_text groups) each.0.some each.0.each)
 

@@ -16,3 +16,8 @@ pub fn held_values_are_data()
 pub fn values_without_strings_are_short()
     ensures { (class kind : ℕ) (fields : List Field) (values : List FieldValue) → layout class kind ≡ Some fields → AllByRecursion (λ field. field ≢ Strings) fields → HoldEach fields values → length (octets_of values) ≤ 65535 }
 {}
+
+/// Values of a layout with the same octets are the same values.
+pub fn equal_octets_are_equal_values()
+    ensures { (class kind : ℕ) (fields : List Field) (values others : List FieldValue) → layout class kind ≡ Some fields → HoldEach fields values → HoldEach fields others → octets_of values ≡ octets_of others → values ≡ others }
+{}

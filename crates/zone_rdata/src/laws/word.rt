@@ -1,7 +1,7 @@
 //! Laws of words and times in text (RFC 1035 5.1, RFC 3597 5).
 ghost use Rattle.std.specs.Prelude.{◌≡◌, ◌⊎◌, List, ℕ};
 ghost use Rattle.zone_rdata.specs.Number.{IsDecimal, IsTime};
-ghost use Rattle.zone_rdata.specs.Words.{IsClassWord, IsKind, IsKindWord, IsWordFault};
+ghost use Rattle.zone_rdata.specs.Words.{IsClass, IsClassWord, IsKind, IsKindWord, IsWordFault, class_text, kind_text};
 ghost use Rattle.zone_rdata.specs.declared.fault.Fault.{Fault};
 
 /// A text states at most one time.
@@ -39,4 +39,10 @@ pub fn class_word_or_none()
 /// A word is that of a type of which records can be, or has a fault at a type's place.
 pub fn kind_word_or_fault()
     ensures { (word : List ℕ) → ((n : ℕ) × (IsKindWord word n × IsKind n)) ⊎ ((fault : Fault) × IsWordFault word fault) }
+{}
+
+/// The word that is printed for a class is that of the class, and the one for a type, in any class, that of the type.
+pub fn printed_words_are_read()
+    ensures class { (n : ℕ) → IsClass n → IsClassWord (class_text n) n }
+    ensures kind { (class n : ℕ) → IsKind n → IsKindWord (kind_text class n) n }
 {}
