@@ -11,7 +11,7 @@ use Rattle.zone_text.specs.Breaks.{IsBroken, closes_nothing, no_escape, no_quote
 use Rattle.zone_text.specs.Cutting.{Units, units_then, units_by, units_first, unit_first, before_line_feed, from_line_feed, Sign, a_blank, a_line_feed, an_opening, a_closing, a_semicolon, a_quote, of_item, sign_of, Front, takes, stops, is_quote, quoted_front, bare_front, front_by, end_front, front_of}
 use Rattle.zone_text.proofs.Octets.{IsUnit, NoUnit, at_end, at_octet, at_backslash, IsFirst, first_is, first_of_unit, first_of_none, bare_unit, unit_of_bare, quoted_unit, unit_of_quoted}
 
-each_so : {A : Type 0} {P Q : A → Type 0} (xs : List A) → ((x : A) → P x → Q x) → AllByRecursion P xs → AllByRecursion Q xs
+pub each_so : {A : Type 0} {P Q : A → Type 0} (xs : List A) → ((x : A) → P x → Q x) → AllByRecursion P xs → AllByRecursion Q xs
 each_so [] more each = tt
 each_so (x ∷ xs) more each = (more x each.0, each_so xs more each.1)
 

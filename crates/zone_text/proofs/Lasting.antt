@@ -213,7 +213,7 @@ begins_none rest more after (decimal u v w) (too_great x y z others e is is_one 
     let few : octet_of (decimal u v w) ≤ 255 = written.3 in
     omega arith
 
-begins_backslash : (rest : List ℕ) → IsLostEscape rest → (after : List ℕ) × (rest ≡ 92 ∷ after)
+pub begins_backslash : (rest : List ℕ) → IsLostEscape rest → (after : List ℕ) × (rest ≡ 92 ∷ after)
 begins_backslash rest (at_line_end c others e is) = (c ∷ others, e)
 begins_backslash rest (one_digit x c others e is is_not) = (x ∷ c ∷ others, e)
 begins_backslash rest (two_digits x y c others e is is_one is_not) = (x ∷ y ∷ c ∷ others, e)
@@ -269,7 +269,7 @@ stays_more rest more (escape_stays lost) = escape_stays (lost_more rest more los
 stays_more rest more (quoted_escape_stays units after each whole lost) =
     quoted_escape_stays units (after ++ more) each (ap (λ t. t ++ more) whole ∙ ap (λ t. 34 ∷ t) (append_assoc (written_text units) after more)) (lost_more after more lost)
 
-stays_some : (rest : List ℕ) → StaysBroken rest → rest ≡ [] → ⊥
+pub stays_some : (rest : List ℕ) → StaysBroken rest → rest ≡ [] → ⊥
 stays_some rest (closing_stays after e) none = cc
 stays_some rest (escape_stays lost) none = let begins : rest ≡ 92 ∷ (begins_backslash rest lost).0 = (begins_backslash rest lost).1 in cc
 stays_some rest (quoted_escape_stays units after each whole lost) none = cc
