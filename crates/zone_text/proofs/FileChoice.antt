@@ -7,6 +7,7 @@ use Rattle.zone_rdata.specs.Spelling.{RawItem}
 use Rattle.zone_rdata.specs.declared.fault.Fault.{Fault}
 use Rattle.zone_rdata.specs.declared.fault.Place.TheVariants.{Line}
 use Rattle.zone_rdata.specs.declared.record.Placed.{Placed}
+use Rattle.zone_name.specs.Spelling.{written_text}
 use Rattle.zone_text.specs.Breaks.{Breaks}
 use Rattle.zone_text.specs.Decided.{Decided, decided, undecided}
 use Rattle.zone_text.specs.Entries.{Entry, Cut, and_last, cut_from, item_of, numbered, entries_of, ended_entries, open_line}
@@ -14,7 +15,7 @@ use Rattle.zone_text.specs.FileReads.{Ending, reads_none, reads_one, refused, Re
 use Rattle.zone_text.specs.Lasting.{StaysBroken, BreaksAtEnd}
 use Rattle.zone_text.specs.Lower.{Lower, Choices}
 use Rattle.zone_text.specs.Outcome.{AllState, AreLowItems}
-use Rattle.zone_text.specs.Pieces.{Piece, blank, opening, closing, line_feed, comment, bare, quoted, piece_text, text, written_text, Cuts}
+use Rattle.zone_text.specs.Pieces.{Piece, blank, opening, closing, line_feed, comment, bare, quoted, piece_text, text, Cuts}
 use Rattle.zone_text.proofs.Cuttings.{cut_not_broken, cut_or_broken}
 use Rattle.zone_text.proofs.Ending.{entries_text}
 use Rattle.zone_text.proofs.EntryOutcome.{Outcome, entry_outcome}

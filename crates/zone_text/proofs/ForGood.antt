@@ -3,12 +3,13 @@ use Rattle.std.proofs.Common.{◌≡◌, ℕ, true, false, List, [], ◌∷◌, 
 use Rattle.std.specs.List.{AllByRecursion}
 use Rattle.std.proofs.lemmas.Bool.{both_ways}
 use Rattle.std.proofs.lemmas.List.{append-nil, append_cancel_left}
-use Rattle.zone_name.specs.Spelling.{Written, is_digit}
+use Rattle.zone_name.specs.Spelling.{Written, is_digit, written_text}
 use Rattle.zone_rdata.specs.declared.fault.Fault.{Fault}
+use Rattle.zone_rdata.specs.Strings.{IsQuotedUnit}
 use Rattle.zone_text.specs.Breaks.{Breaks}
 use Rattle.zone_text.specs.Cutting.{Units, is_quote}
 use Rattle.zone_text.specs.Lasting.{IsLostEscape, at_line_end, one_digit, two_digits, too_great, IsCutOff, behind_backslash, behind_digit, behind_two_digits, StaysBroken, closing_stays, escape_stays, quoted_escape_stays, BreaksAtEnd, nothing_left, quote_open, escape_open, quoted_escape_open, BreaksForGood}
-use Rattle.zone_text.specs.Pieces.{Piece, text, written_text, IsQuotedUnit}
+use Rattle.zone_text.specs.Pieces.{Piece, text}
 use Rattle.zone_text.proofs.Escapes.{malformed_is_bad}
 use Rattle.zone_text.proofs.Fronts.{each_so, units_first_only}
 use Rattle.zone_text.proofs.Lasting.{begins_backslash, stays_some}

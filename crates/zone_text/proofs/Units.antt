@@ -3,8 +3,8 @@ use Rattle.std.proofs.Common.{◌≡◌, ℕ, suc, ◌+◌, ◌-◌, ◌*◌, �
 use Rattle.std.specs.List.{AllByRecursion}
 use Rattle.std.proofs.Math.Seq.{take-length}
 use Rattle.std.proofs.lemmas.List.{flat_map_more}
-use Rattle.zone_name.specs.Spelling.{Written, plain, escaped, decimal, text_of, is_digit}
-use Rattle.zone_text.specs.Pieces.{IsBareUnit, written_text}
+use Rattle.zone_name.specs.Spelling.{Written, plain, escaped, decimal, text_of, is_digit, written_text}
+use Rattle.zone_text.specs.Pieces.{IsBareUnit}
 use Rattle.zone_text.specs.Lines.{BeginsWithUnit, BeginsWithEscape, BeginsWithUnits}
 
 -- all of a list is its front of its own length

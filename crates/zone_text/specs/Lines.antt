@@ -1,7 +1,7 @@
 -- Master files as far as they are read: lines of bare items parted by blanks, a record each (RFC 1035 5.1).
 use Rattle.std.specs.Prelude.{◌≡◌, ◌≢◌, ℕ, ◌+◌, List, [], ◌∷◌, ◌++◌, true, false, count_by, ◌==◌, Some, None, IfSome, ⊤}
 use Rattle.std.specs.List.{flat_map, AllByRecursion}
-use Rattle.zone_name.specs.Spelling.{Written, text_of, Spells}
+use Rattle.zone_name.specs.Spelling.{Written, text_of, Spells, written_text}
 use Rattle.zone_rdata.specs.Number.{IsTime}
 use Rattle.zone_rdata.specs.Record.{Record, IsRecord}
 use Rattle.zone_rdata.specs.Spelling.{RawItem, States}
@@ -10,7 +10,7 @@ use Rattle.zone_rdata.specs.Words.{IsClassWord, IsKindWord}
 use Rattle.zone_rdata.specs.declared.source.Reading.{Reading}
 use Rattle.zone_rdata.specs.declared.fault.Place.{Place}
 use Rattle.zone_rdata.specs.declared.fault.Place.TheVariants.{Line}
-use Rattle.zone_text.specs.Pieces.{Piece, blank, bare, line_feed, text, written_text, is_blank, IsBareUnit, IsPiece, AllFollow}
+use Rattle.zone_text.specs.Pieces.{Piece, blank, bare, line_feed, text, is_blank, IsBareUnit, IsPiece, AllFollow}
 use Rattle.zone_text.specs.Entries.{Entry, entry_of, item_of}
 use Rattle.zone_text.specs.Inherited.{origin_text}
 use Rattle.zone_text.specs.Records.{StatesRecord}
