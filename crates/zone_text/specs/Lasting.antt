@@ -1,4 +1,5 @@
--- What is settled of a text by its front, whatever octets come behind it (RFC 1035 5.1).
+-- What is settled of a text by its front, whatever octets come behind it. This is this project's own: RFC 1035 speaks of
+-- whole files.
 use Rattle.std.specs.Prelude.{◌≡◌, ℕ, ◌<◌, List, [], ◌∷◌, ◌++◌, true, false, ◌⊎◌, ⊤}
 use Rattle.std.specs.List.{AllByRecursion}
 use Rattle.zone_name.specs.Spelling.{Written, decimal, octet_of, is_digit, written_text}

@@ -43,12 +43,6 @@ pub record BeginsWithEscape (octets rest : List ℕ) : Type 0 where
   pub each : IsBareUnit unit
   pub whole : 92 ∷ octets ≡ text_of unit ++ rest
 
--- the text begins with the written octets of a bare item
-pub record BeginsWithUnits (octets rest : List ℕ) : Type 0 where
-  pub units : List Written
-  pub each : AllByRecursion IsBareUnit units
-  pub whole : octets ≡ written_text units ++ rest
-
 -- the text is a bare item and what follows it
 pub record IsItemThen (octets item rest : List ℕ) : Type 0 where
   pub units : List Written

@@ -48,7 +48,7 @@ IsPiece (comment octets) = AllByRecursion (λ c. c ≢ 10) octets
 IsPiece (bare units) = (0 < length units) × AllByRecursion IsBareUnit units
 IsPiece (quoted units) = AllByRecursion IsQuotedUnit units
 
--- no bare item directly follows a bare item, and after a comment comes a line feed
+-- no bare item directly follows a bare item, and after a comment comes a line feed or the end of the text
 abbrev pub MayFollow : Piece → Piece → Type 0
 MayFollow (bare units) (bare more) = ⊥
 MayFollow (comment octets) line_feed = ⊤
