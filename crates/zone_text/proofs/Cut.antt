@@ -2,10 +2,10 @@
 use Rattle.std.proofs.Common.{◌≡◌, ℕ, ◌<◌, ◌≤◌, List, [], ◌∷◌, ◌++◌, length, get_or, true, false, refl, ap, sym, ◌∙◌, arith, append_assoc, subst}
 use Rattle.std.specs.List.{flat_map, AllByRecursion}
 use Rattle.std.proofs.lemmas.List.{flat_map_more, append-nil}
-use Rattle.zone_name.specs.Spelling.{Written}
+use Rattle.zone_name.specs.Spelling.{Written, written_text}
 use Rattle.zone_rdata.specs.Spelling.{RawItem}
 use Rattle.zone_rdata.specs.Spelling as raw
-use Rattle.zone_text.specs.Pieces.{Piece, blank, opening, closing, line_feed, comment, bare, quoted, piece_text, text, written_text, is_blank, MayFollow, AllFollow}
+use Rattle.zone_text.specs.Pieces.{Piece, blank, opening, closing, line_feed, comment, bare, quoted, piece_text, text, is_blank, MayFollow, AllFollow}
 use Rattle.zone_text.specs.Entries.{item_of}
 use Rattle.zone_text.specs.Lines.{EndsItem, IsItemThen, IsPlain}
 

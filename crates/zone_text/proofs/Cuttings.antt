@@ -3,9 +3,9 @@ use Rattle.std.proofs.Common.{◌≡◌, ℕ, zero, suc, ◌-◌, ◌<◌, List,
 use Rattle.std.specs.List.{AllByRecursion}
 use Rattle.std.proofs.lemmas.Bool.{both_ways}
 use Rattle.std.proofs.lemmas.List.{append-nil}
-use Rattle.zone_name.specs.Spelling.{Written, plain, escaped, decimal, text_of}
+use Rattle.zone_name.specs.Spelling.{Written, plain, escaped, decimal, text_of, written_text}
 use Rattle.zone_rdata.specs.declared.fault.Fault.{Fault}
-use Rattle.zone_text.specs.Pieces.{Piece, blank, opening, closing, line_feed, comment, bare, quoted, piece_text, text, written_text, is_blank, ends_item, IsPiece, MayFollow, AllFollow, depth_after, Cuts}
+use Rattle.zone_text.specs.Pieces.{Piece, blank, opening, closing, line_feed, comment, bare, quoted, piece_text, text, is_blank, ends_item, IsPiece, MayFollow, AllFollow, depth_after, Cuts}
 use Rattle.zone_text.specs.Breaks.{IsBroken, closes_nothing, no_escape, no_quoted_escape, no_quote, not_closed, MayEndBefore, Breaks}
 use Rattle.zone_text.specs.Cutting.{Front, takes, stops, front_of, depth_behind, Cutting, cut_on, cut_by, cutting}
 use Rattle.zone_text.proofs.Octets.{NoUnit, at_end, at_octet, at_backslash, first_of_unit, first_of_none, unit_of_bare}

@@ -13,7 +13,7 @@ use Rattle.zone_rdata.specs.Words.{IsClass, IsClassWord}
 use Rattle.zone_rdata.specs.declared.fault.Fault.{Fault}
 use Rattle.zone_rdata.specs.declared.fault.Fault.TheVariants.{BadTtl, BadClass}
 use Rattle.zone_text.specs.Entries.{Entry}
-use Rattle.zone_text.specs.EntryFault.{IsNameFault, WordFault, WordsFault}
+use Rattle.zone_text.specs.EntryFault.{IsNameFaultBehind, WordFault, WordsFault}
 use Rattle.zone_text.specs.Forms.{Form, no_items, sets_origin, sets_ttl, includes, unknown, owned, unowned, form_of, Word, ttl, class, Parts, parts_of, parts_in, parts_behind, class_among, word_behind, begins_with_digit, is_class_word, ttl_among, unless_stated}
 use Rattle.zone_text.specs.Inherited.{IsOrigin, SpellsBehind, IsLastOwner, IsOwner, HasClass, IsTtl, or_else, latest, origin_in, owner_in, owner_text, class_in, class_word}
 use Rattle.zone_text.specs.Lower.{Lower, Choices}
@@ -89,11 +89,11 @@ last_owner origin [] states = inr (λ name h. h)
 last_owner origin (entry ∷ before) states = owner_by origin before entry states.0 (last_owner origin before states.1)
 
 abbrev pub NameChoice : List (List ℕ) → List Entry → List ℕ → Type 0
-NameChoice origin before text = ((name : List (List ℕ)) × (SpellsBehind origin before text name × IsName name)) ⊎ ((fault : Fault) × IsNameFault origin before text fault)
+NameChoice origin before text = ((name : List (List ℕ)) × (SpellsBehind origin before text name × IsName name)) ⊎ ((fault : Fault) × IsNameFaultBehind origin before text fault)
 
 name_by : (origin : List (List ℕ)) (before : List Entry) (text : List ℕ) (above : List (List ℕ)) → IsOrigin origin before above → ((name : List (List ℕ)) × Spells (Some above) text name) ⊎ ((fault : NameFault) × FirstFault (Some above) text fault) → NameChoice origin before text
 name_by origin before text above under (inl found) = inl (found.0, ((above, (under, found.1)), found.1.name))
-name_by origin before text above under (inr bad) = inr (fault_of bad.0, record { above = above; found = bad.0; under = under; first = bad.1; same = refl })
+name_by origin before text above under (inr bad) = inr (fault_of bad.0, (above, (under, (bad.0, bad.1, refl))))
 
 pub name_or_fault : Choices → (origin : List (List ℕ)) (before : List Entry) (text : List ℕ) → IsName origin → AllState origin before → AllByRecursion (λ c. c < 256) text → NameChoice origin before text
 name_or_fault choices origin before text is states low =

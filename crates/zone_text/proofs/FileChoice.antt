@@ -1,4 +1,4 @@
--- A file of octets has a reading.
+-- A file of octets has a reading, and something is decided of it.
 use Rattle.std.proofs.Common.{ℕ, zero, ◌+◌, ◌<◌, ◌==◌, List, [], ◌∷◌, ◌++◌, Some, None, ◌⊎◌, inl, inr, refl, sym, subst}
 use Rattle.std.specs.List.{flat_map, AllByRecursion, count_by}
 use Rattle.std.proofs.lemmas.Grind.{flat_map-append}
@@ -7,15 +7,20 @@ use Rattle.zone_rdata.specs.Spelling.{RawItem}
 use Rattle.zone_rdata.specs.declared.fault.Fault.{Fault}
 use Rattle.zone_rdata.specs.declared.fault.Place.TheVariants.{Line}
 use Rattle.zone_rdata.specs.declared.record.Placed.{Placed}
+use Rattle.zone_name.specs.Spelling.{written_text}
 use Rattle.zone_text.specs.Breaks.{Breaks}
+use Rattle.zone_text.specs.Decided.{Decided, decided, undecided}
 use Rattle.zone_text.specs.Entries.{Entry, Cut, and_last, cut_from, item_of, numbered, entries_of, ended_entries, open_line}
 use Rattle.zone_text.specs.FileReads.{Ending, reads_none, reads_one, refused, ReadEach, FileReads, whole, broken}
+use Rattle.zone_text.specs.Lasting.{StaysBroken, BreaksAtEnd}
 use Rattle.zone_text.specs.Lower.{Lower, Choices}
 use Rattle.zone_text.specs.Outcome.{AllState, AreLowItems}
-use Rattle.zone_text.specs.Pieces.{Piece, blank, opening, closing, line_feed, comment, bare, quoted, piece_text, text, written_text, Cuts}
-use Rattle.zone_text.proofs.Cuttings.{cut_or_broken}
+use Rattle.zone_text.specs.Pieces.{Piece, blank, opening, closing, line_feed, comment, bare, quoted, piece_text, text, Cuts}
+use Rattle.zone_text.proofs.Cuttings.{cut_not_broken, cut_or_broken}
 use Rattle.zone_text.proofs.Ending.{entries_text}
 use Rattle.zone_text.proofs.EntryOutcome.{Outcome, entry_outcome}
+use Rattle.zone_text.proofs.Escapes.{break_stays_or_ends}
+use Rattle.zone_text.proofs.ForGood.{ends_not_for_good}
 
 -- ---- the items of entries are octets
 
@@ -95,3 +100,23 @@ file_by lower choices origin octets is low (inr bad) =
 
 pub file_reads : Lower → Choices → (origin : List (List ℕ)) (octets : List ℕ) → IsName origin → AllByRecursion (λ c. c < 256) octets → (placed : List Placed) × ((ending : Ending) × FileReads origin octets placed ending)
 file_reads lower choices origin octets is low = file_by lower choices origin octets is low (cut_or_broken octets)
+
+-- ---- something is decided of a front
+
+broken_by : Lower → Choices → (origin : List (List ℕ)) (octets : List ℕ) → IsName origin → (pieces : List Piece) (fault : Fault) (breaks : Breaks octets pieces fault) → AreLowEntries (ended_entries pieces) → StaysBroken breaks.rest ⊎ BreaksAtEnd breaks.rest → (placed : List Placed) × ((ending : Ending) × Decided origin octets placed ending)
+broken_by lower choices origin octets is pieces fault breaks low (inl stays) =
+    let found = readings lower choices origin is (Some (fault, Line (open_line pieces))) (ended_entries pieces) [] tt low in
+    (found.0, (found.1.0, decided pieces fault (record { breaks = breaks; stays = stays }) found.1.1))
+broken_by lower choices origin octets is pieces fault breaks low (inr ends) =
+    let found = readings lower choices origin is None (ended_entries pieces) [] tt low in
+    (found.0, (found.1.0, undecided pieces (inr (fault, breaks)) (ends_not_for_good octets pieces breaks.rest breaks.whole ends) found.1.1))
+
+decided_by : Lower → Choices → (origin : List (List ℕ)) (octets : List ℕ) → IsName origin → AreLow octets → ((pieces : List Piece) × Cuts octets pieces) ⊎ ((pieces : List Piece) × (fault : Fault) × Breaks octets pieces fault) → (placed : List Placed) × ((ending : Ending) × Decided origin octets placed ending)
+decided_by lower choices origin octets is low (inl cut) =
+    let found = readings lower choices origin is None (ended_entries cut.0) [] tt (low_ended_of cut.0 (subst AreLow cut.1.whole low)) in
+    (found.0, (found.1.0, undecided cut.0 (inl cut.1) (λ fault good. cut_not_broken octets cut.0 cut.0 fault cut.1 good.breaks) found.1.1))
+decided_by lower choices origin octets is low (inr bad) =
+    broken_by lower choices origin octets is bad.0 bad.1 bad.2 (low_ended_of bad.0 (low_front (text bad.0) bad.2.rest (subst AreLow bad.2.whole low))) (break_stays_or_ends octets bad.0 bad.1 bad.2)
+
+pub file_is_decided : Lower → Choices → (origin : List (List ℕ)) (octets : List ℕ) → IsName origin → AllByRecursion (λ c. c < 256) octets → (placed : List Placed) × ((ending : Ending) × Decided origin octets placed ending)
+file_is_decided lower choices origin octets is low = decided_by lower choices origin octets is low (cut_or_broken octets)

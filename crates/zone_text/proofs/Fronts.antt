@@ -3,15 +3,16 @@ use Rattle.std.proofs.Common.{◌≡◌, ◌≢◌, ℕ, zero, suc, ◌≤◌, �
 use Rattle.std.specs.List.{AllByRecursion}
 use Rattle.std.proofs.lemmas.Bool.{or_parts, eqb-true, eqb-false, ne_eqb, both_ways, cond_both}
 use Rattle.std.proofs.lemmas.List.{append-nil}
-use Rattle.zone_name.specs.Spelling.{Written, plain, escaped, decimal, text_of, IsBadEscape}
+use Rattle.zone_name.specs.Spelling.{Written, plain, escaped, decimal, text_of, IsBadEscape, written_text}
 use Rattle.zone_rdata.specs.declared.fault.Fault.{Fault}
 use Rattle.zone_rdata.specs.declared.fault.Fault.TheVariants.{BadEscape}
-use Rattle.zone_text.specs.Pieces.{Piece, blank, opening, closing, line_feed, comment, bare, quoted, piece_text, written_text, is_blank, ends_item, IsPiece, IsBareUnit, IsQuotedUnit}
+use Rattle.zone_rdata.specs.Strings.{IsQuotedUnit}
+use Rattle.zone_text.specs.Pieces.{Piece, blank, opening, closing, line_feed, comment, bare, quoted, piece_text, is_blank, ends_item, IsPiece, IsBareUnit}
 use Rattle.zone_text.specs.Breaks.{IsBroken, closes_nothing, no_escape, no_quoted_escape, no_quote, not_closed}
 use Rattle.zone_text.specs.Cutting.{Units, units_then, units_by, units_first, unit_first, before_line_feed, from_line_feed, Sign, a_blank, a_line_feed, an_opening, a_closing, a_semicolon, a_quote, of_item, sign_of, Front, takes, stops, is_quote, quoted_front, bare_front, front_by, end_front, front_of}
 use Rattle.zone_text.proofs.Octets.{IsUnit, NoUnit, at_end, at_octet, at_backslash, IsFirst, first_is, first_of_unit, first_of_none, bare_unit, unit_of_bare, quoted_unit, unit_of_quoted}
 
-each_so : {A : Type 0} {P Q : A → Type 0} (xs : List A) → ((x : A) → P x → Q x) → AllByRecursion P xs → AllByRecursion Q xs
+pub each_so : {A : Type 0} {P Q : A → Type 0} (xs : List A) → ((x : A) → P x → Q x) → AllByRecursion P xs → AllByRecursion Q xs
 each_so [] more each = tt
 each_so (x ∷ xs) more each = (more x each.0, each_so xs more each.1)
 

@@ -4,10 +4,10 @@ use Rattle.std.specs.List.{AllByRecursion}
 use Rattle.std.proofs.lemmas.Bool.{both_ways}
 use Rattle.std.proofs.lemmas.List.{append-nil}
 use Rattle.std.proofs.lemmas.List.Concat.{flat_map-append}
-use Rattle.zone_name.specs.Spelling.{Written, plain, escaped, decimal, text_of, octet_of, IsWritten, IsBadEscape, is_digit}
+use Rattle.zone_name.specs.Spelling.{Written, plain, escaped, decimal, text_of, octet_of, IsWritten, IsBadEscape, is_digit, written_text}
 use Rattle.zone_rdata.specs.declared.fault.Fault.{Fault}
 use Rattle.zone_rdata.specs.declared.fault.Fault.TheVariants.{BadEscape, UnbalancedParenthesis}
-use Rattle.zone_text.specs.Pieces.{Piece, blank, opening, closing, line_feed, comment, bare, quoted, piece_text, text, written_text, IsPiece, AllFollow, depth_after, Cuts}
+use Rattle.zone_text.specs.Pieces.{Piece, blank, opening, closing, line_feed, comment, bare, quoted, piece_text, text, IsPiece, AllFollow, depth_after, Cuts}
 use Rattle.zone_text.specs.Breaks.{IsBroken, closes_nothing, no_escape, no_quoted_escape, no_quote, not_closed, MayEndBefore, Breaks}
 use Rattle.zone_text.specs.Lasting.{EndInLineFeed, IsLostEscape, at_line_end, one_digit, two_digits, too_great, StaysBroken, closing_stays, escape_stays, quoted_escape_stays, BreaksForGood}
 use Rattle.zone_text.specs.Cutting.{stops}
@@ -213,7 +213,7 @@ begins_none rest more after (decimal u v w) (too_great x y z others e is is_one 
     let few : octet_of (decimal u v w) ≤ 255 = written.3 in
     omega arith
 
-begins_backslash : (rest : List ℕ) → IsLostEscape rest → (after : List ℕ) × (rest ≡ 92 ∷ after)
+pub begins_backslash : (rest : List ℕ) → IsLostEscape rest → (after : List ℕ) × (rest ≡ 92 ∷ after)
 begins_backslash rest (at_line_end c others e is) = (c ∷ others, e)
 begins_backslash rest (one_digit x c others e is is_not) = (x ∷ c ∷ others, e)
 begins_backslash rest (two_digits x y c others e is is_one is_not) = (x ∷ y ∷ c ∷ others, e)
@@ -269,7 +269,7 @@ stays_more rest more (escape_stays lost) = escape_stays (lost_more rest more los
 stays_more rest more (quoted_escape_stays units after each whole lost) =
     quoted_escape_stays units (after ++ more) each (ap (λ t. t ++ more) whole ∙ ap (λ t. 34 ∷ t) (append_assoc (written_text units) after more)) (lost_more after more lost)
 
-stays_some : (rest : List ℕ) → StaysBroken rest → rest ≡ [] → ⊥
+pub stays_some : (rest : List ℕ) → StaysBroken rest → rest ≡ [] → ⊥
 stays_some rest (closing_stays after e) none = cc
 stays_some rest (escape_stays lost) none = let begins : rest ≡ 92 ∷ (begins_backslash rest lost).0 = (begins_backslash rest lost).1 in cc
 stays_some rest (quoted_escape_stays units after each whole lost) none = cc

@@ -2,7 +2,8 @@
 use Rattle.std.proofs.Common.{◌≡◌, ◌≢◌, ℕ, Bool, true, false, ◌&&◌, ◌||◌, ◌==◌, nat_le, if◌then◌else◌, List, [], ◌∷◌, ◌++◌, Option, Some, None, refl, sym, ap, ◌∙◌, subst, inl, inr}
 use Rattle.std.proofs.lemmas.Bool.{and_parts, or_parts, or_cases, eqb-true, eqb-false, ne_eqb, leb-true, le-leb, both_ways, cond_both}
 use Rattle.zone_name.specs.Spelling.{Written, plain, escaped, decimal, text_of, octet_of, IsWritten, IsBadEscape, is_digit}
-use Rattle.zone_text.specs.Pieces.{ends_item, IsBareUnit, IsQuotedUnit}
+use Rattle.zone_rdata.specs.Strings.{IsQuotedUnit}
+use Rattle.zone_text.specs.Pieces.{ends_item, IsBareUnit}
 use Rattle.zone_text.specs.Cutting.{decimal_first, digits_first, escape_first, unit_first, is_quote}
 
 -- a written octet of an item that ends at certain octets

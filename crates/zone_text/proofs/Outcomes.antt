@@ -13,7 +13,7 @@ use Rattle.zone_text.specs.Entries.{Entry}
 use Rattle.zone_text.specs.Forms.{Form, no_items, sets_origin, sets_ttl, includes, unknown, owned, unowned, form_of, Word, ttl, class, Parts}
 use Rattle.zone_text.specs.Inherited.{IsOrigin, SpellsBehind, IsOwner, HasClass}
 use Rattle.zone_text.specs.Records.{HasValue, HasTtl}
-use Rattle.zone_text.specs.EntryFault.{IsNameFault, OwnerFault, WordFault, WordsFault, KindFault, TtlFault, none, long}
+use Rattle.zone_text.specs.EntryFault.{IsNameFaultBehind, OwnerFault, WordFault, WordsFault, KindFault, TtlFault, none, long}
 use Rattle.zone_text.proofs.Once.{Then, then_once}
 use Rattle.zone_text.specs.Lower.{Lower, Once}
 use Rattle.zone_text.proofs.Inherits.{origin_once, owner_once, class_once, ttl_once}
@@ -34,16 +34,16 @@ step_once A Good Bad good bad either (Err f) (Err g) p q = ap Err (bad f g p q)
 
 -- names
 
-pub name_fault_once : Lower → (origin : List (List ℕ)) (before : List Entry) (text : List ℕ) → Once Fault (IsNameFault origin before text)
+pub name_fault_once : Lower → (origin : List (List ℕ)) (before : List Entry) (text : List ℕ) → Once Fault (IsNameFaultBehind origin before text)
 name_fault_once lower origin before text f g x y =
-    let above : x.above ≡ y.above = origin_once lower origin before x.above y.above x.under y.under in
-    let found : x.found ≡ y.found = lower.name_fault y.above text x.found y.found (subst (λ a. FirstFault (Some a) text x.found) above x.first) y.first in
-    x.same ∙ (ap fault_of found ∙ sym y.same)
+    let above : x.0 ≡ y.0 = origin_once lower origin before x.0 y.0 x.1.0 y.1.0 in
+    let found : x.1.1.0 ≡ y.1.1.0 = lower.name_fault y.0 text x.1.1.0 y.1.1.0 (subst (λ a. FirstFault (Some a) text x.1.1.0) above x.1.1.1) y.1.1.1 in
+    x.1.1.2 ∙ (ap fault_of found ∙ sym y.1.1.2)
 
-pub name_or_fault : Lower → (origin : List (List ℕ)) (before : List Entry) (text : List ℕ) (name : List (List ℕ)) (fault : Fault) → SpellsBehind origin before text name → IsNameFault origin before text fault → ⊥
+pub name_or_fault : Lower → (origin : List (List ℕ)) (before : List Entry) (text : List ℕ) (name : List (List ℕ)) (fault : Fault) → SpellsBehind origin before text name → IsNameFaultBehind origin before text fault → ⊥
 name_or_fault lower origin before text name fault x y =
-    let above : x.0 ≡ y.above = origin_once lower origin before x.0 y.above x.1.0 y.under in
-    lower.name_or_fault x.0 text name y.found x.1.1 (subst (λ a. FirstFault (Some a) text y.found) (sym above) y.first)
+    let above : x.0 ≡ y.0 = origin_once lower origin before x.0 y.0 x.1.0 y.1.0 in
+    lower.name_or_fault x.0 text name y.1.1.0 x.1.1 (subst (λ a. FirstFault (Some a) text y.1.1.0) (sym above) y.1.1.1)
 
 -- the owner
 

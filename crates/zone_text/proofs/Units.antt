@@ -3,9 +3,9 @@ use Rattle.std.proofs.Common.{◌≡◌, ℕ, suc, ◌+◌, ◌-◌, ◌*◌, �
 use Rattle.std.specs.List.{AllByRecursion}
 use Rattle.std.proofs.Math.Seq.{take-length}
 use Rattle.std.proofs.lemmas.List.{flat_map_more}
-use Rattle.zone_name.specs.Spelling.{Written, plain, escaped, decimal, text_of, is_digit}
-use Rattle.zone_text.specs.Pieces.{IsBareUnit, written_text}
-use Rattle.zone_text.specs.Lines.{BeginsWithUnit, BeginsWithEscape, BeginsWithUnits}
+use Rattle.zone_name.specs.Spelling.{Written, plain, escaped, decimal, text_of, is_digit, written_text}
+use Rattle.zone_text.specs.Pieces.{IsBareUnit}
+use Rattle.zone_text.specs.Lines.{BeginsWithUnit, BeginsWithEscape}
 
 -- all of a list is its front of its own length
 pub take_whole : (octets : List ℕ) (n : ℕ) → n ≡ length octets → octets ≡ take n octets
@@ -47,6 +47,12 @@ decimal_first octets some x y z fits = record {
   each = (x, y, z, fits);
   whole = ap (λ t. 92 ∷ t) (three_then_rest octets some);
 }
+
+-- the text begins with the written octets of a bare item
+pub record BeginsWithUnits (octets rest : List ℕ) : Type 0 where
+  pub units : List Written
+  pub each : AllByRecursion IsBareUnit units
+  pub whole : octets ≡ written_text units ++ rest
 
 pub each_more : (units : List Written) (unit : Written) → AllByRecursion IsBareUnit units → IsBareUnit unit → AllByRecursion IsBareUnit (units ++ unit ∷ [])
 each_more [] unit each one = (one, tt)

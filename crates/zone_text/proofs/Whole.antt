@@ -14,7 +14,7 @@ use Rattle.zone_text.specs.Pieces.{Piece, blank, opening, closing, line_feed, co
 use Rattle.zone_text.specs.Entries.{Entry, entry_of, Cut, cut_from, numbered, in_front_of}
 use Rattle.zone_text.specs.Records.{StatesRecord}
 use Rattle.zone_text.specs.File.{states_none, states_one, StateEach, FileStates}
-use Rattle.zone_text.specs.Lines.{IsPlain, AreLine, IsLineThen, ended, LineStates, ReadsFront, KeepsOrigin}
+use Rattle.zone_text.specs.Lines.{IsPlain, AreLine, IsLineThen, ended, LineStates, AreWholeLines, some_lines, IsLineBehind, ReadsFront, KeepsOrigin}
 use Rattle.zone_text.proofs.Stated.{text_ended}
 
 -- the line feeds of a text
@@ -170,6 +170,7 @@ pub record ReadSoFar (origin : List (List ℕ)) (octets rest : List ℕ) (placed
   pub front : List ℕ
   pub whole : octets ≡ front ++ rest
   pub lines : LinesState origin front placed
+  pub ends : AreWholeLines front
   pub number : line ≡ 1 + line_feeds front
 
 -- one line more was read
@@ -178,8 +179,13 @@ read_more origin octets rest line after placed p number before cut found place =
   front = before.front ++ (line ++ 10 ∷ []);
   whole = before.whole ∙ (ap (λ t. before.front ++ t) cut.whole ∙ rw (append_assoc) (ap (λ t. before.front ++ t) (sym (append_assoc line (10 ∷ []) after))));
   lines = line_more origin before.front line placed p before.lines found (rw (← before.number) place);
+  ends = some_lines (before.front ++ line) (sym (append_assoc before.front line (10 ∷ [])));
   number = rw (line_feeds_append, line_feeds_append, cut.first) (omega (arith, before.number));
 }
+
+line_behind : (origin : List (List ℕ)) (octets rest : List ℕ) (placed : List Placed) (line : ℕ) (before : ReadSoFar origin octets rest placed line) (ending : Option (Fault × Place)) → IfSome ending (λ e. e.1 ≡ Line line) → IfSome ending (λ e. IsLineBehind before.front e.1)
+line_behind origin octets rest placed line before None place = tt
+line_behind origin octets rest placed line before (Some e) place = record { whole = before.ends; number = rw (← before.number) place }
 
 -- what was read is a front of the text
 pub reads_front : (origin : List (List ℕ)) (octets rest : List ℕ) (reading : Reading) (line : ℕ) → ReadSoFar origin octets rest reading.placed.items line → (reading.ending ≡ None → rest ≡ []) → IfSome reading.ending (λ e. e.1 ≡ Line line) → ReadsFront origin octets reading
@@ -189,7 +195,7 @@ reads_front origin octets rest reading line before all place = record {
   whole = before.whole;
   records = file_states origin before.front reading.placed.items before.lines;
   all = all;
-  place = rw (← before.number) place;
+  place = line_behind origin octets rest reading.placed.items line before reading.ending place;
 }
 
 some_is_not_none : {A : Type 0} (o : Option A) (x : A) → o ≡ Some x → o ≡ None → ⊥

@@ -1,10 +1,11 @@
 -- How a text that isn't cut into pieces breaks (RFC 1035 5.1).
 use Rattle.std.specs.Prelude.{◌≡◌, ℕ, zero, ◌<◌, List, [], ◌∷◌, ◌++◌, Some, ⊤}
 use Rattle.std.specs.List.{AllByRecursion}
-use Rattle.zone_name.specs.Spelling.{Written, IsBadEscape}
+use Rattle.zone_name.specs.Spelling.{Written, IsBadEscape, written_text}
 use Rattle.zone_rdata.specs.declared.fault.Fault.{Fault}
 use Rattle.zone_rdata.specs.declared.fault.Fault.TheVariants.{BadEscape, UnclosedQuote, UnbalancedParenthesis}
-use Rattle.zone_text.specs.Pieces.{Piece, comment, text, written_text, IsPiece, IsQuotedUnit, AllFollow, depth_after}
+use Rattle.zone_rdata.specs.Strings.{IsQuotedUnit}
+use Rattle.zone_text.specs.Pieces.{Piece, comment, text, IsPiece, AllFollow, depth_after}
 
 -- What stands where a text breaks, at a depth of parentheses, up to the end of the text: a `)` that closes nothing; a
 -- backslash that begins no escape, outside quotes or behind an opening quote and quoted units; an opening quote and

@@ -3,7 +3,8 @@ use Rattle.std.specs.Prelude.{ℕ, zero, suc, ◌+◌, List, [], ◌∷◌, ◌+
 use Rattle.std.specs.List.{flat_map}
 use Rattle.zone_rdata.specs.Spelling.{RawItem}
 use Rattle.zone_rdata.specs.Spelling as raw
-use Rattle.zone_text.specs.Pieces.{Piece, opening, closing, line_feed, bare, quoted, text, written_text}
+use Rattle.zone_name.specs.Spelling.{written_text}
+use Rattle.zone_text.specs.Pieces.{Piece, opening, closing, line_feed, bare, quoted, text}
 
 -- pieces cut into entries: those that a line feed outside parentheses ends, and the pieces behind the last of them
 pub record Cut : Type 0 where

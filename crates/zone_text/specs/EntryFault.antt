@@ -2,10 +2,7 @@
 -- are those of a text that breaks.
 use Rattle.std.specs.Prelude.{◌≡◌, ℕ, ◌<◌, List, [], ◌∷◌, Option, Some, None, ◌⊎◌}
 use Rattle.std.specs.List.{AllByRecursion}
-use Rattle.zone_name.specs.Spelling.{FirstFault}
-use Rattle.zone_name.specs.declared.fault.NameFault.{NameFault}
-use Rattle.zone_rdata.specs.DataFault.{IsDataFault}
-use Rattle.zone_rdata.specs.Fault.{fault_of}
+use Rattle.zone_rdata.specs.DataFault.{IsDataFault, IsNameFault}
 use Rattle.zone_rdata.specs.Spelling.{RawItem, bare, quoted}
 use Rattle.zone_rdata.specs.Words.{IsClass, IsClassWord, IsWordFault}
 use Rattle.zone_rdata.specs.declared.fault.Fault.{Fault}
@@ -15,18 +12,14 @@ use Rattle.zone_text.specs.Forms.{Form, sets_origin, sets_ttl, includes, unknown
 use Rattle.zone_text.specs.Inherited.{IsOrigin, IsLastOwner, IsOwner, IsTtl, one_bare}
 use Rattle.zone_text.specs.Records.{HasValue, Head, HasHead, StatesData, HasTtl}
 
--- the first fault of a text that is no name where it stands
-pub record IsNameFault (origin : List (List ℕ)) (before : List Entry) (text : List ℕ) (fault : Fault) : Type 0 where
-  pub above : List (List ℕ)
-  pub found : NameFault
-  pub under : IsOrigin origin before above
-  pub first : FirstFault (Some above) text found
-  pub same : fault ≡ fault_of found
+-- the first fault of a text that is no name where it stands behind entries
+abbrev pub IsNameFaultBehind : List (List ℕ) → List Entry → List ℕ → Fault → Type 0
+IsNameFaultBehind origin before text fault = (above : List (List ℕ)) × (IsOrigin origin before above × IsNameFault above text fault)
 
 -- the item of `$ORIGIN` is no name
 abbrev pub OriginFault : List (List ℕ) → List Entry → Option (List ℕ) → Fault → Type 0
 OriginFault origin before None fault = fault ≡ BadDirective
-OriginFault origin before (Some text) fault = IsNameFault origin before text fault
+OriginFault origin before (Some text) fault = IsNameFaultBehind origin before text fault
 
 -- the item of `$TTL` is no time of 31 bits
 abbrev pub DefaultTtlFault : Option (List ℕ) → Fault → Type 0
@@ -44,7 +37,7 @@ DirectiveFault origin before form fault = ⊥
 -- a quoted owner, an owner that is no name, or no owner stated so far
 abbrev pub OwnerFault : List (List ℕ) → List Entry → Form → Fault → Type 0
 OwnerFault origin before (owned (quoted text) items) fault = fault ≡ NoOwner
-OwnerFault origin before (owned (bare text) items) fault = IsNameFault origin before text fault
+OwnerFault origin before (owned (bare text) items) fault = IsNameFaultBehind origin before text fault
 OwnerFault origin before (unowned items) fault = (fault ≡ NoOwner) × ((name : List (List ℕ)) → IsLastOwner origin before name → ⊥)
 OwnerFault origin before form fault = ⊥
 

@@ -47,7 +47,7 @@ are_digits [] = false
 are_digits (c ∷ []) = is_digit c
 are_digits (c ∷ d ∷ text) = is_digit c && are_digits (d ∷ text)
 
--- IN, CS, CH, HS, or CLASS and digits, in any case
+-- IN, CS, CH, HS (RFC 1035 3.2.4), or CLASS and digits (RFC 3597 5), in any case
 abbrev pub is_class_word : List ℕ → Bool
 is_class_word text =
     let word = folded_label text in

@@ -77,7 +77,8 @@ IsOwner origin before (owned (bare text) items) name = SpellsBehind origin befor
 IsOwner origin before (unowned items) name = IsLastOwner origin before name
 IsOwner origin before form name = ⊥
 
--- the class of a record entry: the latest stated in it or before it, else IN
+-- The class of a record entry: the latest stated in it or before it, else IN. IN is this project's choice where RFC 1035
+-- 5.1 leaves it open.
 abbrev pub HasClass : List Entry → Entry → ℕ → Type 0
 HasClass before entry class = MatchOption (latest class_word (entry ∷ before)) (class ≡ 1) (λ text. IsClassWord text class)
 

@@ -1,9 +1,11 @@
--- What is settled of a text by its front, whatever octets come behind it (RFC 1035 5.1).
+-- What is settled of a text by its front, whatever octets come behind it. This is this project's own: RFC 1035 speaks of
+-- whole files.
 use Rattle.std.specs.Prelude.{◌≡◌, ℕ, ◌<◌, List, [], ◌∷◌, ◌++◌, true, false, ◌⊎◌, ⊤}
 use Rattle.std.specs.List.{AllByRecursion}
-use Rattle.zone_name.specs.Spelling.{Written, decimal, octet_of, is_digit}
+use Rattle.zone_name.specs.Spelling.{Written, decimal, octet_of, is_digit, written_text}
 use Rattle.zone_rdata.specs.declared.fault.Fault.{Fault}
-use Rattle.zone_text.specs.Pieces.{Piece, line_feed, written_text, IsQuotedUnit}
+use Rattle.zone_rdata.specs.Strings.{IsQuotedUnit}
+use Rattle.zone_text.specs.Pieces.{Piece, line_feed}
 use Rattle.zone_text.specs.Breaks.{Breaks}
 
 -- no pieces, or a line feed as the last of them

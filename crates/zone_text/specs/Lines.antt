@@ -1,15 +1,16 @@
 -- Master files as far as they are read: lines of bare items parted by blanks, a record each (RFC 1035 5.1).
 use Rattle.std.specs.Prelude.{◌≡◌, ◌≢◌, ℕ, ◌+◌, List, [], ◌∷◌, ◌++◌, true, false, count_by, ◌==◌, Some, None, IfSome, ⊤}
 use Rattle.std.specs.List.{flat_map, AllByRecursion}
-use Rattle.zone_name.specs.Spelling.{Written, text_of, Spells}
+use Rattle.zone_name.specs.Spelling.{Written, text_of, Spells, written_text}
 use Rattle.zone_rdata.specs.Number.{IsTime}
 use Rattle.zone_rdata.specs.Record.{Record, IsRecord}
 use Rattle.zone_rdata.specs.Spelling.{RawItem, States}
 use Rattle.zone_rdata.specs.Spelling as raw
 use Rattle.zone_rdata.specs.Words.{IsClassWord, IsKindWord}
 use Rattle.zone_rdata.specs.declared.source.Reading.{Reading}
+use Rattle.zone_rdata.specs.declared.fault.Place.{Place}
 use Rattle.zone_rdata.specs.declared.fault.Place.TheVariants.{Line}
-use Rattle.zone_text.specs.Pieces.{Piece, blank, bare, line_feed, text, written_text, is_blank, IsBareUnit, IsPiece, AllFollow}
+use Rattle.zone_text.specs.Pieces.{Piece, blank, bare, line_feed, text, is_blank, IsBareUnit, IsPiece, AllFollow}
 use Rattle.zone_text.specs.Entries.{Entry, entry_of, item_of}
 use Rattle.zone_text.specs.Inherited.{origin_text}
 use Rattle.zone_text.specs.Records.{StatesRecord}
@@ -41,12 +42,6 @@ pub record BeginsWithEscape (octets rest : List ℕ) : Type 0 where
   pub unit : Written
   pub each : IsBareUnit unit
   pub whole : 92 ∷ octets ≡ text_of unit ++ rest
-
--- the text begins with the written octets of a bare item
-pub record BeginsWithUnits (octets rest : List ℕ) : Type 0 where
-  pub units : List Written
-  pub each : AllByRecursion IsBareUnit units
-  pub whole : octets ≡ written_text units ++ rest
 
 -- the text is a bare item and what follows it
 pub record IsItemThen (octets item rest : List ℕ) : Type 0 where
@@ -110,12 +105,22 @@ pub record LineStates (origin : List (List ℕ)) (octets : List ℕ) (r : Record
   pub keeps : (n : ℕ) → KeepsOrigin (entry_of n (ended pieces))
   pub states : (n : ℕ) (before : List Entry) → AllByRecursion KeepsOrigin before → StatesRecord origin before (entry_of n (ended pieces)) r
 
+-- no octets, or a line feed as the last of them
+pub data AreWholeLines (octets : List ℕ) : Type 0 where
+  no_line : octets ≡ [] → AreWholeLines octets
+  some_lines : (before : List ℕ) → octets ≡ before ++ 10 ∷ [] → AreWholeLines octets
+
+-- the place is the line behind these, which are whole
+pub record IsLineBehind (lines : List ℕ) (place : Place) : Type 0 where
+  pub whole : AreWholeLines lines
+  pub number : place ≡ Line (1 + count_by (λ c. c == 10) lines)
+
 -- What was read is a front of the text that states the records, the whole text if nothing was refused. A refusal
--- stands at the line on which the rest begins.
+-- stands behind whole lines, at the line on which the rest begins.
 pub record ReadsFront (origin : List (List ℕ)) (octets : List ℕ) (reading : Reading) : Type 0 where
   pub front : List ℕ
   pub rest : List ℕ
   pub whole : octets ≡ front ++ rest
   pub records : FileStates origin front reading.placed.items
   pub all : reading.ending ≡ None → rest ≡ []
-  pub place : IfSome reading.ending (λ e. e.1 ≡ Line (1 + count_by (λ c. c == 10) front))
+  pub place : IfSome reading.ending (λ e. IsLineBehind front e.1)

@@ -1,7 +1,8 @@
 -- A master file as a list of pieces (RFC 1035 5.1).
 use Rattle.std.specs.Prelude.{◌≡◌, ◌≢◌, ℕ, zero, suc, ◌<◌, List, [], ◌∷◌, ◌++◌, length, ◌==◌, ◌||◌, Bool, true, false, Option, Some, None, ⊤}
 use Rattle.std.specs.List.{flat_map, AllByRecursion}
-use Rattle.zone_name.specs.Spelling.{Written, plain, escaped, decimal, text_of, IsWritten}
+use Rattle.zone_name.specs.Spelling.{Written, plain, escaped, decimal, written_text, IsWritten}
+use Rattle.zone_rdata.specs.Strings.{IsQuotedUnit}
 
 -- outside quotes space, tab and carriage return are blanks
 abbrev pub is_blank : ℕ → Bool
@@ -17,12 +18,6 @@ IsBareUnit (plain c) = (ends_item c ≡ false) × (c ≢ 92)
 IsBareUnit (escaped c) = IsWritten (escaped c)
 IsBareUnit (decimal x y z) = IsWritten (decimal x y z)
 
--- one octet of a quoted item as it is written: neither a quote nor a backslash, or an escape
-abbrev pub IsQuotedUnit : Written → Type 0
-IsQuotedUnit (plain c) = (c ≢ 34) × (c ≢ 92)
-IsQuotedUnit (escaped c) = IsWritten (escaped c)
-IsQuotedUnit (decimal x y z) = IsWritten (decimal x y z)
-
 pub data Piece : Type 0 where
   blank : ℕ → Piece
   opening : Piece
@@ -31,9 +26,6 @@ pub data Piece : Type 0 where
   comment : List ℕ → Piece
   bare : List Written → Piece
   quoted : List Written → Piece
-
-abbrev pub written_text : List Written → List ℕ
-written_text units = flat_map text_of units
 
 abbrev pub piece_text : Piece → List ℕ
 piece_text (blank c) = c ∷ []
@@ -56,7 +48,7 @@ IsPiece (comment octets) = AllByRecursion (λ c. c ≢ 10) octets
 IsPiece (bare units) = (0 < length units) × AllByRecursion IsBareUnit units
 IsPiece (quoted units) = AllByRecursion IsQuotedUnit units
 
--- no bare item directly follows a bare item, and after a comment comes a line feed
+-- no bare item directly follows a bare item, and after a comment comes a line feed or the end of the text
 abbrev pub MayFollow : Piece → Piece → Type 0
 MayFollow (bare units) (bare more) = ⊥
 MayFollow (comment octets) line_feed = ⊤

@@ -54,7 +54,8 @@ IsLastMinimum origin [] seconds = ⊥
 IsLastMinimum origin (entry ∷ before) seconds =
     StatesMinimum origin before entry seconds ⊎ (((other : ℕ) → StatesMinimum origin before entry other → ⊥) × IsLastMinimum origin before seconds)
 
--- the TTL of a record entry, whatever its bound: a stated one, else the MINIMUM of the latest SOA, which may be the entry
+-- The TTL of a record entry, whatever its bound: a stated one, else the MINIMUM of the latest SOA, which may be the
+-- entry. The MINIMUM as the last choice is this project's own: RFC 2308 4 asks for `$TTL` in its place.
 abbrev pub HasTtl : List (List ℕ) → List Entry → Entry → ℕ → Type 0
 HasTtl origin before entry seconds =
     MatchOption (stated_ttl before entry) (IsLastMinimum origin (entry ∷ before) seconds) (λ text. IsTime text seconds)

@@ -1,13 +1,14 @@
 -- Why an input is refused, and where: its first fault (RFC 1035 5; the order of faults is this project's choice).
-use Rattle.std.specs.Prelude.{◌≡◌, ℕ, ◌<◌, ◌≤◌, ◌+◌, List, [], ◌++◌, length, count_by, ◌==◌, Option, Some, None, IfSome}
+use Rattle.std.specs.Prelude.{◌≡◌, ℕ, ◌<◌, ◌≤◌, List, [], ◌++◌, length, Option, Some, None, IfSome}
 use Rattle.zone_rdata.specs.declared.fault.Fault.{Fault}
 use Rattle.zone_rdata.specs.declared.fault.Fault.TheVariants.{ZoneTooLarge, InputTooLong}
 use Rattle.zone_rdata.specs.declared.fault.Place.{Place}
-use Rattle.zone_rdata.specs.declared.fault.Place.TheVariants.{Line, Whole}
+use Rattle.zone_rdata.specs.declared.fault.Place.TheVariants.{Whole}
 use Rattle.zone_rdata.specs.declared.fault.Stop.{Stop}
 use Rattle.zone_rdata.specs.declared.fault.Stop.TheVariants.{Refused, Read, Write, Memory}
 use Rattle.zone_rdata.specs.declared.record.Placed.{Placed}
 use Rattle.zone_text.specs.File.{FileStates}
+use Rattle.zone_text.specs.Lines.{IsLineBehind}
 use Rattle.zone_set.specs.Builder.{StopsFinish}
 use Rattle.zone_set.specs.Refusal.{AllAccepted, IsFirstRefused, records_of}
 use Rattle.zone_set.specs.Zone.{Zone, IsZone, SameRecords}
@@ -34,8 +35,8 @@ pub data IsRefusal (input : Input) : Fault → Place → Type 0 where
   too_long : text_limit < length (octets_of input) → IsRefusal input InputTooLong Whole
   reading : (placed : List Placed) (ending : Option (Fault × Place)) (fault : Fault) (place : Place) → length (octets_of input) ≤ text_limit → Reads input placed ending → RefusesReading placed ending fault place → IsRefusal input fault place
 
--- The records of a front of the octets and the fault that stands behind it, at the line that begins there, are refused.
--- The front is all of the octets where no fault stands behind it.
+-- The records of a front of the octets and the fault that stands behind it are refused. The fault stands behind whole
+-- lines, at the line that begins there; the front is all of the octets where there is none.
 pub record RefusesRead (origin : List (List ℕ)) (octets : List ℕ) (fault : Fault) (place : Place) : Type 0 where
   pub front : List ℕ
   pub rest : List ℕ
@@ -44,7 +45,7 @@ pub record RefusesRead (origin : List (List ℕ)) (octets : List ℕ) (fault : F
   pub whole : octets ≡ front ++ rest
   pub states : FileStates origin front placed
   pub all : ending ≡ None → rest ≡ []
-  pub behind : IfSome ending (λ e. e.1 ≡ Line (1 + count_by (λ c. c == 10) front))
+  pub behind : IfSome ending (λ e. IsLineBehind front e.1)
   pub refuses : RefusesReading placed ending fault place
 
 -- octets are refused: for their length where they are longer than the limit, and else as they were read

@@ -1,5 +1,5 @@
 //! Files whose first fault is computed.
-ghost use Rattle.std.specs.Prelude.{◌∷◌, [], codes};
+ghost use Rattle.std.specs.Prelude.{◌∷◌, [], codes, None};
 ghost use Rattle.zone_rdata.specs.declared.fault.Fault.TheVariants.{BadClass, BadDirective, BadEscape, BadTtl, EmptyLabel, IncludeDirective, MetaType, NoOwner, NoTtl, UnbalancedParenthesis, UnclosedQuote, UnknownDirective, UnknownType};
 ghost use Rattle.zone_text.specs.Decided.{Decided};
 ghost use Rattle.zone_text.specs.ExampleEntries.{address, at_line, fault_at, ns, Reads, soa, under, x};
@@ -68,4 +68,11 @@ pub fn records_before_an_open_quote()
 /// What is decided of a front: the entries that a line feed has ended, and no open one.
 pub fn decided_entries()
     ensures { Decided x (codes "@ 60 NS n.x.\n$FOO\n@") (at_line 1 (ns x 1 60) ∷ []) (fault_at 2 UnknownDirective) }
+{}
+
+/// What is decided of a front that breaks: a `)` and a bad escape with what ends it, and no escape that is cut off.
+pub fn decided_breaks()
+    ensures parenthesis { Decided x (codes "@ 60 NS n.x.\n)") (at_line 1 (ns x 1 60) ∷ []) (fault_at 2 UnbalancedParenthesis) }
+    ensures lost_escape { Decided x (codes "t \\04x") [] (fault_at 1 BadEscape) }
+    ensures cut_off_escape { Decided x (codes "t \\04") [] None }
 {}

@@ -24,6 +24,14 @@ pub fn a_file_has_a_reading()
     lower_choices();
 }
 
+/// Something is decided of every front of a file under an origin that is a name, be it that no fault is.
+pub fn of_each_front_something_is_decided()
+    ensures { (origin : List (List ℕ)) (octets : List ℕ) → IsName origin → AllByRecursion (λ c. c < 256) octets → (placed : List Placed) × ((ending : Ending) × Decided origin octets placed ending) }
+{
+    lower_laws();
+    lower_choices();
+}
+
 /// A file has at most one reading.
 pub fn a_file_has_one_reading()
     ensures { (origin : List (List ℕ)) (octets : List ℕ) (a b : List Placed) (e f : Ending) → FileReads origin octets a e → FileReads origin octets b f → (a ≡ b) × (e ≡ f) }

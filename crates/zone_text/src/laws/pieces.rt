@@ -53,9 +53,10 @@ pub fn bad_escapes_are_lost_or_cut_off()
     ensures { (rest : List ℕ) → IsBadEscape rest ↔ (IsLostEscape rest ⊎ IsCutOff rest) }
 {}
 
-/// What breaks a text does so as it stands, or since the text ends there.
+/// What breaks a text does so as it stands, or since the text ends there, and not both.
 pub fn a_break_stays_or_stands_at_the_end()
-    ensures { (octets : List ℕ) (pieces : List Piece) (fault : Fault) (broken : Breaks octets pieces fault) → StaysBroken broken.rest ⊎ BreaksAtEnd broken.rest }
+    ensures either { (octets : List ℕ) (pieces : List Piece) (fault : Fault) (broken : Breaks octets pieces fault) → StaysBroken broken.rest ⊎ BreaksAtEnd broken.rest }
+    ensures not_both { (rest : List ℕ) → StaysBroken rest → BreaksAtEnd rest → ⊥ }
 {}
 
 /// A `)` at depth zero, and a backslash that begins no escape as the octets behind it tell, break every text that goes on

@@ -1,5 +1,5 @@
 use Rattle.std.proofs.Common.{length}
-use Rattle.zone_text.specs.Lines.{BeginsWithUnits}
+use Rattle.zone_text.proofs.Units.{BeginsWithUnits}
 use Rattle.zone_text.proofs.line.split_item.Given as goal
 
 abbrev pub invariant-loop-after : goal.invariant-loop-after

@@ -18,7 +18,7 @@ returns c =
       no_item = whole _ (cut_is_read _ _ refl) (refused _ (of_directive refl) refl refl);
       two_items = whole _ (cut_is_read _ _ refl) (refused _ (of_directive refl) refl refl);
       quoted_item = whole _ (cut_is_read _ _ refl) (refused _ (of_directive refl) refl refl);
-      bad_name = whole _ (cut_is_read _ _ refl) (refused _ (of_directive (record { above = x; found = EmptyLabel; under = refl; first = empty_label_between; same = refl })) refl refl);
+      bad_name = whole _ (cut_is_read _ _ refl) (refused _ (of_directive (x, (refl, (EmptyLabel, empty_label_between, refl)))) refl refl);
       no_time = whole _ (cut_is_read _ _ refl) (refused _ (of_directive (refl, no_digit)) refl refl);
       long_time = whole _ (cut_is_read _ _ refl) (refused _ (of_directive (refl, too_long c.time_is_unique.ensures)) refl refl);
     }
