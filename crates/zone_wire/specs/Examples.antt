@@ -60,9 +60,12 @@ numbers serial = 0 ∷ 0 ∷ 0 ∷ serial ∷ 0 ∷ 0 ∷ 0 ∷ 2 ∷ 0 ∷ 0 �
 abbrev pub opening_x : List ℕ
 opening_x = (192 ∷ 12 ∷ 0 ∷ 6 ∷ 0 ∷ 1 ∷ 0 ∷ 0 ∷ 14 ∷ 16 ∷ 0 ∷ 28 ∷ 1 ∷ 110 ∷ 192 ∷ 12 ∷ 1 ∷ 104 ∷ 192 ∷ 12 ∷ []) ++ numbers 1
 
--- a record of `x.` with TTL 3600, of a type and with data
+-- a record of `x.` with TTL 3600, of a class and a type and with data
+abbrev pub record_of_class : ℕ → ℕ → List ℕ → List ℕ
+record_of_class class kind octets = (192 ∷ 12 ∷ 0 ∷ kind ∷ 0 ∷ class ∷ 0 ∷ 0 ∷ 14 ∷ 16 ∷ 0 ∷ length octets ∷ []) ++ octets
+
 abbrev pub record_x : ℕ → List ℕ → List ℕ
-record_x kind octets = (192 ∷ 12 ∷ 0 ∷ kind ∷ 0 ∷ 1 ∷ 0 ∷ 0 ∷ 14 ∷ 16 ∷ 0 ∷ length octets ∷ []) ++ octets
+record_x kind octets = record_of_class 1 kind octets
 
 -- the name server of `x.`: a pointer to `n.x.`
 abbrev pub server_x : List ℕ
@@ -71,6 +74,10 @@ server_x = record_x 2 (192 ∷ 31 ∷ [])
 -- the SOA again, with a serial, its names being pointers to the first one's
 abbrev pub closing_x : ℕ → List ℕ
 closing_x serial = (192 ∷ 12 ∷ 0 ∷ 6 ∷ 0 ∷ 1 ∷ 0 ∷ 0 ∷ 14 ∷ 16 ∷ 0 ∷ 24 ∷ 192 ∷ 31 ∷ 192 ∷ 35 ∷ []) ++ numbers serial
+
+-- the question, the SOA, and an answer as the last part of the message
+abbrev pub ends_with : List ℕ → List ℕ
+ends_with answer = answer_header 1 2 0 ++ question_x ++ opening_x ++ answer
 
 -- behind the header: the question, the SOA, an answer, and the SOA again
 abbrev pub body_with : List ℕ → List ℕ
