@@ -3,12 +3,13 @@ ghost use Rattle.std.specs.Prelude.{◌∷◌, ◌++◌, [], Some, None};
 ghost use Rattle.zone_wire.specs.Examples.{behind_header, chain, labels_a, longest_walk, root_soa, soa_message, placed_soa, WalkEnds};
 ghost use Rattle.zone_wire.specs.Examples.{answer_header, numbers, question_x, opening_x, server_x, record_of_class, record_x, closing_x, ends_with, message_with, small_body, small_message, first_message, second_message, soa_x, ns_x, srv_x, naptr_x, address_n, placed_at, small_records};
 ghost use Rattle.std.specs.List.{AllByRecursion};
-ghost use Rattle.zone_rdata.specs.Record.{IsRecord};
 ghost use Rattle.zone_wire.specs.Name.{IsNameAt};
 ghost use Rattle.zone_wire.specs.Stream.{StreamReads};
 ghost use Rattle.zone_rdata.specs.declared.fault.Place.TheVariants.{Message};
 ghost use Rattle.zone_wire.specs.Transfer.{frame, StreamStates};
 ghost use Rattle.zone_rdata.specs.declared.fault.Fault.TheVariants.{BadClass, MetaType, NameTooLong, BadRdata, ShortFrame, ShortMessage, NotAResponse, Truncated, ErrorCode, BadCounts, IdMismatch, BadQuestion, ReservedLabel, BadPointer, TooManyPointers, CompressibleType, TrailingOctets, NoOpeningSoa, SoaMismatch, AfterClosing, NoClosingSoa};
+
+use crate::laws::a_transfer_is_read;
 
 /// `A.x.` by a pointer from behind `X.`: letters are folded, and the name ends after the pointer.
 pub fn a_compressed_name()
@@ -45,8 +46,10 @@ pub fn chains_of_pointers()
 
 /// A transfer of a zone with no record but its SOA, in one message.
 pub fn a_transfer()
-    ensures { IsRecord root_soa → StreamStates (frame soa_message) (placed_soa 12 ∷ []) }
-{}
+    ensures { StreamStates (frame soa_message) (placed_soa 12 ∷ []) }
+{
+    a_transfer_is_read();
+}
 
 /// The longest walk has 256 places: 127 labels, 128 pointers and the root. A label before those 127 is one too many.
 pub fn long_names()
