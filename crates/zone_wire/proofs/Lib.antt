@@ -15,4 +15,5 @@ pub mod ReadStreams
 pub mod Sectioning
 pub mod Streams
 pub mod Transfers
+pub mod Visits
 pub mod Walking
