@@ -1,4 +1,4 @@
--- Messages on which walks and names are computed.
+-- Messages and streams on which walks, names, records and faults are computed.
 use Rattle.std.specs.Prelude.{◌≡◌, ℕ, zero, suc, ◌+◌, ◌/◌, ◌%◌, List, [], ◌∷◌, ◌++◌, length, replicate, Option}
 use Rattle.std.specs.List.{flat_map}
 use Rattle.zone_rdata.specs.Record.{Record}
@@ -7,14 +7,14 @@ use Rattle.zone_rdata.specs.declared.record.Placed.{Placed}
 use Rattle.zone_wire.specs.Walk.{walk, ending}
 use Rattle.zone_rdata.specs.declared.fault.Fault.{Fault}
 
--- octets behind a header
-abbrev pub behind_header : List ℕ → List ℕ
-behind_header octets = replicate 12 0 ++ octets
+-- octets behind a header of twelve zeros
+abbrev pub behind_zeros : List ℕ → List ℕ
+behind_zeros octets = replicate 12 0 ++ octets
 
--- the walk of the name at an offset of octets behind a header ends so, after so many places
+-- the walk of the name at an offset of octets behind twelve zeros ends so, after so many places
 pub record WalkEnds (octets : List ℕ) (offset : ℕ) (fault : Option Fault) (places : ℕ) : Type 0 where
-  pub ends : ending (walk (behind_header octets) offset) ≡ fault
-  pub count : length (walk (behind_header octets) offset) ≡ places
+  pub ends : ending (walk (behind_zeros octets) offset) ≡ fault
+  pub count : length (walk (behind_zeros octets) offset) ≡ places
 
 -- n pointers one after another, the first at an offset and to a target, each other one to the one before it
 abbrev pub chain : ℕ → ℕ → ℕ → List ℕ
