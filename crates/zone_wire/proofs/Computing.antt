@@ -1,8 +1,8 @@
 -- Names and walks that compute.
-use Rattle.std.proofs.Common.{◌≡◌, ℕ, zero, suc, ◌+◌, ◌<◌, ◌≤◌, ◌++◌, length, nat_le, Bool, true, false, ◌&&◌, nat_lt, List, [], ◌∷◌, lit<, refl, ap, sym}
+use Rattle.std.proofs.Common.{◌≡◌, ℕ, zero, suc, ◌+◌, ◌<◌, ◌≤◌, ◌++◌, length, nat_le, Bool, true, ◌&&◌, nat_lt, List, [], ◌∷◌, lit<, refl, ap, sym}
 use Rattle.std.specs.Prelude.{get_or}
 use Rattle.std.specs.List.{flat_map, AllByRecursion, list_all}
-use Rattle.std.proofs.lemmas.Bool.{ltb-true, leb-true}
+use Rattle.std.proofs.lemmas.Bool.{and_parts, ltb-true, leb-true}
 use Rattle.zone_rdata.specs.declared.fault.Fault.{Fault}
 use Rattle.zone_rdata.specs.declared.fault.Place.{Place}
 use Rattle.zone_wire.specs.Answers.{Answered}
@@ -18,14 +18,10 @@ abbrev pub all_octets : List ℕ → Bool
 all_octets [] = true
 all_octets (c ∷ octets) = nat_lt c 256 && all_octets octets
 
-both : (a b : Bool) → (a && b) ≡ true → (a ≡ true) × (b ≡ true)
-both true b e = (refl, e)
-both false b e = cc
-
 pub octets_below : (octets : List ℕ) → all_octets octets ≡ true → (k : ℕ) → get_or octets k 0 < 256
 octets_below [] e k = lit< tt
-octets_below (c ∷ octets) e zero = ltb-true c 256 (both (nat_lt c 256) (all_octets octets) e).0
-octets_below (c ∷ octets) e (suc k) = octets_below octets (both (nat_lt c 256) (all_octets octets) e).1 k
+octets_below (c ∷ octets) e zero = ltb-true c 256 (and_parts (nat_lt c 256) (all_octets octets) e).0
+octets_below (c ∷ octets) e (suc k) = octets_below octets (and_parts (nat_lt c 256) (all_octets octets) e).1 k
 
 -- a name that the walk finds by computing
 pub name_computes : (message : List ℕ) (offset : ℕ) (found : Found) → all_octets message ≡ true → outcome message (walk message offset) ≡ named found → IsNameAt message offset found
@@ -33,7 +29,7 @@ name_computes message offset found octets e = walk_names message offset found (o
 
 all_short : (messages : List (List ℕ)) → list_all (λ octets. nat_le (length octets) 65535) messages ≡ true → AllByRecursion (λ octets. length octets ≤ 65535) messages
 all_short [] e = tt
-all_short (octets ∷ messages) e = let parts = both (nat_le (length octets) 65535) (list_all (λ octets. nat_le (length octets) 65535) messages) e in (leb-true (length octets) 65535 parts.0, all_short messages parts.1)
+all_short (octets ∷ messages) e = let parts = and_parts (nat_le (length octets) 65535) (list_all (λ octets. nat_le (length octets) 65535) messages) e in (leb-true (length octets) 65535 parts.0, all_short messages parts.1)
 
 -- what a stream is read as, by computing
 pub reads : (messages : List (List ℕ)) (rest : List ℕ) (answered : Answered (Fault × Place)) → list_all (λ octets. nat_le (length octets) 65535) messages ≡ true → nat_lt (length rest) (2 + word_at rest 0) ≡ true → records_of [] [] messages ≡ answered → StreamReads (flat_map frame messages ++ rest) (handed_on answered.placed) (ending_of (length messages + 1) answered rest)

@@ -14,6 +14,6 @@ pub mod ReadSections
 pub mod ReadStreams
 pub mod Sectioning
 pub mod Streams
-pub mod Transferring
 pub mod Transfers
+pub mod Visits
 pub mod Walking

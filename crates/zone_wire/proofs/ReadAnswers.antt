@@ -3,7 +3,7 @@ use Rattle.std.proofs.Common.{◌≡◌, ◌≢◌, ℕ, ◌≤◌, ◌<◌, Lis
 use Rattle.std.specs.Prelude.{get_or, ◌==◌, ◌&&◌, ◌⊎◌, not, Option, Some, None, Result, Ok, Err, if◌then◌else◌, ⊤}
 use Rattle.std.specs.List.{AllByRecursion, list_any}
 use Rattle.std.specs.Cmp.Lexicographic.{pointwise, pointwise_decides, bytes_decides}
-use Rattle.std.proofs.lemmas.Bool.{or_parts, and_cases, eqb-true, eq-eqb, not-false}
+use Rattle.std.proofs.lemmas.Bool.{and_parts, or_parts, and_cases, eqb-true, eq-eqb, not-false}
 use Rattle.zone_rdata.specs.Record.{Record, IsRecord}
 use Rattle.zone_rdata.specs.Words.{is_meta}
 use Rattle.zone_rdata.specs.declared.fault.Fault.{Fault}
@@ -16,7 +16,7 @@ use Rattle.zone_wire.specs.Message.{QuestionAt, RecordAt, AreRecordsAt}
 use Rattle.zone_wire.specs.Transfer.{ttl_of, compressible, StatesRecord, StateEach}
 use Rattle.zone_wire.proofs.Answering.{is_soa}
 use Rattle.zone_wire.proofs.ReadFields.{data_shown}
-use Rattle.zone_wire.proofs.ReadSections.{ok_same, leads, passes_on, no_fault, both}
+use Rattle.zone_wire.proofs.ReadSections.{ok_same, leads, passes_on, no_fault}
 use Rattle.zone_wire.proofs.Transfers.{equal_parts}
 
 pub unequal : (a b : ℕ) → nat_eq a b ≡ false → a ≢ b
@@ -42,15 +42,15 @@ names_equal n m e = (pointwise_decides bytes_decides n m).0 e
 
 records_equal : (r s : Record) → same_record r s ≡ true → r ≡ s
 records_equal r s e =
-    let d = both (same_name r.owner s.owner && r.class == s.class && r.kind == s.kind && r.ttl == s.ttl) (pointwise nat_eq r.octets s.octets) e in
-    let c = both (same_name r.owner s.owner && r.class == s.class && r.kind == s.kind) (r.ttl == s.ttl) d.0 in
-    let b = both (same_name r.owner s.owner && r.class == s.class) (r.kind == s.kind) c.0 in
-    let a = both (same_name r.owner s.owner) (r.class == s.class) b.0 in
+    let d = and_parts (same_name r.owner s.owner && r.class == s.class && r.kind == s.kind && r.ttl == s.ttl) (pointwise nat_eq r.octets s.octets) e in
+    let c = and_parts (same_name r.owner s.owner && r.class == s.class && r.kind == s.kind) (r.ttl == s.ttl) d.0 in
+    let b = and_parts (same_name r.owner s.owner && r.class == s.class) (r.kind == s.kind) c.0 in
+    let a = and_parts (same_name r.owner s.owner) (r.class == s.class) b.0 in
     equal_parts r s (names_equal r.owner s.owner a.0) (eqb-true _ _ a.1) (eqb-true _ _ b.1) (eqb-true _ _ c.1) ((bytes_decides r.octets s.octets).0 d.1)
 
 -- a name and class that agree with the zone
 pub agree_parts : (name other : List (List ℕ)) (class last : ℕ) → (same_name name other && class == last) ≡ true → (name ≡ other) × (class ≡ last)
-agree_parts name other class last e = let p = both (same_name name other) (class == last) e in (names_equal name other p.0, eqb-true _ _ p.1)
+agree_parts name other class last e = let p = and_parts (same_name name other) (class == last) e in (names_equal name other p.0, eqb-true _ _ p.1)
 
 -- where a record stands in a transfer, those before it known
 abbrev pub Behind : List Placed → Placed → Type 0

@@ -4,7 +4,7 @@ use Rattle.std.specs.Prelude.{get_or, slice_index, take, drop, ◌==◌, ◌&&�
 use Rattle.std.specs.Int.{w16, w32, to_be_bytes, from_be_bytes}
 use Rattle.std.specs.Cmp.Lexicographic.{pointwise, bytes_decides}
 use Rattle.std.specs.List.{flat_map, AllByRecursion}
-use Rattle.std.proofs.lemmas.Bool.{leb-true, ltb-true, eqb-true}
+use Rattle.std.proofs.lemmas.Bool.{and_parts, leb-true, ltb-true, eqb-true}
 use Rattle.std.proofs.lemmas.List.{take_all, length-take, length-take-le, length-drop}
 use Rattle.std.proofs.lemmas.Nat.{be_bytes_2, be_bytes_4}
 use Rattle.zone_name.specs.Name.{frame}
@@ -21,7 +21,7 @@ use Rattle.zone_wire.specs.Sections.{and_then}
 use Rattle.zone_wire.specs.Transfer.{part, StandsAt, StandEach, AreFieldsAt, IsDataAt}
 use Rattle.zone_wire.specs.Walk.{walk}
 use Rattle.zone_wire.proofs.Fielding.{part_first}
-use Rattle.zone_wire.proofs.ReadSections.{ok_same, leads, passes, both}
+use Rattle.zone_wire.proofs.ReadSections.{ok_same, leads, passes}
 use Rattle.zone_wire.proofs.Walking.{walk_names, take_each, drop_each}
 
 abbrev Shown : List ℕ → ℕ → ℕ → Field → FieldValue × ℕ → Type 0
@@ -114,7 +114,7 @@ module _ (octets : List ℕ) (each : (k : ℕ) → get_or octets k 0 < 256) (end
   strings_show start v e =
       let bs = part octets start end in
       let p = passes (nat_lt 0 (length bs) && pointwise nat_eq (flat_map frame (strings_of bs)) bs) _ v _ e in
-      let b = both (nat_lt 0 (length bs)) (pointwise nat_eq (flat_map frame (strings_of bs)) bs) p.0 in
+      let b = and_parts (nat_lt 0 (length bs)) (pointwise nat_eq (flat_map frame (strings_of bs)) bs) p.0 in
       let some : 0 < length bs = ltb-true 0 (length bs) b.0 in
       let whole : flat_map frame (strings_of bs) ≡ bs = (bytes_decides (flat_map frame (strings_of bs)) bs).0 b.1 in
       let order : start ≤ end = omega (arith, some, length-take (end - start) (drop start octets)) in

@@ -1,7 +1,7 @@
 -- What is read as the sections of a message are its sections.
 use Rattle.std.proofs.Common.{◌≡◌, ℕ, zero, suc, ◌<◌, ◌≤◌, List, length, refl, ap, sym, subst, Bool, true, false, nat_le}
-use Rattle.std.specs.Prelude.{get_or, ◌==◌, ◌&&◌, Option, Some, None, Result, Ok, Err, if◌then◌else◌}
-use Rattle.std.proofs.lemmas.Bool.{leb-true, ltb-false, eqb-true, not-false}
+use Rattle.std.specs.Prelude.{get_or, ◌==◌, Option, Some, None, Result, Ok, Err, if◌then◌else◌}
+use Rattle.std.proofs.lemmas.Bool.{and_parts, leb-true, ltb-false, eqb-true, not-false}
 use Rattle.zone_rdata.specs.declared.fault.Fault.{Fault}
 use Rattle.zone_wire.specs.Message.{word_at, HasHeader, QuestionAt, question_by, IsQuestionAt, RecordAt, record_by, IsRecordAt, AreAt, Sections, IsMessage}
 use Rattle.zone_wire.specs.Name.{Found}
@@ -36,10 +36,6 @@ pub no_fault : (test : Bool) (fault : Fault) (rest : Option Fault) → (if test 
 no_fault true fault rest e = cc
 no_fault false fault rest e = (refl, e)
 
-pub both : (a b : Bool) → (a && b) ≡ true → (a ≡ true) × (b ≡ true)
-both true b e = (refl, e)
-both false b e = cc
-
 header_shows : (octets : List ℕ) → header_fault octets ≡ None → HasHeader octets
 unfolding header_fault
 header_shows octets e =
@@ -47,7 +43,7 @@ header_shows octets e =
     let b = no_fault _ _ _ a.1 in
     let c = no_fault _ _ _ b.1 in
     let d = no_fault _ _ _ c.1 in
-    let counts = both (nat_le (word_at octets 4) 1) (word_at octets 8 == 0) (not-false _ (no_fault _ _ _ d.1).0) in
+    let counts = and_parts (nat_le (word_at octets 4) 1) (word_at octets 8 == 0) (not-false _ (no_fault _ _ _ d.1).0) in
     record {
       twelve = ltb-false _ _ a.0;
       response = eqb-true _ _ (not-false _ b.0);

@@ -2,7 +2,7 @@
 use Rattle.std.proofs.Common.{◌≡◌, ◌≢◌, ℕ, zero, suc, ◌+◌, ◌≤◌, ◌<◌, lit<, List, [], ◌∷◌, ◌++◌, length, refl, ap, sym, ◌∙◌, subst, Bool, true, false, inl, inr, arith, append_assoc, length-append}
 use Rattle.std.specs.Prelude.{get_or, map, ◌==◌, ◌||◌, ◌⊎◌, Option, Some, None, Result, Ok, Err, if◌then◌else◌, ⊤}
 use Rattle.std.specs.List.{flat_map, AllByRecursion, list_any}
-use Rattle.std.proofs.lemmas.Bool.{eqb-true, eq-eqb, or_parts}
+use Rattle.std.proofs.lemmas.Bool.{and_parts, eqb-true, eq-eqb, or_parts}
 use Rattle.std.proofs.lemmas.List.{append-nil}
 use Rattle.std.proofs.lemmas.List.Concat.{flat_map-append}
 use Rattle.zone_rdata.specs.Record.{Record, IsRecord}
@@ -19,7 +19,7 @@ use Rattle.zone_wire.specs.Transfer.{Part, AreParts, AsksFor, StateEach, frame, 
 use Rattle.zone_wire.proofs.Accepting.{all_append, octets_of_parts, placed_of_parts, any_append, framed_parts, handed_transfer}
 use Rattle.zone_wire.proofs.Answering.{is_soa}
 use Rattle.zone_wire.proofs.ReadAnswers.{Behind, stands_behind, opening_agrees, agree_parts, Kept, answers_shown}
-use Rattle.zone_wire.proofs.ReadSections.{ok_same, leads, passes, both, sections_shown}
+use Rattle.zone_wire.proofs.ReadSections.{ok_same, leads, passes, sections_shown}
 
 abbrev pub Bytes : List ℕ → Type 0
 Bytes octets = (k : ℕ) → get_or octets k 0 < 256
@@ -56,7 +56,7 @@ questions_shown : (questions : List QuestionAt) (placed : List Placed) (s t : Se
 questions_shown questions placed s t [] few e of = subst (λ qs. OfOneZone qs placed) (sym (append-nil questions)) of
 questions_shown questions placed s t (q ∷ []) few e of =
     let p = passes_or _ _ t _ e in
-    let b = both (q.kind == 252) (agrees (zone_of questions placed) q.name q.class) p in
+    let b = and_parts (q.kind == 252) (agrees (zone_of questions placed) q.name q.class) p in
     one_question of.0 questions placed q b.0 b.1 of.1
   where
     passes_or : (test : Bool) (x y : Sections) (fault : Fault × ℕ) → (if test then (let r : Result Sections (Fault × ℕ) = Ok x in r) else Err fault) ≡ Ok y → test ≡ true

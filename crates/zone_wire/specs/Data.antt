@@ -1,4 +1,4 @@
--- The data of a record in a message, or its first fault (RFC 1035 3.3, 4.1.4; RFC 3597 4).
+-- The data of a record in a message, or its first fault (RFC 1035 3.3, 4.1.4; opaque data: RFC 3597 3, 4).
 use Rattle.std.specs.Prelude.{ℕ, ◌+◌, List, [], ◌∷◌, length, slice_index, ◌==◌, ◌&&◌, nat_eq, nat_le, nat_lt, if◌then◌else◌, Some, None, Result, Ok, Err}
 use Rattle.std.specs.Cmp.Lexicographic.{pointwise}
 use Rattle.std.specs.List.{flat_map}

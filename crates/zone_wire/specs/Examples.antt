@@ -1,4 +1,4 @@
--- Messages on which walks and names are computed.
+-- Messages and streams on which walks, names, records and faults are computed.
 use Rattle.std.specs.Prelude.{◌≡◌, ℕ, zero, suc, ◌+◌, ◌/◌, ◌%◌, List, [], ◌∷◌, ◌++◌, length, replicate, Option}
 use Rattle.std.specs.List.{flat_map}
 use Rattle.zone_rdata.specs.Record.{Record}
@@ -7,14 +7,14 @@ use Rattle.zone_rdata.specs.declared.record.Placed.{Placed}
 use Rattle.zone_wire.specs.Walk.{walk, ending}
 use Rattle.zone_rdata.specs.declared.fault.Fault.{Fault}
 
--- octets behind a header
-abbrev pub behind_header : List ℕ → List ℕ
-behind_header octets = replicate 12 0 ++ octets
+-- octets behind a header of twelve zeros
+abbrev pub behind_zeros : List ℕ → List ℕ
+behind_zeros octets = replicate 12 0 ++ octets
 
--- the walk of the name at an offset of octets behind a header ends so, after so many places
+-- the walk of the name at an offset of octets behind twelve zeros ends so, after so many places
 pub record WalkEnds (octets : List ℕ) (offset : ℕ) (fault : Option Fault) (places : ℕ) : Type 0 where
-  pub ends : ending (walk (behind_header octets) offset) ≡ fault
-  pub count : length (walk (behind_header octets) offset) ≡ places
+  pub ends : ending (walk (behind_zeros octets) offset) ≡ fault
+  pub count : length (walk (behind_zeros octets) offset) ≡ places
 
 -- n pointers one after another, the first at an offset and to a target, each other one to the one before it
 abbrev pub chain : ℕ → ℕ → ℕ → List ℕ
@@ -60,9 +60,12 @@ numbers serial = 0 ∷ 0 ∷ 0 ∷ serial ∷ 0 ∷ 0 ∷ 0 ∷ 2 ∷ 0 ∷ 0 �
 abbrev pub opening_x : List ℕ
 opening_x = (192 ∷ 12 ∷ 0 ∷ 6 ∷ 0 ∷ 1 ∷ 0 ∷ 0 ∷ 14 ∷ 16 ∷ 0 ∷ 28 ∷ 1 ∷ 110 ∷ 192 ∷ 12 ∷ 1 ∷ 104 ∷ 192 ∷ 12 ∷ []) ++ numbers 1
 
--- a record of `x.` with TTL 3600, of a type and with data
+-- a record of `x.` with TTL 3600, of a class and a type and with data
+abbrev pub record_of_class : ℕ → ℕ → List ℕ → List ℕ
+record_of_class class kind octets = (192 ∷ 12 ∷ 0 ∷ kind ∷ 0 ∷ class ∷ 0 ∷ 0 ∷ 14 ∷ 16 ∷ 0 ∷ length octets ∷ []) ++ octets
+
 abbrev pub record_x : ℕ → List ℕ → List ℕ
-record_x kind octets = (192 ∷ 12 ∷ 0 ∷ kind ∷ 0 ∷ 1 ∷ 0 ∷ 0 ∷ 14 ∷ 16 ∷ 0 ∷ length octets ∷ []) ++ octets
+record_x kind octets = record_of_class 1 kind octets
 
 -- the name server of `x.`: a pointer to `n.x.`
 abbrev pub server_x : List ℕ
@@ -71,6 +74,10 @@ server_x = record_x 2 (192 ∷ 31 ∷ [])
 -- the SOA again, with a serial, its names being pointers to the first one's
 abbrev pub closing_x : ℕ → List ℕ
 closing_x serial = (192 ∷ 12 ∷ 0 ∷ 6 ∷ 0 ∷ 1 ∷ 0 ∷ 0 ∷ 14 ∷ 16 ∷ 0 ∷ 24 ∷ 192 ∷ 31 ∷ 192 ∷ 35 ∷ []) ++ numbers serial
+
+-- the question, the SOA, and an answer as the last part of the message
+abbrev pub ends_with : List ℕ → List ℕ
+ends_with answer = answer_header 1 2 0 ++ question_x ++ opening_x ++ answer
 
 -- behind the header: the question, the SOA, an answer, and the SOA again
 abbrev pub body_with : List ℕ → List ℕ

@@ -27,7 +27,7 @@ abbrev pub has_first_id : List Sections → Sections → Result Sections (Fault 
 has_first_id [] s = Ok s
 has_first_id (first ∷ messages) s = if s.id == first.id then Ok s else Err (IdMismatch, 0)
 
--- each question asks for the whole of the zone that the questions and records before fix (RFC 5936 2.1)
+-- each question asks for the whole of the zone that the questions and records before fix (RFC 5936 2.2.2)
 abbrev pub ask_for_zone : List QuestionAt → List Placed → Sections → List QuestionAt → Result Sections (Fault × ℕ)
 ask_for_zone before placed s [] = Ok s
 ask_for_zone before placed s (q ∷ questions) = if q.kind == 252 && agrees (zone_of before placed) q.name q.class then ask_for_zone before placed s questions else Err (BadQuestion, 12)

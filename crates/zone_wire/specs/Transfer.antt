@@ -31,7 +31,8 @@ pub record AreFieldsAt (octets : List ℕ) (start end : ℕ) (fields : List Fiel
   pub stand : StandEach octets start end values
   pub whole : canonical ≡ octets_of values
 
--- the canonical octets of a record's data: of the values of its layout, or the octets as they are where there is none (RFC 3597 4)
+-- the canonical octets of a record's data: of the values of its layout, or the octets as they are where there is none
+-- (RFC 3597 3, 4)
 abbrev pub IsDataAt : List ℕ → RecordAt → List ℕ → Type 0
 IsDataAt octets a canonical = MatchOption (layout a.class a.kind) (canonical ≡ part octets a.start a.end) (λ fields. AreFieldsAt octets a.start a.end fields canonical)
 
@@ -66,7 +67,8 @@ pub record Part : Type 0 where
   pub sections : Sections
   pub placed : List Placed
 
--- a question for the whole zone: of type AXFR, 252, and of the zone's name and class
+-- a question for the whole zone: of type AXFR, 252, and of the zone's name and class (RFC 5936 2.1.2; by 2.2.2 it is
+-- copied from the query)
 pub record AsksFor (zone : Record) (q : QuestionAt) : Type 0 where
   pub name : q.name ≡ zone.owner
   pub kind : q.kind ≡ 252

@@ -1,22 +1,24 @@
-//! Names in messages, computed from the definitions.
+//! Names in messages, zone transfers and the faults of both, computed from the definitions.
 ghost use Rattle.std.specs.Prelude.{◌∷◌, ◌++◌, [], Some, None};
-ghost use Rattle.zone_wire.specs.Examples.{behind_header, chain, longest_walk, root_soa, soa_message, placed_soa, WalkEnds};
-ghost use Rattle.zone_wire.specs.Examples.{answer_header, numbers, question_x, opening_x, server_x, record_x, closing_x, message_with, small_body, small_message, first_message, second_message, soa_x, ns_x, srv_x, naptr_x, address_n, placed_at, small_records};
-ghost use Rattle.zone_rdata.specs.Record.{IsRecord};
+ghost use Rattle.zone_wire.specs.Examples.{behind_zeros, chain, labels_a, longest_walk, root_soa, soa_message, placed_soa, WalkEnds};
+ghost use Rattle.zone_wire.specs.Examples.{answer_header, numbers, question_x, opening_x, server_x, record_of_class, record_x, closing_x, ends_with, message_with, small_body, small_message, first_message, second_message, soa_x, ns_x, srv_x, naptr_x, address_n, placed_at, small_records};
+ghost use Rattle.std.specs.List.{AllByRecursion};
 ghost use Rattle.zone_wire.specs.Name.{IsNameAt};
 ghost use Rattle.zone_wire.specs.Stream.{StreamReads};
 ghost use Rattle.zone_rdata.specs.declared.fault.Place.TheVariants.{Message};
 ghost use Rattle.zone_wire.specs.Transfer.{frame, StreamStates};
-ghost use Rattle.zone_rdata.specs.declared.fault.Fault.TheVariants.{NameTooLong, BadRdata, ShortFrame, ShortMessage, NotAResponse, Truncated, ErrorCode, BadCounts, IdMismatch, BadQuestion, ReservedLabel, BadPointer, TooManyPointers, CompressibleType, TrailingOctets, NoOpeningSoa, SoaMismatch, AfterClosing, NoClosingSoa};
+ghost use Rattle.zone_rdata.specs.declared.fault.Fault.TheVariants.{BadClass, MetaType, NameTooLong, BadRdata, ShortFrame, ShortMessage, NotAResponse, Truncated, ErrorCode, BadCounts, IdMismatch, BadQuestion, ReservedLabel, BadPointer, TooManyPointers, CompressibleType, TrailingOctets, NoOpeningSoa, SoaMismatch, AfterClosing, NoClosingSoa};
+
+use crate::laws::a_transfer_is_read;
 
 /// `A.x.` by a pointer from behind `X.`: letters are folded, and the name ends after the pointer.
 pub fn a_compressed_name()
-    ensures { IsNameAt (behind_header (1 ∷ 88 ∷ 0 ∷ 1 ∷ 65 ∷ 192 ∷ 12 ∷ [])) 15 (record { labels = (97 ∷ []) ∷ (120 ∷ []) ∷ []; end = 19; steps = 4; pointers = 1 }) }
+    ensures { IsNameAt (behind_zeros (1 ∷ 88 ∷ 0 ∷ 1 ∷ 65 ∷ 192 ∷ 12 ∷ [])) 15 (record { labels = (97 ∷ []) ∷ (120 ∷ []) ∷ []; end = 19; steps = 4; pointers = 1 }) }
 {}
 
 /// The root, a name of no label.
 pub fn the_root()
-    ensures { IsNameAt (behind_header (0 ∷ [])) 12 (record { labels = []; end = 13; steps = 1; pointers = 0 }) }
+    ensures { IsNameAt (behind_zeros (0 ∷ [])) 12 (record { labels = []; end = 13; steps = 1; pointers = 0 }) }
 {}
 
 /// Octets that run past the message, and a reserved form.
@@ -44,8 +46,10 @@ pub fn chains_of_pointers()
 
 /// A transfer of a zone with no record but its SOA, in one message.
 pub fn a_transfer()
-    ensures { IsRecord root_soa → StreamStates (frame soa_message) (placed_soa 12 ∷ []) }
-{}
+    ensures { StreamStates (frame soa_message) (placed_soa 12 ∷ []) }
+{
+    a_transfer_is_read();
+}
 
 /// The longest walk has 256 places: 127 labels, 128 pointers and the root. A label before those 127 is one too many.
 pub fn long_names()
@@ -102,4 +106,42 @@ pub fn faults_of_answers()
     ensures no_string { StreamReads (frame (message_with (record_x 16 []))) (placed_at 1 19 soa_x ∷ []) (Some (BadRdata, Message 1 59)) }
     ensures short_service { StreamReads (frame (message_with (record_x 33 (192 ∷ 31 ∷ [])))) (placed_at 1 19 soa_x ∷ []) (Some (BadRdata, Message 1 59)) }
     ensures points_to_itself { StreamReads (frame (message_with (record_x 2 (192 ∷ 71 ∷ [])))) (placed_at 1 19 soa_x ∷ []) (Some (BadPointer, Message 1 59)) }
+{}
+
+/// A place of a name with two faults has the first: an octet outside the message before a name of over 255 octets, and a
+/// bad target before the 129th pointer.
+pub fn names_with_two_faults()
+    ensures outside_and_too_long { WalkEnds (labels_a 127 ++ 1 ∷ []) 12 (Some ShortMessage) 128 }
+    ensures bad_target_and_too_many { WalkEnds (chain 129 12 12) 268 (Some BadPointer) 129 }
+{}
+
+/// A message with two faults in its structure has the first, by the order of its parts.
+pub fn messages_with_two_faults()
+    ensures query_cut_off { StreamReads (frame (0 ∷ 1 ∷ 4 ∷ 0 ∷ [])) [] (Some (ShortMessage, Message 1 0)) }
+    ensures truncated_query { StreamReads (frame ((0 ∷ 1 ∷ 6 ∷ 0 ∷ 0 ∷ 1 ∷ 0 ∷ 3 ∷ 0 ∷ 0 ∷ 0 ∷ 0 ∷ []) ++ small_body)) [] (Some (NotAResponse, Message 1 0)) }
+    ensures truncated_error { StreamReads (frame ((0 ∷ 1 ∷ 134 ∷ 5 ∷ 0 ∷ 1 ∷ 0 ∷ 3 ∷ 0 ∷ 0 ∷ 0 ∷ 0 ∷ []) ++ small_body)) [] (Some (Truncated, Message 1 0)) }
+    ensures error_with_two_questions { StreamReads (frame ((0 ∷ 1 ∷ 132 ∷ 5 ∷ 0 ∷ 2 ∷ 0 ∷ 3 ∷ 0 ∷ 0 ∷ 0 ∷ 0 ∷ []) ++ small_body)) [] (Some (ErrorCode 5, Message 1 0)) }
+    ensures trailing_under_other_id { StreamReads (frame first_message ++ frame (0 ∷ 2 ∷ 132 ∷ 0 ∷ 0 ∷ 0 ∷ 0 ∷ 0 ∷ 0 ∷ 0 ∷ 0 ∷ 0 ∷ 0 ∷ [])) small_records (Some (TrailingOctets, Message 2 0)) }
+    ensures question_under_other_id { StreamReads (frame first_message ++ frame ((0 ∷ 2 ∷ 132 ∷ 0 ∷ 0 ∷ 1 ∷ 0 ∷ 0 ∷ 0 ∷ 0 ∷ 0 ∷ 0 ∷ []) ++ 1 ∷ 121 ∷ 0 ∷ 0 ∷ 252 ∷ 0 ∷ 1 ∷ [])) small_records (Some (IdMismatch, Message 2 0)) }
+{}
+
+/// An answer with two faults has the first: of its class, its type, its data, and then of the order of answers.
+pub fn answers_with_two_faults()
+    ensures class_and_type { StreamReads (frame (ends_with (record_of_class 0 41 []))) (placed_at 1 19 soa_x ∷ []) (Some (BadClass, Message 1 59)) }
+    ensures name_past_the_message { StreamReads (frame (ends_with (record_x 2 []))) (placed_at 1 19 soa_x ∷ []) (Some (ShortMessage, Message 1 59)) }
+    ensures name_past_the_data { StreamReads (frame (message_with (record_x 2 []))) (placed_at 1 19 soa_x ∷ []) (Some (BadRdata, Message 1 59)) }
+    ensures bad_data_first { StreamReads (frame (answer_header 1 1 0 ++ question_x ++ record_x 16 [])) [] (Some (BadRdata, Message 1 19)) }
+    ensures no_opening_of_other_class { StreamReads (frame (answer_header 1 1 0 ++ (1 ∷ 120 ∷ 0 ∷ 0 ∷ 252 ∷ 0 ∷ 3 ∷ []) ++ record_x 2 (192 ∷ 12 ∷ []))) [] (Some (NoOpeningSoa, Message 1 19)) }
+    ensures differing_soa_after_closing { StreamReads (frame (answer_header 1 4 0 ++ small_body ++ closing_x 2)) small_records (Some (AfterClosing, Message 1 109)) }
+    ensures class_after_closing { StreamReads (frame (answer_header 1 4 0 ++ small_body ++ record_of_class 255 1 [])) small_records (Some (BadClass, Message 1 109)) }
+{}
+
+/// The first and the last types that no record of a zone has.
+pub fn types_of_no_record()
+    ensures { AllByRecursion (λ kind. StreamReads (frame (ends_with (record_x kind []))) (placed_at 1 19 soa_x ∷ []) (Some (MetaType, Message 1 59))) (0 ∷ 41 ∷ 128 ∷ 255 ∷ []) }
+{}
+
+/// MD, MF, MB, MG, MR and MINFO (RFC 1035 3.3), and RP, AFSDB, RT, SIG, PX and NXT (RFC 3597 4).
+pub fn types_with_compressed_names()
+    ensures { AllByRecursion (λ kind. StreamReads (frame (ends_with (record_x kind []))) (placed_at 1 19 soa_x ∷ []) (Some (CompressibleType, Message 1 59))) (3 ∷ 4 ∷ 7 ∷ 8 ∷ 9 ∷ 14 ∷ 17 ∷ 18 ∷ 21 ∷ 24 ∷ 26 ∷ 30 ∷ []) }
 {}

@@ -11,6 +11,7 @@ ghost use Rattle.zone_rdata.specs.Record.{IsRecord};
 ghost use Rattle.zone_rdata.specs.declared.fault.Fault.{Fault};
 ghost use Rattle.zone_rdata.specs.declared.fault.Place.{Place};
 ghost use Rattle.zone_rdata.specs.declared.record.Placed.{Placed};
+ghost use Rattle.zone_wire.specs.Visits.{labels_in, pointers_in, LeadToLast};
 ghost use Rattle.zone_wire.specs.Walk.{walk, walk_by, outset, ending};
 
 use zone_rdata::laws::value::{held_values_are_data, values_without_strings_are_short};
@@ -29,9 +30,13 @@ pub fn a_name_is_bounded()
     ensures end { (message : List ℕ) (offset : ℕ) (found : Found) → IsNameAt message offset found → found.end ≤ length message }
 {}
 
-/// A walk has at most 256 places, all of them in the message, and a greater bound gives no other walk.
+/// A walk has at most 256 places, all of them in the message, and a greater bound gives no other walk: at most 127 labels
+/// and 128 pointers, and what is neither stands at the last place alone.
 pub fn a_walk_is_bounded()
     ensures places { (message : List ℕ) (offset : ℕ) → length (walk message offset) ≤ 256 }
+    ensures labels { (message : List ℕ) (offset : ℕ) → labels_in (walk message offset) ≤ 127 }
+    ensures pointers { (message : List ℕ) (offset : ℕ) → pointers_in (walk message offset) ≤ 128 }
+    ensures last { (message : List ℕ) (offset : ℕ) → LeadToLast (walk message offset) }
     ensures inside { (message : List ℕ) (offset : ℕ) → AllByRecursion (λ visit. visit.offset < length message) (walk message offset) }
     ensures whole { (message : List ℕ) (offset more : ℕ) → walk_by (256 + more) message (outset offset) ≡ walk message offset }
 {}

@@ -1,0 +1,10 @@
+use Rattle.std.proofs.Common.{refl}
+use Rattle.zone_wire.specs.Walk.{place_of, walk_by, walk, ending}
+use Rattle.zone_wire.proofs.examples.names_with_two_faults.Goals as goal
+
+pub returns : goal.returns
+unfolding place_of walk_by walk ending
+returns c = record {
+  outside_and_too_long = record { ends = refl; count = refl };
+  bad_target_and_too_many = record { ends = refl; count = refl };
+}

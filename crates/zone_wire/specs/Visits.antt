@@ -1,0 +1,26 @@
+-- The places of a walk by what stands there.
+use Rattle.std.specs.Prelude.{◌≡◌, ℕ, List, [], ◌∷◌, ◌||◌, Bool, true, false, ⊤}
+use Rattle.std.specs.List.{count_by}
+use Rattle.zone_wire.specs.Walk.{Visit}
+use Rattle.zone_wire.specs.declared.place.Standing.{Standing}
+use Rattle.zone_wire.specs.declared.place.Standing.TheVariants.{Label, Pointer}
+
+abbrev pub is_label : Standing → Bool
+is_label (Label size) = true
+is_label other = false
+
+abbrev pub is_pointer : Standing → Bool
+is_pointer (Pointer target) = true
+is_pointer other = false
+
+abbrev pub labels_in : List Visit → ℕ
+labels_in visits = count_by (λ v. is_label v.standing) visits
+
+abbrev pub pointers_in : List Visit → ℕ
+pointers_in visits = count_by (λ v. is_pointer v.standing) visits
+
+-- a label or a pointer stands at each place before the last
+abbrev pub LeadToLast : List Visit → Type 0
+LeadToLast [] = ⊤
+LeadToLast (last ∷ []) = ⊤
+LeadToLast (v ∷ next ∷ visits) = (is_label v.standing || is_pointer v.standing ≡ true) × LeadToLast (next ∷ visits)
