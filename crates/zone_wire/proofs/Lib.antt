@@ -16,4 +16,5 @@ pub mod Sectioning
 pub mod Streams
 pub mod Transferring
 pub mod Transfers
+pub mod Visiting
 pub mod Walking
