@@ -16,5 +16,5 @@ pub mod Sectioning
 pub mod Streams
 pub mod Transferring
 pub mod Transfers
-pub mod Visiting
 pub mod Walking
+pub mod WholeWalks

@@ -8,5 +8,5 @@ pub mod Reading
 pub mod Sections
 pub mod Stream
 pub mod Transfer
-pub mod Visits
 pub mod Walk
+pub mod WholeWalk

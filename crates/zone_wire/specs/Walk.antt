@@ -78,7 +78,8 @@ unfoldable pub walk_by : ℕ → List ℕ → Spot → List Visit
 walk_by zero message spot = []
 walk_by (suc n) message spot = walk_on (walk_by n message) spot (place_of message spot)
 
--- The places of the name at an offset. 256 are enough for each walk: 127 labels, 128 pointers and the last place.
+-- The places of the name at an offset, found one after another; `IsWalk` says of a whole list that it is these. 256 are
+-- enough for each walk: 127 labels, 128 pointers and the last place.
 unfoldable pub walk : List ℕ → ℕ → List Visit
 walk message offset = walk_by 256 message (outset offset)
 

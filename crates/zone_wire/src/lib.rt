@@ -6,7 +6,6 @@ pub mod laws;
 mod name;
 mod place;
 mod ticks;
-pub mod walks;
 
 pub use name::{Decoded, name_at};
 

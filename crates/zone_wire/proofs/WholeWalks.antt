@@ -1,11 +1,10 @@
 -- The walk is the one list of places of which each is the next behind those before it.
 use Rattle.std.proofs.Common.{◌≡◌, ℕ, zero, suc, ◌+◌, ◌*◌, ◌≤◌, List, [], ◌∷◌, ◌++◌, length, refl, ap, sym, ◌∙◌, subst, arith, append_assoc, lit≤}
 use Rattle.std.specs.Prelude.{Option, Some, None}
-use Rattle.std.specs.List.{sum_by}
 use Rattle.std.proofs.lemmas.List.{append-nil}
 use Rattle.std.proofs.lemmas.List.Sums.{sum_by-append}
 use Rattle.zone_wire.specs.Walk.{Spot, Standing, at_root, at_label, at_pointer, at_fault, Visit, visit, walk_on, walk_by, walk, outset, past_label, past_pointer, place_of}
-use Rattle.zone_wire.specs.Visits.{next_offset, led_to, run_start, pointers_at, octets_at, spot_behind, IsNext, IsWalk}
+use Rattle.zone_wire.specs.WholeWalk.{next_offset, led_to, run_start, pointers_at, octets_at, spot_behind, IsNext, IsWalk}
 use Rattle.zone_wire.proofs.Places.{Shows, IsLabelHere, IsPointerHere, place_shows, place_outside}
 
 led_to-last : (offset : Option ℕ) (before : List Visit) (last : Visit) → led_to offset (before ++ last ∷ []) ≡ next_offset last

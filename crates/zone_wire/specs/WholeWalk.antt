@@ -1,22 +1,23 @@
 -- A walk as a whole list of places, each by those before it (RFC 1035 3.1, 4.1.4).
 use Rattle.std.specs.Prelude.{◌≡◌, ℕ, ◌+◌, ◌≤◌, List, [], ◌∷◌, ◌++◌, length, Option, Some, None}
 use Rattle.std.specs.List.{sum_by}
-use Rattle.zone_wire.specs.Walk.{Standing, at_root, at_label, at_pointer, at_fault, Visit, Spot, place_of}
+use Rattle.zone_wire.specs.Walk.{at_root, at_label, at_pointer, at_fault, Visit, Spot, place_of}
 
 -- where a place leads: behind its label or to its pointer's target, and nowhere from the root and from a fault
 abbrev pub next_offset : Visit → Option ℕ
 next_offset visit = elim visit.standing [ at_root ↦ None | at_label size ↦ Some (visit.offset + 1 + size) | at_pointer target ↦ Some target | at_fault fault ↦ None ]
 
--- where the last of these places leads; an offset, where there is none
+-- where the last of these places leads; the offset that is given, where there is no place
 abbrev pub led_to : Option ℕ → List Visit → Option ℕ
 led_to offset [] = offset
 led_to offset (visit ∷ visits) = led_to (next_offset visit) visits
 
--- where the last run of labels begins: at the last pointer's target; at the start, where there is none
+-- where the last run of labels begins: at the last pointer's target; at the start, where there is no pointer
 abbrev pub run_start : ℕ → List Visit → ℕ
 run_start start [] = start
 run_start start (visit ∷ visits) = run_start (elim visit.standing [ at_root ↦ start | at_label size ↦ start | at_pointer target ↦ target | at_fault fault ↦ start ]) visits
 
+-- how many pointers a place is
 abbrev pub pointers_at : Visit → ℕ
 pointers_at visit = elim visit.standing [ at_root ↦ 0 | at_label size ↦ 0 | at_pointer target ↦ 1 | at_fault fault ↦ 0 ]
 
