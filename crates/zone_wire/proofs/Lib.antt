@@ -17,3 +17,4 @@ pub mod Streams
 pub mod Transfers
 pub mod Visits
 pub mod Walking
+pub mod WholeWalks

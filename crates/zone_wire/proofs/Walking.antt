@@ -1,17 +1,14 @@
 -- The walk and the relation of names agree.
 use Rattle.std.proofs.Common.{◌≡◌, ℕ, zero, suc, ◌+◌, ◌*◌, ◌<◌, ◌≤◌, List, [], ◌∷◌, length, refl, ap, sym, ◌∙◌, subst, arith, length-append, get_or-drop, lit<, lit≤}
-use Rattle.std.specs.Prelude.{take, drop, map, get_or, Some, None}
+use Rattle.std.specs.Prelude.{take, drop, map, get_or, Option, Some, None}
 use Rattle.std.specs.List.{flat_map, AllByRecursion}
 use Rattle.std.proofs.lemmas.List.{length-map, length-take-le, length-drop}
 use Rattle.std.proofs.lemmas.Bool.Decides.{nat_tests}
 use Rattle.zone_name.specs.Name.{IsLabel, IsFoldedOctet, folded_octet, frame, wire}
 use Rattle.zone_wire.specs.Name.{At, root, label, pointer, Found, IsNameAt, label_at}
-use Rattle.zone_wire.specs.Walk.{Visit, visit, walk_on, walk_by, walk, ending, outset, past_label, past_pointer, place_of}
+use Rattle.zone_wire.specs.Walk.{Spot, Standing, at_root, at_label, at_pointer, at_fault, Visit, visit, walk_on, walk_by, walk, ending, outset, past_label, past_pointer, place_of}
 use Rattle.zone_wire.specs.Reading.{Outcome, named, refused, outcome, behind_label, behind_pointer}
 use Rattle.zone_rdata.specs.declared.fault.Fault.TheVariants.{ShortMessage}
-use Rattle.zone_wire.specs.declared.place.Spot.{Spot}
-use Rattle.zone_wire.specs.declared.place.Standing.{Standing}
-use Rattle.zone_wire.specs.declared.place.Standing.TheVariants.{Outside, Root, Label, Pointer, Bad}
 use Rattle.zone_wire.proofs.Places.{Shows, IsLabelHere, IsPointerHere, place_shows, place_root, place_label, place_pointer}
 
 -- what n places from a spot on lead to
@@ -19,23 +16,23 @@ unfoldable pub outcome_by : ℕ → List ℕ → Spot → Outcome
 outcome_by n message spot = outcome message (walk_by n message spot)
 
 -- what a walk leads to whose first place is this
-abbrev pub outcome_at : List ℕ → ℕ → Spot → Standing → Outcome
-outcome_at message n spot Outside = refused ShortMessage 0
-outcome_at message n spot Root = named (record { labels = []; end = spot.offset + 1; steps = 1; pointers = 0 })
-outcome_at message n spot (Label size) = behind_label (label_at message spot.offset size) (outcome_by n message (past_label spot size))
-outcome_at message n spot (Pointer target) = behind_pointer (spot.offset + 2) (outcome_by n message (past_pointer spot target))
-outcome_at message n spot (Bad fault) = refused fault 1
+abbrev pub outcome_at : List ℕ → ℕ → Spot → Option Standing → Outcome
+outcome_at message n spot None = refused ShortMessage 0
+outcome_at message n spot (Some at_root) = named (record { labels = []; end = spot.offset + 1; steps = 1; pointers = 0 })
+outcome_at message n spot (Some (at_label size)) = behind_label (label_at message spot.offset size) (outcome_by n message (past_label spot size))
+outcome_at message n spot (Some (at_pointer target)) = behind_pointer (spot.offset + 2) (outcome_by n message (past_pointer spot target))
+outcome_at message n spot (Some (at_fault fault)) = refused fault 1
 
-outcome_on : (message : List ℕ) (n : ℕ) (spot : Spot) (standing : Standing) → outcome message (walk_on (walk_by n message) spot standing) ≡ outcome_at message n spot standing
+outcome_on : (message : List ℕ) (n : ℕ) (spot : Spot) (standing : Option Standing) → outcome message (walk_on (walk_by n message) spot standing) ≡ outcome_at message n spot standing
 unfolding outcome outcome_by
-outcome_on message n spot Outside = refl
-outcome_on message n spot Root = refl
-outcome_on message n spot (Label size) = refl
-outcome_on message n spot (Pointer target) = refl
-outcome_on message n spot (Bad fault) = refl
+outcome_on message n spot None = refl
+outcome_on message n spot (Some at_root) = refl
+outcome_on message n spot (Some (at_label size)) = refl
+outcome_on message n spot (Some (at_pointer target)) = refl
+outcome_on message n spot (Some (at_fault fault)) = refl
 
 -- one place more
-pub outcome_step : (message : List ℕ) (n : ℕ) (spot : Spot) (standing : Standing) → place_of message spot ≡ standing → outcome_by (suc n) message spot ≡ outcome_at message n spot standing
+pub outcome_step : (message : List ℕ) (n : ℕ) (spot : Spot) (standing : Option Standing) → place_of message spot ≡ standing → outcome_by (suc n) message spot ≡ outcome_at message n spot standing
 unfolding walk_by outcome_by
 outcome_step message n spot standing e = rw e (outcome_on message n spot standing)
 
@@ -52,19 +49,19 @@ octets_of-more l labels = omega (arith, length-append (frame l) (flat_map frame 
 -- a name of the relation is what its walk finds
 pub at_walks : {message : List ℕ} {offset bound : ℕ} {labels : List (List ℕ)} {end steps pointers : ℕ} → At message offset bound labels end steps pointers → (n before octets : ℕ) → steps ≤ n → before + pointers ≤ 128 → octets + octets_of labels + 1 ≤ 255 → outcome_by n message (record { offset = offset; bound = bound; pointers = before; octets = octets }) ≡ named (record { labels = labels; end = end; steps = steps; pointers = pointers })
 at_walks (root offset bound inside first) zero before octets enough few short = absurd (omega arith)
-at_walks {message} (root offset bound inside first) (suc n) before octets enough few short = outcome_step message n (record { offset = offset; bound = bound; pointers = before; octets = octets }) Root (place_root message (record { offset = offset; bound = bound; pointers = before; octets = octets }) inside first)
+at_walks {message} (root offset bound inside first) (suc n) before octets enough few short = outcome_step message n (record { offset = offset; bound = bound; pointers = before; octets = octets }) (Some at_root) (place_root message (record { offset = offset; bound = bound; pointers = before; octets = octets }) inside first)
 at_walks (label offset bound size labels end steps pointers first some short_label inside rest) zero before octets enough few short = absurd (omega arith)
 at_walks {message} (label offset bound size labels end steps pointers first some short_label inside rest) (suc n) before octets enough few short =
     let spot : Spot = record { offset = offset; bound = bound; pointers = before; octets = octets } in
     let this = label_at message offset size in
     let room : octets + 1 + size + octets_of labels + 1 ≤ 255 = omega (arith, octets_of-more this labels, octets_of-label message offset size inside) in
     let here : IsLabelHere message spot size = record { first = first; some = some; short = short_label; inside = inside; room = omega arith } in
-    outcome_step message n spot (Label size) (place_label message spot size here) ∙ ap (behind_label this) (at_walks rest n before (octets + 1 + size) (omega arith) few room)
+    outcome_step message n spot (Some (at_label size)) (place_label message spot size here) ∙ ap (behind_label this) (at_walks rest n before (octets + 1 + size) (omega arith) few room)
 at_walks (pointer offset bound target labels end steps pointers inside first leads past_header below rest) zero before octets enough few short = absurd (omega arith)
 at_walks {message} (pointer offset bound target labels end steps pointers inside first leads past_header below rest) (suc n) before octets enough few short =
     let spot : Spot = record { offset = offset; bound = bound; pointers = before; octets = octets } in
     let here : IsPointerHere message spot target = record { first = first; leads = leads; inside = inside; past_header = past_header; below = below; few = omega arith } in
-    outcome_step message n spot (Pointer target) (place_pointer message spot target here) ∙ ap (behind_pointer (offset + 2)) (at_walks rest n (before + 1) octets (omega arith) (omega arith) short)
+    outcome_step message n spot (Some (at_pointer target)) (place_pointer message spot target here) ∙ ap (behind_pointer (offset + 2)) (at_walks rest n (before + 1) octets (omega arith) (omega arith) short)
 
 -- the steps are the labels, the pointers and the root
 pub at_steps : {message : List ℕ} {offset bound : ℕ} {labels : List (List ℕ)} {end steps pointers : ℕ} → At message offset bound labels end steps pointers → steps ≡ length labels + pointers + 1
@@ -143,12 +140,12 @@ behind_pointer_leads end (refused fault steps) found e = cc
 abbrev pub FindsBy : ℕ → List ℕ → Type 0
 FindsBy n message = (spot : Spot) (found : Found) → spot.octets + 1 ≤ 255 → spot.pointers ≤ 128 → outcome_by n message spot ≡ named found → Finds message spot found
 
-found_at : (message : List ℕ) (n : ℕ) (spot : Spot) (standing : Standing) (found : Found) → Shows message spot standing → spot.octets + 1 ≤ 255 → spot.pointers ≤ 128 → FindsBy n message → outcome_at message n spot standing ≡ named found → Finds message spot found
-found_at message n spot Outside found shows short few finds e = cc
-found_at message n spot Root found shows short few finds e =
+found_at : (message : List ℕ) (n : ℕ) (spot : Spot) (standing : Option Standing) (found : Found) → Shows message spot standing → spot.octets + 1 ≤ 255 → spot.pointers ≤ 128 → FindsBy n message → outcome_at message n spot standing ≡ named found → Finds message spot found
+found_at message n spot None found shows short few finds e = cc
+found_at message n spot (Some at_root) found shows short few finds e =
     let same : record { labels = []; end = spot.offset + 1; steps = 1; pointers = 0 } ≡ found = cc in
     subst (Finds message spot) same (record { at = root spot.offset spot.bound shows.0 shows.1; few = omega arith; short = omega arith })
-found_at message n spot (Label size) found shows short few finds e =
+found_at message n spot (Some (at_label size)) found shows short few finds e =
     let front = label_at message spot.offset size in
     let leads = behind_label_leads front (outcome_by n message (past_label spot size)) found e in
     let rest = finds (past_label spot size) leads.others (omega (arith, shows.room)) few leads.rest_is in
@@ -157,7 +154,7 @@ found_at message n spot (Label size) found shows short few finds e =
       few = rest.few;
       short = omega (arith, rest.short, octets_of-more front leads.others.labels, octets_of-label message spot.offset size shows.inside);
     })
-found_at message n spot (Pointer target) found shows short few finds e =
+found_at message n spot (Some (at_pointer target)) found shows short few finds e =
     let leads = behind_pointer_leads (spot.offset + 2) (outcome_by n message (past_pointer spot target)) found e in
     let rest = finds (past_pointer spot target) leads.others short (omega (arith, shows.few)) leads.rest_is in
     subst (Finds message spot) leads.whole (record {
@@ -165,7 +162,7 @@ found_at message n spot (Pointer target) found shows short few finds e =
       few = omega (arith, rest.few);
       short = rest.short;
     })
-found_at message n spot (Bad fault) found shows short few finds e = cc
+found_at message n spot (Some (at_fault fault)) found shows short few finds e = cc
 
 pub finds_by : (n : ℕ) (message : List ℕ) → FindsBy n message
 unfolding outcome_by walk_by outcome
@@ -222,49 +219,49 @@ abbrev pub Measures : Outcome → List Visit → Type 0
 Measures (named found) visits = (length visits ≡ found.steps) × (ending visits ≡ None)
 Measures (refused fault steps) visits = (length visits ≡ steps) × (ending visits ≡ Some fault)
 
-measures_label : (front : List ℕ) (rest : Outcome) (size : ℕ) (spot : Spot) (visits : List Visit) → Measures rest visits → Measures (behind_label front rest) (visit spot (Label size) ∷ visits)
+measures_label : (front : List ℕ) (rest : Outcome) (size : ℕ) (spot : Spot) (visits : List Visit) → Measures rest visits → Measures (behind_label front rest) (visit spot (at_label size) ∷ visits)
 unfolding ending
 measures_label front (named found) size spot visits m = (ap suc m.0, m.1)
 measures_label front (refused fault steps) size spot visits m = (ap suc m.0, m.1)
 
-measures_pointer : (end : ℕ) (rest : Outcome) (target : ℕ) (spot : Spot) (visits : List Visit) → Measures rest visits → Measures (behind_pointer end rest) (visit spot (Pointer target) ∷ visits)
+measures_pointer : (end : ℕ) (rest : Outcome) (target : ℕ) (spot : Spot) (visits : List Visit) → Measures rest visits → Measures (behind_pointer end rest) (visit spot (at_pointer target) ∷ visits)
 unfolding ending
 measures_pointer end (named found) target spot visits m = (ap suc m.0, m.1)
 measures_pointer end (refused fault steps) target spot visits m = (ap suc m.0, m.1)
 
-measures_at : (message : List ℕ) (n : ℕ) (spot : Spot) (standing : Standing) → ((next : Spot) → Measures (outcome_by n message next) (walk_by n message next)) → Measures (outcome_at message n spot standing) (walk_on (walk_by n message) spot standing)
+measures_at : (message : List ℕ) (n : ℕ) (spot : Spot) (standing : Option Standing) → ((next : Spot) → Measures (outcome_by n message next) (walk_by n message next)) → Measures (outcome_at message n spot standing) (walk_on (walk_by n message) spot standing)
 unfolding ending
-measures_at message n spot Outside m = (refl, refl)
-measures_at message n spot Root m = (refl, refl)
-measures_at message n spot (Label size) m = measures_label _ (outcome_by n message (past_label spot size)) size spot (walk_by n message (past_label spot size)) (m (past_label spot size))
-measures_at message n spot (Pointer target) m = measures_pointer _ (outcome_by n message (past_pointer spot target)) target spot (walk_by n message (past_pointer spot target)) (m (past_pointer spot target))
-measures_at message n spot (Bad fault) m = (refl, refl)
+measures_at message n spot None m = (refl, refl)
+measures_at message n spot (Some at_root) m = (refl, refl)
+measures_at message n spot (Some (at_label size)) m = measures_label _ (outcome_by n message (past_label spot size)) size spot (walk_by n message (past_label spot size)) (m (past_label spot size))
+measures_at message n spot (Some (at_pointer target)) m = measures_pointer _ (outcome_by n message (past_pointer spot target)) target spot (walk_by n message (past_pointer spot target)) (m (past_pointer spot target))
+measures_at message n spot (Some (at_fault fault)) m = (refl, refl)
 
 pub measures : (n : ℕ) (message : List ℕ) (spot : Spot) → Measures (outcome_by n message spot) (walk_by n message spot)
 unfolding walk_by outcome_by outcome ending
 measures zero message spot = (refl, refl)
 measures (suc n) message spot = subst (λ o. Measures o (walk_by (suc n) message spot)) (sym (outcome_step message n spot (place_of message spot) refl)) (measures_at message n spot (place_of message spot) (λ next. measures n message next))
 
-walk_on_length : (n : ℕ) (message : List ℕ) (spot : Spot) (standing : Standing) → ((next : Spot) → length (walk_by n message next) ≤ n) → length (walk_on (walk_by n message) spot standing) ≤ suc n
-walk_on_length n message spot Outside each = omega arith
-walk_on_length n message spot Root each = omega arith
-walk_on_length n message spot (Label size) each = omega (arith, each (past_label spot size))
-walk_on_length n message spot (Pointer target) each = omega (arith, each (past_pointer spot target))
-walk_on_length n message spot (Bad fault) each = omega arith
+walk_on_length : (n : ℕ) (message : List ℕ) (spot : Spot) (standing : Option Standing) → ((next : Spot) → length (walk_by n message next) ≤ n) → length (walk_on (walk_by n message) spot standing) ≤ suc n
+walk_on_length n message spot None each = omega arith
+walk_on_length n message spot (Some at_root) each = omega arith
+walk_on_length n message spot (Some (at_label size)) each = omega (arith, each (past_label spot size))
+walk_on_length n message spot (Some (at_pointer target)) each = omega (arith, each (past_pointer spot target))
+walk_on_length n message spot (Some (at_fault fault)) each = omega arith
 
-walk_on_inside : (n : ℕ) (message : List ℕ) (spot : Spot) (standing : Standing) → Shows message spot standing → ((next : Spot) → AllByRecursion (λ v. v.offset < length message) (walk_by n message next)) → AllByRecursion (λ v. v.offset < length message) (walk_on (walk_by n message) spot standing)
-walk_on_inside n message spot Outside shows each = tt
-walk_on_inside n message spot Root shows each = (shows.0, tt)
-walk_on_inside n message spot (Label size) shows each = (omega (arith, shows.inside), each (past_label spot size))
-walk_on_inside n message spot (Pointer target) shows each = (omega (arith, shows.inside), each (past_pointer spot target))
-walk_on_inside n message spot (Bad fault) shows each = (shows, tt)
+walk_on_inside : (n : ℕ) (message : List ℕ) (spot : Spot) (standing : Option Standing) → Shows message spot standing → ((next : Spot) → AllByRecursion (λ v. v.offset < length message) (walk_by n message next)) → AllByRecursion (λ v. v.offset < length message) (walk_on (walk_by n message) spot standing)
+walk_on_inside n message spot None shows each = tt
+walk_on_inside n message spot (Some at_root) shows each = (shows.0, tt)
+walk_on_inside n message spot (Some (at_label size)) shows each = (omega (arith, shows.inside), each (past_label spot size))
+walk_on_inside n message spot (Some (at_pointer target)) shows each = (omega (arith, shows.inside), each (past_pointer spot target))
+walk_on_inside n message spot (Some (at_fault fault)) shows each = (shows, tt)
 
-walk_on_enough : (n m : ℕ) (message : List ℕ) (spot : Spot) (standing : Standing) → Shows message spot standing → spot.octets + 1 ≤ 255 → spot.pointers ≤ 128 → 512 ≤ spot.octets + 2 * spot.pointers + 2 * suc n → ((next : Spot) → next.octets + 1 ≤ 255 → next.pointers ≤ 128 → 512 ≤ next.octets + 2 * next.pointers + 2 * n → walk_by m message next ≡ walk_by n message next) → walk_on (walk_by m message) spot standing ≡ walk_on (walk_by n message) spot standing
-walk_on_enough n m message spot Outside shows short few enough each = refl
-walk_on_enough n m message spot Root shows short few enough each = refl
-walk_on_enough n m message spot (Label size) shows short few enough each = ap (λ rest. visit spot (Label size) ∷ rest) (each (past_label spot size) (omega (arith, shows.room)) few (omega (arith, shows.some)))
-walk_on_enough n m message spot (Pointer target) shows short few enough each = ap (λ rest. visit spot (Pointer target) ∷ rest) (each (past_pointer spot target) short (omega (arith, shows.few)) (omega arith))
-walk_on_enough n m message spot (Bad fault) shows short few enough each = refl
+walk_on_enough : (n m : ℕ) (message : List ℕ) (spot : Spot) (standing : Option Standing) → Shows message spot standing → spot.octets + 1 ≤ 255 → spot.pointers ≤ 128 → 512 ≤ spot.octets + 2 * spot.pointers + 2 * suc n → ((next : Spot) → next.octets + 1 ≤ 255 → next.pointers ≤ 128 → 512 ≤ next.octets + 2 * next.pointers + 2 * n → walk_by m message next ≡ walk_by n message next) → walk_on (walk_by m message) spot standing ≡ walk_on (walk_by n message) spot standing
+walk_on_enough n m message spot None shows short few enough each = refl
+walk_on_enough n m message spot (Some at_root) shows short few enough each = refl
+walk_on_enough n m message spot (Some (at_label size)) shows short few enough each = ap (λ rest. visit spot (at_label size) ∷ rest) (each (past_label spot size) (omega (arith, shows.room)) few (omega (arith, shows.some)))
+walk_on_enough n m message spot (Some (at_pointer target)) shows short few enough each = ap (λ rest. visit spot (at_pointer target) ∷ rest) (each (past_pointer spot target) short (omega (arith, shows.few)) (omega arith))
+walk_on_enough n m message spot (Some (at_fault fault)) shows short few enough each = refl
 
 -- n places or fewer
 pub walk_length : (n : ℕ) (message : List ℕ) (spot : Spot) → length (walk_by n message spot) ≤ n

@@ -3,9 +3,11 @@ pub mod Data
 pub mod Examples
 pub mod Message
 pub mod Name
+pub mod Place
 pub mod Reading
 pub mod Sections
 pub mod Stream
 pub mod Transfer
 pub mod Visits
 pub mod Walk
+pub mod WholeWalk

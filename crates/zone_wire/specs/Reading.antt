@@ -1,11 +1,10 @@
 -- What the walk along a name finds.
 use Rattle.std.specs.Prelude.{◌≡◌, ℕ, suc, ◌+◌, List, [], ◌∷◌, Result, Ok, Err}
 use Rattle.zone_wire.specs.Name.{Found, label_at, found_by}
-use Rattle.zone_wire.specs.Walk.{Visit}
+use Rattle.zone_wire.specs.Walk.{at_root, at_label, at_pointer, at_fault, Visit}
 use Rattle.zone_rdata.specs.declared.fault.Fault.{Fault}
 use Rattle.zone_rdata.specs.declared.fault.Fault.TheVariants.{ShortMessage}
 use Rattle.zone_wire.specs.declared.name.Decoded.{Decoded}
-use Rattle.zone_wire.specs.declared.place.Standing.TheVariants.{Outside, Root, Label, Pointer, Bad}
 
 -- a name, or a fault with the number of places
 pub data Outcome : Type 0 where
@@ -22,7 +21,7 @@ behind_pointer end (refused fault steps) = refused fault (suc steps)
 
 unfoldable pub outcome : List ℕ → List Visit → Outcome
 outcome message [] = refused ShortMessage 0
-outcome message (first ∷ visits) = elim first.standing [ Outside ↦ refused ShortMessage 1 | Root ↦ named (record { labels = []; end = first.offset + 1; steps = 1; pointers = 0 }) | Label size ↦ behind_label (label_at message first.offset size) (outcome message visits) | Pointer target ↦ behind_pointer (first.offset + 2) (outcome message visits) | Bad fault ↦ refused fault 1 ]
+outcome message (first ∷ visits) = elim first.standing [ at_root ↦ named (record { labels = []; end = first.offset + 1; steps = 1; pointers = 0 }) | at_label size ↦ behind_label (label_at message first.offset size) (outcome message visits) | at_pointer target ↦ behind_pointer (first.offset + 2) (outcome message visits) | at_fault fault ↦ refused fault 1 ]
 
 -- a result says what a walk finds
 abbrev pub Says : Result Decoded (Fault × ℕ) → Outcome → Type 0

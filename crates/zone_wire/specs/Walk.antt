@@ -3,9 +3,26 @@ use Rattle.std.specs.Prelude.{ℕ, zero, suc, ◌+◌, List, [], ◌∷◌, leng
 use Rattle.zone_wire.specs.Name.{target_at}
 use Rattle.zone_rdata.specs.declared.fault.Fault.{Fault}
 use Rattle.zone_rdata.specs.declared.fault.Fault.TheVariants.{ShortMessage, NameTooLong, ReservedLabel, BadPointer, TooManyPointers}
-use Rattle.zone_wire.specs.declared.place.Spot.{Spot}
-use Rattle.zone_wire.specs.declared.place.Standing.{Standing}
-use Rattle.zone_wire.specs.declared.place.Standing.TheVariants.{Outside, Root, Label, Pointer, Bad}
+
+-- what stands at a place of a name: the root, a label of so many octets, a pointer to a target, or a fault
+pub data Standing : Type 0 where
+  at_root : Standing
+  at_label : ℕ → Standing
+  at_pointer : ℕ → Standing
+  at_fault : Fault → Standing
+
+-- a place of a walk, and what stands there
+pub record Visit : Type 0 where
+  pub offset : ℕ
+  pub standing : Standing
+
+-- A place that is come to: its offset, the offset at which the run of labels began that stands there, and how many pointers
+-- and octets of labels, each with its length, stand before it.
+pub record Spot : Type 0 where
+  pub offset : ℕ
+  pub bound : ℕ
+  pub pointers : ℕ
+  pub octets : ℕ
 
 -- where the walk of the name at an offset begins
 abbrev pub outset : ℕ → Spot
@@ -14,27 +31,30 @@ outset offset = record { offset = offset; bound = offset; pointers = 0; octets =
 -- a label: its octets lie in the message, and with it and the root the name has at most 255 octets
 abbrev pub label_of : List ℕ → Spot → ℕ → Standing
 label_of message spot size =
-    if nat_le (length message) (spot.offset + size) then Bad ShortMessage
-    else if nat_lt 255 (spot.octets + size + 2) then Bad NameTooLong
-    else Label size
+    if nat_le (length message) (spot.offset + size) then at_fault ShortMessage
+    else if nat_lt 255 (spot.octets + size + 2) then at_fault NameTooLong
+    else at_label size
 
 -- a pointer: its two octets lie in the message, its target is past the header and below the bound, and it is at most the 128th
 abbrev pub pointer_of : List ℕ → Spot → ℕ → Standing
 pointer_of message spot target =
-    if nat_le (length message) (spot.offset + 1) then Bad ShortMessage
-    else if nat_lt target 12 || nat_le spot.bound target then Bad BadPointer
-    else if nat_le 128 spot.pointers then Bad TooManyPointers
-    else Pointer target
+    if nat_le (length message) (spot.offset + 1) then at_fault ShortMessage
+    else if nat_lt target 12 || nat_le spot.bound target then at_fault BadPointer
+    else if nat_le 128 spot.pointers then at_fault TooManyPointers
+    else at_pointer target
 
--- what stands at a place, by its first octet
-unfoldable pub place_of : List ℕ → Spot → Standing
-place_of message spot =
+-- what stands at a place that lies in the message, by its first octet
+abbrev pub standing_at : List ℕ → Spot → Standing
+standing_at message spot =
     let first : ℕ = slice_index message spot.offset in
-    if nat_le (length message) spot.offset then Outside
-    else if nat_eq first 0 then Root
+    if nat_eq first 0 then at_root
     else if nat_le first 63 then label_of message spot first
-    else if nat_lt first 192 then Bad ReservedLabel
+    else if nat_lt first 192 then at_fault ReservedLabel
     else pointer_of message spot (target_at message spot.offset)
+
+-- what stands at a place, none where it doesn't lie in the message
+unfoldable pub place_of : List ℕ → Spot → Option Standing
+place_of message spot = if nat_le (length message) spot.offset then None else Some (standing_at message spot)
 
 abbrev pub past_label : Spot → ℕ → Spot
 past_label spot size = record spot { offset = spot.offset + 1 + size; octets = spot.octets + 1 + size }
@@ -42,36 +62,24 @@ past_label spot size = record spot { offset = spot.offset + 1 + size; octets = s
 abbrev pub past_pointer : Spot → ℕ → Spot
 past_pointer spot target = record spot { offset = target; bound = target; pointers = spot.pointers + 1 }
 
--- a place of a walk, and what stands there
-pub record Visit : Type 0 where
-  pub offset : ℕ
-  pub standing : Standing
-
 abbrev pub visit : Spot → Standing → Visit
 visit spot standing = record { offset = spot.offset; standing = standing }
 
--- a walk from a place that lies in the message, where `rest` walks on
-abbrev pub walk_on : (Spot → List Visit) → Spot → Standing → List Visit
-walk_on rest spot Outside = []
-walk_on rest spot Root = visit spot Root ∷ []
-walk_on rest spot (Label size) = visit spot (Label size) ∷ rest (past_label spot size)
-walk_on rest spot (Pointer target) = visit spot (Pointer target) ∷ rest (past_pointer spot target)
-walk_on rest spot (Bad fault) = visit spot (Bad fault) ∷ []
-
--- a look at a place that lies in the message counts as one step
-abbrev pub ticks_at : Standing → ℕ
-ticks_at Outside = 0
-ticks_at Root = 1
-ticks_at (Label size) = 1
-ticks_at (Pointer target) = 1
-ticks_at (Bad fault) = 1
+-- a walk from a place on, where `rest` walks on
+abbrev pub walk_on : (Spot → List Visit) → Spot → Option Standing → List Visit
+walk_on rest spot None = []
+walk_on rest spot (Some at_root) = visit spot at_root ∷ []
+walk_on rest spot (Some (at_label size)) = visit spot (at_label size) ∷ rest (past_label spot size)
+walk_on rest spot (Some (at_pointer target)) = visit spot (at_pointer target) ∷ rest (past_pointer spot target)
+walk_on rest spot (Some (at_fault fault)) = visit spot (at_fault fault) ∷ []
 
 -- n places at the most
 unfoldable pub walk_by : ℕ → List ℕ → Spot → List Visit
 walk_by zero message spot = []
 walk_by (suc n) message spot = walk_on (walk_by n message) spot (place_of message spot)
 
--- The places of the name at an offset. 256 are enough for each walk: 127 labels, 128 pointers and the last place.
+-- The places of the name at an offset, found one after another; `IsWalk` says of a whole list that it is these. 256 are
+-- enough for each walk: 127 labels, 128 pointers and the last place.
 unfoldable pub walk : List ℕ → ℕ → List Visit
 walk message offset = walk_by 256 message (outset offset)
 
@@ -79,4 +87,4 @@ walk message offset = walk_by 256 message (outset offset)
 -- place outside the message.
 unfoldable pub ending : List Visit → Option Fault
 ending [] = Some ShortMessage
-ending (last ∷ visits) = elim last.standing [ Outside ↦ Some ShortMessage | Root ↦ None | Label size ↦ ending visits | Pointer target ↦ ending visits | Bad fault ↦ Some fault ]
+ending (last ∷ visits) = elim last.standing [ at_root ↦ None | at_label size ↦ ending visits | at_pointer target ↦ ending visits | at_fault fault ↦ Some fault ]

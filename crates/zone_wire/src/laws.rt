@@ -1,4 +1,6 @@
 //! Laws over the definitions alone.
+pub mod walk;
+
 ghost use Rattle.std.specs.Prelude.{◌++◌, Some, Ok, ◌≡◌, ◌+◌, ◌≤◌, ◌<◌, ℕ, List, length, slice_index, Option, None};
 ghost use Rattle.std.specs.List.{AllByRecursion};
 ghost use Rattle.zone_wire.specs.Message.{RecordAt, Sections, IsMessage};

@@ -1,6 +1,7 @@
-ghost use Rattle.std.specs.Prelude.{◌≡◌, ◌+◌, ◌^◌, ◌<◌, ◌≤◌, length, slice_index};
+ghost use Rattle.std.specs.Prelude.{◌≡◌, ◌+◌, ◌^◌, ◌<◌, ◌≤◌, length, slice_index, Some};
 ghost use Rattle.zone_wire.specs.Name.{target_at};
-ghost use Rattle.zone_wire.specs.Walk.{place_of, label_of, pointer_of, outset, past_label, past_pointer, ticks_at};
+ghost use Rattle.zone_wire.specs.Place.{spot_of, standing_of, ticks_at};
+ghost use Rattle.zone_wire.specs.Walk.{place_of, label_of, pointer_of, outset, past_label, past_pointer};
 
 use crate::ticks::Ticks;
 use zone_rdata::Fault;
@@ -34,8 +35,8 @@ pub(crate) enum Standing {
 pub(crate) fn place_at(message: &[u8], spot: Spot, ticks: &mut Ticks) -> Standing
     requires octets { spot.octets < 256 }
     requires ticks { ticks.old < 256 }
-    ensures place { result ≡ place_of message.now spot }
-    ensures ticks { ticks.new ≡ ticks.old + ticks_at result }
+    ensures place { standing_of result ≡ place_of message.now (spot_of spot) }
+    ensures ticks { ticks.new ≡ ticks.old + ticks_at (standing_of result) }
 {
     if spot.offset >= message.len() {
         return Standing::Outside;
@@ -55,7 +56,7 @@ fn label_at(message: &[u8], spot: Spot, size: usize) -> Standing
     requires here { spot.offset < length message.now }
     requires octets { spot.octets < 256 }
     requires size { size < 256 }
-    ensures { result ≡ label_of message.now spot size }
+    ensures { standing_of result ≡ Some (label_of message.now (spot_of spot) size) }
 {
     if size >= message.len() - spot.offset {
         Standing::Bad(Fault::ShortMessage)
@@ -70,7 +71,7 @@ fn label_at(message: &[u8], spot: Spot, size: usize) -> Standing
 fn pointer_at(message: &[u8], spot: Spot) -> Standing
     requires here { spot.offset < length message.now }
     requires first { 192 ≤ slice_index message.now spot.offset }
-    ensures { result ≡ pointer_of message.now spot (target_at message.now spot.offset) }
+    ensures { standing_of result ≡ Some (pointer_of message.now (spot_of spot) (target_at message.now spot.offset)) }
 {
     if message.len() - spot.offset < 2 {
         return Standing::Bad(Fault::ShortMessage);
@@ -89,7 +90,7 @@ fn pointer_at(message: &[u8], spot: Spot) -> Standing
 impl Spot {
     /// Where the walk of the name at an offset begins.
     pub(crate) fn outset(offset: usize) -> Spot
-        ensures { result ≡ outset offset }
+        ensures { spot_of result ≡ outset offset }
     {
         Spot {
             offset,
@@ -103,7 +104,7 @@ impl Spot {
     pub(crate) fn past_label(self, size: usize) -> Spot
         requires offset { self.offset + 1 + size < 2 ^ 64 }
         requires octets { self.octets + 1 + size < 256 }
-        ensures { result ≡ past_label self size }
+        ensures { spot_of result ≡ past_label (spot_of self) size }
     {
         Spot {
             offset: self.offset + 1 + size,
@@ -115,7 +116,7 @@ impl Spot {
     /// Where a pointer leads.
     pub(crate) fn past_pointer(self, target: usize) -> Spot
         requires { self.pointers < 128 }
-        ensures { result ≡ past_pointer self target }
+        ensures { spot_of result ≡ past_pointer (spot_of self) target }
     {
         Spot {
             offset: target,

@@ -1,0 +1,23 @@
+-- What the program holds of a place of a walk.
+use Rattle.std.specs.Prelude.{ℕ, Option, Some, None}
+use Rattle.zone_wire.specs.Walk.{Spot, Standing, at_root, at_label, at_pointer, at_fault}
+use Rattle.zone_wire.specs.declared.place.Spot as held
+use Rattle.zone_wire.specs.declared.place.Standing as found
+use Rattle.zone_wire.specs.declared.place.Standing.TheVariants.{Outside, Root, Label, Pointer, Bad}
+
+-- the place that is held
+abbrev pub spot_of : held.Spot → Spot
+spot_of spot = record { offset = spot.offset; bound = spot.bound; pointers = spot.pointers; octets = spot.octets }
+
+-- what is found at a place, none outside the message
+abbrev pub standing_of : found.Standing → Option Standing
+standing_of Outside = None
+standing_of Root = Some at_root
+standing_of (Label size) = Some (at_label size)
+standing_of (Pointer target) = Some (at_pointer target)
+standing_of (Bad fault) = Some (at_fault fault)
+
+-- a look at a place that lies in the message counts as one step
+abbrev pub ticks_at : Option Standing → ℕ
+ticks_at None = 0
+ticks_at (Some standing) = 1
