@@ -1,16 +1,14 @@
 -- The places of a walk by what stands there.
 use Rattle.std.specs.Prelude.{◌≡◌, ℕ, List, [], ◌∷◌, ◌||◌, Bool, true, false, ⊤}
 use Rattle.std.specs.List.{count_by}
-use Rattle.zone_wire.specs.Walk.{Visit}
-use Rattle.zone_wire.specs.declared.place.Standing.{Standing}
-use Rattle.zone_wire.specs.declared.place.Standing.TheVariants.{Label, Pointer}
+use Rattle.zone_wire.specs.Walk.{Standing, at_label, at_pointer, Visit}
 
 abbrev pub is_label : Standing → Bool
-is_label (Label size) = true
+is_label (at_label size) = true
 is_label other = false
 
 abbrev pub is_pointer : Standing → Bool
-is_pointer (Pointer target) = true
+is_pointer (at_pointer target) = true
 is_pointer other = false
 
 abbrev pub labels_in : List Visit → ℕ
