@@ -12,7 +12,7 @@ use Rattle.zone_rdata.specs.declared.fault.Stop.TheVariants.{Refused, Read, Writ
 use Rattle.zone_rdata.specs.declared.record.Placed.{Placed}
 use Rattle.zone_rdata.specs.declared.source.Reading.{Reading}
 use Rattle.zone_text.specs.Lines.{ReadsFront}
-use Rattle.zone_set.specs.Builder.{Accepts, AddsEach, IsRefusedFor, class, soa, ttl, TakesAll, StopsTaking, memory, refused as by_record, ending as by_ending, StopsFinish, no_soa, outside}
+use Rattle.zone_set.specs.Builder.{Accepts, AddsEach, IsRefusedFor, class, soa, ttl, TakesAll, StopsTaking, failure, memory, refused as by_record, ending as by_ending, StopsFinish, no_soa, outside}
 use Rattle.zone_set.specs.Refusal.{AllAccepted, records_of}
 use Rattle.zone_set.specs.Zone.{SameRecords, Zone}
 use Rattle.zone_print.specs.Canonical.{canon, text_limit}
@@ -81,7 +81,8 @@ module _ (origin : List (List ℕ)) (octets : List ℕ) (reading : Reading) (fro
   refused_taking old new stop none stops = by stop (subst (λ held. StopsTaking held fed new stop) none stops)
     where
       by : (s : Stop) → StopsTaking [] fed new s → IfRefused s (RefusesRead origin octets)
-      by _ (memory taken rest parts each) = tt
+      by _ (failure fails same) = tt
+      by _ (memory taken rest p works parts each) = tt
       by _ (by_record taken rest p f works parts each why) = reads f p.place (refused f p.place (record {
         before = taken;
         refused = p;
