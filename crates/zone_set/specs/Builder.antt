@@ -19,9 +19,13 @@ use Rattle.zone_set.specs.Zone.{Has, InOneSet}
 abbrev pub OtherClass : List Record → Record → Type 0
 OtherClass held r = (s : Record) × Has held s × (s.class ≢ r.class)
 
--- the record is an SOA, and one is held that differs in owner or data
+-- two SOA records that differ in owner or data
+abbrev pub AreTwoSoas : Record → Record → Type 0
+AreTwoSoas s r = (r.kind ≡ 6) × (s.kind ≡ 6) × ((s.owner ≢ r.owner) ⊎ (s.octets ≢ r.octets))
+
+-- the record is an SOA, and another is held
 abbrev pub OtherSoa : List Record → Record → Type 0
-OtherSoa held r = (r.kind ≡ 6) × (s : Record) × Has held s × (s.kind ≡ 6) × ((s.owner ≢ r.owner) ⊎ (s.octets ≢ r.octets))
+OtherSoa held r = (s : Record) × Has held s × AreTwoSoas s r
 
 -- a record of the same set with another TTL is held
 abbrev pub OtherTtl : List Record → Record → Type 0
