@@ -8,8 +8,8 @@ use Rattle.zone_rdata.specs.declared.fault.Fault.TheVariants.{ClassMismatch, Mul
 use Rattle.zone_set.specs.Order.{canonical_cmp, Ascends}
 use Rattle.std.specs.Ordering.{ordering_then}
 use Rattle.zone_set.proofs.KeyOrder.{Decides-owner}
-use Rattle.zone_set.specs.Builder.{OtherClass, OtherSoa, Accepts, IsRefusedFor, class as by_class, soa as by_soa, ttl as by_ttl}
-use Rattle.zone_set.specs.Held.{AreTwoSoas, HasNoneOf, HasOneOf}
+use Rattle.zone_set.specs.Builder.{OtherClass, AreTwoSoas, OtherSoa, Accepts, IsRefusedFor, class as by_class, soa as by_soa, ttl as by_ttl}
+use Rattle.zone_set.specs.Held.{HasNoneOf, HasOneOf}
 use Rattle.zone_set.specs.Key.{with_data, first_octet, second_octet, set_key}
 use Rattle.zone_set.specs.Zone.{Has, InOneSet, AreCompatible}
 
@@ -104,8 +104,8 @@ module _ (held : List Record) (r : Record) (fits : Accepts held r) where
 
   pub accepted_soa : (s : Record) → Has held s → s.kind ≡ 6 → r.kind ≡ 6 → s ≡ r
   accepted_soa s has soa_s soa_r =
-      let owner : s.owner ≡ r.owner = stable_owner _ _ (λ other. fits.one_soa (soa_r, s, has, soa_s, inl other)) in
-      let octets : s.octets ≡ r.octets = stable_octets _ _ (λ other. fits.one_soa (soa_r, s, has, soa_s, inr other)) in
+      let owner : s.owner ≡ r.owner = stable_owner _ _ (λ other. fits.one_soa (s, has, (soa_r, soa_s, inl other))) in
+      let octets : s.octets ≡ r.octets = stable_octets _ _ (λ other. fits.one_soa (s, has, (soa_r, soa_s, inr other))) in
       let kind : s.kind ≡ r.kind = soa_s ∙ sym soa_r in
       let class : s.class ≡ r.class = accepted_class s has in
       let ttl : s.ttl ≡ r.ttl = accepted_ttl s has (one_set s r owner kind octets) in
@@ -131,10 +131,10 @@ module _ (first : Record) (others : List Record) (compatible : AreCompatible (fi
   one_class same (s, has, other) = other (compatible.one_class s first has (inl refl) ∙ same)
 
   pub refused_soa : first.class ≡ r.class → AreTwoSoas first r → IsRefusedFor (first ∷ others) r MultipleSoa
-  refused_soa same two = by_soa (one_class same) (two.0, first, inl refl, two.1, two.2)
+  refused_soa same two = by_soa (one_class same) (first, inl refl, two)
 
   pub one_soa : (AreTwoSoas first r → ⊥) → OtherSoa (first ∷ others) r → ⊥
-  one_soa one (soa_r, s, has, soa_s, other) =
+  one_soa one (s, has, (soa_r, soa_s, other)) =
       let soa_first_one : first.kind ≡ 6 = soa_first first others compatible.ascend s has soa_s in
       let same : s ≡ first = compatible.one_soa s first has (inl refl) soa_s soa_first_one in
       one (soa_r, soa_first_one, subst (λ t. (t.owner ≢ r.owner) ⊎ (t.octets ≢ r.octets)) same other)
@@ -157,4 +157,4 @@ module _ (first : Record) (others : List Record) (compatible : AreCompatible (fi
   }
 
 pub accepted_first : (r : Record) → Accepts [] r
-accepted_first r = record { one_class = λ (s, has, other). has; one_soa = λ (soa_r, s, has, soa_s, other). has; one_ttl = λ (s, has, one, other). has }
+accepted_first r = record { one_class = λ (s, has, other). has; one_soa = λ (s, has, two). has; one_ttl = λ (s, has, one, other). has }

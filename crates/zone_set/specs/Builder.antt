@@ -1,5 +1,5 @@
 -- What a builder of a zone takes and refuses. It holds a set of records, as its one ascending list.
-use Rattle.std.specs.Prelude.{◌≡◌, ◌≢◌, ℕ, List, [], ◌∷◌, ◌++◌, Some, None, ◌⊎◌, ◌↔◌, false}
+use Rattle.std.specs.Prelude.{◌≡◌, ◌≢◌, ℕ, List, [], ◌∷◌, ◌++◌, Some, None, ◌⊎◌, ◌↔◌, true, false}
 use Rattle.std.specs.declared.cmp.Ordering.TheVariants.{Less}
 use Rattle.zone_name.specs.Name.{IsWithin}
 use Rattle.zone_name.specs.Order.{name_cmp}
@@ -19,9 +19,13 @@ use Rattle.zone_set.specs.Zone.{Has, InOneSet}
 abbrev pub OtherClass : List Record → Record → Type 0
 OtherClass held r = (s : Record) × Has held s × (s.class ≢ r.class)
 
--- the record is an SOA, and one is held that differs in owner or data
+-- two SOA records that differ in owner or data
+abbrev pub AreTwoSoas : Record → Record → Type 0
+AreTwoSoas s r = (r.kind ≡ 6) × (s.kind ≡ 6) × ((s.owner ≢ r.owner) ⊎ (s.octets ≢ r.octets))
+
+-- the record is an SOA, and another is held
 abbrev pub OtherSoa : List Record → Record → Type 0
-OtherSoa held r = (r.kind ≡ 6) × (s : Record) × Has held s × (s.kind ≡ 6) × ((s.owner ≢ r.owner) ⊎ (s.octets ≢ r.octets))
+OtherSoa held r = (s : Record) × Has held s × AreTwoSoas s r
 
 -- a record of the same set with another TTL is held
 abbrev pub OtherTtl : List Record → Record → Type 0
@@ -59,9 +63,11 @@ pub record TakesAll (old : List Record) (feed : Feed) (new : List Record) : Type
   pub whole : feed.ending ≡ None
   pub taken : AddsEach old feed.records new
 
--- why taking a source ended early; some first records of it are held, and at a fault all before
+-- why taking a source ended early: it had failed, and nothing of it is taken; memory was refused for a record, or the
+-- record was, and all before it are held; or all are held, and a fault stands at its end
 pub data StopsTaking (old : List Record) (feed : Feed) (new : List Record) : Stop → Type 0 where
-  memory : (taken rest : List Placed) → feed.records ≡ taken ++ rest → AddsEach old taken new → StopsTaking old feed new Memory
+  failure : feed.failed ≡ true → new ≡ old → StopsTaking old feed new Memory
+  memory : (taken rest : List Placed) (p : Placed) → feed.failed ≡ false → feed.records ≡ taken ++ p ∷ rest → AddsEach old taken new → StopsTaking old feed new Memory
   refused : (taken rest : List Placed) (p : Placed) (f : Fault) → feed.failed ≡ false → feed.records ≡ taken ++ p ∷ rest → AddsEach old taken new → IsRefusedFor new p.rr f → StopsTaking old feed new (Refused f p.place)
   ending : (e : Fault × Place) → feed.failed ≡ false → feed.ending ≡ Some e → AddsEach old feed.records new → StopsTaking old feed new (Refused e.0 e.1)
 

@@ -1,5 +1,5 @@
 -- What the map of records holds.
-use Rattle.std.specs.Prelude.{◌≡◌, ◌≢◌, ◌⊎◌, ℕ, List, ◌∷◌, ◌++◌, map}
+use Rattle.std.specs.Prelude.{◌≡◌, ◌≢◌, ℕ, List, ◌∷◌, ◌++◌, map}
 use Rattle.std.specs.List.{AllByRecursion}
 use Rattle.zone_name.specs.Name.{IsWithin}
 use Rattle.zone_rdata.specs.Record.{Record, data_of}
@@ -12,10 +12,6 @@ use Rattle.zone_set.specs.declared.key.SetKey.{SetKey}
 pub record HoldsRecords (entries : List (RecordKey × ℕ)) : Type 0 where
   pub keyed : AllByRecursion IsKeyed entries
   pub compatible : AreCompatible (map entry_record entries)
-
--- two SOA records that differ in owner or data
-abbrev pub AreTwoSoas : Record → Record → Type 0
-AreTwoSoas s r = (r.kind ≡ 6) × (s.kind ≡ 6) × ((s.owner ≢ r.owner) ⊎ (s.octets ≢ r.octets))
 
 -- no record of the set is held
 abbrev pub HasNoneOf : List Record → SetKey → Type 0

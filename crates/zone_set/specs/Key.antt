@@ -1,6 +1,7 @@
 -- The keys of the map that holds records: a record's set, then its data.
-use Rattle.std.specs.Prelude.{◌≡◌, ℕ, not, List, [], ◌∷◌, take, ◌==◌, if◌then◌else◌, Option, Some, None}
+use Rattle.std.specs.Prelude.{◌≡◌, ℕ, not, List, [], ◌∷◌, ◌==◌, Option, Some, None}
 use Rattle.zone_rdata.specs.Record.{Data, Record, data_of}
+use Rattle.zone_set.specs.Zone.{covered_octets}
 use Rattle.zone_set.specs.declared.key.SetKey.{SetKey}
 use Rattle.zone_set.specs.declared.key.RecordKey.{RecordKey}
 
@@ -12,10 +13,6 @@ first_octet (c ∷ octets) = Some c
 abbrev pub second_octet : List ℕ → Option ℕ
 second_octet [] = None
 second_octet (c ∷ octets) = first_octet octets
-
--- the octets of the type that an RRSIG covers (RFC 4034 3); of other types none
-abbrev pub covered_octets : Data → List ℕ
-covered_octets d = if d.kind == 46 then take 2 d.octets else []
 
 -- the set of an owner's data
 abbrev pub set_key : List (List ℕ) → Data → SetKey

@@ -2,7 +2,7 @@
 use Rattle.std.specs.Prelude.{◌≡◌, ℕ, List, [], ◌∷◌, take, ◌==◌, if◌then◌else◌, ◌⊎◌, ◌↔◌}
 use Rattle.std.specs.List.{AllByRecursion}
 use Rattle.zone_name.specs.Name.{IsWithin}
-use Rattle.zone_rdata.specs.Record.{Record, IsRecord}
+use Rattle.zone_rdata.specs.Record.{Data, Record, IsRecord, data_of}
 use Rattle.zone_set.specs.Order.{Ascends}
 
 -- the record is one of these
@@ -15,14 +15,14 @@ abbrev pub SameRecords : List Record → List Record → Type 0
 SameRecords records others = (r : Record) → Has records r ↔ Has others r
 
 -- the type that an RRSIG covers, the first two octets of its data (RFC 4034 3); of other types nothing
-abbrev pub covered : Record → List ℕ
-covered r = if r.kind == 46 then take 2 r.octets else []
+abbrev pub covered_octets : Data → List ℕ
+covered_octets d = if d.kind == 46 then take 2 d.octets else []
 
 -- two records of one set: one owner, one type and, for RRSIG, one type covered (RFC 2181 5)
 pub record InOneSet (r s : Record) : Type 0 where
   pub owner : r.owner ≡ s.owner
   pub kind : r.kind ≡ s.kind
-  pub covers : covered r ≡ covered s
+  pub covers : covered_octets (data_of r) ≡ covered_octets (data_of s)
 
 -- what records have in common that stand together: one class, one TTL in each set, one SOA at the most.
 -- A set of records is kept as its one strictly ascending list.

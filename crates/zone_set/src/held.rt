@@ -1,7 +1,7 @@
 ghost use Rattle.std.specs.Prelude.{◌≡◌, ◌-◌, ◌^◌, [], length, min, Some, None, MatchOption, IsTrue, ◌↔◌, OnOk, OnErr, IfErr};
 ghost use Rattle.zone_rdata.specs.Record.{IsRecord};
-ghost use Rattle.zone_set.specs.Builder.{Accepts, Adds, IsRefusedFor};
-ghost use Rattle.zone_set.specs.Held.{AreTwoSoas, HasNoneOf, HasOneOf};
+ghost use Rattle.zone_set.specs.Builder.{Accepts, Adds, AreTwoSoas, IsRefusedFor};
+ghost use Rattle.zone_set.specs.Held.{HasNoneOf, HasOneOf};
 ghost use Rattle.zone_set.specs.Key.{entry_record, set_key, with_data, IsKeyed};
 ghost use Rattle.zone_set.specs.View.{record_of};
 ghost use Rattle.zone_set.specs.Zone.{AreCompatible};

@@ -3,14 +3,14 @@ use Rattle.std.proofs.Common.{◌≡◌, ◌≢◌, ◌⊎◌, ℕ, Bool, true, 
 use Rattle.std.proofs.lemmas.Bool.{cases_eq}
 use Rattle.std.specs.Cmp.Lexicographic.{bytes_decides}
 use Rattle.zone_name.specs.Name.{IsWithin}
-use Rattle.zone_rdata.specs.Record.{Record}
+use Rattle.zone_rdata.specs.Record.{Record, data_of}
 use Rattle.zone_rdata.specs.declared.fault.Fault.{Fault}
 use Rattle.zone_rdata.specs.declared.fault.Fault.TheVariants.{ClassMismatch, MultipleSoa, DifferingTtl}
 use Rattle.zone_rdata.specs.declared.fault.Place.{Place}
 use Rattle.zone_rdata.specs.declared.record.Placed.{Placed}
-use Rattle.zone_set.specs.Builder.{OtherClass, OtherSoa, OtherTtl, Accepts, IsRefusedFor, class, soa, ttl}
+use Rattle.zone_set.specs.Builder.{OtherClass, AreTwoSoas, OtherSoa, OtherTtl, Accepts, IsRefusedFor, class, soa, ttl}
 use Rattle.zone_set.specs.Refusal.{AllAccepted, IsFirstRefused, records_of}
-use Rattle.zone_set.specs.Zone.{Has, InOneSet, covered}
+use Rattle.zone_set.specs.Zone.{Has, InOneSet, covered_octets}
 use Rattle.zonenorm.proofs.Parting.{Partings, same, first, second, two_partings, Decides-owner}
 
 -- a fact holds, or it doesn't
@@ -40,7 +40,7 @@ same_set : (r s : Record) → Settled (InOneSet r s)
 same_set r s =
     ⊎_elim (λ (owner, (kind, covers)). inl (record { owner = owner; kind = kind; covers = covers }))
     (λ fails. inr (λ one. fails (one.owner, (one.kind, one.covers))))
-    (both_settled (same_owner r.owner s.owner) (both_settled (cases_eq r.kind s.kind) (same_octets (covered r) (covered s))))
+    (both_settled (same_owner r.owner s.owner) (both_settled (cases_eq r.kind s.kind) (same_octets (covered_octets (data_of r)) (covered_octets (data_of s)))))
 
 -- a name lies within an apex, or it doesn't
 pub is_within : (labels apex : List (List ℕ)) → Settled (IsWithin labels apex)
@@ -74,19 +74,15 @@ module _ (held : List Record) (r : Record) where
       ⊎_elim (λ (s, has, other). inl (s, has, other)) (λ none. inr (λ (s, has, other). none s has other))
       (some_or_none (λ s. s.class ≢ r.class) (λ s. not_settled (cases_eq s.class r.class)) held)
 
-  abbrev DiffersAsSoa : Record → Type 0
-  DiffersAsSoa s = (s.kind ≡ 6) × ((s.owner ≢ r.owner) ⊎ (s.octets ≢ r.octets))
+  two_soas : (s : Record) → Settled (AreTwoSoas s r)
+  two_soas s =
+      ⊎_elim (λ (is, (too, differs)). inl (is, too, differs)) (λ fails. inr (λ (is, too, differs). fails (is, (too, differs))))
+      (both_settled (cases_eq r.kind 6) (both_settled (cases_eq s.kind 6) (either_settled (not_settled (same_owner s.owner r.owner)) (not_settled (same_octets s.octets r.octets)))))
 
   other_soa : Settled (OtherSoa held r)
   other_soa =
-      ⊎_elim (λ (is, (s, has, differs)). inl (is, s, has, differs.0, differs.1))
-      (λ fails. inr (λ (is, s, has, soa_s, differs). fails (is, (s, has, (soa_s, differs)))))
-      (both_settled (cases_eq r.kind 6) one)
-    where
-      one : Settled ((s : Record) × Has held s × DiffersAsSoa s)
-      one =
-          ⊎_elim (λ found. inl found) (λ none. inr (λ (s, has, differs). none s has differs))
-          (some_or_none DiffersAsSoa (λ s. both_settled (cases_eq s.kind 6) (either_settled (not_settled (same_owner s.owner r.owner)) (not_settled (same_octets s.octets r.octets)))) held)
+      ⊎_elim (λ (s, has, two). inl (s, has, two)) (λ none. inr (λ (s, has, two). none s has two))
+      (some_or_none (λ s. AreTwoSoas s r) two_soas held)
 
   abbrev DiffersInTtl : Record → Type 0
   DiffersInTtl s = InOneSet s r × (s.ttl ≢ r.ttl)

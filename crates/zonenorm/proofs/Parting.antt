@@ -75,8 +75,8 @@ module _ (held : List Record) (r : Record) (fits : Accepts held r) where
 
   accepted_soa : (s : Record) → Has held s → s.kind ≡ 6 → r.kind ≡ 6 → s ≡ r
   accepted_soa s has soa_s soa_r =
-      let owner : s.owner ≡ r.owner = stable_owner _ _ (λ other. fits.one_soa (soa_r, s, has, soa_s, inl other)) in
-      let octets : s.octets ≡ r.octets = stable _ (bytes_decides s.octets r.octets) (λ other. fits.one_soa (soa_r, s, has, soa_s, inr other)) in
+      let owner : s.owner ≡ r.owner = stable_owner _ _ (λ other. fits.one_soa (s, has, (soa_r, soa_s, inl other))) in
+      let octets : s.octets ≡ r.octets = stable _ (bytes_decides s.octets r.octets) (λ other. fits.one_soa (s, has, (soa_r, soa_s, inr other))) in
       let kind : s.kind ≡ r.kind = soa_s ∙ sym soa_r in
       let class : s.class ≡ r.class = accepted_class s has in
       let ttl : s.ttl ≡ r.ttl = accepted_ttl s has (one_set s r owner kind octets) in

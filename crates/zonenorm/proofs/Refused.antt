@@ -12,7 +12,7 @@ use Rattle.zone_rdata.specs.declared.fault.Stop.TheVariants.{Refused, Read, Writ
 use Rattle.zone_rdata.specs.declared.record.Placed.{Placed}
 use Rattle.zone_rdata.specs.declared.source.Reading.{Reading}
 use Rattle.zone_text.specs.Lines.{ReadsFront}
-use Rattle.zone_set.specs.Builder.{Accepts, AddsEach, IsRefusedFor, class, soa, ttl, TakesAll, StopsTaking, memory, refused as by_record, ending as by_ending, StopsFinish, no_soa, outside}
+use Rattle.zone_set.specs.Builder.{Accepts, AddsEach, IsRefusedFor, class, soa, ttl, TakesAll, StopsTaking, failure, memory, refused as by_record, ending as by_ending, StopsFinish, no_soa, outside}
 use Rattle.zone_set.specs.Refusal.{AllAccepted, records_of}
 use Rattle.zone_set.specs.Zone.{SameRecords, Zone}
 use Rattle.zone_print.specs.Canonical.{canon, text_limit}
@@ -30,15 +30,15 @@ use Rattle.zonenorm.proofs.Making.{Has-push}
 Accepts-same : (held others : List Record) (r : Record) → SameRecords held others → Accepts held r → Accepts others r
 Accepts-same held others r same fits = record {
   one_class = λ (s, has, other). fits.one_class (s, (same s).1 has, other);
-  one_soa = λ (is_soa, s, has, soa_s, other). fits.one_soa (is_soa, s, (same s).1 has, soa_s, other);
+  one_soa = λ (s, has, two). fits.one_soa (s, (same s).1 has, two);
   one_ttl = λ (s, has, one, other). fits.one_ttl (s, (same s).1 has, one, other);
 }
 
 IsRefusedFor-same : (held others : List Record) (r : Record) (f : Fault) → SameRecords held others → IsRefusedFor held r f → IsRefusedFor others r f
 IsRefusedFor-same held others r _ same (class (s, has, other)) = class (s, (same s).0 has, other)
-IsRefusedFor-same held others r _ same (soa one (is_soa, s, has, soa_s, other)) = soa (λ (t, has_t, differs). one (t, (same t).1 has_t, differs)) (is_soa, s, (same s).0 has, soa_s, other)
+IsRefusedFor-same held others r _ same (soa one (s, has, two)) = soa (λ (t, has_t, differs). one (t, (same t).1 has_t, differs)) (s, (same s).0 has, two)
 IsRefusedFor-same held others r _ same (ttl one one_soa (s, has, of_set, other)) =
-    ttl (λ (t, has_t, differs). one (t, (same t).1 has_t, differs)) (λ (is_soa, t, has_t, soa_t, differs). one_soa (is_soa, t, (same t).1 has_t, soa_t, differs)) (s, (same s).0 has, of_set, other)
+    ttl (λ (t, has_t, differs). one (t, (same t).1 has_t, differs)) (λ (t, has_t, two). one_soa (t, (same t).1 has_t, two)) (s, (same s).0 has, of_set, other)
 
 StopsFinish-same : (held others : List Record) (stop : Stop) → SameRecords held others → StopsFinish held stop → StopsFinish others stop
 StopsFinish-same held others _ same (no_soa none) = no_soa (λ r has. none r ((same r).1 has))
@@ -81,7 +81,8 @@ module _ (origin : List (List ℕ)) (octets : List ℕ) (reading : Reading) (fro
   refused_taking old new stop none stops = by stop (subst (λ held. StopsTaking held fed new stop) none stops)
     where
       by : (s : Stop) → StopsTaking [] fed new s → IfRefused s (RefusesRead origin octets)
-      by _ (memory taken rest parts each) = tt
+      by _ (failure fails same) = tt
+      by _ (memory taken rest p works parts each) = tt
       by _ (by_record taken rest p f works parts each why) = reads f p.place (refused f p.place (record {
         before = taken;
         refused = p;

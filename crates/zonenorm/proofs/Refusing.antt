@@ -66,7 +66,7 @@ module _ (z : Zone) (placed : List Placed) (zone : IsZone z) (same_records : Sam
   zone_accepted : AllAccepted placed
   zone_accepted before others p parts = record {
     one_class = λ (s, has, other). other (zone.compatible.one_class s p.rr (earlier s has) here);
-    one_soa = λ (is_soa, s, has, soa_s, other). let one : s ≡ p.rr = zone.compatible.one_soa s p.rr (earlier s has) here soa_s is_soa in ⊎_elim (λ owner. owner (ap (λ t. t.owner) one)) (λ octets. octets (ap (λ t. t.octets) one)) other;
+    one_soa = λ (s, has, (is_soa, soa_s, other)). let one : s ≡ p.rr = zone.compatible.one_soa s p.rr (earlier s has) here soa_s is_soa in ⊎_elim (λ owner. owner (ap (λ t. t.owner) one)) (λ octets. octets (ap (λ t. t.octets) one)) other;
     one_ttl = λ (s, has, one, other). other (zone.compatible.one_ttl s p.rr (earlier s has) here one);
   }
     where

@@ -17,7 +17,7 @@ pub no_other_class : (held : List Record) (r : Record) → AllByRecursion (λ s.
 no_other_class held r each (s, has, other) = other (each_Has (λ t. t.class ≡ r.class) held s each has)
 
 pub no_other_soa : (held : List Record) (r : Record) → r.kind ≢ 6 → OtherSoa held r → ⊥
-no_other_soa held r other (is_soa, s, has, soa_s, differs) = other is_soa
+no_other_soa held r other (s, has, (is_soa, soa_s, differs)) = other is_soa
 
 pub fits : (held : List Record) (r : Record) → AllByRecursion (λ s. s.class ≡ r.class) held → r.kind ≢ 6 → AllByRecursion (λ s. InOneSet s r → s.ttl ≡ r.ttl) held → Accepts held r
 fits held r classes other ttls = record {
@@ -27,7 +27,7 @@ fits held r classes other ttls = record {
 }
 
 pub all_of_one : (p : Placed) → AllAccepted (p ∷ [])
-all_of_one p = AllAccepted-push [] p none_before (record { one_class = λ (s, has, other). has; one_soa = λ (is_soa, s, has, soa_s, other). has; one_ttl = λ (s, has, one, other). has })
+all_of_one p = AllAccepted-push [] p none_before (record { one_class = λ (s, has, other). has; one_soa = λ (s, has, two). has; one_ttl = λ (s, has, one, other). has })
 
 pub all_of_two : (p q : Placed) → Accepts (p.rr ∷ []) q.rr → AllAccepted (p ∷ q ∷ [])
 all_of_two p q accepted = AllAccepted-push (p ∷ []) q (all_of_one p) accepted

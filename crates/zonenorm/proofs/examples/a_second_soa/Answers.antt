@@ -15,6 +15,6 @@ returns c = record {
   others = [];
   parts = refl;
   accepted = all_of_one _;
-  why = soa (no_other_class (soa_of 1 60 1 ∷ []) (soa_of 1 60 2) (refl, tt)) (refl, soa_of 1 60 1, inl refl, refl, inr other_serial);
+  why = soa (no_other_class (soa_of 1 60 1 ∷ []) (soa_of 1 60 2) (refl, tt)) (soa_of 1 60 1, inl refl, (refl, refl, inr other_serial));
   stands = refl;
 }
