@@ -234,5 +234,5 @@ fn faults_are_shown(rt: HostRuntime) -> Result<(), Fail> {
 
 #[test]
 fn a_name_is_small(rt: HostRuntime) {
-    assert_eq!(rt; std::mem::size_of::<Name>() <= 264, true);
+    assert!(rt; std::mem::size_of::<Name>() <= 264);
 }

@@ -10,7 +10,7 @@ use std::alloc::AllocError;
 const LONGEST: usize = 1021;
 
 impl Name {
-    /// The octets of the canonical spelling, at most 1,021.
+    /// How many octets the canonical spelling has, at most 1,021.
     pub fn text_len(&self) -> usize
         ensures value { result ≡ length (name_text self.now) }
         ensures short { result ≤ 1021 }
@@ -51,7 +51,7 @@ impl Name {
     }
 }
 
-/// The octets of a label's spelling and of the dot behind it.
+/// How many octets a label's spelling and the dot behind it have.
 fn label_text_len(label: &[u8]) -> usize
     requires { length label.now ≤ 63 }
     ensures value { result ≡ length (label_text label.now) }
@@ -64,7 +64,7 @@ fn label_text_len(label: &[u8]) -> usize
     len
 }
 
-/// The octets of an octet's spelling.
+/// How many octets an octet's spelling has.
 fn octet_text_len(octet: u8) -> usize
     ensures value { result ≡ length (octet_text octet) }
     ensures short { result ≤ 4 }

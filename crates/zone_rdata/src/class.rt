@@ -69,7 +69,7 @@ fn number_of_word(word: &[u8]) -> Option<u64>
 }
 
 impl Class {
-    /// The class of a number.
+    /// The class of a number (RFC 6895 3.2).
     ///
     /// # Errors
     ///
@@ -115,7 +115,7 @@ impl Class {
         self.number
     }
 
-    /// The octets of the word that is printed.
+    /// How many octets the word that is printed has.
     pub fn word_len(self) -> usize
         ensures value { result ≡ length (class_text self) }
         ensures short { result ≤ 45 }
@@ -127,6 +127,10 @@ impl Class {
     }
 
     /// Appends the word that is printed. Where memory is refused, `out` holds what it held.
+    ///
+    /// # Errors
+    ///
+    /// `AllocError` where memory is refused.
     pub fn push_word(self, out: &mut Vec<u8>) -> Result<(), AllocError>
         ensures ok { OnOk result (out.new.items ≡ out.old.items ++ class_text self) }
         ensures err { OnErr result (out.new.items ≡ out.old.items) }

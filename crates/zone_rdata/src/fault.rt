@@ -198,7 +198,9 @@ pub enum Stop {
 /// Why one record or its data could not be made.
 #[derive(Debug, Drop)]
 pub enum Failing {
+    /// The record or its data is refused.
     Fault(Fault),
+    /// Memory was refused.
     Memory,
 }
 

@@ -78,7 +78,7 @@ fn number_of_word(word: &[u8]) -> Option<u64>
 }
 
 impl Kind {
-    /// The type of a number.
+    /// The type of a number (RFC 6895 3.1).
     ///
     /// # Errors
     ///
@@ -139,7 +139,7 @@ impl Kind {
         layout_of(class, self).and_then(|_| mnemonic(self.number))
     }
 
-    /// The octets of the word that is printed in the class.
+    /// How many octets the word that is printed in the class has.
     pub fn word_len(self, class: Class) -> usize
         ensures value { result ≡ length (kind_text class self) }
         ensures short { result ≤ 45 }
@@ -151,6 +151,10 @@ impl Kind {
     }
 
     /// Appends the word that is printed in the class. Where memory is refused, `out` holds what it held.
+    ///
+    /// # Errors
+    ///
+    /// `AllocError` where memory is refused.
     pub fn push_word(self, class: Class, out: &mut Vec<u8>) -> Result<(), AllocError>
         ensures ok { OnOk result (out.new.items ≡ out.old.items ++ kind_text class self) }
         ensures err { OnErr result (out.new.items ≡ out.old.items) }

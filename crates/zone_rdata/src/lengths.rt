@@ -11,7 +11,7 @@ use crate::layout::{Field, Layout};
 use crate::string::string_text_len;
 use itoa::Buffer;
 
-/// The octets of a number in decimal.
+/// How many octets a number in decimal has.
 pub(crate) fn decimal_len(number: u64) -> usize
     ensures value { result ≡ length (decimal number) }
     ensures short { result ≤ 40 }
@@ -20,7 +20,7 @@ pub(crate) fn decimal_len(number: u64) -> usize
     buffer.format(number).len()
 }
 
-/// The octets of the text of an address of 4 or 16 octets.
+/// How many octets the text of an address of 4 or 16 octets has.
 fn address_len(octets: &[u8]) -> usize
     requires { (length octets.now ≡ 4) ⊎ (length octets.now ≡ 16) }
     ensures value { result ≡ length (field_text (fixed octets.now)) }
@@ -33,7 +33,7 @@ fn address_len(octets: &[u8]) -> usize
     }
 }
 
-/// The octets of strings in quotes, parted by single spaces.
+/// How many octets strings in quotes, parted by single spaces, have.
 fn strings_len(octets: &[u8]) -> usize
     requires fits { length octets.now ≤ 65535 }
     requires some { 0 < length octets.now }
@@ -51,7 +51,7 @@ fn strings_len(octets: &[u8]) -> usize
     len
 }
 
-/// The octets of the text of the field at the front of octets, and the octets after that field.
+/// How many octets the text of the field at the front of octets has, and the octets after that field.
 fn field_len(field: Field, octets: &[u8]) -> (usize, &[u8])
     requires sized { IsSized field }
     requires fits { length octets.now ≤ 65535 }
@@ -85,7 +85,7 @@ fn field_len(field: Field, octets: &[u8]) -> (usize, &[u8])
     }
 }
 
-/// The octets that `push_fields` appends.
+/// How many octets `push_fields` appends.
 fn fields_len(layout: Layout, octets: &[u8]) -> usize
     requires few { length (fields_of layout) ≤ 7 }
     requires sized { AllByRecursion IsSized (fields_of layout) }
@@ -105,7 +105,7 @@ fn fields_len(layout: Layout, octets: &[u8]) -> usize
     len
 }
 
-/// The octets that `push_generic` appends.
+/// How many octets `push_generic` appends.
 fn generic_len(octets: &[u8]) -> usize
     requires { length octets.now ≤ 65535 }
     ensures value { result ≡ length (generic_text octets.now) }
@@ -117,7 +117,7 @@ fn generic_len(octets: &[u8]) -> usize
     4 + decimal_len(octets.len() as u64) + 2 * octets.len()
 }
 
-/// The octets that `push_data` appends.
+/// How many octets `push_data` appends.
 pub(crate) fn data_len(layout: Option<Layout>, octets: &[u8]) -> usize
     requires few { IfSome layout (λ l. length (fields_of l) ≤ 7) }
     requires sized { IfSome layout (λ l. AllByRecursion IsSized (fields_of l)) }

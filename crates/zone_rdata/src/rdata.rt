@@ -84,7 +84,8 @@ impl Rdata {
     ///
     /// # Errors
     ///
-    /// The first fault of the items from the left, and want of memory.
+    /// The first fault of the items from the left, one of `EmptyLabel`, `LabelTooLong`, `NameTooLong`, `BadEscape`,
+    /// `StringTooLong`, `BadNumber`, `BadRdata`, `BadGeneric` and `RdataTooLong`; and `Memory` where memory is refused.
     pub fn from_items(
         alloc: Global,
         class: Class,
@@ -194,7 +195,7 @@ impl Rdata {
         }
     }
 
-    /// The octets of the canonical text.
+    /// How many octets the canonical text has.
     pub fn text_len(&self) -> usize
         ensures value { result ≡ length (data_text self.now) }
         ensures short { result ≤ 1000000 }
@@ -203,6 +204,10 @@ impl Rdata {
     }
 
     /// Appends the canonical text. Where memory is refused, `out` holds what it held.
+    ///
+    /// # Errors
+    ///
+    /// `AllocError` where memory is refused.
     pub fn push_text(&self, out: &mut Vec<u8>) -> Result<(), AllocError>
         ensures ok { OnOk result (out.new.items ≡ out.old.items ++ data_text self.now) }
         ensures err { OnErr result (out.new.items ≡ out.old.items) }

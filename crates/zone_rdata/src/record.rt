@@ -36,7 +36,9 @@ impl Model for Rr {
 /// A record and where it was stated.
 #[derive(Debug, Drop)]
 pub struct Placed {
+    /// The record.
     pub rr: Rr,
+    /// Where the input states it.
     pub place: Place,
 }
 

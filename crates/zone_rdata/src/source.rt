@@ -23,7 +23,9 @@ pub trait RrSource {
 /// The records of a whole input up to its first fault, and that fault.
 #[derive(Debug, Drop)]
 pub struct Reading {
+    /// The records that are still to come, in order.
     pub placed: VecDeque<Placed>,
+    /// The fault after them and where it stands. `None`: no fault is decided.
     pub ending: Option<(Fault, Place)>,
 }
 

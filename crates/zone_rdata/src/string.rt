@@ -102,7 +102,7 @@ fn next_at(rest: &[u8]) -> Next<'_>
     }
 }
 
-/// The octets of a string's canonical text.
+/// How many octets a string's canonical text has.
 pub(crate) fn string_text_len(octets: &[u8]) -> usize
     requires { length octets.now ≤ 255 }
     ensures value { result ≡ length (string_text octets.now) }
@@ -115,7 +115,7 @@ pub(crate) fn string_text_len(octets: &[u8]) -> usize
     len
 }
 
-/// The octets of an octet's text between quotes.
+/// How many octets an octet's text between quotes has.
 fn unit_text_len(octet: u8) -> usize
     ensures value { result ≡ length (unit_text octet) }
     ensures short { result ≤ 4 }

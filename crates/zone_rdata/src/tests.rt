@@ -92,11 +92,6 @@ fn numbers(rt: HostRuntime) -> Result<(), Fail> {
     assert!(rt; matches!(Kind::from_word(b"CAA"), Err(Fault::UnknownType)));
     assert!(rt; matches!(Kind::from_word(b"TYPE65536"), Err(Fault::UnknownType)));
     assert!(rt; matches!(Kind::from_number(41), Err(Fault::MetaType)));
-    assert_eq!(rt; seconds_of(b"1h30M"), Some(5400));
-    assert_eq!(rt; seconds_of(b"0000h1w"), Some(604800));
-    assert_eq!(rt; seconds_of(b"1h30"), None);
-    assert_eq!(rt; seconds_of(b""), None);
-    assert_eq!(rt; seconds_of(b"99999999999999999999w"), Some(4294967296));
     Ok(())
 }
 
@@ -181,7 +176,8 @@ fn records(rt: HostRuntime) -> Result<(), Fail> {
     let over = Rr::new(name_of(b"example.")?, 2147483648, ns_of(rt.alloc(), b"b.")?);
     assert!(rt; matches!(over, Err(Fault::BadTtl)));
     let (owner, ttl, rdata) = rr.into_parts();
-    assert_eq!(rt; owner.wire().len() + ttl as usize, 2147483656);
+    assert_eq!(rt; owner.wire().len(), 9);
+    assert_eq!(rt; ttl, 2147483647);
     assert_eq!(rt; rdata.octets(), b"\x01b\x00".as_slice());
     Ok(())
 }

@@ -172,7 +172,7 @@ pub(crate) fn push_four(octets: &[u8], out: &mut Vec<u8>) -> Result<(), AllocErr
     out.extend_from_slice(text_of_four(octets).as_slice())
 }
 
-/// The octets that `push_four` appends, at most 15.
+/// How many octets `push_four` appends, at most 15.
 pub(crate) fn four_len(octets: &[u8]) -> usize
     requires { length octets.now ≡ 4 }
     ensures value { result ≡ length (four_text octets.now) }
@@ -195,7 +195,7 @@ pub(crate) fn push_sixteen(octets: &[u8], out: &mut Vec<u8>) -> Result<(), Alloc
     out.extend_from_slice(text_of_sixteen(octets).as_slice())
 }
 
-/// The octets that `push_sixteen` appends, at most 39.
+/// How many octets `push_sixteen` appends, at most 39.
 pub(crate) fn sixteen_len(octets: &[u8]) -> usize
     requires { length octets.now ≡ 16 }
     ensures value { result ≡ length (groups_text octets.now) }

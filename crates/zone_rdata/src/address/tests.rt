@@ -101,7 +101,7 @@ fn texts_that_are_not_sixteen(rt: HostRuntime) {
         b"",
     ];
     for text in rows {
-        assert_eq!(rt; sixteen_octets_of(text).is_none(), true);
+        assert!(rt; sixteen_octets_of(text).is_none());
     }
 }
 
@@ -130,6 +130,6 @@ fn texts_that_are_not_four(rt: HostRuntime) {
         b"",
     ];
     for text in rows {
-        assert_eq!(rt; four_octets_of(text).is_none(), true);
+        assert!(rt; four_octets_of(text).is_none());
     }
 }

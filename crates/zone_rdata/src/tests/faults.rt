@@ -113,20 +113,3 @@ fn service_octets_too_short(rt: HostRuntime) -> Result<(), Fail> {
     assert!(rt; matches!(wire, Err(Failing::Fault(Fault::BadRdata))));
     Ok(())
 }
-
-#[test]
-fn addresses_of_sixteen_refused(rt: HostRuntime) -> Result<(), Fail> {
-    let texts: [&[u8]; 6] = [
-        b"1::2::3",
-        b"12345::",
-        b":::",
-        b"1:2:3:4:5:6:7",
-        b"::ffff:10.0.0.256",
-        b"::10.0.0.1:1",
-    ];
-    for text in texts {
-        let address = stated(rt.alloc(), 1, 28, &[Item::Bare(text)])?;
-        assert!(rt; matches!(address, Err(Failing::Fault(Fault::BadRdata))));
-    }
-    Ok(())
-}

@@ -118,6 +118,8 @@ fn services(rt: HostRuntime) -> Result<(), Fail> {
     let from_words = stated(rt.alloc(), 1, 33, &words)?.map_err(|_| "refused")?;
     let from_form = stated(rt.alloc(), 1, 33, &form)?.map_err(|_| "refused")?;
     assert!(rt; from_words == from_form);
+    let text = text_of(rt.alloc(), Ok(from_form))?;
+    assert_eq!(rt; text.as_slice(), b"0 5 5060 h.x.".as_slice());
     let in_ch = text_of(rt.alloc(), stated(rt.alloc(), 3, 33, &words)?)?;
     assert_eq!(rt; in_ch.as_slice(), b"0 5 5060 h.x.".as_slice());
     Ok(())

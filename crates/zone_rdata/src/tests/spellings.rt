@@ -26,8 +26,12 @@ fn types(rt: HostRuntime) -> Result<(), Fail> {
 
 #[test]
 fn times(rt: HostRuntime) {
-    assert_eq!(rt; seconds_of(b"1h30m"), Some(5400));
+    assert_eq!(rt; seconds_of(b"1h30M"), Some(5400));
     assert_eq!(rt; seconds_of(b"1W1s"), Some(604801));
+    assert_eq!(rt; seconds_of(b"0000h1w"), Some(604800));
     assert_eq!(rt; seconds_of(b"007"), Some(7));
+    assert_eq!(rt; seconds_of(b"1h30"), None);
+    assert_eq!(rt; seconds_of(b""), None);
     assert_eq!(rt; seconds_of(b"99999999999"), Some(4294967296));
+    assert_eq!(rt; seconds_of(b"99999999999999999999w"), Some(4294967296));
 }

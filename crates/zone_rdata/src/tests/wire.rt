@@ -79,13 +79,6 @@ fn generic_forms(rt: HostRuntime) -> Result<(), Fail> {
     let server = [mark, Item::Bare(b"5"), Item::Bare(b"014e015800")];
     let server = text_of(rt.alloc(), stated(rt.alloc(), 1, 2, &server)?)?;
     assert_eq!(rt; server.as_slice(), b"n.x.".as_slice());
-    let service = [
-        mark,
-        Item::Bare(b"11"),
-        Item::Bare(b"0000000513c40148017800"),
-    ];
-    let service = text_of(rt.alloc(), stated(rt.alloc(), 1, 33, &service)?)?;
-    assert_eq!(rt; service.as_slice(), b"0 5 5060 h.x.".as_slice());
     let short = [mark, Item::Bare(b"3"), Item::Bare(b"0A0000")];
     let short = stated(rt.alloc(), 1, 1, &short)?;
     assert!(rt; matches!(short, Err(Failing::Fault(Fault::BadRdata))));
