@@ -29,6 +29,9 @@ impl Model for Kind {
     ghost inverse = { λ n. record { number = n } };
 }
 
+/// The number of SOA (RFC 1035 3.3.13).
+const SOA: u16 = 6;
+
 /// The numbers of the types that have a mnemonic.
 static KNOWN: [u16; 10] = [1, 2, 5, 6, 12, 15, 16, 28, 33, 35];
 
@@ -129,7 +132,7 @@ impl Kind {
     pub fn is_soa(self) -> bool
         ensures { IsTrue result ↔ (self ≡ 6) }
     {
-        matches!(self.number, 6)
+        self.number == SOA
     }
 
     /// The mnemonic, where the type has a layout in the class.

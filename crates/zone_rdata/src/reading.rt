@@ -149,7 +149,7 @@ pub(crate) fn octets_of_items(
     origin: &Name,
 ) -> Result<Vec<u8>, Failing>
     ensures found { IfOk result (λ octets. AreSpelt origin.now (item_fields (fields_of layout) (map raw items.now)) (map raw items.now) octets.items) }
-    ensures short { IfOk result (λ octets. length octets.items ≤ 65535) }
+    ensures short { IfOk result (λ octets. length octets.items ≤ LONGEST_DATA) }
     ensures fault { IfErr result (IfFault (IsWordsFault origin.now (item_fields (fields_of layout) (map raw items.now)) (map raw items.now))) }
 {
     let mut octets = Vec::new(alloc);

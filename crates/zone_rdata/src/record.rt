@@ -47,7 +47,7 @@ impl Rr {
     ///
     /// `BadTtl` where the TTL is over 2147483647.
     pub fn new(owner: Name, ttl: u32, rdata: Rdata) -> Result<Rr, Fault>
-        ensures ok { IsOk result ↔ (ttl ≤ 2147483647) }
+        ensures ok { IsOk result ↔ (ttl ≤ MAX_TTL) }
         ensures value { IfOk result (λ r. r ≡ record { owner = owner; class = rdata.class; kind = rdata.kind; ttl = ttl; octets = rdata.octets }) }
         ensures err { IfErr result (λ e. e ≡ Fault.BadTtl) }
     {
@@ -81,7 +81,7 @@ impl Rr {
     /// The TTL in seconds, at most 2147483647.
     pub fn ttl(&self) -> u32
         ensures value { result ≡ self.now.ttl }
-        ensures short { result ≤ 2147483647 }
+        ensures short { result ≤ MAX_TTL }
     {
         self.ttl
     }
