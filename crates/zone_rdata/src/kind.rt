@@ -6,6 +6,7 @@ use crate::class::Class;
 use crate::fault::Fault;
 use crate::layout::layout_of;
 use crate::lengths::decimal_len;
+use crate::number::CAP;
 use crate::word::{is_word, numbered, push_numbered};
 use std::alloc::AllocError;
 use std::marker::Model;
@@ -71,7 +72,7 @@ fn number_of_mnemonic(word: &[u8]) -> Option<u16>
 
 /// The number that a type's word stands for, at most `CAP`. `None`: it is no such word.
 fn number_of_word(word: &[u8]) -> Option<u64>
-    ensures found { IfSome result (λ n. (m : ℕ) × (IsKindWord word.now m × (n ≡ min 4294967296 m))) }
+    ensures found { IfSome result (λ n. (m : ℕ) × (IsKindWord word.now m × (n ≡ min CAP m))) }
     ensures none { IfNone result ((n : ℕ) → IsKindWord word.now n → ⊥) }
 {
     match number_of_mnemonic(word) {
@@ -132,7 +133,7 @@ impl Kind {
     pub fn is_soa(self) -> bool
         ensures { IsTrue result ↔ (self ≡ 6) }
     {
-        self.number == SOA
+        matches!(self.number, SOA)
     }
 
     /// The mnemonic, where the type has a layout in the class.

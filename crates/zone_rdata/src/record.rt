@@ -25,12 +25,13 @@ pub struct Rr {
 impl Model for Rr {
     ghost use Rattle.std.specs.Prelude.{◌≤◌};
     ghost use Rattle.zone_rdata.specs.Record.{Record};
+    ghost use Rattle.zone_rdata.specs.declared.record.TheConstants.{MAX_TTL};
 
     ghost Value = { Record };
 
     ghost view = { λ r. record { owner = r.owner; class = r.rdata.class; kind = r.rdata.kind; ttl = r.ttl; octets = r.rdata.octets } };
 
-    ghost invariant = { λ r. r.ttl ≤ 2147483647 };
+    ghost invariant = { λ r. r.ttl ≤ MAX_TTL };
 }
 
 /// A record and where it was stated.
