@@ -207,7 +207,7 @@ fn known(part: Part)
 
 /// Appends the octets of a part. Refused, `out` holds what it held.
 fn append(part: Part, out: &mut Vec<u8>) -> Result<(), Failing>
-    requires { length out.old.items ≤ 65535 }
+    requires { length out.old.items ≤ LONGEST_DATA }
     ensures ok { OnOk result (Grows out.old.items (value_of part.entry) out.new.items) }
     ensures fault { IfErr result (IfFault (IsOver out.old.items (value_of part.entry))) }
     ensures err { OnErr result (out.new.items ≡ out.old.items) }
@@ -223,7 +223,7 @@ fn append(part: Part, out: &mut Vec<u8>) -> Result<(), Failing>
 
 /// Appends octets. Refused, `out` holds what it held.
 fn append_octets(octets: &[u8], out: &mut Vec<u8>) -> Result<(), Failing>
-    requires { length out.old.items ≤ 65535 }
+    requires { length out.old.items ≤ LONGEST_DATA }
     ensures ok { OnOk result (Grows out.old.items (fixed octets.now) out.new.items) }
     ensures fault { IfErr result (IfFault (IsOver out.old.items (fixed octets.now))) }
     ensures err { OnErr result (out.new.items ≡ out.old.items) }
@@ -237,7 +237,7 @@ fn append_octets(octets: &[u8], out: &mut Vec<u8>) -> Result<(), Failing>
 
 /// Appends a string behind its length. Refused, `out` holds what it held.
 fn append_string(octets: &[u8], out: &mut Vec<u8>) -> Result<(), Failing>
-    requires { length out.old.items ≤ 65535 }
+    requires { length out.old.items ≤ LONGEST_DATA }
     ensures ok { OnOk result (Grows out.old.items (string octets.now) out.new.items) }
     ensures fault { IfErr result (IfFault (IsOver out.old.items (string octets.now))) }
     ensures err { OnErr result (out.new.items ≡ out.old.items) }

@@ -3,6 +3,7 @@ ghost use Rattle.zone_rdata.specs.Words.{IsClass, IsClassWord, IsMnemonic, class
 
 use crate::fault::Fault;
 use crate::lengths::decimal_len;
+use crate::number::CAP;
 use crate::word::{is_word, numbered, push_numbered};
 use std::alloc::AllocError;
 use std::marker::Model;
@@ -59,7 +60,7 @@ fn number_of_mnemonic(word: &[u8]) -> Option<u16>
 
 /// The number that a class's word stands for, at most `CAP`. `None`: it is no such word.
 fn number_of_word(word: &[u8]) -> Option<u64>
-    ensures found { IfSome result (λ n. (m : ℕ) × (IsClassWord word.now m × (n ≡ min 4294967296 m))) }
+    ensures found { IfSome result (λ n. (m : ℕ) × (IsClassWord word.now m × (n ≡ min CAP m))) }
     ensures none { IfNone result ((n : ℕ) → IsClassWord word.now n → ⊥) }
 {
     match number_of_mnemonic(word) {

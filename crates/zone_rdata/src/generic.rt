@@ -34,7 +34,7 @@ pub(crate) fn octets_of_generic(alloc: Global, items: &[Item]) -> Result<Vec<u8>
 /// The number of octets that an item states.
 fn length_of(item: Item) -> Result<usize, Fault>
     ensures found { IfOk result (λ n. StatesLength (raw item.entry) n) }
-    ensures short { IfOk result (λ n. n ≤ 65535) }
+    ensures short { IfOk result (λ n. n ≤ LONGEST_DATA) }
     ensures fault { IfErr result (LengthFault (raw item.entry)) }
 {
     let Item::Bare(text) = item else {
@@ -49,7 +49,7 @@ fn length_of(item: Item) -> Result<usize, Fault>
 
 /// The octets that the items' digits join to, which are so many.
 fn octets_of_digits(alloc: Global, items: &[Item], len: usize) -> Result<Vec<u8>, Failing>
-    requires { len ≤ 65535 }
+    requires { len ≤ LONGEST_DATA }
     ensures found { IfOk result (λ octets. JoinTo (map raw items.now) octets.items) }
     ensures count { IfOk result (λ octets. length octets.items ≡ len) }
     ensures fault { IfErr result (IfFault (λ f. (f ≡ Fault.BadGeneric) × ((octets : List ℕ) → JoinTo (map raw items.now) octets → length octets ≢ len))) }
@@ -72,7 +72,7 @@ fn octets_of_digits(alloc: Global, items: &[Item], len: usize) -> Result<Vec<u8>
 
 /// Appends the octets that hexadecimal digits stand for.
 fn push_digits(text: &[u8], octets: &mut Vec<u8>) -> Result<(), Failing>
-    requires few { length octets.old.items ≤ 65535 }
+    requires few { length octets.old.items ≤ LONGEST_DATA }
     requires fits { length text.now ≤ 131071 }
     ensures found { OnOk result (AppendsDigits text.now octets.old.items octets.new.items) }
     ensures fault { IfErr result (IfFault (λ f. (f ≡ Fault.BadGeneric) × ((front : List ℕ) → decode_of text.now ≢ Ok front))) }

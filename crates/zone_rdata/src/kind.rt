@@ -6,6 +6,7 @@ use crate::class::Class;
 use crate::fault::Fault;
 use crate::layout::layout_of;
 use crate::lengths::decimal_len;
+use crate::number::CAP;
 use crate::word::{is_word, numbered, push_numbered};
 use std::alloc::AllocError;
 use std::marker::Model;
@@ -28,6 +29,9 @@ impl Model for Kind {
 
     ghost inverse = { λ n. record { number = n } };
 }
+
+/// The number of SOA (RFC 1035 3.3.13).
+const SOA: u16 = 6;
 
 /// The numbers of the types that have a mnemonic.
 static KNOWN: [u16; 10] = [1, 2, 5, 6, 12, 15, 16, 28, 33, 35];
@@ -68,7 +72,7 @@ fn number_of_mnemonic(word: &[u8]) -> Option<u16>
 
 /// The number that a type's word stands for, at most `CAP`. `None`: it is no such word.
 fn number_of_word(word: &[u8]) -> Option<u64>
-    ensures found { IfSome result (λ n. (m : ℕ) × (IsKindWord word.now m × (n ≡ min 4294967296 m))) }
+    ensures found { IfSome result (λ n. (m : ℕ) × (IsKindWord word.now m × (n ≡ min CAP m))) }
     ensures none { IfNone result ((n : ℕ) → IsKindWord word.now n → ⊥) }
 {
     match number_of_mnemonic(word) {
@@ -129,7 +133,7 @@ impl Kind {
     pub fn is_soa(self) -> bool
         ensures { IsTrue result ↔ (self ≡ 6) }
     {
-        matches!(self.number, 6)
+        matches!(self.number, SOA)
     }
 
     /// The mnemonic, where the type has a layout in the class.

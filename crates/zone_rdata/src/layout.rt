@@ -39,6 +39,9 @@ pub struct Layout {
     fields: &'static [Field],
 }
 
+/// The number of class IN (RFC 1035 3.2.4).
+const IN: u16 = 1;
+
 static A: [Field; 1] = [Field::Octets(4)];
 
 static NAME: [Field; 1] = [Field::Name];
@@ -75,12 +78,12 @@ pub fn layout_of(class: Class, kind: Kind) -> Option<Layout>
     ensures { option_map fields_of result ≡ layout class kind }
 {
     match kind.number() {
-        1 if class.number() == 1 => Some(Layout { fields: &A }),
+        1 if class.number() == IN => Some(Layout { fields: &A }),
         2 | 5 | 12 => Some(Layout { fields: &NAME }),
         6 => Some(Layout { fields: &SOA }),
         15 => Some(Layout { fields: &MX }),
         16 => Some(Layout { fields: &TXT }),
-        28 if class.number() == 1 => Some(Layout { fields: &AAAA }),
+        28 if class.number() == IN => Some(Layout { fields: &AAAA }),
         33 => Some(Layout { fields: &SRV }),
         35 => Some(Layout { fields: &NAPTR }),
         _ => None,

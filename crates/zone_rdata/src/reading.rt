@@ -107,39 +107,20 @@ fn push_address(count: usize, text: &[u8], octets: &mut Vec<u8>) -> Result<(), F
     Ok(())
 }
 
-/// Appends the octets of the value that a bare item spells for the field.
-fn push_bare(
-    field: Field,
-    item: Item,
-    text: &[u8],
-    origin: &Name,
-    octets: &mut Vec<u8>,
-) -> Result<(), Failing>
-    requires { raw item ≡ bare text.now }
-    ensures found { OnOk result (AppendsField origin.now field (raw item.entry) octets.old.items octets.new.items) }
-    ensures fault { IfErr result (IfFault (IsItemFault origin.now field (raw item.entry))) }
-{
-    match field {
-        Field::Name => push_name(text, origin, octets),
-        Field::Serial => push_serial(text, octets),
-        Field::Time => push_time(text, octets),
-        Field::U16 => push_short(text, octets),
-        Field::Octets(count) => push_address(count, text, octets),
-        Field::OneString | Field::Strings => push_string(item, octets),
-    }
-}
-
 /// Appends the octets of the value that the item spells for the field.
 fn push_field(field: Field, item: Item, origin: &Name, octets: &mut Vec<u8>) -> Result<(), Failing>
     ensures found { OnOk result (AppendsField origin.now field (raw item.entry) octets.old.items octets.new.items) }
     ensures fault { IfErr result (IfFault (IsItemFault origin.now field (raw item.entry))) }
 {
-    match item {
-        Item::Bare(text) => push_bare(field, item, text, origin, octets),
-        Item::Quoted(_) => match field {
-            Field::OneString | Field::Strings => push_string(item, octets),
-            _ => Err(Failing::Fault(Fault::BadRdata)),
-        },
+    match (field, item) {
+        (Field::OneString, _) => push_string(item, octets),
+        (Field::Strings, _) => push_string(item, octets),
+        (_, Item::Quoted(_)) => Err(Failing::Fault(Fault::BadRdata)),
+        (Field::Name, Item::Bare(text)) => push_name(text, origin, octets),
+        (Field::Serial, Item::Bare(text)) => push_serial(text, octets),
+        (Field::Time, Item::Bare(text)) => push_time(text, octets),
+        (Field::U16, Item::Bare(text)) => push_short(text, octets),
+        (Field::Octets(count), Item::Bare(text)) => push_address(count, text, octets),
     }
 }
 
@@ -168,7 +149,7 @@ pub(crate) fn octets_of_items(
     origin: &Name,
 ) -> Result<Vec<u8>, Failing>
     ensures found { IfOk result (λ octets. AreSpelt origin.now (item_fields (fields_of layout) (map raw items.now)) (map raw items.now) octets.items) }
-    ensures short { IfOk result (λ octets. length octets.items ≤ 65535) }
+    ensures short { IfOk result (λ octets. length octets.items ≤ LONGEST_DATA) }
     ensures fault { IfErr result (IfFault (IsWordsFault origin.now (item_fields (fields_of layout) (map raw items.now)) (map raw items.now))) }
 {
     let mut octets = Vec::new(alloc);

@@ -25,12 +25,13 @@ pub struct Rr {
 impl Model for Rr {
     ghost use Rattle.std.specs.Prelude.{◌≤◌};
     ghost use Rattle.zone_rdata.specs.Record.{Record};
+    ghost use Rattle.zone_rdata.specs.declared.record.TheConstants.{MAX_TTL};
 
     ghost Value = { Record };
 
     ghost view = { λ r. record { owner = r.owner; class = r.rdata.class; kind = r.rdata.kind; ttl = r.ttl; octets = r.rdata.octets } };
 
-    ghost invariant = { λ r. r.ttl ≤ 2147483647 };
+    ghost invariant = { λ r. r.ttl ≤ MAX_TTL };
 }
 
 /// A record and where it was stated.
@@ -49,7 +50,7 @@ impl Rr {
     ///
     /// `BadTtl` where the TTL is over 2147483647.
     pub fn new(owner: Name, ttl: u32, rdata: Rdata) -> Result<Rr, Fault>
-        ensures ok { IsOk result ↔ (ttl ≤ 2147483647) }
+        ensures ok { IsOk result ↔ (ttl ≤ MAX_TTL) }
         ensures value { IfOk result (λ r. r ≡ record { owner = owner; class = rdata.class; kind = rdata.kind; ttl = ttl; octets = rdata.octets }) }
         ensures err { IfErr result (λ e. e ≡ Fault.BadTtl) }
     {
@@ -83,7 +84,7 @@ impl Rr {
     /// The TTL in seconds, at most 2147483647.
     pub fn ttl(&self) -> u32
         ensures value { result ≡ self.now.ttl }
-        ensures short { result ≤ 2147483647 }
+        ensures short { result ≤ MAX_TTL }
     {
         self.ttl
     }

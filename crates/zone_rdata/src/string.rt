@@ -129,25 +129,12 @@ fn unit_text_len(octet: u8) -> usize
     }
 }
 
-/// Appends a string's canonical text: its octets in quotes. Where memory is refused, `out` holds what it held.
+/// Appends a string's canonical text: its octets in quotes.
 ///
 /// # Errors
 ///
 /// `AllocError` where memory is refused.
 pub(crate) fn push_string_text(octets: &[u8], out: &mut Vec<u8>) -> Result<(), AllocError>
-    ensures ok { OnOk result (out.new.items ≡ out.old.items ++ string_text octets.now) }
-    ensures err { OnErr result (out.new.items ≡ out.old.items) }
-{
-    let before = out.len();
-    let pushed = push_quoted(octets, out);
-    if pushed.is_err() {
-        out.truncate(before);
-    }
-    pushed
-}
-
-/// Appends a string's octets in quotes.
-fn push_quoted(octets: &[u8], out: &mut Vec<u8>) -> Result<(), AllocError>
     ensures ok { OnOk result (out.new.items ≡ out.old.items ++ string_text octets.now) }
     ensures err { OnErr result (Extends out.old.items out.new.items) }
 {

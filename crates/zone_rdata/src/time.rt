@@ -32,7 +32,7 @@ impl Progress {
 
     /// What is read with one more octet. `None`: no time goes on so.
     fn with(self, octet: u8) -> Option<Progress>
-        requires { (self.total ≤ 4294967296) × (self.number ≤ 4294967296) }
+        requires { (self.total ≤ CAP) × (self.number ≤ CAP) }
         ensures found { IfSome result (λ next. (text : List ℕ) → Reads text self → Reads (text ++ octet ∷ []) next) }
         ensures none { IfNone result ((text rest : List ℕ) (n : ℕ) → Reads text self → IsTime (text ++ octet ∷ rest) n → ⊥) }
     {
@@ -57,7 +57,7 @@ impl Progress {
 
     /// The time that is read where nothing more comes. `None`: it is none.
     fn seconds(self) -> Option<u64>
-        ensures found { IfSome result (λ n. (text : List ℕ) → Reads text self → (m : ℕ) × (IsTime text m × (n ≡ min 4294967296 m))) }
+        ensures found { IfSome result (λ n. (text : List ℕ) → Reads text self → (m : ℕ) × (IsTime text m × (n ≡ min CAP m))) }
         ensures none { IfNone result ((text : List ℕ) (n : ℕ) → Reads text self → IsTime text n → ⊥) }
     {
         if self.grouped {

@@ -2,7 +2,7 @@ ghost use Rattle.std.specs.Prelude.{◌≡◌, ◌↔◌, ◌++◌, ◌≤◌, �
 ghost use Rattle.zone_name.specs.Name.{folded_label};
 ghost use Rattle.zone_rdata.specs.Words.{IsNumbered};
 
-use crate::number::decimal_of;
+use crate::number::{CAP, decimal_of};
 use itoa::Buffer;
 use std::alloc::AllocError;
 
@@ -15,7 +15,7 @@ pub(crate) fn is_word(word: &[u8], wanted: &[u8]) -> bool
 
 /// The number in decimal right behind a name in any case, at most `CAP`. `None`: the word is none.
 pub(crate) fn numbered(name: &[u8], word: &[u8]) -> Option<u64>
-    ensures found { IfSome result (λ n. (m : ℕ) × (IsNumbered name.now word.now m × (n ≡ min 4294967296 m))) }
+    ensures found { IfSome result (λ n. (m : ℕ) × (IsNumbered name.now word.now m × (n ≡ min CAP m))) }
     ensures none { IfNone result ((m : ℕ) → IsNumbered name.now word.now m → ⊥) }
 {
     if word.len() < name.len() {

@@ -1,6 +1,6 @@
 use Rattle.std.proofs.Common.{◌≡◌, ◌++◌, ◌∷◌, take}
 use Rattle.zone_rdata.specs.Strings.{inside_text}
-use Rattle.zone_rdata.proofs.string.push_quoted.Given as goal
+use Rattle.zone_rdata.proofs.string.push_string_text.Given as goal
 
 abbrev pub invariant-loop-octet : goal.invariant-loop-octet
 invariant-loop-octet l = l.out.items ≡ l.fn.out.items ++ (34 ∷ inside_text (take l.octet-index l.octets))
