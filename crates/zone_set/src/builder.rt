@@ -116,12 +116,10 @@ impl ZoneBuilder {
         self.held.known();
         let mut records = self.held.iter();
         // An SOA goes before all else.
-        let Some(soa) = records.next() else {
-            return Err(Stop::Refused(Fault::NoSoa, Place::Whole));
+        let soa = match records.next() {
+            Some(first) if first.kind.is_soa() => first,
+            _ => return Err(Stop::Refused(Fault::NoSoa, Place::Whole)),
         };
-        if soa.kind.number() != 6 {
-            return Err(Stop::Refused(Fault::NoSoa, Place::Whole));
-        }
         if let Some(owner) = first_outside(records, soa.owner) {
             return Err(Stop::Refused(Fault::OutOfZone(owner.copy()), Place::Whole));
         }

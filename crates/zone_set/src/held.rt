@@ -133,7 +133,7 @@ impl HeldRecords {
 fn is_other_soa(first: &RrRef<'_>, owner: &Name, rdata: &Rdata) -> bool
     ensures { IsTrue result ↔ AreTwoSoas (record_of first.now) (with_data owner.now 0 (Some rdata.now)) }
 {
-    if rdata.kind().number() != 6 || first.kind.number() != 6 {
+    if !rdata.kind().is_soa() || !first.kind.is_soa() {
         return false;
     }
     first.owner != owner || first.rdata.octets() != rdata.octets()
