@@ -1,6 +1,7 @@
 ghost use Rattle.std.specs.Prelude.{◌≡◌, ◌≤◌, [], Some, MatchOption, OnOk, OnErr, IfOk, IfErr};
 ghost use Rattle.std.specs.List.{AllByRecursion};
 ghost use Rattle.zone_name.specs.Name.{IsWithin};
+ghost use Rattle.zone_rdata.specs.declared.record.TheConstants.{MAX_TTL};
 ghost use Rattle.zone_set.specs.Builder.{Accepts, Adds, StopsAdd, TakesAll, StopsTaking, StopsFinish};
 ghost use Rattle.zone_set.specs.Held.{IsFirstOutside};
 ghost use Rattle.zone_set.specs.Key.{with_data};
@@ -146,7 +147,7 @@ fn first_outside<'z>(records: Records<'z>, apex: &Name) -> Option<&'z Name>
 
 /// The record that was taken apart.
 fn placed_again(owner: Name, ttl: u32, rdata: Rdata, place: Place) -> Placed
-    requires { ttl ≤ 2147483647 }
+    requires { ttl ≤ MAX_TTL }
     ensures { result ≡ record { rr = with_data owner ttl (Some rdata); place = place } }
 {
     match Rr::new(owner, ttl, rdata) {
