@@ -41,13 +41,6 @@ impl ZoneBuilder {
         }
     }
 
-    /// What holds of the records of every builder.
-    pub fn known(&self)
-        ensures { AreCompatible self.now }
-    {
-        self.held.known();
-    }
-
     /// Takes a record. An equal record is dropped.
     ///
     /// # Errors
@@ -110,11 +103,11 @@ impl ZoneBuilder {
     /// `Refused` at the input as a whole: `NoSoa` where no SOA is held, `OutOfZone` with the least owner that lies
     /// outside the zone.
     pub fn finish(self) -> Result<Zone, Stop>
+        ensures compatible { AreCompatible self }
         ensures zone { IfOk result IsZone }
         ensures records { IfOk result (λ z. z.records ≡ self) }
         ensures stopped { IfErr result (StopsFinish self) }
     {
-        self.held.known();
         let mut records = self.held.iter();
         // An SOA goes before all else.
         let soa = match records.next() {
