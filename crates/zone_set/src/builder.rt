@@ -1,6 +1,7 @@
 ghost use Rattle.std.specs.Prelude.{◌≡◌, ◌≤◌, [], Some, MatchOption, OnOk, OnErr, IfOk, IfErr};
 ghost use Rattle.std.specs.List.{AllByRecursion};
 ghost use Rattle.zone_name.specs.Name.{IsWithin};
+ghost use Rattle.zone_rdata.specs.declared.record.TheConstants.{MAX_TTL};
 ghost use Rattle.zone_set.specs.Builder.{Accepts, Adds, StopsAdd, TakesAll, StopsTaking, StopsFinish};
 ghost use Rattle.zone_set.specs.Held.{IsFirstOutside};
 ghost use Rattle.zone_set.specs.Key.{with_data};
@@ -38,13 +39,6 @@ impl ZoneBuilder {
         ZoneBuilder {
             held: HeldRecords::new(alloc),
         }
-    }
-
-    /// What holds of the records of every builder.
-    pub fn known(&self)
-        ensures { AreCompatible self.now }
-    {
-        self.held.known();
     }
 
     /// Takes a record. An equal record is dropped.
@@ -109,19 +103,17 @@ impl ZoneBuilder {
     /// `Refused` at the input as a whole: `NoSoa` where no SOA is held, `OutOfZone` with the least owner that lies
     /// outside the zone.
     pub fn finish(self) -> Result<Zone, Stop>
+        ensures compatible { AreCompatible self }
         ensures zone { IfOk result IsZone }
         ensures records { IfOk result (λ z. z.records ≡ self) }
         ensures stopped { IfErr result (StopsFinish self) }
     {
-        self.held.known();
         let mut records = self.held.iter();
         // An SOA goes before all else.
-        let Some(soa) = records.next() else {
-            return Err(Stop::Refused(Fault::NoSoa, Place::Whole));
+        let soa = match records.next() {
+            Some(first) if first.kind.is_soa() => first,
+            _ => return Err(Stop::Refused(Fault::NoSoa, Place::Whole)),
         };
-        if soa.kind.number() != 6 {
-            return Err(Stop::Refused(Fault::NoSoa, Place::Whole));
-        }
         if let Some(owner) = first_outside(records, soa.owner) {
             return Err(Stop::Refused(Fault::OutOfZone(owner.copy()), Place::Whole));
         }
@@ -148,7 +140,7 @@ fn first_outside<'z>(records: Records<'z>, apex: &Name) -> Option<&'z Name>
 
 /// The record that was taken apart.
 fn placed_again(owner: Name, ttl: u32, rdata: Rdata, place: Place) -> Placed
-    requires { ttl ≤ 2147483647 }
+    requires { ttl ≤ MAX_TTL }
     ensures { result ≡ record { rr = with_data owner ttl (Some rdata); place = place } }
 {
     match Rr::new(owner, ttl, rdata) {

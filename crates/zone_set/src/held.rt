@@ -44,13 +44,6 @@ impl HeldRecords {
         }
     }
 
-    /// What holds of the records.
-    pub(crate) fn known(&self)
-        ensures { AreCompatible self.now }
-    {
-        let _ = &self.ttls;
-    }
-
     /// How many records there are.
     pub(crate) fn len(&self) -> u64
         ensures { result ≡ min (length self.now) (2 ^ 64 - 1) }
@@ -60,7 +53,8 @@ impl HeldRecords {
 
     /// The records in canonical order.
     pub(crate) fn iter(&self) -> Records<'_>
-        ensures { result ≡ self.now }
+        ensures records { result ≡ self.now }
+        ensures compatible { AreCompatible self.now }
     {
         Records {
             entries: self.ttls.iter(),
@@ -88,7 +82,6 @@ impl HeldRecords {
         requires least { least.now.rdata ≡ None }
         ensures { let r = with_data least.now.set.owner ttl (Some rdata.now) in MatchOption result (Accepts self.now r) (IsRefusedFor self.now r) }
     {
-        self.known();
         let mut records = self.iter();
         let Some(first) = records.next() else {
             return None;
@@ -133,7 +126,7 @@ impl HeldRecords {
 fn is_other_soa(first: &RrRef<'_>, owner: &Name, rdata: &Rdata) -> bool
     ensures { IsTrue result ↔ AreTwoSoas (record_of first.now) (with_data owner.now 0 (Some rdata.now)) }
 {
-    if rdata.kind().number() != 6 || first.kind.number() != 6 {
+    if !rdata.kind().is_soa() || !first.kind.is_soa() {
         return false;
     }
     first.owner != owner || first.rdata.octets() != rdata.octets()

@@ -5,6 +5,9 @@ ghost use Rattle.zone_set.specs.Zone.{covered_octets};
 use zone_name::Name;
 use zone_rdata::{Kind, Rdata};
 
+/// The type number of RRSIG (RFC 4034 3).
+const RRSIG: u16 = 46;
+
 /// A set of records: owner, type and, for RRSIG, the type covered (RFC 2181 5, RFC 4034 3).
 #[derive(PartialEq, Eq, PartialOrd, Ord, Drop)]
 pub(crate) struct SetKey {
@@ -33,7 +36,7 @@ impl SetKey {
         let kind = rdata.kind();
         let (covers_high, covers_low) = covered(rdata);
         SetKey {
-            later: kind.number() != 6,
+            later: !kind.is_soa(),
             owner,
             kind,
             covers_high,
@@ -47,7 +50,7 @@ fn covered(rdata: &Rdata) -> (Option<u8>, Option<u8>)
     ensures high { result.0 ≡ first_octet (covered_octets rdata.now) }
     ensures low { result.1 ≡ second_octet (covered_octets rdata.now) }
 {
-    if rdata.kind().number() != 46 {
+    if rdata.kind().number() != RRSIG {
         return (None, None);
     }
     match rdata.octets() {

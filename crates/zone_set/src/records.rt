@@ -12,7 +12,7 @@ pub struct RrRef<'z> {
     pub owner: &'z Name,
     pub class: Class,
     pub kind: Kind,
-    /// Seconds, at most 2147483647.
+    /// In seconds.
     pub ttl: u32,
     pub rdata: &'z Rdata,
     pub ghost same_class: { rdata.now.class ≡ class },

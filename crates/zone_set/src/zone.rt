@@ -47,16 +47,10 @@ impl Zone {
         self.held.len()
     }
 
-    /// What holds of every zone.
-    pub fn known(&self)
-        ensures { IsZone self.now }
-    {
-        let _ = &self.apex;
-    }
-
     /// The records in canonical order.
     pub fn records(&self) -> Records<'_>
-        ensures { result ≡ self.now.records }
+        ensures records { result ≡ self.now.records }
+        ensures zone { IsZone self.now }
     {
         self.held.iter()
     }
