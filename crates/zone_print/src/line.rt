@@ -20,6 +20,10 @@ pub fn line_len(rr: &RrRef) -> u64
 }
 
 /// Appends the record's line.
+///
+/// # Errors
+///
+/// Memory was refused. A front of the line may have been appended.
 pub fn push_line(out: &mut Vec<u8>, rr: &RrRef) -> Result<(), AllocError>
     ensures { OnOk result (out.new.items ≡ out.old.items ++ line (record_of rr.now)) }
 {

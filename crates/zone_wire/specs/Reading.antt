@@ -6,7 +6,7 @@ use Rattle.zone_rdata.specs.declared.fault.Fault.{Fault}
 use Rattle.zone_rdata.specs.declared.fault.Fault.TheVariants.{ShortMessage}
 use Rattle.zone_wire.specs.declared.name.Decoded.{Decoded}
 
--- a name, or a fault with the number of places
+-- a name, or a fault with the number of steps
 pub data Outcome : Type 0 where
   named : Found → Outcome
   refused : Fault → ℕ → Outcome

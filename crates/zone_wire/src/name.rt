@@ -14,7 +14,7 @@ pub struct Decoded {
     pub name: Name,
     /// The offset after the root's octet or after the first pointer.
     pub end: usize,
-    /// How many labels and pointers led to the root, and the root.
+    /// The steps of the walk: one for each label and pointer on the way, and one for the root.
     pub steps: u16,
 }
 
@@ -22,7 +22,7 @@ pub struct Decoded {
 ///
 /// # Errors
 ///
-/// The fault at the first place of the name that has one, and how many places were looked at.
+/// The fault at the first place of the name that has one, and the steps of the walk: one for each place that was looked at.
 pub fn name_at(message: &[u8], offset: usize) -> Result<Decoded, (Fault, u16)>
     ensures found { IfOk result (λ d. (pointers : ℕ) × IsNameAt message.now offset (found_by d pointers)) }
     ensures only { (found : Found) → IsNameAt message.now offset found → IsOk result }

@@ -6,6 +6,18 @@ ghost use Rattle.zone_wire.specs.Walk.{place_of, label_of, pointer_of, outset, p
 use crate::ticks::Ticks;
 use zone_rdata::Fault;
 
+/// The octets of a message's header (RFC 1035 4.1.1).
+const HEADER_LEN: usize = 12;
+
+/// The greatest number of octets of a name: its labels, each with its length, and the root (RFC 1035 2.3.4, 3.1).
+const MAX_NAME_LEN: usize = 255;
+
+/// The greatest number of pointers through which a name is followed. RFC 1035 states none; this is the project's own choice.
+const MAX_POINTERS: usize = 128;
+
+/// What the two high bits of a pointer's first octet, both set, count in it (RFC 1035 4.1.4).
+const POINTER_BITS: usize = 192;
+
 /// Where the walk along a name stands, and what it met before.
 #[derive(Clone, Copy, Debug)]
 pub(crate) struct Spot {
@@ -30,7 +42,7 @@ pub(crate) enum Standing {
     Bad(Fault),
 }
 
-/// What stands at a place, by its first octet. Where there is one, it ticks before it looks at it.
+/// What stands at a place, by its first octet. Where there is one, it counts a step before it looks at it.
 #[tactic(auto, unfolding(crate::specs::Walk::place_of))]
 pub(crate) fn place_at(message: &[u8], spot: Spot, ticks: &mut Ticks) -> Standing
     requires octets { spot.octets < 256 }
@@ -43,6 +55,7 @@ pub(crate) fn place_at(message: &[u8], spot: Spot, ticks: &mut Ticks) -> Standin
     }
     ticks.tick();
     let first = message[spot.offset];
+    // The two high bits say the form: 00 is a label's length, 11 a pointer, and the others are reserved (RFC 1035 4.1.4).
     match first {
         0 => Standing::Root,
         1..=63 => label_at(message, spot, first as usize),
@@ -60,7 +73,7 @@ fn label_at(message: &[u8], spot: Spot, size: usize) -> Standing
 {
     if size >= message.len() - spot.offset {
         Standing::Bad(Fault::ShortMessage)
-    } else if spot.octets + size + 2 > 255 {
+    } else if spot.octets + size + 2 > MAX_NAME_LEN {
         Standing::Bad(Fault::NameTooLong)
     } else {
         Standing::Label(size)
@@ -76,11 +89,11 @@ fn pointer_at(message: &[u8], spot: Spot) -> Standing
     if message.len() - spot.offset < 2 {
         return Standing::Bad(Fault::ShortMessage);
     }
-    let high = message[spot.offset] as usize - 192;
+    let high = message[spot.offset] as usize - POINTER_BITS;
     let target = high * 256 + message[spot.offset + 1] as usize;
-    if target < 12 || target >= spot.bound {
+    if target < HEADER_LEN || target >= spot.bound {
         Standing::Bad(Fault::BadPointer)
-    } else if spot.pointers >= 128 {
+    } else if spot.pointers >= MAX_POINTERS {
         Standing::Bad(Fault::TooManyPointers)
     } else {
         Standing::Pointer(target)

@@ -2,7 +2,7 @@ ghost use Rattle.std.specs.Prelude.{◌≡◌, ◌+◌, ◌<◌};
 
 use std::marker::Model;
 
-/// How many places of a name were looked at. Only `tick` changes it.
+/// The steps of a walk so far: one for each place that was looked at. Only `tick` changes it.
 #[derive(Debug, Drop)]
 pub(crate) struct Ticks {
     made: u16,
@@ -17,14 +17,14 @@ impl Model for Ticks {
 }
 
 impl Ticks {
-    /// No place yet.
+    /// No step yet.
     pub(crate) fn new() -> Ticks
         ensures { result ≡ 0 }
     {
         Ticks { made: 0 }
     }
 
-    /// One place more.
+    /// One step more.
     pub(crate) fn tick(&mut self)
         requires { self.old < 256 }
         ensures { self.new ≡ self.old + 1 }
