@@ -1,9 +1,9 @@
 -- Written octets of bare items at the front of a text.
-use Rattle.std.proofs.Common.{◌≡◌, ◌≢◌, ℕ, suc, ◌+◌, ◌-◌, ◌*◌, ◌<◌, ◌≤◌, List, [], ◌∷◌, ◌++◌, length, get_or, take, drop, true, false, ap, sym, ◌∙◌, arith, append_assoc}
+use Rattle.std.proofs.Common.{◌≡◌, ◌≢◌, ℕ, suc, ◌-◌, ◌≤◌, List, [], ◌∷◌, ◌++◌, length, get_or, take, drop, false, ap, sym, ◌∙◌, arith, append_assoc}
 use Rattle.std.specs.List.{AllByRecursion}
 use Rattle.std.proofs.Math.Seq.{take-length}
 use Rattle.std.proofs.lemmas.List.{flat_map_more}
-use Rattle.zone_name.specs.Spelling.{Written, plain, escaped, decimal, text_of, IsWritten, BeginsWithEscape, written_text}
+use Rattle.zone_name.specs.Spelling.{Written, plain, text_of, written_text}
 use Rattle.zone_rdata.specs.declared.fault.Fault.{Fault}
 use Rattle.zone_text.specs.Pieces.{ends_item, IsBareUnit}
 use Rattle.zone_text.specs.Lines.{BeginsWithUnit, UnitFault, ItemFault}
@@ -24,28 +24,6 @@ plain_first octets c rest e goes_on no_backslash = record {
   each = (goes_on, no_backslash);
   whole = e;
 }
-
--- an escape
-pub escape_first : (octets after : List ℕ) (octet : ℕ) (rest : List ℕ) → octets ≡ 92 ∷ after → BeginsWithEscape (92 ∷ after) octet rest → BeginsWithUnit octets rest
-escape_first octets after octet rest e begins = record {
-  unit = begins.escape;
-  each = escape_is_bare after rest begins.escape begins.is_written begins.parts;
-  whole = e ∙ begins.parts;
-}
-  where
-    escape_is_bare : (octets rest : List ℕ) (w : Written) → IsWritten w → 92 ∷ octets ≡ text_of w ++ rest → IsBareUnit w
-    escape_is_bare octets rest (plain c) is e = absurd (is.1 (cc))
-    escape_is_bare octets rest (escaped c) is e = is
-    escape_is_bare octets rest (decimal x y z) is e = is
-
--- a written octet takes an octet or more
-pub unit_shorter : (octets rest : List ℕ) → BeginsWithUnit octets rest → length rest < length octets
-unit_shorter octets rest begins = rw begins.whole (behind begins.unit)
-  where
-    behind : (w : Written) → length rest < length (text_of w ++ rest)
-    behind (plain c) = omega arith
-    behind (escaped c) = omega arith
-    behind (decimal x y z) = omega arith
 
 -- the text begins with the written octets of a bare item
 pub record BeginsWithUnits (octets rest : List ℕ) : Type 0 where
