@@ -1,12 +1,12 @@
 -- A line: where it ends, and the record that it states.
-use Rattle.std.proofs.Common.{◌≡◌, ◌≢◌, ℕ, zero, suc, ◌+◌, ◌-◌, ◌<◌, List, [], ◌∷◌, ◌++◌, length, get_or, take, drop, true, false, ◌==◌, Option, Some, None, IfSome, Result, Ok, Err, IfOk, refl, ap, sym, ◌∙◌, arith, subst, cond, zero-add}
-use Rattle.std.specs.List.{flat_map, AllByRecursion, count_by, position}
+use Rattle.std.proofs.Common.{◌≡◌, ◌≢◌, ℕ, zero, suc, ◌+◌, ◌-◌, ◌<◌, ◌≤◌, List, [], ◌∷◌, ◌++◌, length, get_or, take, drop, true, false, ◌==◌, Option, Some, None, IfSome, Result, Ok, Err, IfOk, refl, ap, sym, ◌∙◌, arith, subst, cond, zero-add}
+use Rattle.std.specs.List.{flat_map, AllByRecursion, count_by, position, position_or_len}
 use Rattle.std.proofs.lemmas.Bool.{eqb-true}
 use Rattle.std.proofs.lemmas.Bool.Decides.{nat_tests}
 use Rattle.std.proofs.lemmas.List.{append-nil, length-drop}
-use Rattle.std.proofs.lemmas.List.Sums.{sum_by-append}
+use Rattle.std.proofs.lemmas.List.Sums.{sum_by-append, fails_before_first}
 use Rattle.std.proofs.lemmas.List.Quantifiers.{position-Some}
-use Rattle.std.proofs.lemmas.Grind.{flat_map-append}
+use Rattle.std.proofs.lemmas.Grind.{common_steps, flat_map-append}
 use Rattle.zone_rdata.specs.Record.{Record}
 use Rattle.zone_rdata.specs.Spelling.{RawItem}
 use Rattle.zone_text.specs.Pieces.{Piece, line_feed, piece_text, text, is_blank}
@@ -52,6 +52,16 @@ line_then octets front back n e front_is back_is =
     let P : List ℕ → Type 0 = λ rest. IsLineThen octets front rest in
     subst P (take_whole (drop 1 back) (length back - 1) (sym (length-drop 1 back)))
     (rw (front_is, back_is) (first_line_feed octets n found.0 found.1 found.2))
+
+-- no line feed stands where none was found
+no_line_feeds : (octets : List ℕ) → ((k : ℕ) → k < length octets → (get_or octets k 0 == 10) ≡ false) → count_by (λ c. c == 10) octets ≡ 0
+no_line_feeds [] none = refl
+no_line_feeds (c ∷ octets) none = no_line_feed c octets (none 0 (omega arith)) ∙ no_line_feeds octets (λ k h. none (suc k) (omega arith))
+
+pub no_line : (octets : List ℕ) → position (λ c. c == 10) octets ≡ None → count_by (λ c. c == 10) octets ≡ 0
+no_line octets e =
+    let behind : length octets ≤ position_or_len (λ c. c == 10) octets = grind (arith, common_steps) in
+    no_line_feeds octets (λ k h. fails_before_first (λ c. c == 10) octets k 0 (omega arith))
 
 -- a line's text and its line feed
 pub text_ended : (pieces : List Piece) → text (ended pieces) ≡ text pieces ++ 10 ∷ []

@@ -1,5 +1,6 @@
-ghost use Rattle.std.specs.Prelude.{◌≡◌, IfOk, map};
-ghost use Rattle.zone_rdata.specs.Spelling.{bare, raw};
+ghost use Rattle.std.specs.Prelude.{◌≡◌, ℕ, List, IfOk, IfErr, map};
+ghost use Rattle.zone_rdata.specs.Item.{bare, quoted, raw};
+ghost use Rattle.zone_rdata.specs.declared.fault.Fault.TheVariants.{NotYet};
 ghost use Rattle.zone_text.specs.Lines.{ItemsState, LineStates};
 
 use crate::line::{cut_items, states_owner};
@@ -10,7 +11,8 @@ use zone_rdata::{Class, Failing, Fault, Item, Kind, Rdata, Rr};
 
 /// The text of a bare item, as it stands in the file.
 fn bare_text<'t>(item: &Item<'t>) -> Result<&'t [u8], Fault>
-    ensures { IfOk result (λ text. raw item.now ≡ bare text.now) }
+    ensures found { IfOk result (λ text. raw item.now ≡ bare text.now) }
+    ensures fault { IfErr result (λ fault. (fault ≡ NotYet) × (text : List ℕ) × (raw item.now ≡ quoted text)) }
 {
     match *item {
         Item::Bare(text) => Ok(text),

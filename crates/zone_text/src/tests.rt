@@ -119,6 +119,31 @@ fn faults_stand_at_their_lines(rt: HostRuntime) -> Result<(), Fail> {
 }
 
 #[test]
+fn any_octet_is_read_behind_a_backslash_or_by_itself(rt: HostRuntime) -> Result<(), Fail> {
+    let origin = Name::from_text(b"x.", None)?;
+    let text = b"x. 3600 IN NS \\ \\;.x.\nx. 3600 IN NS \x00\xff.x.\n";
+    let Reading { mut placed, ending } = read_file(rt.alloc(), &origin, text)?;
+    assert!(rt; ending.is_none());
+    check_record(&rt, placed.pop_front(), 1, 2, &[2, b' ', b';', 1, b'x', 0])?;
+    check_record(&rt, placed.pop_front(), 2, 2, &[2, 0, 255, 1, b'x', 0])?;
+    assert!(rt; placed.pop_front().is_none());
+    Ok(())
+}
+
+#[test]
+fn a_backslash_before_the_end_of_a_line_is_refused(rt: HostRuntime) -> Result<(), Fail> {
+    let texts: [&[u8]; 3] = [
+        b"x. 60 IN NS n\\\n",
+        b"x. 60 IN NS n\\\r\n",
+        b"x. 60 IN NS n\\1\n",
+    ];
+    for text in texts {
+        assert!(rt; matches!(refusal(&rt, rt.alloc(), text, 0, 1)?, Fault::BadEscape));
+    }
+    Ok(())
+}
+
+#[test]
 fn other_forms_are_not_read_yet(rt: HostRuntime) -> Result<(), Fail> {
     let texts: [&[u8]; 10] = [
         b"\n",

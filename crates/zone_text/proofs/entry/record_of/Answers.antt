@@ -14,7 +14,7 @@ returns c =
       rdata = map raw (take (length c.args.items.now - 4) (drop 4 c.args.items.now));
     })
     c.in_ok-owner.owner c.in_ok-ttl.ttl c.in_ok-class.class c.in_ok-kind.kind c.in_ok-rdata.rdata
-    (four_bare _ _ _ _ _ _ _ _ _ c.in-len4-up.len_at_least c.in_ok-bare_text.ensures c.in_ok-bare_text-2.ensures c.in_ok-bare_text-3.ensures c.in_ok-bare_text-4.ensures)
+    (four_bare _ _ _ _ _ _ _ _ _ c.in-len4-up.len_at_least c.in_ok-bare_text.ensures.found c.in_ok-bare_text-2.ensures.found c.in_ok-bare_text-3.ensures.found c.in_ok-bare_text-4.ensures.found)
     c.in_ok-owner.ensures.found
     c.in_ok-ttl.ensures
     (found_some _ _ _ c.in_ok-from_word.ensures.found c.in_ok-class.ensures.ok_part)

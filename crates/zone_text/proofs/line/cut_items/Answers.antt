@@ -16,4 +16,4 @@ pub loop-rest-preserved : goal.loop-rest-preserved
 loop-rest-preserved c =
     let ok : is_ok c.push.result ≡ true = sym c.map_err.ensures.variant ∙ ap is_ok c.in_ok-map_err.was in
     let goes_on : EndsItem c.loop-rest.rest.now → ⊥ = goes_on_first _ c.in-len1-up.len_at_least (sym c.is_blank.ensures ∙ c.if-is_blank.false) in
-    rw (c.push.ensures.items, ok, map-append) (cut_item _ _ _ _ _ c.loop-rest.invariant goes_on c.in_ok-item.ensures)
+    rw (c.push.ensures.items, ok, map-append) (cut_item _ _ _ _ _ c.loop-rest.invariant goes_on c.in_ok-item.ensures.found)

@@ -9,7 +9,7 @@ returns-in-Err-Fault-clause-front c = reads_refused _ _ _ _ _ _ c.loop-entry.inv
 pub loop-entry-preserved : goal.loop-entry-preserved
 loop-entry-preserved c =
     let ok : is_ok c.push_back.result ≡ true = ap is_ok c.in_ok-push_back-in-Ok.was in
-    rw (c.push_back.ensures.items, ok) (read_more _ _ _ _ _ _ _ _ c.loop-entry.invariant c.in-Some.ensures c.in-Ok.ensures refl)
+    rw (c.push_back.ensures.items, ok) (read_more _ _ _ _ _ _ _ _ c.loop-entry.invariant c.in-Some.ensures.found c.in-Ok.ensures refl)
 
 pub returns-clause-stated : goal.returns-clause-stated
 returns-clause-stated c =
