@@ -3,7 +3,7 @@ ghost use Rattle.zonenorm.specs.Form.{origin_of};
 ghost use Rattle.zonenorm.specs.Order.{order_origin, line_status, status_of, Runs};
 
 use crate::engine::normalise;
-use crate::explain::explain_line;
+use crate::explain::{OUT_OF_MEMORY, explain_line};
 use crate::form::Form;
 use crate::order::{LineFault, Order};
 use std::alloc::Global;
@@ -67,7 +67,7 @@ fn tell<E: Write>(alloc: Global, stop: &Stop, errors: &mut E) -> bool {
         Some(line) => write_line(errors, line.as_str()).is_ok(),
         // Want of memory is told without taking any.
         None => {
-            let _ = write_line(errors, "out of memory");
+            let _ = write_line(errors, OUT_OF_MEMORY);
             false
         }
     }
