@@ -6,7 +6,7 @@ mod line;
 mod print;
 mod write;
 
-pub use print::{canon_len, push_zone, write_zone};
+pub use print::{TEXT_LIMIT, canon_len, push_zone, write_zone};
 
 #[cfg(test)]
 mod tests;

@@ -10,13 +10,13 @@ use std::io::Write;
 use zone_rdata::{Fault, Place, Stop};
 use zone_set::Zone;
 
-/// How long a canonical text may be, in octets.
-const TEXT_LIMIT: u64 = 1_073_741_824;
+/// How long an input and a canonical text may be, in octets.
+pub const TEXT_LIMIT: u64 = 1_073_741_824;
 
 /// How many octets are gathered before they are written.
 const PIECE_LEN: usize = 65_536;
 
-/// The length of the canonical text in octets, or 1,073,741,825 where it is longer than 1,073,741,824. Takes no memory.
+/// The length of the canonical text in octets, or one more than [`TEXT_LIMIT`] where it is longer. Takes no memory.
 pub fn canon_len(zone: &Zone) -> u64
     ensures { result ≡ min (length (canon zone.now)) (text_limit + 1) }
 {
@@ -27,7 +27,7 @@ pub fn canon_len(zone: &Zone) -> u64
 ///
 /// # Errors
 ///
-/// `ZoneTooLarge` at the input as a whole where the text has more than 1,073,741,824 octets; `Memory`.
+/// `ZoneTooLarge` at the input as a whole where the text has more than [`TEXT_LIMIT`] octets; `Memory`.
 pub fn push_zone(alloc: Global, zone: &Zone) -> Result<Vec<u8>, Stop>
     ensures text { IfOk result (λ text. text.items ≡ canon zone.now) }
     ensures short { OnOk result (length (canon zone.now) ≤ text_limit) }
@@ -40,7 +40,7 @@ pub fn push_zone(alloc: Global, zone: &Zone) -> Result<Vec<u8>, Stop>
 ///
 /// # Errors
 ///
-/// `ZoneTooLarge` at the input as a whole where the text has more than 1,073,741,824 octets, before the first octet;
+/// `ZoneTooLarge` at the input as a whole where the text has more than [`TEXT_LIMIT`] octets, before the first octet;
 /// `Write` where the writer answered an error or took nothing of a nonempty piece; `Memory`. After the last two a
 /// front of the text was written.
 pub fn write_zone<W: Write>(alloc: Global, zone: &Zone, writer: &mut W) -> Result<(), Stop>
@@ -77,13 +77,9 @@ pub(crate) fn push_within(alloc: Global, zone: &Zone, limit: u64) -> Result<Vec<
     if text_len > limit {
         return Err(Stop::Refused(Fault::ZoneTooLarge, Place::Whole));
     }
-    let Ok(mut text) = Vec::with_capacity(alloc, text_len as usize) else {
-        return Err(Stop::Memory);
-    };
+    let mut text = Vec::with_capacity(alloc, text_len as usize)?;
     for rr in zone.records() {
-        let Ok(()) = push_line(&mut text, &rr) else {
-            return Err(Stop::Memory);
-        };
+        push_line(&mut text, &rr)?;
     }
     Ok(text)
 }
@@ -117,9 +113,7 @@ fn write_lines<W: Write>(alloc: Global, zone: &Zone, writer: &mut W) -> Result<(
 {
     let mut piece = Vec::new(alloc);
     for rr in zone.records() {
-        let Ok(()) = push_line(&mut piece, &rr) else {
-            return Err(Stop::Memory);
-        };
+        push_line(&mut piece, &rr)?;
         if piece.len() >= PIECE_LEN {
             write_octets(writer, piece.as_slice())?;
             piece.clear();

@@ -195,6 +195,16 @@ pub enum Stop {
     Memory,
 }
 
+impl From<AllocError> for Stop {
+    ghost use Rattle.zone_rdata.specs.declared.fault.Stop.TheVariants as stops;
+
+    ghost from_gives = { λ _ e. e ≡ stops.Memory };
+
+    fn from(_error: AllocError) -> Stop {
+        Stop::Memory
+    }
+}
+
 /// Why one record or its data could not be made.
 #[derive(Debug, Drop)]
 pub enum Failing {

@@ -1,10 +1,14 @@
 -- What a command line asks for, and what a run of it leaves.
-use Rattle.std.specs.Prelude.{◌≡◌, ℕ, List, codes, string_bytes, Option, Some, None, ◌⊎◌, true}
+use Rattle.std.specs.Prelude.{◌≡◌, ◌≢◌, ℕ, List, codes, string_bytes, Option, Some, None, IfSome, ◌⊎◌, true}
+use Rattle.std.specs.Io.KnownBytes.{Keeps}
 use Rattle.clap.specs.Words.{App, Row, Text, new_rule, new_app, with_rule, with_subcommand, subcommand_of, first_of}
 use Rattle.zone_name.specs.Spelling.{Spells}
+use Rattle.zone_rdata.specs.declared.fault.Fault.{Fault}
+use Rattle.zone_rdata.specs.declared.fault.Place.{Place}
 use Rattle.zone_rdata.specs.declared.fault.Stop.{Stop}
 use Rattle.zone_rdata.specs.declared.fault.Stop.TheVariants.{Refused, Read, Write, Memory}
-use Rattle.zonenorm.specs.Normalise.{Normalises}
+use Rattle.zonenorm.specs.Normalise.{Normalises, WritesFront}
+use Rattle.zonenorm.specs.Refusal.{RefusesOctets}
 use Rattle.zonenorm.specs.declared.order.Order.{Order}
 use Rattle.zonenorm.specs.declared.order.Order.TheVariants.{Normalise}
 use Rattle.zonenorm.specs.declared.order.LineFault.{LineFault}
@@ -78,3 +82,14 @@ IsStatus status = (status ≡ 0) ⊎ ((status ≡ 3) ⊎ (status ≡ 4))
 -- some number of records goes with what was written
 abbrev pub WritesZone : List (List ℕ) → List ℕ → Option (List ℕ) → Option (List ℕ) → Type 0
 WritesZone origin octets old new = (count : ℕ) × Normalises origin octets old new count
+
+-- What a run leaves of the octets that it was to read, of a writer and of an error writer, before and after it. Accepted,
+-- it wrote the canonical text of their zone and told nothing; refused, the octets are refused and nothing was written;
+-- else a front of the text may have been written.
+pub record Runs (origin : List (List ℕ)) (input old new errors errors' : Option (List ℕ)) (answer : ℕ) : Type 0 where
+  pub status : IsStatus answer
+  pub accepted : answer ≡ 0 → IfSome input (λ octets. WritesZone origin octets old new)
+  pub silent : answer ≡ 0 → Keeps errors errors'
+  pub refused : answer ≡ 3 → Keeps old new
+  pub fault : answer ≡ 3 → IfSome input (λ octets. (fault : Fault) × (place : Place) × RefusesOctets origin octets fault place)
+  pub front : answer ≢ 0 → IfSome input (λ octets. WritesFront origin octets old new)

@@ -9,19 +9,16 @@ use crate::form::Form;
 use crate::input::read_input;
 use std::alloc::{AllocError, Global};
 use std::io::{Read, Write};
-use zone_print::{push_zone, write_zone};
+use zone_print::{TEXT_LIMIT, push_zone, write_zone};
 use zone_rdata::{Fault, Place, Reading, Stop};
 use zone_set::{Zone, ZoneBuilder};
 use zone_text::read_file;
-
-/// How long an input may be, in octets.
-const INPUT_LIMIT: u64 = 1_073_741_824;
 
 /// Writes the canonical text of the zone that the reader's octets denote, and answers the number of its records.
 ///
 /// # Errors
 ///
-/// `Refused` where they denote none: `InputTooLong` where there are more than 1,073,741,824; else the first fault of
+/// `Refused` where they denote none: `InputTooLong` where there are more than [`TEXT_LIMIT`]; else the first fault of
 /// their records in order, of reading or of `ZoneBuilder::add`; else `NoSoa`, `OutOfZone` or `ZoneTooLarge`. `Read`,
 /// `Write` and `Memory`. A refused input writes nothing.
 pub fn normalise<R: Read, W: Write>(
@@ -38,7 +35,7 @@ pub fn normalise<R: Read, W: Write>(
     ensures fault { IfErr result (λ stop. IfSome (R.remaining reader.old) (λ octets.
         IfRefused stop (RefusesOctets (origin_of form.entry) octets))) }
 {
-    let octets = read_input(alloc, reader, INPUT_LIMIT)?;
+    let octets = read_input(alloc, reader, TEXT_LIMIT)?;
     let zone = zone_of(alloc, form, &octets)?;
     write_zone(alloc, &zone, writer)?;
     Ok(zone.len())
@@ -54,7 +51,7 @@ pub fn normalise_bytes(alloc: Global, form: Form<'_>, octets: &[u8]) -> Result<V
     ensures stopped { IfErr result IsOfBytes }
     ensures fault { IfErr result (λ stop. IfRefused stop (RefusesOctets (origin_of form.entry) octets.now)) }
 {
-    if octets.len() as u64 > INPUT_LIMIT {
+    if octets.len() as u64 > TEXT_LIMIT {
         return Err(Stop::Refused(Fault::InputTooLong, Place::Whole));
     }
     let zone = zone_of(alloc, form, octets)?;
@@ -71,9 +68,7 @@ fn zone_of(alloc: Global, form: Form<'_>, octets: &[u8]) -> Result<Zone, Stop>
     ensures stopped { IfErr result IsOfBytes }
     ensures fault { IfErr result (λ stop. IfRefused stop (RefusesRead (origin_of form.entry) octets.now)) }
 {
-    let Ok(mut reading) = reading_of(alloc, form, octets) else {
-        return Err(Stop::Memory);
-    };
+    let mut reading = reading_of(alloc, form, octets)?;
     let mut builder = ZoneBuilder::new(alloc);
     builder.take_all(&mut reading)?;
     builder.finish()

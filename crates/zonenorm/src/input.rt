@@ -20,7 +20,7 @@ pub fn read_input<R: Read>(alloc: Global, reader: &mut R, limit: u64) -> Result<
     ensures short { IfOk result (λ octets. length octets.items ≤ limit) }
     ensures stopped { IfErr result (StopsReading limit (R.remaining reader.old)) }
 {
-    let mut piece = zeros(alloc, PIECE).map_err(|_| Stop::Memory)?;
+    let mut piece = zeros(alloc, PIECE)?;
     read_in_pieces(alloc, reader, &mut piece, limit)
 }
 
@@ -72,8 +72,6 @@ fn read_piece<R: Read>(
     ensures stopped { IfErr result StopsPiece }
 {
     let count = reader.read(piece).map_err(|_| Stop::Read)?;
-    octets
-        .extend_from_slice(&piece[..count])
-        .map_err(|_| Stop::Memory)?;
+    octets.extend_from_slice(&piece[..count])?;
     Ok(count)
 }

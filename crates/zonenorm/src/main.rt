@@ -39,9 +39,7 @@ fn ordered<R: Env + AllocGlobal>(rt: &R) -> Result<Order, LineFault> {
         Ok(args) => args,
         Err(error) => return Err(no_words(rt, &error)),
     };
-    let Ok(words) = args.skip(1).collect::<Vec<String>>(rt.alloc()) else {
-        return Err(LineFault::Memory);
-    };
+    let words = args.skip(1).collect::<Vec<String>>(rt.alloc())?;
     order_of(rt.alloc(), &words)
 }
 

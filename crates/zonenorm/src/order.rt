@@ -3,6 +3,7 @@ ghost use Rattle.clap.specs.Words.{app_of, subcommand_rows_of};
 ghost use Rattle.zone_name.specs.Spelling.{Spells};
 ghost use Rattle.zonenorm.specs.Order.{program_app, order_origin, AsksFor, Orders, IsLineFault, IsClapFault, line_status, line_text};
 
+use crate::explain::OUT_OF_MEMORY;
 use clap::error::ErrorKind;
 use clap::{Arg, ArgMatches, Command, Error};
 use std::alloc::{AllocError, Global};
@@ -26,6 +27,16 @@ pub enum LineFault {
     Memory,
 }
 
+impl From<AllocError> for LineFault {
+    ghost use Rattle.zonenorm.specs.declared.order.LineFault.TheVariants as line_faults;
+
+    ghost from_gives = { λ _ e. e ≡ line_faults.Memory };
+
+    fn from(_error: AllocError) -> LineFault {
+        LineFault::Memory
+    }
+}
+
 impl LineFault {
     /// The text for the user, without a line feed at its end.
     pub fn text(&self) -> &str
@@ -36,7 +47,7 @@ impl LineFault {
                 "F46 BadOrigin: an origin is an absolute name or the word transfer"
             }
             LineFault::Clap(text) => text.as_str(),
-            LineFault::Memory => "out of memory",
+            LineFault::Memory => OUT_OF_MEMORY,
         }
     }
 
@@ -60,10 +71,7 @@ pub fn order_of(alloc: Global, words: &[String]) -> Result<Order, LineFault>
     ensures ordered { IfOk result (Orders (map string_bytes words.now)) }
     ensures refused { IfErr result (IsLineFault (map string_bytes words.now)) }
 {
-    let Ok(program) = program_command(alloc) else {
-        return Err(LineFault::Memory);
-    };
-    let matches = match program.try_get_matches_from(words) {
+    let matches = match program_command(alloc)?.try_get_matches_from(words) {
         Ok(matches) => matches,
         Err(error) => return Err(refusal(alloc, &error)),
     };

@@ -1,11 +1,9 @@
-ghost use Rattle.std.specs.Prelude.{◌≡◌, ◌≢◌, ◌⊎◌, IfSome};
-ghost use Rattle.std.specs.Io.KnownBytes.{Keeps};
+ghost use Rattle.std.specs.Prelude.{◌≡◌, ◌⊎◌};
 ghost use Rattle.zonenorm.specs.Form.{origin_of};
-ghost use Rattle.zonenorm.specs.Normalise.{WritesFront};
-ghost use Rattle.zonenorm.specs.Order.{order_origin, line_status, status_of, IsStatus, WritesZone};
+ghost use Rattle.zonenorm.specs.Order.{order_origin, line_status, status_of, Runs};
 
 use crate::engine::normalise;
-use crate::explain::explain_line;
+use crate::explain::{OUT_OF_MEMORY, explain_line};
 use crate::form::Form;
 use crate::order::{LineFault, Order};
 use std::alloc::Global;
@@ -23,13 +21,8 @@ pub fn run<R: Read, W: Write, E: Write>(
     output: &mut W,
     errors: &mut E,
 ) -> u8
-    ensures status { IsStatus result }
-    ensures accepted { result ≡ 0 → IfSome (R.remaining input.old) (λ octets.
-        WritesZone (order_origin order.now) octets (W.contents output.old) (W.contents output.new)) }
-    ensures silent { result ≡ 0 → Keeps (E.contents errors.old) (E.contents errors.new) }
-    ensures refused { result ≡ 3 → Keeps (W.contents output.old) (W.contents output.new) }
-    ensures front { result ≢ 0 → IfSome (R.remaining input.old) (λ octets.
-        WritesFront (order_origin order.now) octets (W.contents output.old) (W.contents output.new)) }
+    ensures { Runs (order_origin order.now) (R.remaining input.old) (W.contents output.old) (W.contents output.new)
+        (E.contents errors.old) (E.contents errors.new) result }
 {
     match order {
         Order::Normalise(origin) => run_normalise(alloc, Form::File(origin), input, output, errors),
@@ -44,13 +37,8 @@ fn run_normalise<R: Read, W: Write, E: Write>(
     output: &mut W,
     errors: &mut E,
 ) -> u8
-    ensures status { IsStatus result }
-    ensures accepted { result ≡ 0 → IfSome (R.remaining input.old) (λ octets.
-        WritesZone (origin_of form.entry) octets (W.contents output.old) (W.contents output.new)) }
-    ensures silent { result ≡ 0 → Keeps (E.contents errors.old) (E.contents errors.new) }
-    ensures refused { result ≡ 3 → Keeps (W.contents output.old) (W.contents output.new) }
-    ensures front { result ≢ 0 → IfSome (R.remaining input.old) (λ octets.
-        WritesFront (origin_of form.entry) octets (W.contents output.old) (W.contents output.new)) }
+    ensures { Runs (origin_of form.entry) (R.remaining input.old) (W.contents output.old) (W.contents output.new)
+        (E.contents errors.old) (E.contents errors.new) result }
 {
     match normalise(alloc, form, input, output) {
         Ok(_) => 0,
@@ -79,7 +67,7 @@ fn tell<E: Write>(alloc: Global, stop: &Stop, errors: &mut E) -> bool {
         Some(line) => write_line(errors, line.as_str()).is_ok(),
         // Want of memory is told without taking any.
         None => {
-            let _ = write_line(errors, "out of memory");
+            let _ = write_line(errors, OUT_OF_MEMORY);
             false
         }
     }

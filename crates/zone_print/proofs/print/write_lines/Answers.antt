@@ -8,18 +8,21 @@ use Rattle.zone_print.proofs.Lines.{line_moves, line_ends}
 use Rattle.zone_print.proofs.Stops.{stops_write, stops_at}
 use Rattle.zone_print.proofs.print.write_lines.Goals as goal
 
-pub returns-in_default-clause-stopped : goal.returns-in_default-clause-stopped
-returns-in_default-clause-stopped g c = let left = c.loop-rr.invariant in memory (left.front, _, left.split, left.taken)
+pub returns-in_err-push_line-clause-stopped : goal.returns-in_err-push_line-clause-stopped
+returns-in_err-push_line-clause-stopped g c =
+    let p = err_from_is_err_and c.from_residual.result c.from_residual.ensures.1 in
+    let left = c.loop-rr.invariant in
+    rw (p.1, p.2) (memory (left.front, _, left.split, left.taken))
 
 pub returns-in_err-write_octets-clause-stopped : goal.returns-in_err-write_octets-clause-stopped
 returns-in_err-write_octets-clause-stopped g c =
-    let p = err_from_is_err_and c.from_residual.result c.from_residual.ensures.1 in
-    let moved = line_moves c.loop-rr.piece.items c.as_slice.result.now _ _ _ c.in-Some.ensures.steps (c.as_slice.ensures.value ∙ c.in-Ok.ensures) in
+    let p = err_from_is_err_and c.from_residual-in_err-write_octets.result c.from_residual-in_err-write_octets.ensures.1 in
+    let moved = line_moves c.loop-rr.piece.items c.as_slice.result.now _ _ _ c.in-Some.ensures.steps (c.as_slice.ensures.value ∙ c.in_ok-push_line.ensures) in
     rw (p.1, p.2) (stops_write _ _ _ _ c.in_err-write_octets.ensures.stop (front_more _ _ _ _ _ _ _ c.loop-rr.invariant moved c.in_err-write_octets.ensures.front))
 
 pub loop-rr-preserved-then-len-ge-PIECE_LEN : goal.loop-rr-preserved-then-len-ge-PIECE_LEN
 loop-rr-preserved-then-len-ge-PIECE_LEN g c =
-    let moved = line_moves c.loop-rr.piece.items c.as_slice.result.now _ _ _ c.in-Some.ensures.steps (c.as_slice.ensures.value ∙ c.in-Ok.ensures) in
+    let moved = line_moves c.loop-rr.piece.items c.as_slice.result.now _ _ _ c.in-Some.ensures.steps (c.as_slice.ensures.value ∙ c.in_ok-push_line.ensures) in
     rw c.clear.ensures.items (left_less _ _ _ _ _ _ _ c.loop-rr.invariant moved c.in_ok-write_octets.ensures.written)
 
 pub returns-clause-stopped : goal.returns-clause-stopped

@@ -5,8 +5,8 @@ use Rattle.zonenorm.specs.Refusal.{over}
 use Rattle.zonenorm.proofs.Refused.{refused_within, refused_pushing}
 use Rattle.zonenorm.proofs.engine.normalise_bytes.Goals as goal
 
-pub returns-then-octets-gt-INPUT_LIMIT-clause-fault : goal.returns-then-octets-gt-INPUT_LIMIT-clause-fault
-returns-then-octets-gt-INPUT_LIMIT-clause-fault c = over (omega arith)
+pub returns-then-octets-gt-TEXT_LIMIT-clause-fault : goal.returns-then-octets-gt-TEXT_LIMIT-clause-fault
+returns-then-octets-gt-TEXT_LIMIT-clause-fault c = over (omega arith)
 
 pub returns-in_err-zone-clause-fault : goal.returns-in_err-zone-clause-fault
 returns-in_err-zone-clause-fault c =

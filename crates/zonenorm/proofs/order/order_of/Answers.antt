@@ -9,14 +9,14 @@ returns-in-Err-clause-refused c = fault_told (map string_bytes c.args.words.now)
 pub returns-in-Some-clause-ordered : goal.returns-in-Some-clause-ordered
 returns-in-Some-clause-ordered c =
     let words : List Text = map string_bytes c.args.words.now in
-    let found = c.in-Ok-try_get_matches_from.ensures.matches (ap is_simple c.in-Ok.ensures) in
-    order_found words _ _ _ (found.1 ∙ ap (λ (a : App). subcommand_of a words) c.in-Ok.ensures) c.in-Some.ensures c.order_with.ensures.ordered
+    let found = c.in-Ok.ensures.matches (ap is_simple c.in_ok-program_command.ensures) in
+    order_found words _ _ _ (found.1 ∙ ap (λ (a : App). subcommand_of a words) c.in_ok-program_command.ensures) c.in-Some.ensures c.order_with.ensures.ordered
 
 pub returns-in-Some-clause-refused : goal.returns-in-Some-clause-refused
 returns-in-Some-clause-refused c =
     let words : List Text = map string_bytes c.args.words.now in
-    let found = c.in-Ok-try_get_matches_from.ensures.matches (ap is_simple c.in-Ok.ensures) in
-    fault_found words _ _ _ (found.1 ∙ ap (λ (a : App). subcommand_of a words) c.in-Ok.ensures) c.in-Some.ensures c.order_with.ensures.refused
+    let found = c.in-Ok.ensures.matches (ap is_simple c.in_ok-program_command.ensures) in
+    fault_found words _ _ _ (found.1 ∙ ap (λ (a : App). subcommand_of a words) c.in_ok-program_command.ensures) c.in-Some.ensures c.order_with.ensures.refused
 
 pub returns-clause-refused : goal.returns-clause-refused
 returns-clause-refused c = fault_told (map string_bytes c.args.words.now) _ c.without_command.ensures
