@@ -55,9 +55,10 @@ struct Entry {
     text: &'static str,
 }
 
-/// The row of a fault: those of names and data stand here.
+/// The row of a fault: one match, so that no fault can be without its row.
 fn entry_of(fault: &Fault) -> Entry {
     let (number, name, text) = match fault {
+        Fault::NotYet => (0, "NotYet", "this form isn't read yet"),
         Fault::EmptyLabel => (1, "EmptyLabel", "a label is empty"),
         Fault::LabelTooLong => (2, "LabelTooLong", "a label has more than 63 octets"),
         Fault::NameTooLong => (3, "NameTooLong", "a name has more than 255 octets"),
@@ -75,14 +76,6 @@ fn entry_of(fault: &Fault) -> Entry {
         ),
         Fault::RdataTooLong => (12, "RdataTooLong", "the data has more than 65535 octets"),
         Fault::BadNumber => (13, "BadNumber", "a number is malformed or out of range"),
-        _ => return reading_entry_of(fault),
-    };
-    Entry { number, name, text }
-}
-
-/// The rows of a master file's entries, and those after them.
-fn reading_entry_of(fault: &Fault) -> Entry {
-    let (number, name, text) = match fault {
         Fault::UnclosedQuote => (14, "UnclosedQuote", "a quoted string isn't closed"),
         Fault::UnbalancedParenthesis => (15, "UnbalancedParenthesis", "parentheses don't balance"),
         Fault::IncludeDirective => (16, "IncludeDirective", "$INCLUDE isn't read"),
@@ -91,14 +84,6 @@ fn reading_entry_of(fault: &Fault) -> Entry {
         Fault::NoOwner => (19, "NoOwner", "the record has no owner"),
         Fault::NoTtl => (20, "NoTtl", "the record has no TTL"),
         Fault::BadTtl => (21, "BadTtl", "the TTL is malformed or out of range"),
-        _ => return transfer_entry_of(fault),
-    };
-    Entry { number, name, text }
-}
-
-/// The rows of a transfer's messages, and those after them.
-fn transfer_entry_of(fault: &Fault) -> Entry {
-    let (number, name, text) = match fault {
         Fault::ShortFrame => (22, "ShortFrame", "the stream ends inside a frame"),
         Fault::ShortMessage => (23, "ShortMessage", "the message ends too early"),
         Fault::NotAResponse => (24, "NotAResponse", "the message isn't an answer to a query"),
@@ -124,14 +109,6 @@ fn transfer_entry_of(fault: &Fault) -> Entry {
         ),
         Fault::AfterClosing => (37, "AfterClosing", "a record follows the closing SOA"),
         Fault::NoClosingSoa => (38, "NoClosingSoa", "the transfer has no closing SOA"),
-        _ => return zone_entry_of(fault),
-    };
-    Entry { number, name, text }
-}
-
-/// The rows of a zone, and that of a form that isn't read yet.
-fn zone_entry_of(fault: &Fault) -> Entry {
-    let (number, name, text) = match fault {
         Fault::ClassMismatch => (39, "ClassMismatch", "the class differs from the zone's"),
         Fault::MultipleSoa => (40, "MultipleSoa", "the zone has two SOA records"),
         Fault::DifferingTtl => (
@@ -143,7 +120,6 @@ fn zone_entry_of(fault: &Fault) -> Entry {
         Fault::OutOfZone(_) => (43, "OutOfZone", "an owner lies outside the zone"),
         Fault::ZoneTooLarge => (44, "ZoneTooLarge", "the canonical text is too long"),
         Fault::InputTooLong => (45, "InputTooLong", "the input is too long"),
-        _ => (0, "NotYet", "this form isn't read yet"),
     };
     Entry { number, name, text }
 }
