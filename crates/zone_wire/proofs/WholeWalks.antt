@@ -1,10 +1,11 @@
 -- The walk is the one list of places of which each is the next behind those before it.
 use Rattle.std.proofs.Common.{◌≡◌, ℕ, zero, suc, ◌+◌, ◌*◌, ◌≤◌, List, [], ◌∷◌, ◌++◌, length, refl, ap, sym, ◌∙◌, subst, arith, append_assoc, lit≤}
-use Rattle.std.specs.Prelude.{Option, Some, None}
+use Rattle.std.specs.Prelude.{Option, Some, None, if◌then◌else◌}
 use Rattle.std.proofs.lemmas.List.{append-nil}
 use Rattle.std.proofs.lemmas.List.Sums.{sum_by-append}
 use Rattle.zone_wire.specs.Walk.{Spot, Standing, at_root, at_label, at_pointer, at_fault, Visit, visit, walk_on, walk_by, walk, outset, past_label, past_pointer, place_of}
-use Rattle.zone_wire.specs.WholeWalk.{next_offset, led_to, run_start, pointers_at, octets_at, spot_behind, IsNext, IsWalk}
+use Rattle.zone_wire.specs.Visits.{is_pointer}
+use Rattle.zone_wire.specs.WholeWalk.{next_offset, led_to, run_start, octets_at, spot_behind, IsNext, IsWalk}
 use Rattle.zone_wire.proofs.Places.{Shows, IsLabelHere, IsPointerHere, place_shows, place_outside}
 
 led_to-last : (offset : Option ℕ) (before : List Visit) (last : Visit) → led_to offset (before ++ last ∷ []) ≡ next_offset last
@@ -30,7 +31,7 @@ behind_label start before spot size is =
       led = led_to-last (Some start) before v;
       same = same_spot _ _ _ _ _ _ _
           (run_start-append start before (v ∷ []) ∙ ap (λ (s : Spot). s.bound) is.same)
-          (omega (arith, sum_by-append pointers_at before (v ∷ []), ap (λ (s : Spot). s.pointers) is.same))
+          (omega (arith, sum_by-append (λ w. if is_pointer w.standing then 1 else 0) before (v ∷ []), ap (λ (s : Spot). s.pointers) is.same))
           (omega (arith, sum_by-append octets_at before (v ∷ []), ap (λ (s : Spot). s.octets) is.same));
     }
 
@@ -41,7 +42,7 @@ behind_pointer start before spot target is =
       led = led_to-last (Some start) before v;
       same = same_spot _ _ _ _ _ _ _
           (run_start-append start before (v ∷ []))
-          (omega (arith, sum_by-append pointers_at before (v ∷ []), ap (λ (s : Spot). s.pointers) is.same))
+          (omega (arith, sum_by-append (λ w. if is_pointer w.standing then 1 else 0) before (v ∷ []), ap (λ (s : Spot). s.pointers) is.same))
           (omega (arith, sum_by-append octets_at before (v ∷ []), ap (λ (s : Spot). s.octets) is.same));
     }
 

@@ -1,6 +1,7 @@
 -- A walk as a whole list of places, each by those before it (RFC 1035 3.1, 4.1.4).
 use Rattle.std.specs.Prelude.{◌≡◌, ℕ, ◌+◌, ◌≤◌, List, [], ◌∷◌, ◌++◌, length, Option, Some, None}
 use Rattle.std.specs.List.{sum_by}
+use Rattle.zone_wire.specs.Visits.{pointers_in}
 use Rattle.zone_wire.specs.Walk.{at_root, at_label, at_pointer, at_fault, Visit, Spot, place_of}
 
 -- where a place leads: behind its label or to its pointer's target, and nowhere from the root and from a fault
@@ -17,17 +18,13 @@ abbrev pub run_start : ℕ → List Visit → ℕ
 run_start start [] = start
 run_start start (visit ∷ visits) = run_start (elim visit.standing [ at_root ↦ start | at_label size ↦ start | at_pointer target ↦ target | at_fault fault ↦ start ]) visits
 
--- how many pointers a place is
-abbrev pub pointers_at : Visit → ℕ
-pointers_at visit = elim visit.standing [ at_root ↦ 0 | at_label size ↦ 0 | at_pointer target ↦ 1 | at_fault fault ↦ 0 ]
-
 -- a label's octets with its length
 abbrev pub octets_at : Visit → ℕ
 octets_at visit = elim visit.standing [ at_root ↦ 0 | at_label size ↦ 1 + size | at_pointer target ↦ 0 | at_fault fault ↦ 0 ]
 
 -- the place at an offset behind the places before it
 abbrev pub spot_behind : ℕ → List Visit → ℕ → Spot
-spot_behind start before offset = record { offset = offset; bound = run_start start before; pointers = sum_by pointers_at before; octets = sum_by octets_at before }
+spot_behind start before offset = record { offset = offset; bound = run_start start before; pointers = pointers_in before; octets = sum_by octets_at before }
 
 -- a place to which those before it lead, with what stands there
 pub record IsNext (message : List ℕ) (start : ℕ) (before : List Visit) (visit : Visit) : Type 0 where
