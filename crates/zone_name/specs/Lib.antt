@@ -1,3 +1,4 @@
+pub mod Common
 pub mod Name
 pub mod Order
 pub mod Spelling

@@ -1,7 +1,8 @@
 //! Laws of zones and their canonical text. The functions only call other laws: their contracts are the laws.
-ghost use Rattle.std.specs.Prelude.{◌≡◌, ℕ, List};
+ghost use Rattle.std.specs.Prelude.{◌≡◌};
 ghost use Rattle.std.specs.Cmp.{IsTotalOrder};
 ghost use Rattle.std.specs.declared.cmp.Ordering.TheVariants.{Equal};
+ghost use Rattle.zone_name.specs.Common.{AtMostOneIs, Labels, Octets};
 ghost use Rattle.zone_rdata.specs.Record.{Record, data_of};
 ghost use Rattle.zone_print.specs.Denotes.{Denotes};
 ghost use Rattle.zone_print.specs.Laws.{EachLineEnds};
@@ -28,7 +29,7 @@ pub fn one_zone_of_records()
 
 /// A master file denotes at most one zone under its origin.
 pub fn one_zone_of_a_file()
-    ensures { (origin : List (List ℕ)) (octets : List ℕ) (z w : Zone) → Denotes origin octets z → Denotes origin octets w → z ≡ w }
+    ensures { (origin : Labels) (octets : Octets) → AtMostOneIs (Denotes origin octets) }
 {
     zone_text::laws::file::a_file_states_one_list();
 }

@@ -3,6 +3,7 @@ pub mod walk;
 
 ghost use Rattle.std.specs.Prelude.{◌++◌, Some, Ok, ◌≡◌, ◌+◌, ◌≤◌, ◌<◌, ℕ, List, length, slice_index, Option, None};
 ghost use Rattle.std.specs.List.{AllByRecursion};
+ghost use Rattle.zone_name.specs.Common.{AtMostOneIs, Octets};
 ghost use Rattle.zone_wire.specs.Message.{RecordAt, Sections, IsMessage};
 ghost use Rattle.zone_wire.specs.Name.{Found, IsNameAt};
 ghost use Rattle.zone_wire.specs.Transfer.{IsDataAt, StreamStates};
@@ -20,89 +21,115 @@ use zone_rdata::laws::value::{held_values_are_data, values_without_strings_are_s
 
 /// At most one name stands at an offset of a message.
 pub fn one_name_at_an_offset()
-    ensures { (message : List ℕ) (offset : ℕ) (found other : Found) → IsNameAt message offset found → IsNameAt message offset other → found ≡ other }
+    ensures { (message : Octets) (offset : ℕ) → AtMostOneIs (IsNameAt message offset) }
 {}
 
 /// A name in a message has at most 127 labels, 128 pointers and 256 steps, and ends in the message.
 pub fn a_name_is_bounded()
-    ensures labels { (message : List ℕ) (offset : ℕ) (found : Found) → IsNameAt message offset found → length found.labels ≤ 127 }
-    ensures pointers { (message : List ℕ) (offset : ℕ) (found : Found) → IsNameAt message offset found → found.pointers ≤ 128 }
-    ensures steps { (message : List ℕ) (offset : ℕ) (found : Found) → IsNameAt message offset found → found.steps ≤ 256 }
-    ensures start { (message : List ℕ) (offset : ℕ) (found : Found) → IsNameAt message offset found → offset < found.end }
-    ensures end { (message : List ℕ) (offset : ℕ) (found : Found) → IsNameAt message offset found → found.end ≤ length message }
+    ensures labels { (message : Octets) (offset : ℕ) (found : Found) → IsNameAt message offset found
+        → length found.labels ≤ 127 }
+    ensures pointers { (message : Octets) (offset : ℕ) (found : Found) → IsNameAt message offset found
+        → found.pointers ≤ 128 }
+    ensures steps { (message : Octets) (offset : ℕ) (found : Found) → IsNameAt message offset found
+        → found.steps ≤ 256 }
+    ensures start { (message : Octets) (offset : ℕ) (found : Found) → IsNameAt message offset found
+        → offset < found.end }
+    ensures end { (message : Octets) (offset : ℕ) (found : Found) → IsNameAt message offset found
+        → found.end ≤ length message }
 {}
 
 /// A walk has at most 256 places, all of them in the message, and a greater bound gives no other walk: at most 127 labels
 /// and 128 pointers, and what is neither stands at the last place alone.
 pub fn a_walk_is_bounded()
-    ensures places { (message : List ℕ) (offset : ℕ) → length (walk message offset) ≤ 256 }
-    ensures labels { (message : List ℕ) (offset : ℕ) → labels_in (walk message offset) ≤ 127 }
-    ensures pointers { (message : List ℕ) (offset : ℕ) → pointers_in (walk message offset) ≤ 128 }
-    ensures last { (message : List ℕ) (offset : ℕ) → LeadToLast (walk message offset) }
-    ensures inside { (message : List ℕ) (offset : ℕ) → AllByRecursion (λ visit. visit.offset < length message) (walk message offset) }
-    ensures whole { (message : List ℕ) (offset more : ℕ) → walk_by (256 + more) message (outset offset) ≡ walk message offset }
+    ensures places { (message : Octets) (offset : ℕ) → length (walk message offset) ≤ 256 }
+    ensures labels { (message : Octets) (offset : ℕ) → labels_in (walk message offset) ≤ 127 }
+    ensures pointers { (message : Octets) (offset : ℕ) → pointers_in (walk message offset) ≤ 128 }
+    ensures last { (message : Octets) (offset : ℕ) → LeadToLast (walk message offset) }
+    ensures inside { (message : Octets) (offset : ℕ)
+        → AllByRecursion (λ visit. visit.offset < length message) (walk message offset) }
+    ensures whole { (message : Octets) (offset more : ℕ) → walk_by (256 + more) message (outset offset) ≡ walk message offset }
 {}
 
 /// The walk of a name ends at the root, after as many places as the name has steps.
 pub fn a_name_is_walked()
-    ensures ending { (message : List ℕ) (offset : ℕ) (found : Found) → IsNameAt message offset found → ending (walk message offset) ≡ None }
-    ensures steps { (message : List ℕ) (offset : ℕ) (found : Found) → IsNameAt message offset found → length (walk message offset) ≡ found.steps }
+    ensures ending { (message : Octets) (offset : ℕ) (found : Found) → IsNameAt message offset found
+        → ending (walk message offset) ≡ None }
+    ensures steps { (message : Octets) (offset : ℕ) (found : Found) → IsNameAt message offset found
+        → length (walk message offset) ≡ found.steps }
 {}
 
 /// Where the walk ends at the root, a name stands.
 pub fn a_walk_to_the_root_is_a_name()
-    ensures { (message : List ℕ) (offset : ℕ) → ((i : ℕ) → slice_index message i < 256) → ending (walk message offset) ≡ None → (found : Found) × IsNameAt message offset found }
+    ensures { (message : Octets) (offset : ℕ) → ((i : ℕ) → slice_index message i < 256)
+        → ending (walk message offset) ≡ None → (found : Found) × IsNameAt message offset found }
 {}
 
 /// Octets are a message in at most one way.
 pub fn one_message_of_octets()
-    ensures { (octets : List ℕ) (sections other : Sections) → IsMessage octets sections → IsMessage octets other → sections ≡ other }
+    ensures { (octets : Octets) → AtMostOneIs (IsMessage octets) }
 {}
 
 /// A stream states at most one list of records.
 pub fn one_list_of_a_stream()
-    ensures { (stream : List ℕ) (placed other : List Placed) → StreamStates stream placed → StreamStates stream other → placed ≡ other }
+    ensures { (stream : Octets) → AtMostOneIs (StreamStates stream) }
 {}
 
 /// A stream is read in at most one way, and one thing is decided for it.
 pub fn one_reading_of_a_stream()
-    ensures whole { (stream : List ℕ) (placed other : List Placed) (ending late : Option (Fault × Place)) → StreamReads stream placed ending → StreamReads stream other late → (placed ≡ other) × (ending ≡ late) }
-    ensures decided { (stream : List ℕ) (placed other : List Placed) (ending late : Option (Fault × Place)) → Decided stream placed ending → Decided stream other late → (placed ≡ other) × (ending ≡ late) }
+    ensures whole { (stream : Octets) (placed other : List Placed) (ending late : Option (Fault × Place))
+        → StreamReads stream placed ending → StreamReads stream other late → (placed ≡ other) × (ending ≡ late) }
+    ensures decided { (stream : Octets) (placed other : List Placed) (ending late : Option (Fault × Place))
+        → Decided stream placed ending → Decided stream other late → (placed ≡ other) × (ending ≡ late) }
 {}
 
 /// Each stream of octets is read in some way, and something is decided for it.
 pub fn each_stream_is_read()
-    ensures whole { (stream : List ℕ) → ((i : ℕ) → slice_index stream i < 256) → (placed : List Placed) × (ending : Option (Fault × Place)) × StreamReads stream placed ending }
-    ensures decided { (stream : List ℕ) → ((i : ℕ) → slice_index stream i < 256) → (placed : List Placed) × (ending : Option (Fault × Place)) × Decided stream placed ending }
+    ensures whole { (stream : Octets) → ((i : ℕ) → slice_index stream i < 256)
+        → (placed : List Placed) × (ending : Option (Fault × Place)) × StreamReads stream placed ending }
+    ensures decided { (stream : Octets) → ((i : ℕ) → slice_index stream i < 256)
+        → (placed : List Placed) × (ending : Option (Fault × Place)) × Decided stream placed ending }
 {}
 
 /// The records that are decided for a stream begin those of every longer one, and a decided fault stays.
 pub fn what_is_decided_stays()
-    ensures records { (stream more : List ℕ) (placed other : List Placed) (ending late : Option (Fault × Place)) → Decided stream placed ending → Decided (stream ++ more) other late → (rest : List Placed) × (other ≡ placed ++ rest) }
-    ensures fault { (stream more : List ℕ) (placed other : List Placed) (e : Fault × Place) (late : Option (Fault × Place)) → Decided stream placed (Some e) → Decided (stream ++ more) other late → (other ≡ placed) × (late ≡ Some e) }
+    ensures records { (stream more : Octets) (placed other : List Placed) (ending late : Option (Fault × Place))
+        → Decided stream placed ending → Decided (stream ++ more) other late
+        → (rest : List Placed) × (other ≡ placed ++ rest) }
+    ensures fault { (stream more : Octets) (placed other : List Placed) (e : Fault × Place) (late : Option (Fault × Place))
+        → Decided stream placed (Some e) → Decided (stream ++ more) other late → (other ≡ placed) × (late ≡ Some e) }
 {}
 
 /// The records that are decided for a stream begin those that every longer one is read as, and a decided fault is its fault.
 pub fn what_is_decided_is_read()
-    ensures records { (stream more : List ℕ) (placed other : List Placed) (ending late : Option (Fault × Place)) → Decided stream placed ending → StreamReads (stream ++ more) other late → (rest : List Placed) × (other ≡ placed ++ rest) }
-    ensures fault { (stream more : List ℕ) (placed other : List Placed) (e : Fault × Place) (late : Option (Fault × Place)) → Decided stream placed (Some e) → StreamReads (stream ++ more) other late → (other ≡ placed) × (late ≡ Some e) }
+    ensures records { (stream more : Octets) (placed other : List Placed) (ending late : Option (Fault × Place))
+        → Decided stream placed ending → StreamReads (stream ++ more) other late
+        → (rest : List Placed) × (other ≡ placed ++ rest) }
+    ensures fault { (stream more : Octets) (placed other : List Placed) (e : Fault × Place) (late : Option (Fault × Place))
+        → Decided stream placed (Some e) → StreamReads (stream ++ more) other late
+        → (other ≡ placed) × (late ≡ Some e) }
 {}
 
 /// A message is read as its sections, and octets that are read as sections are that message.
 pub fn a_message_is_read()
-    ensures found { (octets : List ℕ) (sections : Sections) → ((i : ℕ) → slice_index octets i < 256) → sections_of octets ≡ Ok sections → IsMessage octets sections }
-    ensures only { (octets : List ℕ) (sections : Sections) → IsMessage octets sections → sections_of octets ≡ Ok sections }
+    ensures found { (octets : Octets) (sections : Sections) → ((i : ℕ) → slice_index octets i < 256)
+        → sections_of octets ≡ Ok sections → IsMessage octets sections }
+    ensures only { (octets : Octets) (sections : Sections) → IsMessage octets sections
+        → sections_of octets ≡ Ok sections }
 {}
 
 /// The data that is read for a record is its data.
 pub fn the_data_of_a_record()
-    ensures found { (octets canonical : List ℕ) (a : RecordAt) → ((i : ℕ) → slice_index octets i < 256) → a.end ≤ length octets → data_at octets a ≡ Ok canonical → IsDataAt octets a canonical }
-    ensures only { (octets canonical : List ℕ) (a : RecordAt) → a.end ≤ length octets → IsDataAt octets a canonical → data_at octets a ≡ Ok canonical }
+    ensures found { (octets canonical : Octets) (a : RecordAt) → ((i : ℕ) → slice_index octets i < 256)
+        → a.end ≤ length octets → data_at octets a ≡ Ok canonical → IsDataAt octets a canonical }
+    ensures only { (octets canonical : Octets) (a : RecordAt)
+        → a.end ≤ length octets → IsDataAt octets a canonical → data_at octets a ≡ Ok canonical }
 {}
 
 /// What a stream of octets is read as is records.
 pub fn what_is_read_is_records()
-    ensures { (stream : List ℕ) (placed : List Placed) (ending : Option (Fault × Place)) → ((i : ℕ) → slice_index stream i < 256) → StreamReads stream placed ending → AllByRecursion (λ p. IsRecord p.rr) placed }
+    ensures { (stream : Octets) (placed : List Placed) (ending : Option (Fault × Place))
+        → ((i : ℕ) → slice_index stream i < 256) → StreamReads stream placed ending
+        → AllByRecursion (λ p. IsRecord p.rr) placed }
 {
     held_values_are_data();
     values_without_strings_are_short();
@@ -110,8 +137,10 @@ pub fn what_is_read_is_records()
 
 /// A transfer is read as its records, without a fault, and a stream that is read without a fault is that transfer.
 pub fn a_transfer_is_read()
-    ensures found { (stream : List ℕ) (placed : List Placed) → ((i : ℕ) → slice_index stream i < 256) → StreamReads stream placed None → StreamStates stream placed }
-    ensures only { (stream : List ℕ) (placed : List Placed) → StreamStates stream placed → StreamReads stream placed None }
+    ensures found { (stream : Octets) (placed : List Placed) → ((i : ℕ) → slice_index stream i < 256)
+        → StreamReads stream placed None → StreamStates stream placed }
+    ensures only { (stream : Octets) (placed : List Placed) → StreamStates stream placed
+        → StreamReads stream placed None }
 {
     what_is_read_is_records();
 }

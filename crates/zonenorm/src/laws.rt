@@ -1,6 +1,7 @@
 //! Laws of inputs over the definitions alone. The functions only call other laws: their contracts are the laws.
 ghost use Rattle.std.specs.Prelude.{◌≡◌, ◌⊎◌, List, Option, Some, None};
 ghost use Rattle.std.specs.List.{AllByRecursion};
+ghost use Rattle.zone_name.specs.Common.{AtMostOneIs, NothingIs};
 ghost use Rattle.zone_rdata.specs.Record.{IsRecord};
 ghost use Rattle.zone_rdata.specs.declared.fault.Fault.{Fault};
 ghost use Rattle.zone_rdata.specs.declared.fault.Place.{Place};
@@ -20,7 +21,8 @@ pub fn one_fault_of_a_reading()
 
 /// A reading that is refused makes no zone.
 pub fn no_zone_of_a_refused_reading()
-    ensures { (placed : List Placed) (fault : Fault) (place : Place) → RefusesReading placed None fault place → (z : Zone) → MakesZone placed z → ⊥ }
+    ensures { (placed : List Placed) (fault : Fault) (place : Place)
+        → RefusesReading placed None fault place → NothingIs (MakesZone placed) }
 {
     zone_print::laws::one_zone_of_records();
 }
@@ -29,7 +31,8 @@ pub fn no_zone_of_a_refused_reading()
 pub fn refusal_or_zone_of_a_reading()
     ensures whole { (placed : List Placed) → AllByRecursion IsRecord (records_of placed)
         → ((fault : Fault) × (place : Place) × RefusesReading placed None fault place) ⊎ ((z : Zone) × MakesZone placed z) }
-    ensures broken { (placed : List Placed) (ending : Fault × Place) → (fault : Fault) × (place : Place) × RefusesReading placed (Some ending) fault place }
+    ensures broken { (placed : List Placed) (ending : Fault × Place)
+        → (fault : Fault) × (place : Place) × RefusesReading placed (Some ending) fault place }
 {
     zone_name::laws::order_is_total();
     zone_name::laws::order_is_exact();
@@ -38,7 +41,8 @@ pub fn refusal_or_zone_of_a_reading()
 
 /// An input is refused for at most one fault, at one place.
 pub fn one_refusal()
-    ensures { (input : Input) (fault other : Fault) (place elsewhere : Place) → IsRefusal input fault place → IsRefusal input other elsewhere → (fault ≡ other) × (place ≡ elsewhere) }
+    ensures { (input : Input) (fault other : Fault) (place elsewhere : Place)
+        → IsRefusal input fault place → IsRefusal input other elsewhere → (fault ≡ other) × (place ≡ elsewhere) }
 {
     one_fault_of_a_reading();
     zone_text::laws::file::a_file_has_one_reading();
@@ -47,7 +51,7 @@ pub fn one_refusal()
 
 /// An input denotes at most one zone.
 pub fn one_zone()
-    ensures { (input : Input) (z w : Zone) → InputDenotes input z → InputDenotes input w → z ≡ w }
+    ensures { (input : Input) → AtMostOneIs (InputDenotes input) }
 {
     zone_print::laws::one_zone_of_records();
     zone_text::laws::file::a_file_states_one_list();
@@ -56,7 +60,8 @@ pub fn one_zone()
 
 /// An input that is refused denotes no zone.
 pub fn no_zone_of_a_refused_input()
-    ensures { (input : Input) (fault : Fault) (place : Place) → IsRefusal input fault place → (z : Zone) → InputDenotes input z → ⊥ }
+    ensures { (input : Input) (fault : Fault) (place : Place)
+        → IsRefusal input fault place → NothingIs (InputDenotes input) }
 {
     no_zone_of_a_refused_reading();
     zone_text::laws::file::a_file_has_one_reading();
@@ -67,7 +72,8 @@ pub fn no_zone_of_a_refused_input()
 
 /// Every input of octets is refused or denotes a zone.
 pub fn refusal_or_zone()
-    ensures { (input : Input) → IsInput input → ((fault : Fault) × (place : Place) × IsRefusal input fault place) ⊎ ((z : Zone) × InputDenotes input z) }
+    ensures { (input : Input) → IsInput input
+        → ((fault : Fault) × (place : Place) × IsRefusal input fault place) ⊎ ((z : Zone) × InputDenotes input z) }
 {
     refusal_or_zone_of_a_reading();
     zone_text::laws::file::a_file_has_a_reading();

@@ -2,4 +2,4 @@ use Rattle.zone_rdata.proofs.Taken.{canonical-once}
 use Rattle.zone_rdata.proofs.laws.uncompressed.canonical_octets_are_unique.Goals as goal
 
 pub returns : goal.returns
-returns c = canonical-once
+returns c = λ class kind fields octets laid a b. canonical-once class kind fields octets a b laid
