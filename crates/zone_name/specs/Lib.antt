@@ -5,3 +5,4 @@ pub mod Text
 pub mod Escape
 pub mod Reading
 pub mod Seen
+pub mod Sink
