@@ -1,4 +1,4 @@
--- Taking octets: nothing, and two lists one after the other.
+-- What a sink takes, and the lemmas behind the laws of the sinks.
 use Rattle.std.specs.Prelude.{◌≡◌, ℕ, ◌-◌, List, ◌++◌, length}
 use Rattle.std.proofs.Common.{ap, ◌∙◌, append_assoc, arith, length-append}
 

@@ -8,6 +8,7 @@ use std::convert::Infallible;
 
 /// What takes octets, one piece behind the other: a vector that grows by them, or a count of them.
 pub trait Sink {
+    // Between two states of the sink it took these octets.
     ghost takes: { Self → List ℕ → Self → Type 0 };
 
     /// Why octets are refused.
@@ -22,8 +23,10 @@ pub trait Sink {
         ensures ok { OnOk result (takes self.old octets.now self.new) }
         ensures err { OnErr result (takes self.old [] self.new) };
 
+    // A sink that is left alone took nothing.
     ghost nothing: { (a : Self) → takes a [] a };
 
+    // Octets that were taken one after the other were taken as one list.
     ghost joins: { (a b c : Self) (x y : List ℕ) → takes a x b → takes b y c → takes a (x ++ y) c };
 }
 
@@ -41,7 +44,7 @@ impl Sink for Vec<u8> {
     ghost joins = { λ a b c x y. appended_twice a.items b.items c.items x y };
 }
 
-/// A count of octets from a limit down: how many more may come. Beyond the limit it stays at none.
+/// A count of octets, from a limit down to none, where it stays. It keeps no octet and takes no memory.
 #[derive(Clone, Copy, Debug)]
 pub struct Room {
     /// How many more octets may come.
