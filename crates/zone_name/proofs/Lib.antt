@@ -9,3 +9,4 @@ pub mod Spelled
 pub mod Only
 pub mod Answered
 pub mod Lawful
+pub mod Sinks

@@ -25,55 +25,27 @@ label_text-short label = omega (arith, length-append (flat_map octet_text label)
 label_text-some : (label : List ℕ) → 0 < length (label_text label)
 label_text-some label = omega (arith, length-append (flat_map octet_text label) (46 ∷ []))
 
--- what a walk over labels has counted, and what is left
-pub record CountsText (len whole : ℕ) (left : List (List ℕ)) : Type 0 where
-  pub counts : len + length (flat_map label_text left) ≡ whole
-  pub each : AllByRecursion IsLabel left
-  pub room : len + 4 * length (flat_map frame left) ≤ 1016
-
-pub CountsText-start : (labels : List (List ℕ)) → IsName labels → CountsText 0 (length (flat_map label_text labels)) labels
-CountsText-start labels name = record {
-  counts = omega arith;
-  each = name.each;
-  room = omega (arith, name.short, length-append (flat_map frame labels) (0 ∷ []));
-}
-
-pub CountsText-label : (len whole : ℕ) (left next : List (List ℕ)) (label : List ℕ) → left ≡ label ∷ next → CountsText len whole left → IsLabel label
-CountsText-label len whole left next label e counts = (subst (AllByRecursion IsLabel) e counts.each).0
-
-pub CountsText-more : (len add whole : ℕ) (left next : List (List ℕ)) (label : List ℕ) → left ≡ label ∷ next → add ≡ length (label_text label) → CountsText len whole left → CountsText (len + add) whole next
-CountsText-more len add whole left next label e is so_far = record {
-  counts = omega (arith, so_far.counts, ap (λ t. length (flat_map label_text t)) e, length-append (label_text label) (flat_map label_text next));
-  each = (subst (AllByRecursion IsLabel) e so_far.each).1;
-  room = omega (arith, so_far.room, ap (λ t. length (flat_map frame t)) e, length-append label (flat_map frame next), label_text-short label);
-}
-
--- the root is a dot alone
-name_text-count : (labels : List (List ℕ)) (len : ℕ) → len ≡ length (flat_map label_text labels) → (len ≡ 0 → 1 ≡ length (name_text labels)) × (len ≢ 0 → len ≡ length (name_text labels))
-name_text-count [] len e = (λ h. refl, λ h. absurd (h e))
-name_text-count (label ∷ labels) len e =
-    (λ h. absurd (omega (arith, length-append (label_text label) (flat_map label_text labels), label_text-some label)), λ h. e)
-
-all_counted : (len whole : ℕ) (left : List (List ℕ)) → left ≡ [] → CountsText len whole left → len ≡ whole
-all_counted len whole left e counts = omega (arith, counts.counts, ap (λ t. length (flat_map label_text t)) e)
-
-pub CountsText-end : (len : ℕ) (labels left : List (List ℕ)) → left ≡ [] → CountsText len (length (flat_map label_text labels)) left → (len ≡ 0 → 1 ≡ length (name_text labels)) × (len ≢ 0 → len ≡ length (name_text labels))
-CountsText-end len labels left e counts = name_text-count labels len (all_counted len (length (flat_map label_text labels)) left e counts)
-
 -- what a walk over labels has written, and what is left
 pub record WritesText (text whole : List ℕ) (left : List (List ℕ)) : Type 0 where
   pub spells : text ++ flat_map label_text left ≡ whole
-  pub counts : CountsText (length text) (length whole) left
+  pub each : AllByRecursion IsLabel left
+  pub room : length text + 4 * length (flat_map frame left) ≤ 1016
 
 pub WritesText-start : (text : List ℕ) (labels : List (List ℕ)) → text ≡ [] → IsName labels → WritesText text (flat_map label_text labels) labels
-WritesText-start text labels e name = rw e (record { spells = refl; counts = CountsText-start labels name })
+WritesText-start text labels e name = rw e (record {
+  spells = refl;
+  each = name.each;
+  room = omega (arith, name.short, length-append (flat_map frame labels) (0 ∷ []));
+})
 
 pub WritesText-more : (text text' whole : List ℕ) (left next : List (List ℕ)) (label : List ℕ) → left ≡ label ∷ next → text' ≡ text ++ label_text label → WritesText text whole left → WritesText text' whole next
 WritesText-more text text' whole left next label e is so_far = record {
   spells = ap (λ t. t ++ flat_map label_text next) is ∙ append_assoc text (label_text label) (flat_map label_text next) ∙ ap (λ t. text ++ flat_map label_text t) (sym e) ∙ so_far.spells;
-  counts = rw (is, length-append text (label_text label)) (CountsText-more (length text) (length (label_text label)) (length whole) left next label e refl so_far.counts);
+  each = (subst (AllByRecursion IsLabel) e so_far.each).1;
+  room = omega (arith, so_far.room, ap length is, length-append text (label_text label), ap (λ t. length (flat_map frame t)) e, length-append label (flat_map frame next), label_text-short label);
 }
 
+-- the root is a dot alone
 name_text-done : (labels : List (List ℕ)) (text : List ℕ) → text ≡ flat_map label_text labels → (length text ≡ 0 → text ++ 46 ∷ [] ≡ name_text labels) × (length text ≢ 0 → text ≡ name_text labels)
 name_text-done [] text e = (λ h. ap (λ t. t ++ 46 ∷ []) e, λ h. absurd (h (ap length e)))
 name_text-done (label ∷ labels) text e =

@@ -6,3 +6,4 @@ pub mod Text
 pub mod Escape
 pub mod Reading
 pub mod Seen
+pub mod Sink

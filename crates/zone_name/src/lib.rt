@@ -9,6 +9,7 @@ pub mod laws;
 mod name;
 mod order;
 mod reading;
+mod sink;
 #[cfg(test)]
 mod tests;
 mod text;
@@ -18,3 +19,4 @@ pub use escape::escape_at;
 pub use fault::NameFault;
 pub use labels::Labels;
 pub use name::Name;
+pub use sink::{Room, Sink};

@@ -36,7 +36,6 @@ fn texts_give_octets(rt: HostRuntime) -> Result<(), Fail> {
         let mut out = Vec::new(rt.alloc());
         name.push_text(&mut out)?;
         assert_eq!(rt; out.as_slice(), spelling);
-        assert_eq!(rt; name.text_len(), spelling.len());
     }
     Ok(())
 }
@@ -136,7 +135,6 @@ fn names_are_printed(rt: HostRuntime) -> Result<(), Fail> {
         let mut out = Vec::new(rt.alloc());
         name.push_text(&mut out)?;
         assert_eq!(rt; out.as_slice(), spelling);
-        assert_eq!(rt; name.text_len(), spelling.len());
     }
     Ok(())
 }

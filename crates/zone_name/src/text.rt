@@ -1,38 +1,25 @@
-ghost use Rattle.std.specs.Prelude.{◌≡◌, ◌+◌, ◌*◌, ◌≤◌, ◌++◌, length, OnOk, OnErr};
+ghost use Rattle.std.specs.Prelude.{◌≡◌, ◌+◌, ◌*◌, ◌≤◌, ◌++◌, [], length, OnOk, OnErr};
 ghost use Rattle.arrayvec.specs.ArrayVec.{array_vec_len};
 ghost use Rattle.zone_name.specs.Text.{is_special, label_text, name_text, octet_text};
 
 use crate::name::Name;
+use crate::sink::Sink;
 use arrayvec::ArrayVec;
-use std::alloc::AllocError;
 
 /// No canonical spelling has more octets: four for each octet of the name, and a dot.
 const LONGEST: usize = 1021;
 
 impl Name {
-    /// How many octets the canonical spelling has, at most 1,021.
-    pub fn text_len(&self) -> usize
-        ensures value { result ≡ length (name_text self.now) }
-        ensures short { result ≤ 1021 }
-    {
-        self.known();
-        let mut len = 0;
-        for label in self.labels() {
-            len += label_text_len(label);
-        }
-        if len == 0 { 1 } else { len }
-    }
-
-    /// Appends the canonical spelling. Where memory is refused, `out` holds what it held.
+    /// Appends the canonical spelling, at most 1,021 octets.
     ///
     /// # Errors
     ///
-    /// `AllocError` where memory is refused.
-    pub fn push_text(&self, out: &mut Vec<u8>) -> Result<(), AllocError>
-        ensures ok { OnOk result (out.new.items ≡ out.old.items ++ name_text self.now) }
-        ensures err { OnErr result (out.new.items ≡ out.old.items) }
+    /// `out` refuses the octets, and holds what it held.
+    pub fn push_text<S: Sink>(&self, out: &mut S) -> Result<(), S::Error>
+        ensures ok { OnOk result (S.takes out.old (name_text self.now) out.new) }
+        ensures err { OnErr result (S.takes out.old [] out.new) }
     {
-        out.extend_from_slice(self.text().as_slice())
+        out.push(self.text().as_slice())
     }
 
     /// The canonical spelling.
@@ -48,33 +35,6 @@ impl Name {
             text.push(b'.');
         }
         text
-    }
-}
-
-/// How many octets a label's spelling and the dot behind it have.
-fn label_text_len(label: &[u8]) -> usize
-    requires { length label.now ≤ 63 }
-    ensures value { result ≡ length (label_text label.now) }
-    ensures short { result ≤ 4 * length label.now + 1 }
-{
-    let mut len = 1;
-    for octet in label {
-        len += octet_text_len(*octet);
-    }
-    len
-}
-
-/// How many octets an octet's spelling has.
-fn octet_text_len(octet: u8) -> usize
-    ensures value { result ≡ length (octet_text octet) }
-    ensures short { result ≤ 4 }
-{
-    if is_special_octet(octet) {
-        2
-    } else if octet >= b'!' && octet <= b'~' {
-        1
-    } else {
-        4
     }
 }
 

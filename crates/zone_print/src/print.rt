@@ -3,10 +3,11 @@ ghost use Rattle.std.specs.Io.KnownBytes.{Appends};
 ghost use Rattle.zone_print.specs.Canonical.{canon, text_limit};
 ghost use Rattle.zone_print.specs.Writing.{StopsMidway, StopsPush, StopsWrite};
 
-use crate::line::{line_len, push_line};
+use crate::line::{push_line, push_lines};
 use crate::write::write_octets;
 use std::alloc::Global;
 use std::io::Write;
+use zone_name::Room;
 use zone_rdata::{Fault, Place, Stop};
 use zone_set::Zone;
 
@@ -56,14 +57,9 @@ pub(crate) fn len_within(zone: &Zone, limit: u64) -> u64
     requires { limit ≤ text_limit }
     ensures { result ≡ min (length (canon zone.now)) (limit + 1) }
 {
-    let mut len = 0;
-    for rr in zone.records() {
-        len += line_len(&rr);
-        if len > limit {
-            return limit + 1;
-        }
-    }
-    len
+    let mut room = Room { left: limit + 1 };
+    let Ok(()) = push_lines(&mut room, zone);
+    limit + 1 - room.left
 }
 
 /// `push_zone` under a limit.
@@ -78,9 +74,7 @@ pub(crate) fn push_within(alloc: Global, zone: &Zone, limit: u64) -> Result<Vec<
         return Err(Stop::Refused(Fault::ZoneTooLarge, Place::Whole));
     }
     let mut text = Vec::with_capacity(alloc, text_len as usize)?;
-    for rr in zone.records() {
-        push_line(&mut text, &rr)?;
-    }
+    push_lines(&mut text, zone)?;
     Ok(text)
 }
 

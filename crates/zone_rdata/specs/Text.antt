@@ -47,10 +47,6 @@ pub record BeginsWithField (field : Field) (octets : List ℕ) : Type 0 where
 abbrev pub after_field : Field → List ℕ → List ℕ
 after_field field octets = drop (length (field_octets (field_at field octets))) octets
 
--- something may have been appended
-abbrev pub Extends : List ℕ → List ℕ → Type 0
-Extends old new = (added : List ℕ) × (new ≡ old ++ added)
-
 -- a text with a space before it, but for the first
 abbrev pub spaced : ℕ → List ℕ → List ℕ
 spaced zero text = text

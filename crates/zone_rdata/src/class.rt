@@ -1,12 +1,11 @@
-ghost use Rattle.std.specs.Prelude.{◌≡◌, ◌≤◌, length, ◌↔◌, ◌++◌, ◌<◌, ℕ, IfSome, IfNone, IfOk, IfErr, OnOk, OnErr, Option, Some, None, option_copied, min};
+ghost use Rattle.std.specs.Prelude.{[], ◌≡◌, ◌↔◌, ◌<◌, ℕ, IfSome, IfNone, IfOk, IfErr, OnOk, OnErr, Option, Some, None, option_copied, min};
 ghost use Rattle.zone_rdata.specs.Words.{IsClass, IsClassWord, IsMnemonic, class_mnemonic, class_text};
 
 use crate::fault::Fault;
-use crate::lengths::decimal_len;
 use crate::number::CAP;
 use crate::word::{is_word, numbered, push_numbered};
-use std::alloc::AllocError;
 use std::marker::Model;
+use zone_name::Sink;
 
 /// A class that can hold zone data (RFC 1035 3.2.4). Contracts see its number.
 #[derive(Clone, Copy, Debug, PartialEq, Eq, PartialOrd, Ord)]
@@ -116,28 +115,17 @@ impl Class {
         self.number
     }
 
-    /// How many octets the word that is printed has.
-    pub fn word_len(self) -> usize
-        ensures value { result ≡ length (class_text self) }
-        ensures short { result ≤ 45 }
-    {
-        match mnemonic(self.number) {
-            Some(word) => word.len(),
-            None => 5 + decimal_len(u64::from(self.number)),
-        }
-    }
-
-    /// Appends the word that is printed. Where memory is refused, `out` holds what it held.
+    /// Appends the word that is printed.
     ///
     /// # Errors
     ///
-    /// `AllocError` where memory is refused.
-    pub fn push_word(self, out: &mut Vec<u8>) -> Result<(), AllocError>
-        ensures ok { OnOk result (out.new.items ≡ out.old.items ++ class_text self) }
-        ensures err { OnErr result (out.new.items ≡ out.old.items) }
+    /// `out` refuses the octets, and holds what it held.
+    pub fn push_word<S: Sink>(self, out: &mut S) -> Result<(), S::Error>
+        ensures ok { OnOk result (S.takes out.old (class_text self) out.new) }
+        ensures err { OnErr result (S.takes out.old [] out.new) }
     {
         match mnemonic(self.number) {
-            Some(word) => out.extend_from_slice(word),
+            Some(word) => out.push(word),
             None => push_numbered(b"CLASS", self.number, out),
         }
     }

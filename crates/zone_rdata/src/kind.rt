@@ -1,15 +1,14 @@
-ghost use Rattle.std.specs.Prelude.{length, ◌≡◌, ◌↔◌, ◌++◌, ◌<◌, ℕ, IsTrue, IfSome, IfNone, IfOk, IfErr, OnOk, OnErr, Option, Some, None, option_copied, ◌≤◌, min};
+ghost use Rattle.std.specs.Prelude.{[], ◌≡◌, ◌↔◌, ◌<◌, ℕ, IsTrue, IfSome, IfNone, IfOk, IfErr, OnOk, OnErr, Option, Some, None, option_copied, ◌≤◌, min};
 ghost use Rattle.zone_rdata.specs.Words.{laid_out_mnemonic, IsKind, IsKindWord, IsMnemonic, kind_mnemonic, kind_text, is_meta, IsWordFault};
 ghost use Rattle.zone_rdata.specs.Layout.{layout};
 
 use crate::class::Class;
 use crate::fault::Fault;
 use crate::layout::layout_of;
-use crate::lengths::decimal_len;
 use crate::number::CAP;
 use crate::word::{is_word, numbered, push_numbered};
-use std::alloc::AllocError;
 use std::marker::Model;
+use zone_name::Sink;
 
 /// A type of which records can be (RFC 1035 3.2.2). Contracts see its number.
 #[derive(Clone, Copy, Debug, PartialEq, Eq, PartialOrd, Ord)]
@@ -143,28 +142,17 @@ impl Kind {
         layout_of(class, self).and_then(|_| mnemonic(self.number))
     }
 
-    /// How many octets the word that is printed in the class has.
-    pub fn word_len(self, class: Class) -> usize
-        ensures value { result ≡ length (kind_text class self) }
-        ensures short { result ≤ 45 }
-    {
-        match self.printed_mnemonic(class) {
-            Some(word) => word.len(),
-            None => 4 + decimal_len(u64::from(self.number)),
-        }
-    }
-
-    /// Appends the word that is printed in the class. Where memory is refused, `out` holds what it held.
+    /// Appends the word that is printed in the class.
     ///
     /// # Errors
     ///
-    /// `AllocError` where memory is refused.
-    pub fn push_word(self, class: Class, out: &mut Vec<u8>) -> Result<(), AllocError>
-        ensures ok { OnOk result (out.new.items ≡ out.old.items ++ kind_text class self) }
-        ensures err { OnErr result (out.new.items ≡ out.old.items) }
+    /// `out` refuses the octets, and holds what it held.
+    pub fn push_word<S: Sink>(self, class: Class, out: &mut S) -> Result<(), S::Error>
+        ensures ok { OnOk result (S.takes out.old (kind_text class self) out.new) }
+        ensures err { OnErr result (S.takes out.old [] out.new) }
     {
         match self.printed_mnemonic(class) {
-            Some(word) => out.extend_from_slice(word),
+            Some(word) => out.push(word),
             None => push_numbered(b"TYPE", self.number, out),
         }
     }

@@ -11,7 +11,6 @@ mod item;
 mod kind;
 pub mod laws;
 mod layout;
-mod lengths;
 mod minimum;
 mod number;
 mod order;

@@ -1,4 +1,5 @@
-ghost use Rattle.std.specs.Prelude.{◌≡◌, ◌++◌, ◌+◌, ◌*◌, ◌≤◌, ℕ, List, length, map, IfOk, IfErr, IfSome, OnOk, OnErr, option_map};
+ghost use Rattle.std.specs.Prelude.{◌≡◌, ◌++◌, ℕ, List, map, IfOk, IfErr, IfSome, OnOk, OnErr, option_map};
+ghost use Rattle.zone_name.specs.Sink.{TakesSome};
 ghost use Rattle.zone_rdata.specs.DataFault.{IsDataFault, IsFaultFor, IsFormFault};
 ghost use Rattle.zone_rdata.specs.Fault.{IfFault};
 ghost use Rattle.zone_rdata.specs.Generic.{StatesGeneric};
@@ -17,7 +18,6 @@ use crate::item::Item;
 use crate::kind::Kind;
 use crate::laws::items::{data_is_unique, faulty_items_state_none};
 use crate::layout::{Layout, layout_of};
-use crate::lengths::data_len;
 use crate::minimum::last_number_of;
 use crate::printing::push_data;
 use crate::reading::{are_octets, is_generic, octets_of_items};
@@ -25,7 +25,7 @@ use crate::record::LONGEST_DATA;
 use crate::uncompressed::{canonical_for, canonical_of};
 use std::alloc::{AllocError, Global};
 use std::marker::Model;
-use zone_name::Name;
+use zone_name::{Name, Sink};
 
 /// The data of a record: class, type and canonical octets (RFC 1035 3.2.1). Contracts see these three.
 #[derive(Debug, Drop)]
@@ -195,14 +195,6 @@ impl Rdata {
         }
     }
 
-    /// How many octets the canonical text has.
-    pub fn text_len(&self) -> usize
-        ensures value { result ≡ length (data_text self.now) }
-        ensures short { result ≤ 1000000 }
-    {
-        data_len(layout_of(self.class, self.kind), &self.octets)
-    }
-
     /// Appends the canonical text. Where memory is refused, `out` holds what it held.
     ///
     /// # Errors
@@ -213,10 +205,22 @@ impl Rdata {
         ensures err { OnErr result (out.new.items ≡ out.old.items) }
     {
         let before = out.len();
-        let pushed = push_data(layout_of(self.class, self.kind), &self.octets, out);
+        let pushed = self.print(out);
         if pushed.is_err() {
             out.truncate(before);
         }
         pushed
+    }
+
+    /// Appends the canonical text to any sink.
+    ///
+    /// # Errors
+    ///
+    /// `out` refuses octets. A front of the text may have been appended.
+    pub fn print<S: Sink>(&self, out: &mut S) -> Result<(), S::Error>
+        ensures ok { OnOk result (S.takes out.old (data_text self.now) out.new) }
+        ensures err { OnErr result (TakesSome S.takes out.old out.new) }
+    {
+        push_data(layout_of(self.class, self.kind), &self.octets, out)
     }
 }

@@ -1,16 +1,16 @@
-ghost use Rattle.std.specs.Prelude.{◌≡◌, ◌++◌, ◌+◌, ◌*◌, ◌≤◌, length, IfOk, IfErr, OnOk, OnErr, Ok, Err};
+ghost use Rattle.std.specs.Prelude.{◌≡◌, ◌++◌, ◌≤◌, [], length, IfOk, IfErr, OnOk, OnErr, Ok, Err};
 ghost use Rattle.zone_name.specs.Name.{frame};
+ghost use Rattle.zone_name.specs.Sink.{TakesSome};
 ghost use Rattle.zone_rdata.specs.Item.{raw};
 ghost use Rattle.zone_rdata.specs.StringReading.{place_of, reading, seen};
 ghost use Rattle.zone_rdata.specs.Strings.{AppendsString, StringFault, item_text, string_text, unit_text};
-ghost use Rattle.zone_rdata.specs.Text.{Extends};
 
 use crate::fault::{Failing, Fault};
 use crate::item::Item;
 use crate::reading::are_octets;
 use arrayvec::ArrayVec;
 use std::alloc::AllocError;
-use zone_name::escape_at;
+use zone_name::{Sink, escape_at};
 
 /// What stands at the place of a string's next octet, and what is behind it.
 #[derive(Drop)]
@@ -102,60 +102,34 @@ fn next_at(rest: &[u8]) -> Next<'_>
     }
 }
 
-/// How many octets a string's canonical text has.
-pub(crate) fn string_text_len(octets: &[u8]) -> usize
-    requires { length octets.now ≤ 255 }
-    ensures value { result ≡ length (string_text octets.now) }
-    ensures short { result ≤ 4 * length octets.now + 2 }
-{
-    let mut len = 2;
-    for octet in octets {
-        len += unit_text_len(*octet);
-    }
-    len
-}
-
-/// How many octets an octet's text between quotes has.
-fn unit_text_len(octet: u8) -> usize
-    ensures value { result ≡ length (unit_text octet) }
-    ensures short { result ≤ 4 }
-{
-    if octet == b'"' || octet == b'\\' {
-        2
-    } else if octet >= b' ' && octet <= b'~' {
-        1
-    } else {
-        4
-    }
-}
-
 /// Appends a string's canonical text: its octets in quotes.
 ///
 /// # Errors
 ///
-/// `AllocError` where memory is refused.
-pub(crate) fn push_string_text(octets: &[u8], out: &mut Vec<u8>) -> Result<(), AllocError>
-    ensures ok { OnOk result (out.new.items ≡ out.old.items ++ string_text octets.now) }
-    ensures err { OnErr result (Extends out.old.items out.new.items) }
+/// `out` refuses octets. A front of the text may have been appended.
+pub(crate) fn push_string_text<S: Sink>(octets: &[u8], out: &mut S) -> Result<(), S::Error>
+    ensures ok { OnOk result (S.takes out.old (string_text octets.now) out.new) }
+    ensures err { OnErr result (TakesSome S.takes out.old out.new) }
 {
-    out.extend_from_slice(b"\"")?;
+    out.push(b"\"")?;
     for octet in octets {
         push_unit(*octet, out)?;
     }
-    out.extend_from_slice(b"\"")
+    out.push(b"\"")?;
+    Ok(())
 }
 
 /// Appends an octet's text between quotes.
-fn push_unit(octet: u8, out: &mut Vec<u8>) -> Result<(), AllocError>
-    ensures ok { OnOk result (out.new.items ≡ out.old.items ++ unit_text octet) }
-    ensures err { OnErr result (out.new.items ≡ out.old.items) }
+fn push_unit<S: Sink>(octet: u8, out: &mut S) -> Result<(), S::Error>
+    ensures ok { OnOk result (S.takes out.old (unit_text octet) out.new) }
+    ensures err { OnErr result (S.takes out.old [] out.new) }
 {
     if octet == b'"' || octet == b'\\' {
-        out.extend_from_slice(&[b'\\', octet])
+        out.push(&[b'\\', octet])
     } else if octet >= b' ' && octet <= b'~' {
-        out.extend_from_slice(&[octet])
+        out.push(&[octet])
     } else {
-        out.extend_from_slice(&[
+        out.push(&[
             b'\\',
             b'0' + octet / 100,
             b'0' + octet / 10 % 10,

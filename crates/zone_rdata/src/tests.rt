@@ -2,7 +2,7 @@ use super::*;
 use std::alloc::Global;
 use std::collections::VecDeque;
 use std::test::Fail;
-use zone_name::{Name, NameFault};
+use zone_name::{Name, NameFault, Room};
 
 mod builder;
 mod faults;
@@ -127,7 +127,6 @@ fn soa(rt: HostRuntime) -> Result<(), Fail> {
     rdata.push_text(&mut out)?;
     let text = b"ns1.example. host.master. 2024 7200 3600 1209600 4294967295";
     assert_eq!(rt; out.as_slice(), text.as_slice());
-    assert_eq!(rt; rdata.text_len(), text.len());
     assert_eq!(rt; rdata.octets().len(), 46);
     assert!(rt; rdata.kind().is_soa());
     assert_eq!(rt; rdata.soa_minimum(), Some(4294967295));

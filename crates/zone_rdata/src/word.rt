@@ -1,10 +1,11 @@
-ghost use Rattle.std.specs.Prelude.{◌≡◌, ◌↔◌, ◌++◌, ◌≤◌, ℕ, length, min, IsTrue, IfSome, IfNone, OnOk, OnErr, decimal};
+ghost use Rattle.std.specs.Prelude.{◌≡◌, ◌↔◌, ◌++◌, ◌≤◌, ℕ, [], length, min, IsTrue, IfSome, IfNone, OnOk, OnErr, decimal};
 ghost use Rattle.zone_name.specs.Name.{folded_label};
 ghost use Rattle.zone_rdata.specs.Words.{IsNumbered};
 
 use crate::number::{CAP, decimal_of};
+use arrayvec::ArrayVec;
 use itoa::Buffer;
-use std::alloc::AllocError;
+use zone_name::Sink;
 
 /// Whether two words are equal in any case of their letters.
 pub(crate) fn is_word(word: &[u8], wanted: &[u8]) -> bool
@@ -28,17 +29,22 @@ pub(crate) fn numbered(name: &[u8], word: &[u8]) -> Option<u64>
     decimal_of(digits)
 }
 
-/// Appends a word and a number in decimal. Where memory is refused, `out` holds what it held.
-pub(crate) fn push_numbered(word: &[u8], number: u16, out: &mut Vec<u8>) -> Result<(), AllocError>
-    ensures ok { OnOk result (out.new.items ≡ out.old.items ++ (word.now ++ decimal number)) }
-    ensures err { OnErr result (out.new.items ≡ out.old.items) }
+/// The octets of the longest word with its number, `CLASS65535`.
+const LONGEST: usize = 10;
+
+/// Appends a word and a number in decimal.
+///
+/// # Errors
+///
+/// `out` refuses the octets, and holds what it held.
+pub(crate) fn push_numbered<S: Sink>(word: &[u8], number: u16, out: &mut S) -> Result<(), S::Error>
+    requires { length word.now ≤ 5 }
+    ensures ok { OnOk result (S.takes out.old (word.now ++ decimal number) out.new) }
+    ensures err { OnErr result (S.takes out.old [] out.new) }
 {
-    let before = out.len();
-    out.extend_from_slice(word)?;
-    let mut buffer = Buffer::new();
-    let pushed = out.extend_from_slice(buffer.format(number).as_bytes());
-    if pushed.is_err() {
-        out.truncate(before);
-    }
-    pushed
+    let mut digits = Buffer::new();
+    let mut text: ArrayVec<u8, LONGEST> = ArrayVec::new();
+    let _ = text.try_extend_from_slice(word);
+    let _ = text.try_extend_from_slice(digits.format(number).as_bytes());
+    out.push(text.as_slice())
 }

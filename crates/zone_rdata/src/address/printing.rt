@@ -1,4 +1,4 @@
-ghost use Rattle.std.specs.Prelude.{◌≡◌, ◌+◌, ◌-◌, ◌*◌, ◌<◌, ◌≤◌, ◌++◌, decimal, length, slice_index, OnOk, OnErr};
+ghost use Rattle.std.specs.Prelude.{◌≡◌, ◌+◌, ◌-◌, ◌*◌, ◌<◌, ◌≤◌, ◌++◌, decimal, [], length, slice_index, OnOk, OnErr};
 ghost use Rattle.std.specs.Net.Addr.{segments_of};
 ghost use Rattle.std.specs.Net.Text as std_text;
 ghost use Rattle.arrayvec.specs.ArrayVec.{array_vec_len};
@@ -9,7 +9,7 @@ use arrayvec::ArrayVec;
 use byteorder::{BigEndian, ByteOrder};
 use hex::encode_to_slice;
 use itoa::Buffer;
-use std::alloc::AllocError;
+use zone_name::Sink;
 
 /// Room for the longest text of an address, which has 39 octets.
 const ROOM: usize = 40;
@@ -158,48 +158,28 @@ fn text_of_sixteen(octets: &[u8]) -> ArrayVec<u8, ROOM>
     text
 }
 
-/// Appends the text of four octets: four decimal numbers without leading zeros. Where memory is refused, `out` holds
-/// what it held.
+/// Appends the text of four octets: four decimal numbers without leading zeros.
 ///
 /// # Errors
 ///
-/// `AllocError` where memory is refused.
-pub(crate) fn push_four(octets: &[u8], out: &mut Vec<u8>) -> Result<(), AllocError>
+/// `out` refuses the octets, and holds what it held.
+pub(crate) fn push_four<S: Sink>(octets: &[u8], out: &mut S) -> Result<(), S::Error>
     requires { length octets.now ≡ 4 }
-    ensures ok { OnOk result (out.new.items ≡ out.old.items ++ four_text octets.now) }
-    ensures err { OnErr result (out.new.items ≡ out.old.items) }
+    ensures ok { OnOk result (S.takes out.old (four_text octets.now) out.new) }
+    ensures err { OnErr result (S.takes out.old [] out.new) }
 {
-    out.extend_from_slice(text_of_four(octets).as_slice())
+    out.push(text_of_four(octets).as_slice())
 }
 
-/// How many octets `push_four` appends, at most 15.
-pub(crate) fn four_len(octets: &[u8]) -> usize
-    requires { length octets.now ≡ 4 }
-    ensures value { result ≡ length (four_text octets.now) }
-    ensures short { result ≤ 15 }
-{
-    text_of_four(octets).len()
-}
-
-/// Appends the text of sixteen octets, groups with `::` for their longest run of zeros (RFC 5952 4). Where memory is
-/// refused, `out` holds what it held.
+/// Appends the text of sixteen octets, groups with `::` for their longest run of zeros (RFC 5952 4).
 ///
 /// # Errors
 ///
-/// `AllocError` where memory is refused.
-pub(crate) fn push_sixteen(octets: &[u8], out: &mut Vec<u8>) -> Result<(), AllocError>
+/// `out` refuses the octets, and holds what it held.
+pub(crate) fn push_sixteen<S: Sink>(octets: &[u8], out: &mut S) -> Result<(), S::Error>
     requires { length octets.now ≡ 16 }
-    ensures ok { OnOk result (out.new.items ≡ out.old.items ++ groups_text octets.now) }
-    ensures err { OnErr result (out.new.items ≡ out.old.items) }
+    ensures ok { OnOk result (S.takes out.old (groups_text octets.now) out.new) }
+    ensures err { OnErr result (S.takes out.old [] out.new) }
 {
-    out.extend_from_slice(text_of_sixteen(octets).as_slice())
-}
-
-/// How many octets `push_sixteen` appends, at most 39.
-pub(crate) fn sixteen_len(octets: &[u8]) -> usize
-    requires { length octets.now ≡ 16 }
-    ensures value { result ≡ length (groups_text octets.now) }
-    ensures short { result ≤ 39 }
-{
-    text_of_sixteen(octets).len()
+    out.push(text_of_sixteen(octets).as_slice())
 }

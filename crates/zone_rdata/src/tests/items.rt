@@ -5,7 +5,9 @@ fn printed(alloc: Global, number: u64, items: &[Item]) -> Result<Vec<u8>, Fail> 
     let rdata = stated(alloc, 1, number, items)?.map_err(|_| Fail::from("refused"))?;
     let mut out = Vec::new(alloc);
     rdata.push_text(&mut out)?;
-    if rdata.text_len() != out.len() {
+    let mut room = Room { left: 1_000_000 };
+    let Ok(()) = rdata.print(&mut room);
+    if room.left.checked_add(out.len() as u64) != Some(1_000_000) {
         return Err(Fail::from("another length"));
     }
     Ok(out)

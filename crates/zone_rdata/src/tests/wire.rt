@@ -59,7 +59,9 @@ fn strings_of_many_lengths(rt: HostRuntime) -> Result<(), Fail> {
     assert!(rt; matches!(long, Err(Failing::Fault(Fault::StringTooLong))));
     let whole = stated(rt.alloc(), 1, 16, &[Item::Bare(&letters[..255])])?.map_err(|_| "refused")?;
     assert_eq!(rt; whole.octets().len(), 256);
-    assert_eq!(rt; whole.text_len(), 257);
+    let mut room = Room { left: 258 };
+    let Ok(()) = whole.print(&mut room);
+    assert_eq!(rt; room.left, 1);
     Ok(())
 }
 

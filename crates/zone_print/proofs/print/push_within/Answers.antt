@@ -13,7 +13,7 @@ returns-in_err-text-clause-stopped c =
     let p = err_from_is_err_and c.from_residual.result c.from_residual.ensures.1 in
     rw (p.1, p.2) memory
 
-pub returns-in_err-push_line-clause-stopped : goal.returns-in_err-push_line-clause-stopped
-returns-in_err-push_line-clause-stopped c =
-    let p = err_from_is_err_and c.from_residual-in_err-push_line.result c.from_residual-in_err-push_line.ensures.1 in
+pub returns-in_err-push_lines-clause-stopped : goal.returns-in_err-push_lines-clause-stopped
+returns-in_err-push_lines-clause-stopped c =
+    let p = err_from_is_err_and c.from_residual-in_err-push_lines.result c.from_residual-in_err-push_lines.ensures.1 in
     rw (p.1, p.2) memory

@@ -1,9 +1,15 @@
-use Rattle.std.proofs.Common.{refl}
+use Rattle.std.proofs.Common.{refl, subst}
+use Rattle.zone_name.proofs.Sinks.{stops_behind, takes_both}
 use Rattle.zone_rdata.proofs.Texts.{hex_started, hex_more, at_is_ok}
 use Rattle.zone_rdata.proofs.printing.push_hex.Goals as goal
 
 pub loop-octet-init : goal.loop-octet-init
-loop-octet-init c = hex_started c.args.out.now.items
+loop-octet-init g c = subst (λ t. g.S.Sink.takes c.args.out.now t c.args.out.now) hex_started (g.met.S.Sink.nothing c.args.out.now)
+
+pub returns-in_err-push-clause-err : goal.returns-in_err-push-clause-err
+returns-in_err-push-clause-err g c = stops_behind _ _ g.met.S.Sink.joins _ _ _ _ c.loop-octet.invariant (_, c.in_err-push.ensures.err)
 
 pub loop-octet-preserved : goal.loop-octet-preserved
-loop-octet-preserved c = hex_more c.args.octets.now _ _ _ _ c.loop-octet.octet-index _ _ c.loop-octet-test.true refl c.loop-octet.invariant c.in_ok-extend_from_slice.ensures.items (at_is_ok c.encode_to_slice.result _ (c.encode_to_slice.ensures.fits.1 refl) c.encode_to_slice.ensures.written)
+loop-octet-preserved g c =
+    takes_both _ g.met.S.Sink.joins _ _ _ _ _ _ c.loop-octet.invariant c.in_ok-push.ensures.ok
+    (hex_more c.args.octets.now _ c.loop-octet.octet-index _ _ c.loop-octet-test.true refl (at_is_ok c.encode_to_slice.result _ (c.encode_to_slice.ensures.fits.1 refl) c.encode_to_slice.ensures.written))

@@ -1,6 +1,6 @@
-use Rattle.std.proofs.Common.{◌≡◌, ◌++◌, take}
+use Rattle.std.proofs.Common.{take}
 use Rattle.hex.specs.Hex.{encode_lower}
 use Rattle.zone_rdata.proofs.printing.push_hex.Given as goal
 
 abbrev pub invariant-loop-octet : goal.invariant-loop-octet
-invariant-loop-octet l = l.out.items ≡ l.fn.out.items ++ encode_lower (take l.octet-index l.octets)
+invariant-loop-octet g l = g.S.Sink.takes l.fn.out (encode_lower (take l.octet-index l.octets)) l.out

@@ -1,19 +1,33 @@
-use Rattle.std.proofs.Common.{arith}
+use Rattle.std.proofs.Common.{arith, subst}
+use Rattle.zone_name.proofs.Sinks.{Took-more, stops_behind}
 use Rattle.zone_rdata.proofs.StringFields.{first_string}
-use Rattle.zone_rdata.proofs.StringTexts.{quoted_first, quoted_more, quoted_all, first_of_rest, text_is}
+use Rattle.zone_rdata.proofs.StringTexts.{quoted_first, quoted_more, quoted_all, first_of_rest}
 use Rattle.zone_rdata.proofs.printing.push_strings.Goals as goal
 
 pub split_string-requires : goal.split_string-requires
-split_string-requires c = (first_string c.args.octets.now c.requires.some c.requires.strings).0
+split_string-requires g c = (first_string c.args.octets.now c.requires.some c.requires.strings).0
 
 pub loop-rest-init : goal.loop-rest-init
-loop-rest-init c = quoted_first _ _ _ _ c.requires.some c.requires.strings c.split_string.ensures.rest (text_is _ _ _ _ c.split_string.ensures.string c.in_ok-push_string_text.ensures.ok)
+loop-rest-init g c = record {
+  text = _;
+  known = quoted_first _ _ _ c.requires.some c.requires.strings c.split_string.ensures.string c.split_string.ensures.rest;
+  taken = c.in_ok-push_string_text.ensures.ok;
+}
 
 pub split_string-requires-in-loop-rest : goal.split_string-requires-in-loop-rest
-split_string-requires-in-loop-rest c = first_of_rest _ _ _ _ (grind (arith, c.loop-rest-test.ensures, c.is_empty.ensures)) c.loop-rest.invariant
+split_string-requires-in-loop-rest g c = first_of_rest _ _ _ (grind (arith, c.loop-rest-test.ensures, c.is_empty.ensures)) c.loop-rest.invariant.known
+
+pub returns-in_err-push-clause-err : goal.returns-in_err-push-clause-err
+returns-in_err-push-clause-err g c = stops_behind _ _ g.met.S.Sink.joins _ _ _ _ c.loop-rest.invariant.taken (_, c.in_err-push.ensures.err)
+
+pub returns-in_err-push_string_text-2-clause-err : goal.returns-in_err-push_string_text-2-clause-err
+returns-in_err-push_string_text-2-clause-err g c =
+    stops_behind _ _ g.met.S.Sink.joins _ _ _ _ (g.met.S.Sink.joins _ _ _ _ _ c.loop-rest.invariant.taken c.in_ok-push.ensures.ok) c.in_err-push_string_text-2.ensures.err
 
 pub loop-rest-preserved : goal.loop-rest-preserved
-loop-rest-preserved c = quoted_more _ _ _ _ _ _ _ (grind (arith, c.loop-rest-test.ensures, c.is_empty.ensures)) c.loop-rest.invariant c.split_string-in-loop-rest.ensures.rest c.in_ok-extend_from_slice.ensures.items (text_is _ _ _ _ c.split_string-in-loop-rest.ensures.string c.in_ok-push_string_text-2.ensures.ok)
+loop-rest-preserved g c =
+    Took-more _ g.met.S.Sink.joins _ _ _ _ _ _ c.loop-rest.invariant (g.met.S.Sink.joins _ _ _ _ _ c.in_ok-push.ensures.ok c.in_ok-push_string_text-2.ensures.ok)
+    (quoted_more _ _ _ _ _ (grind (arith, c.loop-rest-test.ensures, c.is_empty.ensures)) c.loop-rest.invariant.known c.split_string-in-loop-rest.ensures.string c.split_string-in-loop-rest.ensures.rest)
 
 pub returns-clause-ok : goal.returns-clause-ok
-returns-clause-ok c = quoted_all _ _ _ _ (grind (arith, c.loop-rest-test.ensures, c.is_empty.ensures)) c.loop-rest.invariant
+returns-clause-ok g c = subst (λ t. g.S.Sink.takes c.args.out.now t c.loop-rest.out) (quoted_all _ _ _ (grind (arith, c.loop-rest-test.ensures, c.is_empty.ensures)) c.loop-rest.invariant.known) c.loop-rest.invariant.taken

@@ -1,6 +1,6 @@
-use Rattle.std.proofs.Common.{◌≡◌, ◌++◌, ◌∷◌, take}
+use Rattle.std.proofs.Common.{◌∷◌, take}
 use Rattle.zone_rdata.specs.Strings.{inside_text}
 use Rattle.zone_rdata.proofs.string.push_string_text.Given as goal
 
 abbrev pub invariant-loop-octet : goal.invariant-loop-octet
-invariant-loop-octet l = l.out.items ≡ l.fn.out.items ++ (34 ∷ inside_text (take l.octet-index l.octets))
+invariant-loop-octet g l = g.S.Sink.takes l.fn.out (34 ∷ inside_text (take l.octet-index l.octets)) l.out
