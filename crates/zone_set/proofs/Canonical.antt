@@ -12,7 +12,7 @@ use Rattle.std.specs.Ordering.{bool_cmp, ordering_then}
 use Rattle.zone_name.specs.Order.{name_cmp}
 use Rattle.zone_rdata.specs.Record.{Record, data_of}
 use Rattle.zone_set.proofs.KeyOrder.{key_cmp}
-use Rattle.zone_set.specs.Key.{first_octet, second_octet, key_of, entry_record, IsKeyed}
+use Rattle.zone_set.specs.Machine.Key.{first_octet, second_octet, key_of, entry_record, IsKeyed}
 use Rattle.zone_set.specs.Order.{canonical_cmp, Ascends}
 use Rattle.zone_set.specs.Zone.{Has, covered_octets}
 use Rattle.zone_set.specs.declared.key.RecordKey.{RecordKey}

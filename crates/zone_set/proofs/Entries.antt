@@ -8,8 +8,8 @@ use Rattle.std.specs.Map.{keys_of}
 use Rattle.std.specs.declared.ops.Bound.TheVariants.{Included, Unbounded}
 use Rattle.zone_rdata.specs.Record.{Record, data_of}
 use Rattle.zone_set.proofs.KeyOrder.{key_cmp, between_set, least_goes_first}
-use Rattle.zone_set.specs.Held.{HasNoneOf}
-use Rattle.zone_set.specs.Key.{set_key, key_of, entry_record, IsKeyed}
+use Rattle.zone_set.specs.Machine.Held.{HasNoneOf}
+use Rattle.zone_set.specs.Machine.Key.{set_key, key_of, entry_record, IsKeyed}
 use Rattle.zone_set.specs.Zone.{Has}
 use Rattle.zone_set.specs.declared.key.RecordKey.{RecordKey}
 

@@ -11,7 +11,7 @@ use Rattle.zone_rdata.specs.declared.fault.Stop.TheVariants.{Refused}
 use Rattle.zone_set.proofs.KeyOrder.{exact_names}
 use Rattle.zone_set.proofs.Sets.{each_Has, each_from_Has, soa_first}
 use Rattle.zone_set.specs.Builder.{HasNoSoa, IsLeastOutside, StopsFinish, no_soa, outside}
-use Rattle.zone_set.specs.Held.{IsFirstOutside}
+use Rattle.zone_set.specs.Machine.Held.{IsFirstOutside}
 use Rattle.zone_set.specs.Order.{canonical_cmp, Ascends}
 use Rattle.zone_set.specs.Zone.{Has, AreCompatible, IsZone}
 

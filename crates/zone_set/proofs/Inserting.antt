@@ -10,8 +10,8 @@ use Rattle.zone_set.proofs.Canonical.{Ascends-from_sorted}
 use Rattle.zone_set.proofs.KeyOrder.{key_cmp, exact_keys}
 use Rattle.zone_set.proofs.Sets.{each_Has, each_from_Has, set_from_key, accepted_class, accepted_ttl, accepted_soa}
 use Rattle.zone_set.specs.Builder.{Accepts, Adds}
-use Rattle.zone_set.specs.Held.{HoldsRecords}
-use Rattle.zone_set.specs.Key.{key_of, entry_record, IsKeyed}
+use Rattle.zone_set.specs.Machine.Held.{HoldsRecords}
+use Rattle.zone_set.specs.Machine.Key.{key_of, entry_record, IsKeyed}
 use Rattle.zone_set.specs.Order.{Ascends}
 use Rattle.zone_set.specs.Zone.{Has, InOneSet, AreCompatible}
 use Rattle.zone_set.specs.declared.key.RecordKey.{RecordKey}

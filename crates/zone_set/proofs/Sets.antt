@@ -9,8 +9,8 @@ use Rattle.zone_set.specs.Order.{canonical_cmp, Ascends}
 use Rattle.std.specs.Ordering.{ordering_then}
 use Rattle.zone_set.proofs.KeyOrder.{Decides-owner}
 use Rattle.zone_set.specs.Builder.{OtherClass, AreTwoSoas, OtherSoa, Accepts, IsRefusedFor, class as by_class, soa as by_soa, ttl as by_ttl}
-use Rattle.zone_set.specs.Held.{HasNoneOf, HasOneOf}
-use Rattle.zone_set.specs.Key.{with_data, first_octet, second_octet, set_key}
+use Rattle.zone_set.specs.Machine.Held.{HasNoneOf, HasOneOf}
+use Rattle.zone_set.specs.Machine.Key.{with_data, first_octet, second_octet, set_key}
 use Rattle.zone_set.specs.Zone.{Has, InOneSet, AreCompatible}
 
 -- what holds of each record, and of each that is held

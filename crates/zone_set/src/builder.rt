@@ -3,8 +3,8 @@ ghost use Rattle.std.specs.List.{AllByRecursion};
 ghost use Rattle.zone_name.specs.Name.{IsWithin};
 ghost use Rattle.zone_rdata.specs.declared.record.TheConstants.{MAX_TTL};
 ghost use Rattle.zone_set.specs.Builder.{Accepts, Adds, StopsAdd, TakesAll, StopsTaking, StopsFinish};
-ghost use Rattle.zone_set.specs.Held.{IsFirstOutside};
-ghost use Rattle.zone_set.specs.Key.{with_data};
+ghost use Rattle.zone_set.specs.Machine.Held.{IsFirstOutside};
+ghost use Rattle.zone_set.specs.Machine.Key.{with_data};
 ghost use Rattle.zone_set.specs.Zone.{AreCompatible, IsZone};
 
 use crate::held::HeldRecords;

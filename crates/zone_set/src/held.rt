@@ -1,8 +1,8 @@
 ghost use Rattle.std.specs.Prelude.{◌≡◌, ◌-◌, ◌^◌, [], length, min, Some, None, MatchOption, IsTrue, ◌↔◌, OnOk, OnErr, IfErr};
 ghost use Rattle.zone_rdata.specs.Record.{IsRecord};
 ghost use Rattle.zone_set.specs.Builder.{Accepts, Adds, AreTwoSoas, IsRefusedFor};
-ghost use Rattle.zone_set.specs.Held.{HasNoneOf, HasOneOf};
-ghost use Rattle.zone_set.specs.Key.{entry_record, set_key, with_data, IsKeyed};
+ghost use Rattle.zone_set.specs.Machine.Held.{HasNoneOf, HasOneOf};
+ghost use Rattle.zone_set.specs.Machine.Key.{entry_record, set_key, with_data, IsKeyed};
 ghost use Rattle.zone_set.specs.View.{record_of};
 ghost use Rattle.zone_set.specs.Zone.{AreCompatible};
 
@@ -24,8 +24,8 @@ pub(crate) struct HeldRecords {
 impl Model for HeldRecords {
     ghost use Rattle.std.specs.Prelude.{List, map};
     ghost use Rattle.zone_rdata.specs.Record.{Record};
-    ghost use Rattle.zone_set.specs.Held.{HoldsRecords};
-    ghost use Rattle.zone_set.specs.Key.{entry_record};
+    ghost use Rattle.zone_set.specs.Machine.Held.{HoldsRecords};
+    ghost use Rattle.zone_set.specs.Machine.Key.{entry_record};
 
     ghost Value = { List Record };
 

@@ -1,5 +1,5 @@
 ghost use Rattle.std.specs.Prelude.{◌≡◌, None};
-ghost use Rattle.zone_set.specs.Key.{first_octet, second_octet, set_key};
+ghost use Rattle.zone_set.specs.Machine.Key.{first_octet, second_octet, set_key};
 ghost use Rattle.zone_set.specs.Zone.{covered_octets};
 
 use zone_name::Name;

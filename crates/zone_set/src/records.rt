@@ -29,7 +29,7 @@ impl<'z> Model for Records<'z> {
     ghost use Rattle.std.specs.Prelude.{List, map};
     ghost use Rattle.std.specs.List.{AllByRecursion};
     ghost use Rattle.zone_rdata.specs.Record.{Record};
-    ghost use Rattle.zone_set.specs.Key.{entry_record, IsKeyed};
+    ghost use Rattle.zone_set.specs.Machine.Key.{entry_record, IsKeyed};
 
     ghost Value = { List Record };
 

@@ -3,7 +3,6 @@ pub mod Data
 pub mod Examples
 pub mod Message
 pub mod Name
-pub mod Place
 pub mod Reading
 pub mod Sections
 pub mod Stream
@@ -11,3 +10,4 @@ pub mod Transfer
 pub mod Visits
 pub mod Walk
 pub mod WholeWalk
+pub mod Machine

@@ -2,7 +2,7 @@ use Rattle.std.proofs.Common.{sym, subst}
 use Rattle.std.specs.List.{AllByRecursion}
 use Rattle.zone_name.specs.Name.{IsWithin}
 use Rattle.zone_set.proofs.Finishing.{IsFirstOutside-later}
-use Rattle.zone_set.specs.Held.{IsFirstOutside}
+use Rattle.zone_set.specs.Machine.Held.{IsFirstOutside}
 use Rattle.zone_set.specs.View.{record_of}
 use Rattle.zone_set.proofs.builder.first_outside.Goals as goal
 

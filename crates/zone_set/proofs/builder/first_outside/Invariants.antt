@@ -1,7 +1,7 @@
 use Rattle.std.proofs.Common.{List, ℕ}
 use Rattle.std.specs.List.{AllByRecursion}
 use Rattle.zone_name.specs.Name.{IsWithin}
-use Rattle.zone_set.specs.Held.{IsFirstOutside}
+use Rattle.zone_set.specs.Machine.Held.{IsFirstOutside}
 use Rattle.zone_set.proofs.builder.first_outside.Given as goal
 
 -- what is found in the rest is found in the whole

@@ -1,7 +1,7 @@
 use Rattle.std.proofs.Common.{sym, subst}
 use Rattle.zone_set.specs.Builder.{Accepts}
-use Rattle.zone_set.specs.Held.{HoldsRecords}
-use Rattle.zone_set.specs.Key.{entry_record}
+use Rattle.zone_set.specs.Machine.Held.{HoldsRecords}
+use Rattle.zone_set.specs.Machine.Key.{entry_record}
 use Rattle.zone_set.proofs.Inserting.{HoldsRecords-with, Adds-with}
 use Rattle.zone_set.proofs.held.HeldRecords.insert.Goals as goal
 use Rattle.zone_set.proofs.held.HeldRecords.insert.Goals.{in-Ok, in-Err}

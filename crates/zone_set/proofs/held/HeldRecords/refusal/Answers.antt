@@ -4,8 +4,8 @@ use Rattle.zone_rdata.specs.declared.fault.Fault.TheVariants.{ClassMismatch, Mul
 use Rattle.zone_set.proofs.KeyOrder.{Decides-number}
 use Rattle.zone_set.proofs.Sets.{differs, agrees, refused_class, refused_soa, refused_ttl, accepted_first, accepted_new_set, accepted_old_set}
 use Rattle.zone_set.specs.Builder.{Accepts, IsRefusedFor}
-use Rattle.zone_set.specs.Held.{HasNoneOf, HasOneOf}
-use Rattle.zone_set.specs.Key.{with_data, set_key}
+use Rattle.zone_set.specs.Machine.Held.{HasNoneOf, HasOneOf}
+use Rattle.zone_set.specs.Machine.Key.{with_data, set_key}
 use Rattle.zone_set.specs.View.{record_of}
 use Rattle.zone_set.specs.Zone.{AreCompatible}
 use Rattle.zone_set.proofs.held.HeldRecords.refusal.Goals as goal

@@ -1,6 +1,6 @@
 use Rattle.std.proofs.Common.{◌≡◌, true, false, subst, sym, ◌∙◌, ap, refl}
-use Rattle.zone_set.specs.Held.{HasNoneOf}
-use Rattle.zone_set.specs.Key.{entry_record}
+use Rattle.zone_set.specs.Machine.Held.{HasNoneOf}
+use Rattle.zone_set.specs.Machine.Key.{entry_record}
 use Rattle.zone_set.specs.Zone.{Has}
 use Rattle.zone_set.proofs.Entries.{Has-filter, none_at_end, none_before_other}
 use Rattle.zone_set.proofs.KeyOrder.{Decides-sets}

@@ -3,7 +3,7 @@ use Rattle.std.specs.Prelude.{◌≡◌, ◌≢◌, ℕ, List, ◌∷◌, ◌++�
 use Rattle.std.specs.List.{AllByRecursion}
 use Rattle.zone_name.specs.Name.{IsWithin}
 use Rattle.zone_rdata.specs.Record.{Record, data_of}
-use Rattle.zone_set.specs.Key.{set_key, entry_record, IsKeyed}
+use Rattle.zone_set.specs.Machine.Key.{set_key, entry_record, IsKeyed}
 use Rattle.zone_set.specs.Zone.{AreCompatible, Has}
 use Rattle.zone_set.specs.declared.key.RecordKey.{RecordKey}
 use Rattle.zone_set.specs.declared.key.SetKey.{SetKey}
