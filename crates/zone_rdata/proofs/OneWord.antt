@@ -67,6 +67,11 @@ mnemonic_or_numbered rows name apart word a b x y =
     ap (take (length name)) (sym x.same ∙ numbered_front name word b y) ∙ take_at (folded_label name) (folded_label y.digits) (length name) (length-map name folded_octet) in
     false≢true (sym other ∙ (bytes_eq-Decides (take (length name) (folded_label x.name)) (folded_label name)).1 front)
 
+-- a class's mnemonic finds its number
+pub class_number : (word : List ℕ) (n : ℕ) → IsMnemonic classes word n → number_among classes word ≡ Some n
+unfolding is_number own_numbers
+class_number = mnemonic_number classes refl
+
 -- words
 
 word_once : (rows : List Named) (name : List ℕ) → own_numbers rows ≡ true → unlike name rows ≡ true → (word : List ℕ) (a b : ℕ) → IsWordAmong rows name word a → IsWordAmong rows name word b → a ≡ b

@@ -1,5 +1,5 @@
 -- What is found in a table of rows, and what holds of each row.
-use Rattle.std.proofs.Common.{◌≡◌, ℕ, ◌<◌, ◌≤◌, List, [], ◌∷◌, length, map, Bool, true, false, not, cond, ◌&&◌, ◌||◌, ◌==◌, nat_lt, nat_le, bytes_eq, Option, Some, None, ◌⊎◌, inl, inr, refl, sym, ap, ◌∙◌, subst, arith}
+use Rattle.std.proofs.Common.{◌≡◌, ℕ, ◌<◌, List, [], ◌∷◌, length, map, Bool, true, false, not, cond, ◌&&◌, ◌||◌, ◌==◌, nat_lt, nat_le, bytes_eq, Option, Some, None, inl, inr, refl, sym, ap, ◌∙◌, subst, arith}
 use Rattle.std.specs.List.{AllByRecursion, find, list_all}
 use Rattle.std.specs.Option.{option_map}
 use Rattle.std.proofs.lemmas.Bool.{eqb-true, eq-eqb, and_parts, or_cases, not-true, cond-true, false≢true}
@@ -101,6 +101,14 @@ row_is rows up word row e = record {
   row = ap (option_map (λ row. row.mnemonic)) (own_row 0 rows (λ row. bytes_eq (folded_label word) (folded_label row.mnemonic)) row up e);
   same = (bytes_eq-Decides (folded_label word) (folded_label row.mnemonic)).0 (found_passes (λ row. bytes_eq (folded_label word) (folded_label row.mnemonic)) rows row e);
 }
+
+-- and so has the number that a word finds
+pub number_is : (rows : List Named) → ascend 0 rows ≡ true → (word : List ℕ) (n : ℕ) → number_among rows word ≡ Some n → IsMnemonic rows word n
+number_is rows up word n = by (find (λ row. bytes_eq (folded_label word) (folded_label row.mnemonic)) rows) refl
+  where
+    by : (found : Option Named) → find (λ row. bytes_eq (folded_label word) (folded_label row.mnemonic)) rows ≡ found → option_map (λ row. row.number) found ≡ Some n → IsMnemonic rows word n
+    by None e none = absurd (let t : ⊥ = cc in t)
+    by (Some row) e some = let same : row.number ≡ n = cc in subst (IsMnemonic rows word) same (row_is rows up word row e)
 
 -- a word of no row is no mnemonic
 pub no_row : (rows : List Named) (word : List ℕ) → find (λ row. bytes_eq (folded_label word) (folded_label row.mnemonic)) rows ≡ None → (n : ℕ) → IsMnemonic rows word n → ⊥
