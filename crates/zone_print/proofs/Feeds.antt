@@ -1,6 +1,6 @@
 -- No part of a line has a line feed.
 use Rattle.std.proofs.Common.{◌≡◌, ◌≢◌, ℕ, zero, suc, ◌+◌, ◌/◌, ◌%◌, ◌==◌, ◌≤◌, List, [], ◌∷◌, ◌++◌, length, take, drop, map, ◌||◌, Bool, true, false, if◌then◌else◌, IsTrue, Option, None, Some, refl, sym, ap, ◌∙◌, codes, decimal, nat_lt, eq-eqb, arith}
-use Rattle.std.specs.List.{flat_map, join_with_byte}
+use Rattle.std.specs.List.{flat_map, join_with_byte, list_all}
 use Rattle.std.specs.Prelude.{slice_index}
 use Rattle.std.specs.Char.{digit_char}
 use Rattle.std.specs.Net.Addr.{segments_of}
@@ -15,7 +15,9 @@ use Rattle.zone_rdata.specs.Record.{Record, data_of}
 use Rattle.zone_rdata.specs.Address.{four_text, groups_text, parted_groups}
 use Rattle.zone_rdata.specs.Strings.{is_shown, unit_text, inside_text, string_text}
 use Rattle.zone_rdata.specs.Text.{field_text, generic_text, laid_out_text, data_text}
-use Rattle.zone_rdata.specs.Words.{class_mnemonic, kind_mnemonic, laid_out_mnemonic, word_or_numbered, class_text, kind_text}
+use Rattle.zone_rdata.specs.Table.{Named, classes, type_names, mnemonic_among}
+use Rattle.zone_rdata.specs.Words.{class_mnemonic, laid_out_mnemonic, word_or_numbered, class_text, kind_text}
+use Rattle.zone_rdata.proofs.Tables.{each_mnemonic}
 use Rattle.zone_print.specs.Canonical.{line}
 use Rattle.zone_print.specs.Laws.{HasNoFeed, EndsWithItsFeed}
 
@@ -97,40 +99,23 @@ abbrev RowHasNoFeed : Option (List ℕ) → Type 0
 RowHasNoFeed None = Unit {0}
 RowHasNoFeed (Some word) = HasNoFeed word
 
-none_row : (b : Bool) (x y : Option (List ℕ)) → RowHasNoFeed x → RowHasNoFeed y → RowHasNoFeed (if b then x else y)
-none_row true x y p q = p
-none_row false x y p q = q
-
 none_word : (row : Option (List ℕ)) (front : List ℕ) (n : ℕ) → RowHasNoFeed row → HasNoFeed front → HasNoFeed (word_or_numbered row front n)
 none_word None front n p q = none_append front (decimal n) q (none_decimal n)
 none_word (Some word) front n p q = p
 
-none_class_row : (n : ℕ) → RowHasNoFeed (class_mnemonic n)
-none_class_row n =
-    none_row (n == 1) _ _ (none_tested (codes "IN") refl)
-    (none_row (n == 2) _ _ (none_tested (codes "CS") refl)
-    (none_row (n == 3) _ _ (none_tested (codes "CH") refl)
-    (none_row (n == 4) _ _ (none_tested (codes "HS") refl) tt)))
+none_found : (rows : List Named) → list_all (λ row. has_no_feed row.mnemonic) rows ≡ true → (n : ℕ) (found : Option (List ℕ)) → mnemonic_among rows n ≡ found → RowHasNoFeed found
+none_found rows all n None e = tt
+none_found rows all n (Some word) e = none_tested word (each_mnemonic (λ _ name. has_no_feed name) rows all n word e)
+
+none_mnemonic : (rows : List Named) → list_all (λ row. has_no_feed row.mnemonic) rows ≡ true → (n : ℕ) → RowHasNoFeed (mnemonic_among rows n)
+none_mnemonic rows all n = none_found rows all n (mnemonic_among rows n) refl
 
 none_class : (n : ℕ) → HasNoFeed (class_text n)
-none_class n = none_word (class_mnemonic n) (codes "CLASS") n (none_class_row n) (none_tested (codes "CLASS") refl)
-
-none_kind_row : (n : ℕ) → RowHasNoFeed (kind_mnemonic n)
-none_kind_row n =
-    none_row (n == 1) _ _ (none_tested (codes "A") refl)
-    (none_row (n == 2) _ _ (none_tested (codes "NS") refl)
-    (none_row (n == 5) _ _ (none_tested (codes "CNAME") refl)
-    (none_row (n == 6) _ _ (none_tested (codes "SOA") refl)
-    (none_row (n == 12) _ _ (none_tested (codes "PTR") refl)
-    (none_row (n == 15) _ _ (none_tested (codes "MX") refl)
-    (none_row (n == 16) _ _ (none_tested (codes "TXT") refl)
-    (none_row (n == 28) _ _ (none_tested (codes "AAAA") refl)
-    (none_row (n == 33) _ _ (none_tested (codes "SRV") refl)
-    (none_row (n == 35) _ _ (none_tested (codes "NAPTR") refl) tt)))))))))
+none_class n = none_word (class_mnemonic n) (codes "CLASS") n (none_mnemonic classes refl n) (none_tested (codes "CLASS") refl)
 
 none_laid_out_row : (fields : Option (List Field)) (n : ℕ) → RowHasNoFeed (laid_out_mnemonic fields n)
 none_laid_out_row None n = tt
-none_laid_out_row (Some fields) n = none_kind_row n
+none_laid_out_row (Some fields) n = none_mnemonic type_names refl n
 
 none_kind : (class n : ℕ) → HasNoFeed (kind_text class n)
 none_kind class n = none_word (laid_out_mnemonic (layout class n) n) (codes "TYPE") n (none_laid_out_row (layout class n) n) (none_tested (codes "TYPE") refl)

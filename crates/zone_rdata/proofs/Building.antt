@@ -14,7 +14,8 @@ use Rattle.zone_rdata.specs.Layout.{AreLaidOut, StringsLast, layout}
 use Rattle.zone_rdata.specs.Reading.{item_field}
 use Rattle.zone_rdata.specs.Strings.{IsString}
 use Rattle.zone_rdata.specs.Record.{Data, IsRdata}
-use Rattle.zone_rdata.proofs.Fields.{AreFor, laid_out, table_row, values_back}
+use Rattle.zone_rdata.proofs.Fields.{AreFor, laid_out, values_back}
+use Rattle.zone_rdata.proofs.Tables.{table_row}
 
 -- ---- the parts that are held
 length-values_of : (row : List Field) (octets : List ℕ) → length (values_of row octets) ≡ length row

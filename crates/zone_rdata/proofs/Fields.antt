@@ -1,5 +1,5 @@
 -- Octets of the values of a layout hold those values.
-use Rattle.std.proofs.Common.{◌≡◌, ◌≢◌, ℕ, ◌^◌, ◌<◌, ◌≤◌, List, [], ◌∷◌, ◌++◌, length, take, drop, map, refl, sym, ap, ◌∙◌, subst, arith, length-append, Bool, true, false, cond, Option, Some, None, ◌==◌, ◌&&◌, inl, inr}
+use Rattle.std.proofs.Common.{◌≡◌, ℕ, ◌^◌, ◌<◌, ◌≤◌, List, [], ◌∷◌, ◌++◌, length, take, drop, map, refl, sym, ap, ◌∙◌, subst, arith, length-append, Bool, true, false, Option, Some, None}
 use Rattle.std.specs.Prelude.{if◌then◌else◌, MatchOption}
 use Rattle.std.specs.Int.{w16, w32, to_be_bytes, from_be_bytes}
 use Rattle.std.specs.List.{flat_map, AllByRecursion}
@@ -23,6 +23,7 @@ use Rattle.zone_rdata.proofs.StringFields.{strings_back}
 use Rattle.zone_rdata.proofs.StringSteps.{AllByRecursion-append}
 use Rattle.zone_rdata.proofs.Names.{name_back}
 use Rattle.zone_rdata.proofs.SentLengths.{uncompressed_length}
+use Rattle.zone_rdata.proofs.Tables.{table_row}
 
 number_back : (n : ℕ) (rest : List ℕ) → n < 2 ^ 32 → from_be_bytes w32 (take 4 (to_be_bytes w32 n ++ rest)) ≡ n
 number_back n rest short = ap (from_be_bytes w32) (take_at (to_be_bytes w32 n) rest 4 refl) ∙ from_be_bytes-to_be_bytes_4 n short
@@ -122,33 +123,6 @@ one_each_by false row items values ends h = record { own = values; held = h; sam
 
 one_each : (row : List Field) (items : List RawItem) (values : List FieldValue) → HoldEach (item_fields row items) values → OneEach row values
 one_each row items values h = one_each_by (ends_with_strings row) row items values refl h
-
--- what every layout of the table is
-table_step : (b : Bool) (x y : Option (List Field)) (row : List Field) → cond b x y ≡ Some row → (x ≡ Some row → IsLayout row) → (y ≡ Some row → IsLayout row) → IsLayout row
-table_step true x y row e f g = f e
-table_step false x y row e f g = g e
-
-is_row : (a b : List Field) → IsLayout a → Some a ≡ Some b → IsLayout b
-is_row a b h e = let is : a ≡ b = cc in subst IsLayout is h
-
-abbrev IsOneName : IsLayout (fields.Name ∷ [])
-IsOneName = record { few = omega arith; last = tt; sized = (tt, tt) }
-
-other : (f : Field) → (f ≡ fields.Strings → ⊥) → f ≢ fields.Strings
-other f h = h
-
-pub table_row : (class kind : ℕ) (row : List Field) → layout class kind ≡ Some row → IsLayout row
-table_row class kind row e =
-    table_step (kind == 1 && class == 1) _ _ row e (is_row _ row (record { few = omega arith; last = tt; sized = (inl refl, tt) })) (λ e.
-    table_step (kind == 2) _ _ row e (is_row _ row IsOneName) (λ e.
-    table_step (kind == 5) _ _ row e (is_row _ row IsOneName) (λ e.
-    table_step (kind == 6) _ _ row e (is_row _ row (record { few = omega arith; last = (λ h. cc, (λ h. cc, (λ h. cc, (λ h. cc, (λ h. cc, (λ h. cc, tt)))))); sized = (tt, (tt, (tt, (tt, (tt, (tt, (tt, tt))))))) })) (λ e.
-    table_step (kind == 12) _ _ row e (is_row _ row IsOneName) (λ e.
-    table_step (kind == 15) _ _ row e (is_row _ row (record { few = omega arith; last = (λ h. cc, tt); sized = (tt, (tt, tt)) })) (λ e.
-    table_step (kind == 16) _ _ row e (is_row _ row (record { few = omega arith; last = tt; sized = (tt, tt) })) (λ e.
-    table_step (kind == 28 && class == 1) _ _ row e (is_row _ row (record { few = omega arith; last = tt; sized = (inr refl, tt) })) (λ e.
-    table_step (kind == 33) _ _ row e (is_row _ row (record { few = omega arith; last = (λ h. cc, (λ h. cc, (λ h. cc, tt))); sized = (tt, (tt, (tt, (tt, tt)))) })) (λ e.
-    table_step (kind == 35) _ _ row e (is_row _ row (record { few = omega arith; last = (λ h. cc, (λ h. cc, (λ h. cc, (λ h. cc, (λ h. cc, tt))))); sized = (tt, (tt, (tt, (tt, (tt, (tt, tt)))))) })) (λ e. absurd cc))))))))))
 
 -- octets that items spell for a layout are one value of it
 spelt_laid : (origin : List (List ℕ)) (row : List Field) (items : List RawItem) (octets : List ℕ) → StringsLast row → AreSpelt origin (item_fields row items) items octets → AreLaidOut row octets

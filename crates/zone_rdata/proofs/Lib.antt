@@ -1,3 +1,4 @@
+pub mod Tables
 pub mod Words
 pub mod Names
 pub mod Minima

@@ -1,17 +1,18 @@
 -- A word has one number at most, and a text one time.
-use Rattle.std.proofs.Common.{◌≡◌, ℕ, ◌<◌, ◌≤◌, Bool, true, false, List, ◌++◌, length, take, drop, codes, refl, sym, ap, ◌∙◌, subst, arith, cond, ◌==◌, if◌then◌else◌, Option, Some, bytes_eq, ◌⊎◌, inl, inr}
+use Rattle.std.proofs.Common.{◌≡◌, ℕ, ◌<◌, ◌≤◌, Bool, true, false, not, List, ◌++◌, length, take, drop, codes, refl, sym, ap, ◌∙◌, subst, arith, ◌==◌, Option, Some, None, bytes_eq, ◌⊎◌, inl, inr}
+use Rattle.std.specs.List.{find, list_all}
+use Rattle.std.specs.Option.{option_map}
 use Rattle.std.proofs.Math.Seq.{drop-append_seam}
-use Rattle.std.proofs.lemmas.Bool.{eqb-true}
-use Rattle.std.proofs.lemmas.List.{map-append, length-map}
+use Rattle.std.proofs.lemmas.Bool.{eqb-true, not-true, false≢true}
+use Rattle.std.proofs.lemmas.List.{map-append, length-map, take_at}
+use Rattle.std.proofs.lemmas.Slice.Eq.{bytes_eq-Decides}
 use Rattle.zone_name.specs.Name.{folded_octet, folded_label}
 use Rattle.zone_rdata.specs.Number.{decimal_value}
-use Rattle.zone_rdata.specs.Words.{IsKind, IsMnemonic, IsNumbered, IsClassWord, class_named, class_numbered, IsKindWord, kind_named, kind_numbered, class_mnemonic, kind_mnemonic, IsWordFault, nameless, beyond, for_queries}
+use Rattle.zone_rdata.specs.Table.{Named, classes, type_names, number_among}
+use Rattle.zone_rdata.specs.Words.{IsKind, IsMnemonic, IsNumbered, IsWordAmong, by_mnemonic, by_number, IsClassWord, IsKindWord, IsWordFault, nameless, beyond, for_queries}
 use Rattle.zone_rdata.specs.declared.fault.Fault.{Fault}
 use Rattle.zone_rdata.specs.declared.fault.Fault.TheVariants.{UnknownType, MetaType}
-
-chosen : (b : Bool) (x : List ℕ) (y : Option (List ℕ)) (m : List ℕ) (P : Type 0) → cond b (Some x) y ≡ Some m → (b ≡ true → x ≡ m → P) → (y ≡ Some m → P) → P
-chosen true x y m P e f g = f refl cc
-chosen false x y m P e f g = g e
+use Rattle.zone_rdata.proofs.Tables.{each_mnemonic}
 
 -- a name and a number right behind it
 
@@ -28,93 +29,64 @@ numbered_once name word a b x y =
 numbered_front : (name word : List ℕ) (n : ℕ) (x : IsNumbered name word n) → folded_label word ≡ folded_label name ++ folded_label x.digits
 numbered_front name word n x = rw (x.parts, map-append, x.named) refl
 
--- classes
+-- a mnemonic of a table
 
-class_number : List ℕ → ℕ
-class_number word =
-    if bytes_eq word (codes "in") then 1
-    else if bytes_eq word (codes "cs") then 2
-    else if bytes_eq word (codes "ch") then 3
-    else if bytes_eq word (codes "hs") then 4
-    else 0
+is_number : ℕ → Option ℕ → Bool
+is_number n None = false
+is_number n (Some m) = m == n
 
-is_class_name : List ℕ → Bool
-is_class_name word = bytes_eq (take 5 word) (codes "class")
+-- each mnemonic is that of its number alone
+own_numbers : List Named → Bool
+own_numbers rows = list_all (λ row. is_number row.number (number_among rows row.mnemonic)) rows
 
-class_row : (n : ℕ) (name : List ℕ) → class_mnemonic n ≡ Some name → (class_number (folded_label name) ≡ n) × (is_class_name (folded_label name) ≡ false)
-unfolding class_number is_class_name
-class_row n name e =
-    let P : Type 0 = (class_number (folded_label name) ≡ n) × (is_class_name (folded_label name) ≡ false) in
-    chosen (n == 1) _ _ name P e (λ t w. rw (← w, eqb-true n 1 t) (refl, refl)) (λ e.
-    chosen (n == 2) _ _ name P e (λ t w. rw (← w, eqb-true n 2 t) (refl, refl)) (λ e.
-    chosen (n == 3) _ _ name P e (λ t w. rw (← w, eqb-true n 3 t) (refl, refl)) (λ e.
-    chosen (n == 4) _ _ name P e (λ t w. rw (← w, eqb-true n 4 t) (refl, refl)) (λ e. absurd cc))))
+-- no mnemonic begins with the name
+unlike : List ℕ → List Named → Bool
+unlike name rows = list_all (λ row. not (bytes_eq (take (length name) (folded_label row.mnemonic)) (folded_label name))) rows
 
-class_number_of : (word : List ℕ) (n : ℕ) → IsMnemonic class_mnemonic word n → class_number (folded_label word) ≡ n
-class_number_of word n x = rw (x.same) ((class_row n x.name x.row).0)
+the_number : (n : ℕ) (found : Option ℕ) → is_number n found ≡ true → found ≡ Some n
+unfolding is_number
+the_number n None e = absurd (let t : ⊥ = cc in t)
+the_number n (Some m) e = ap Some (eqb-true m n e)
 
-class_named_or_numbered : (word : List ℕ) (a b : ℕ) → IsMnemonic class_mnemonic word a → IsNumbered (codes "CLASS") word b → ⊥
-unfolding is_class_name
-class_named_or_numbered word a b x y =
-    let named : is_class_name (folded_label word) ≡ false = rw (x.same) ((class_row a x.name x.row).1) in
-    let numbered : is_class_name (folded_label word) ≡ true = rw (numbered_front (codes "CLASS") word b y) refl in
-    absurd (let t : ⊥ = cc in t)
+mnemonic_number : (rows : List Named) → own_numbers rows ≡ true → (word : List ℕ) (n : ℕ) → IsMnemonic rows word n → number_among rows word ≡ Some n
+unfolding own_numbers
+mnemonic_number rows own word n x =
+    ap (λ w. option_map (λ row. row.number) (find (λ row. bytes_eq w (folded_label row.mnemonic)) rows)) x.same
+    ∙ the_number n (number_among rows x.name) (each_mnemonic (λ n name. is_number n (number_among rows name)) rows own n x.name x.row)
+
+mnemonic_once : (rows : List Named) → own_numbers rows ≡ true → (word : List ℕ) (a b : ℕ) → IsMnemonic rows word a → IsMnemonic rows word b → a ≡ b
+mnemonic_once rows own word a b x y =
+    let same : Some a ≡ Some b = sym (mnemonic_number rows own word a x) ∙ mnemonic_number rows own word b y in
+    cc
+
+mnemonic_or_numbered : (rows : List Named) (name : List ℕ) → unlike name rows ≡ true → (word : List ℕ) (a b : ℕ) → IsMnemonic rows word a → IsNumbered name word b → ⊥
+unfolding unlike
+mnemonic_or_numbered rows name apart word a b x y =
+    let other : bytes_eq (take (length name) (folded_label x.name)) (folded_label name) ≡ false = not-true _ (each_mnemonic (λ _ m. not (bytes_eq (take (length name) (folded_label m)) (folded_label name))) rows apart a x.name x.row) in
+    let front : take (length name) (folded_label x.name) ≡ folded_label name =
+    ap (take (length name)) (sym x.same ∙ numbered_front name word b y) ∙ take_at (folded_label name) (folded_label y.digits) (length name) (length-map name folded_octet) in
+    false≢true (sym other ∙ (bytes_eq-Decides (take (length name) (folded_label x.name)) (folded_label name)).1 front)
+
+-- a class's mnemonic finds its number
+pub class_number : (word : List ℕ) (n : ℕ) → IsMnemonic classes word n → number_among classes word ≡ Some n
+unfolding is_number own_numbers
+class_number = mnemonic_number classes refl
+
+-- words
+
+word_once : (rows : List Named) (name : List ℕ) → own_numbers rows ≡ true → unlike name rows ≡ true → (word : List ℕ) (a b : ℕ) → IsWordAmong rows name word a → IsWordAmong rows name word b → a ≡ b
+word_once rows name own apart word a b (by_mnemonic x) (by_mnemonic y) = mnemonic_once rows own word a b x y
+word_once rows name own apart word a b (by_mnemonic x) (by_number y) = absurd (mnemonic_or_numbered rows name apart word a b x y)
+word_once rows name own apart word a b (by_number x) (by_mnemonic y) = absurd (mnemonic_or_numbered rows name apart word b a y x)
+word_once rows name own apart word a b (by_number x) (by_number y) = numbered_once name word a b x y
 
 pub class_word_once : (word : List ℕ) (a b : ℕ) → IsClassWord word a → IsClassWord word b → a ≡ b
-class_word_once word a b (class_named x) (class_named y) = sym (class_number_of word a x) ∙ class_number_of word b y
-class_word_once word a b (class_named x) (class_numbered y) = absurd (class_named_or_numbered word a b x y)
-class_word_once word a b (class_numbered x) (class_named y) = absurd (class_named_or_numbered word b a y x)
-class_word_once word a b (class_numbered x) (class_numbered y) = numbered_once (codes "CLASS") word a b x y
-
--- types
-
-kind_number : List ℕ → ℕ
-kind_number word =
-    if bytes_eq word (codes "a") then 1
-    else if bytes_eq word (codes "ns") then 2
-    else if bytes_eq word (codes "cname") then 5
-    else if bytes_eq word (codes "soa") then 6
-    else if bytes_eq word (codes "ptr") then 12
-    else if bytes_eq word (codes "mx") then 15
-    else if bytes_eq word (codes "txt") then 16
-    else if bytes_eq word (codes "aaaa") then 28
-    else if bytes_eq word (codes "srv") then 33
-    else if bytes_eq word (codes "naptr") then 35
-    else 0
-
-is_type_name : List ℕ → Bool
-is_type_name word = bytes_eq (take 4 word) (codes "type")
-
-kind_row : (n : ℕ) (name : List ℕ) → kind_mnemonic n ≡ Some name → (kind_number (folded_label name) ≡ n) × (is_type_name (folded_label name) ≡ false)
-unfolding kind_number is_type_name
-kind_row n name e =
-    let P : Type 0 = (kind_number (folded_label name) ≡ n) × (is_type_name (folded_label name) ≡ false) in
-    chosen (n == 1) _ _ name P e (λ t w. rw (← w, eqb-true n 1 t) (refl, refl)) (λ e.
-    chosen (n == 2) _ _ name P e (λ t w. rw (← w, eqb-true n 2 t) (refl, refl)) (λ e.
-    chosen (n == 5) _ _ name P e (λ t w. rw (← w, eqb-true n 5 t) (refl, refl)) (λ e.
-    chosen (n == 6) _ _ name P e (λ t w. rw (← w, eqb-true n 6 t) (refl, refl)) (λ e.
-    chosen (n == 12) _ _ name P e (λ t w. rw (← w, eqb-true n 12 t) (refl, refl)) (λ e.
-    chosen (n == 15) _ _ name P e (λ t w. rw (← w, eqb-true n 15 t) (refl, refl)) (λ e.
-    chosen (n == 16) _ _ name P e (λ t w. rw (← w, eqb-true n 16 t) (refl, refl)) (λ e.
-    chosen (n == 28) _ _ name P e (λ t w. rw (← w, eqb-true n 28 t) (refl, refl)) (λ e.
-    chosen (n == 33) _ _ name P e (λ t w. rw (← w, eqb-true n 33 t) (refl, refl)) (λ e.
-    chosen (n == 35) _ _ name P e (λ t w. rw (← w, eqb-true n 35 t) (refl, refl)) (λ e. absurd cc))))))))))
-
-kind_number_of : (word : List ℕ) (n : ℕ) → IsMnemonic kind_mnemonic word n → kind_number (folded_label word) ≡ n
-kind_number_of word n x = rw (x.same) ((kind_row n x.name x.row).0)
-
-kind_named_or_numbered : (word : List ℕ) (a b : ℕ) → IsMnemonic kind_mnemonic word a → IsNumbered (codes "TYPE") word b → ⊥
-unfolding is_type_name
-kind_named_or_numbered word a b x y =
-    let named : is_type_name (folded_label word) ≡ false = rw (x.same) ((kind_row a x.name x.row).1) in
-    let numbered : is_type_name (folded_label word) ≡ true = rw (numbered_front (codes "TYPE") word b y) refl in
-    absurd (let t : ⊥ = cc in t)
+unfolding is_number own_numbers unlike
+class_word_once = word_once classes (codes "CLASS") refl refl
 
 pub kind_word_once : (word : List ℕ) (a b : ℕ) → IsKindWord word a → IsKindWord word b → a ≡ b
-kind_word_once word a b (kind_named x) (kind_named y) = sym (kind_number_of word a x) ∙ kind_number_of word b y
-kind_word_once word a b (kind_named x) (kind_numbered y) = absurd (kind_named_or_numbered word a b x y)
-kind_word_once word a b (kind_numbered x) (kind_named y) = absurd (kind_named_or_numbered word b a y x)
-kind_word_once word a b (kind_numbered x) (kind_numbered y) = numbered_once (codes "TYPE") word a b x y
+unfolding is_number own_numbers unlike
+kind_word_once = word_once type_names (codes "TYPE") refl refl
 
 pub kind_or_fault : (word : List ℕ) (n : ℕ) (fault : Fault) → IsKindWord word n → IsKind n → IsWordFault word fault → ⊥
 kind_or_fault word n fault x kind (nameless none) = none n x

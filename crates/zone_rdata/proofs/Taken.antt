@@ -5,7 +5,7 @@ use Rattle.zone_rdata.specs.declared.layout.Field.{Field}
 use Rattle.zone_rdata.specs.Field.{FieldValue, field_octets, octets_of, HoldEach}
 use Rattle.zone_rdata.specs.Layout.{StringsLast, layout}
 use Rattle.zone_rdata.specs.Uncompressed.{AreSent, IsUncompressed, BeginsWithValue, BeginsWithNone, AppendsValue}
-use Rattle.zone_rdata.proofs.Fields.{table_row}
+use Rattle.zone_rdata.proofs.Tables.{table_row}
 use Rattle.zone_rdata.proofs.Fronts.{value_once}
 
 -- octets that are a value for each field, one behind another, and their canonical octets

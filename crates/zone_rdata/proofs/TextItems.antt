@@ -22,7 +22,8 @@ use Rattle.zone_rdata.specs.Strings.{IsString, string_text}
 use Rattle.zone_rdata.specs.Text.{data_text, field_text, generic_text, laid_out_text}
 use Rattle.zone_rdata.specs.TextItems.{data_items, field_items, laid_out_items, string_item, written_item}
 use Rattle.zone_rdata.proofs.AddressLaws.{four_plain, four_printed, sixteen_plain, sixteen_printed}
-use Rattle.zone_rdata.proofs.Fields.{AreFor, table_row}
+use Rattle.zone_rdata.proofs.Fields.{AreFor}
+use Rattle.zone_rdata.proofs.Tables.{table_row}
 use Rattle.zone_rdata.proofs.GenericLaws.{decimal-is, printed-stated, printed-text}
 use Rattle.zone_rdata.proofs.StringLaws.{printed-spells}
 use Rattle.zone_rdata.proofs.Texts.{joined_more}

@@ -10,7 +10,7 @@ use Rattle.zone_rdata.specs.Field.{FieldValue, field_octets}
 use Rattle.zone_rdata.specs.Layout.{StringsLast, layout}
 use Rattle.zone_rdata.specs.Uncompressed.{IsUncompressed, BeginsWithSent, BeginsWithValue, BeginsWithNone, AppendsValue, AppendsFront, AreFramed}
 use Rattle.zone_rdata.proofs.AddressChoice.{Choice}
-use Rattle.zone_rdata.proofs.Fields.{table_row}
+use Rattle.zone_rdata.proofs.Tables.{table_row}
 use Rattle.zone_rdata.proofs.Fronts.{AreLow, Framed, framed_none, framed_more, framed_all, framed_empty, framed_short, appends_serial, appends_time, appends_two, appends_fixed, appends_string, appends_strings, appends_name, none_serial, none_time, none_two, none_fixed, none_string, none_nil, none_strings, none_name, value_once}
 use Rattle.zone_rdata.proofs.Sent.{AreSome, HasCut, cut_none, cut_more, cut_name, no_first, no_room, goes_on, name_by, some_behind, folded_some}
 use Rattle.zone_rdata.proofs.Taken.{Reads, to_reads, from_reads}

@@ -5,7 +5,8 @@ use Rattle.zone_rdata.specs.declared.layout.Field.{Field}
 use Rattle.zone_rdata.specs.declared.layout.Field.TheVariants.{Name, Serial, Time, U16, Octets, OneString, Strings}
 use Rattle.zone_rdata.specs.Field.{FieldValue, name, long, two_octets, fixed, string, field_octets, octets_of, values_of, Holds, HoldEach}
 use Rattle.zone_rdata.specs.Layout.{IsData, IsSized, layout}
-use Rattle.zone_rdata.proofs.Fields.{AreFor, laid_out, table_row, values_back}
+use Rattle.zone_rdata.proofs.Fields.{AreFor, laid_out, values_back}
+use Rattle.zone_rdata.proofs.Tables.{table_row}
 use Rattle.zone_rdata.proofs.StatedOctets.{low_values}
 
 pub held_data : (class kind : ℕ) (row : List Field) (values : List FieldValue) → layout class kind ≡ Some row → HoldEach row values → length (octets_of values) ≤ 65535 → IsData class kind (octets_of values)

@@ -1,13 +1,18 @@
 -- Words that are equal in any case of their letters.
-use Rattle.std.proofs.Common.{◌≡◌, ℕ, ◌<◌, ◌≤◌, Bool, true, false, List, [], ◌∷◌, map, refl, sym, ◌∙◌, arith, IsTrue, ◌↔◌, inl, inr, cond, Option, Some, None, get_or, min, subst, ◌==◌}
+use Rattle.std.proofs.Common.{◌≡◌, ℕ, ◌<◌, ◌≤◌, true, false, List, [], ◌∷◌, map, refl, sym, ap, ◌∙◌, arith, IsTrue, ◌↔◌, inl, inr, Option, Some, None, min, subst, bytes_eq, Bool}
 use Rattle.std.specs.Char.{to_ascii_lowercase}
+use Rattle.std.specs.List.{find}
+use Rattle.std.specs.Option.{option_map}
+use Rattle.std.specs.Prelude.{IfNone}
 use Rattle.std.proofs.lemmas.Bool.Decides.{nat_tests}
-use Rattle.std.proofs.lemmas.Bool.{eqb-true, cases_lt}
+use Rattle.std.proofs.lemmas.Bool.{cases_lt}
+use Rattle.std.proofs.lemmas.Slice.Eq.{bytes_eq-Decides}
 use Rattle.zone_name.specs.Name.{folded_octet, folded_label}
-use Rattle.zone_rdata.specs.Words.{IsClass, IsKind, IsMnemonic, IsNumbered, IsClassWord, class_named, class_numbered, IsKindWord, kind_named, kind_numbered, class_mnemonic, kind_mnemonic, IsWordFault, for_queries, beyond}
+use Rattle.zone_rdata.specs.Table.{Named, ascend}
+use Rattle.zone_rdata.specs.Words.{IsKind, IsNumbered, IsWordAmong, by_mnemonic, by_number, IsKindWord, IsWordFault, for_queries, beyond}
 use Rattle.zone_rdata.specs.declared.fault.Fault.{Fault}
 use Rattle.zone_rdata.specs.declared.fault.Fault.TheVariants.{UnknownType, MetaType}
-use Rattle.std.specs.Prelude.{IfNone, codes}
+use Rattle.zone_rdata.proofs.Tables.{find_mapped, row_is, no_row}
 
 lowercase_folds : (c : ℕ) → to_ascii_lowercase c ≡ folded_octet c
 lowercase_folds c = grind (arith, nat_tests)
@@ -23,57 +28,39 @@ same_word a b r e = (
   λ h. e.1 (lowercase_folds_all a ∙ h ∙ sym (lowercase_folds_all b)),
 )
 
-chosen : (b : Bool) (x y : Option (List ℕ)) (m : List ℕ) (P : Type 0) → cond b x y ≡ Some m → (b ≡ true → P) → (y ≡ Some m → P) → P
-chosen true x y m P e f g = f refl
-chosen false x y m P e f g = g e
+-- the test of two words
+pub same_test : (word name mnemonic : List ℕ) → name ≡ mnemonic → folded_label word ≡ folded_label name → bytes_eq (folded_label word) (folded_label mnemonic) ≡ true
+same_test word name mnemonic e same = (bytes_eq-Decides (folded_label word) (folded_label mnemonic)).1 (same ∙ ap folded_label e)
 
--- a type with a mnemonic stands in the list of known numbers
-abbrev pub known : List ℕ
-known = 1 ∷ 2 ∷ 5 ∷ 6 ∷ 12 ∷ 15 ∷ 16 ∷ 28 ∷ 33 ∷ 35 ∷ []
+test_by : (word mnemonic : List ℕ) (t : Bool) → bytes_eq (folded_label word) (folded_label mnemonic) ≡ t → (folded_label word ≡ folded_label mnemonic → ⊥) → t ≡ false
+test_by word mnemonic true e other = absurd (other ((bytes_eq-Decides (folded_label word) (folded_label mnemonic)).0 e))
+test_by word mnemonic false e other = refl
 
-pub mnemonic_known : (n : ℕ) (m : List ℕ) → kind_mnemonic n ≡ Some m → (k : ℕ) × ((k < 10) × (get_or known k 0 ≡ n))
-mnemonic_known n m e =
-    let P = (k : ℕ) × ((k < 10) × (get_or known k 0 ≡ n)) in
-    chosen (n == 1) _ _ m P e (λ t. (0, (omega arith, sym (eqb-true n 1 t)))) (λ e.
-    chosen (n == 2) _ _ m P e (λ t. (1, (omega arith, sym (eqb-true n 2 t)))) (λ e.
-    chosen (n == 5) _ _ m P e (λ t. (2, (omega arith, sym (eqb-true n 5 t)))) (λ e.
-    chosen (n == 6) _ _ m P e (λ t. (3, (omega arith, sym (eqb-true n 6 t)))) (λ e.
-    chosen (n == 12) _ _ m P e (λ t. (4, (omega arith, sym (eqb-true n 12 t)))) (λ e.
-    chosen (n == 15) _ _ m P e (λ t. (5, (omega arith, sym (eqb-true n 15 t)))) (λ e.
-    chosen (n == 16) _ _ m P e (λ t. (6, (omega arith, sym (eqb-true n 16 t)))) (λ e.
-    chosen (n == 28) _ _ m P e (λ t. (7, (omega arith, sym (eqb-true n 28 t)))) (λ e.
-    chosen (n == 33) _ _ m P e (λ t. (8, (omega arith, sym (eqb-true n 33 t)))) (λ e.
-    chosen (n == 35) _ _ m P e (λ t. (9, (omega arith, sym (eqb-true n 35 t)))) (λ e. absurd cc))))))))))
+pub other_test : (word name mnemonic : List ℕ) → name ≡ mnemonic → (folded_label word ≡ folded_label name → ⊥) → bytes_eq (folded_label word) (folded_label mnemonic) ≡ false
+other_test word name mnemonic e other = test_by word mnemonic (bytes_eq (folded_label word) (folded_label mnemonic)) refl (λ same. other (same ∙ ap folded_label (sym e)))
 
-pub none_known : (word : List ℕ) → ((k : ℕ) → k < 10 → IsMnemonic kind_mnemonic word (get_or known k 0) → ⊥) → (n : ℕ) → IsMnemonic kind_mnemonic word n → ⊥
-none_known word none n is =
-    let at = mnemonic_known n is.name is.row in
-    none at.0 at.1.0 (subst (IsMnemonic kind_mnemonic word) (sym at.1.1) is)
+-- ---- the number that a word stands for
+
+-- the row that a word finds is that of a number
+pub word_of_row : {R : Type 0} (names : R → Named) (rows : List R) (name word : List ℕ) (row : R) (n : ℕ) → ascend 0 (map names rows) ≡ true → Some row ≡ find (λ row. bytes_eq (folded_label word) (folded_label (names row).mnemonic)) rows → n ≡ (names row).number → n < 65536 → (m : ℕ) × (IsWordAmong (map names rows) name word m × (n ≡ min 4294967296 m))
+word_of_row names rows name word row n up e number short =
+    let found : find (λ row. bytes_eq (folded_label word) (folded_label row.mnemonic)) (map names rows) ≡ Some (names row) =
+    find_mapped names (λ row. bytes_eq (folded_label word) (folded_label row.mnemonic)) rows ∙ ap (option_map names) (sym e) in
+    ((names row).number, (by_mnemonic (row_is (map names rows) up word (names row) found), omega arith))
+
+-- a word that finds no row is that of a number behind the name, or none
+pub no_word : {R : Type 0} (names : R → Named) (rows : List R) (name word : List ℕ) → None ≡ find (λ row. bytes_eq (folded_label word) (folded_label (names row).mnemonic)) rows → ((n : ℕ) → IsNumbered name word n → ⊥) → (n : ℕ) → IsWordAmong (map names rows) name word n → ⊥
+no_word names rows name word e none n (by_mnemonic is) =
+    no_row (map names rows) word (find_mapped names (λ row. bytes_eq (folded_label word) (folded_label row.mnemonic)) rows ∙ ap (option_map names) (sym e)) n is
+no_word names rows name word e none n (by_number is) = none n is
 
 -- a capped number of 16 bits is the number itself
 pub uncapped : (n m : ℕ) → n ≡ min 4294967296 m → n < 65536 → m ≡ n
 uncapped n m e short = omega arith
 
-pub class_found : (word : List ℕ) (n : ℕ) → ((m : ℕ) × (IsClassWord word m × (n ≡ min 4294967296 m))) → (class : ℕ) → class ≡ n → class < 65536 → IsClassWord word class
-class_found word n found class e short = subst (IsClassWord word) (uncapped n found.0 found.1.1 (omega arith) ∙ sym e) found.1.0
-
-pub class_refused : (word : List ℕ) (n : ℕ) → ((m : ℕ) × (IsClassWord word m × (n ≡ min 4294967296 m))) → (IsClass n → ⊥) → (m : ℕ) × (IsClassWord word m × (IsClass m → ⊥))
-class_refused word n found refused = (found.0, (found.1.0, λ is. let e : found.0 ≡ n = let short = is.short in let h = found.1.1 in omega arith in refused (subst IsClass e is)))
-
-pub kind_found : (word : List ℕ) (n : ℕ) → ((m : ℕ) × (IsKindWord word m × (n ≡ min 4294967296 m))) → (kind : ℕ) → kind ≡ n → kind < 65536 → IsKindWord word kind
-kind_found word n found kind e short = subst (IsKindWord word) (uncapped n found.0 found.1.1 (omega arith) ∙ sym e) found.1.0
-
 pub none_weaker : (o : Option ℕ) (P Q : Type 0) → (P → Q) → IfNone o P → IfNone o Q
 none_weaker None P Q f p = f p
 none_weaker (Some n) P Q f p = tt
-
-pub class_none : (word : List ℕ) → ((n : ℕ) → IsMnemonic class_mnemonic word n → ⊥) → ((n : ℕ) → IsNumbered (codes "CLASS") word n → ⊥) → (n : ℕ) → IsClassWord word n → ⊥
-class_none word f g n (class_named h) = f n h
-class_none word f g n (class_numbered h) = g n h
-
-pub kind_none : (word : List ℕ) → ((n : ℕ) → IsMnemonic kind_mnemonic word n → ⊥) → ((n : ℕ) → IsNumbered (codes "TYPE") word n → ⊥) → (n : ℕ) → IsKindWord word n → ⊥
-kind_none word f g n (kind_named h) = f n h
-kind_none word f g n (kind_numbered h) = g n h
 
 pub kind_refused : (word : List ℕ) (n : ℕ) → ((m : ℕ) × (IsKindWord word m × (n ≡ min 4294967296 m))) → (fault : Fault) → (n < 65536 → fault ≡ MetaType) × (65536 ≤ n → fault ≡ UnknownType) × (IsKind n → ⊥) → IsWordFault word fault
 kind_refused word n found fault h = elim (cases_lt n 65536) [

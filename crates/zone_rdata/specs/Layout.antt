@@ -1,30 +1,24 @@
 -- The layouts of record data by class and type (RFC 1035 3.3), and the data that a record can have.
-use Rattle.std.specs.Prelude.{◌≡◌, ◌≢◌, ℕ, ◌<◌, ◌≤◌, List, [], ◌∷◌, length, ◌==◌, ◌&&◌, if◌then◌else◌, Option, Some, None, MatchOption, ⊤, ◌⊎◌}
-use Rattle.std.specs.List.{AllByRecursion}
+use Rattle.std.specs.Prelude.{◌≡◌, ◌≢◌, ℕ, ◌<◌, ◌≤◌, List, [], ◌∷◌, length, ◌==◌, ◌||◌, not, if◌then◌else◌, Option, Some, None, MatchOption, ⊤, ◌⊎◌}
+use Rattle.std.specs.List.{AllByRecursion, find}
 use Rattle.zone_rdata.specs.declared.layout.Field.{Field}
-use Rattle.zone_rdata.specs.declared.layout.Field.TheVariants.{Name, Serial, Time, U16, Octets, OneString, Strings}
+use Rattle.zone_rdata.specs.declared.layout.Field.TheVariants.{Octets, Strings}
 use Rattle.zone_rdata.specs.declared.layout.Layout.{Layout}
 use Rattle.zone_rdata.specs.Field.{HoldEach, values_of, octets_of}
+use Rattle.zone_rdata.specs.Table.{NamedType, types, in_class}
 
 -- the fields of a layout, in order
 abbrev pub fields_of : Layout → List Field
 fields_of l = l.fields.now
 
--- The table of layouts, a row for each type: NS 2, CNAME 5, SOA 6, PTR 12, MX 15, TXT 16, SRV 33 (RFC 2782) and
--- NAPTR 35 (RFC 3403 4.1) in every class, A 1 and AAAA 28 (RFC 3596 2.2) in class IN alone
+-- the fields of a row in a class
+abbrev pub fields_in : ℕ → Option NamedType → Option (List Field)
+fields_in class None = None
+fields_in class (Some row) = if not row.in_only || class == in_class then Some row.fields else None
+
+-- the layout of a type in a class, if it has one
 abbrev pub layout : ℕ → ℕ → Option (List Field)
-layout class kind =
-    if kind == 1 && class == 1 then Some (Octets 4 ∷ [])
-    else if kind == 2 then Some (Name ∷ [])
-    else if kind == 5 then Some (Name ∷ [])
-    else if kind == 6 then Some (Name ∷ Name ∷ Serial ∷ Time ∷ Time ∷ Time ∷ Time ∷ [])
-    else if kind == 12 then Some (Name ∷ [])
-    else if kind == 15 then Some (U16 ∷ Name ∷ [])
-    else if kind == 16 then Some (Strings ∷ [])
-    else if kind == 28 && class == 1 then Some (Octets 16 ∷ [])
-    else if kind == 33 then Some (U16 ∷ U16 ∷ U16 ∷ Name ∷ [])
-    else if kind == 35 then Some (U16 ∷ U16 ∷ OneString ∷ OneString ∷ OneString ∷ Name ∷ [])
-    else None
+layout class kind = fields_in class (find (λ row. kind == row.named.number) types)
 
 -- strings, which take all that is left, are no field but the last
 abbrev pub StringsLast : List Field → Type 0

@@ -7,6 +7,7 @@ pub mod Number
 pub mod Generic
 pub mod Field
 pub mod Uncompressed
+pub mod Table
 pub mod Layout
 pub mod Time
 pub mod Words

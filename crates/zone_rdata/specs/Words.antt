@@ -1,11 +1,12 @@
 -- The words of classes and types (RFC 1035 3.2.2, 3.2.4; RFC 3597 5), read in any case, and those that are printed.
-use Rattle.std.specs.Prelude.{◌≡◌, ◌≢◌, ℕ, ◌<◌, ◌≤◌, List, codes, ◌++◌, decimal, ◌==◌, ◌&&◌, ◌||◌, if◌then◌else◌, nat_le, Bool, false, Option, Some, None}
+use Rattle.std.specs.Prelude.{◌≡◌, ◌≢◌, ℕ, ◌<◌, ◌≤◌, List, codes, ◌++◌, decimal, ◌==◌, ◌&&◌, ◌||◌, nat_le, Bool, false, Option, Some, None}
 use Rattle.zone_name.specs.Name.{folded_label}
 use Rattle.zone_rdata.specs.declared.fault.Fault.{Fault}
 use Rattle.zone_rdata.specs.declared.fault.Fault.TheVariants.{UnknownType, MetaType}
 use Rattle.zone_rdata.specs.declared.layout.Field.{Field}
 use Rattle.zone_rdata.specs.Number.{IsDecimal}
 use Rattle.zone_rdata.specs.Layout.{layout}
+use Rattle.zone_rdata.specs.Table.{Named, classes, type_names, mnemonic_among}
 
 -- a class that can hold zone data: not 0, NONE 254, ANY 255 (RFC 6895 3.2)
 pub record IsClass (n : ℕ) : Type 0 where
@@ -31,45 +32,32 @@ pub record IsNumbered (name word : List ℕ) (n : ℕ) : Type 0 where
   pub named : folded_label front ≡ folded_label name
   pub number : IsDecimal digits n
 
--- the mnemonic of a class: IN, CS, CH or HS
+-- the mnemonic of a class
 abbrev pub class_mnemonic : ℕ → Option (List ℕ)
-class_mnemonic n =
-    if n == 1 then Some (codes "IN")
-    else if n == 2 then Some (codes "CS")
-    else if n == 3 then Some (codes "CH")
-    else if n == 4 then Some (codes "HS")
-    else None
+class_mnemonic n = mnemonic_among classes n
 
 -- the mnemonic of a type
 abbrev pub kind_mnemonic : ℕ → Option (List ℕ)
-kind_mnemonic n =
-    if n == 1 then Some (codes "A")
-    else if n == 2 then Some (codes "NS")
-    else if n == 5 then Some (codes "CNAME")
-    else if n == 6 then Some (codes "SOA")
-    else if n == 12 then Some (codes "PTR")
-    else if n == 15 then Some (codes "MX")
-    else if n == 16 then Some (codes "TXT")
-    else if n == 28 then Some (codes "AAAA")
-    else if n == 33 then Some (codes "SRV")
-    else if n == 35 then Some (codes "NAPTR")
-    else None
+kind_mnemonic n = mnemonic_among type_names n
 
 -- the word is the mnemonic of the number in any case
-pub record IsMnemonic (mnemonic : ℕ → Option (List ℕ)) (word : List ℕ) (n : ℕ) : Type 0 where
+pub record IsMnemonic (rows : List Named) (word : List ℕ) (n : ℕ) : Type 0 where
   pub name : List ℕ
-  pub row : mnemonic n ≡ Some name
+  pub row : mnemonic_among rows n ≡ Some name
   pub same : folded_label word ≡ folded_label name
 
--- the word of a class by its number, however great it is
-pub data IsClassWord (word : List ℕ) (n : ℕ) : Type 0 where
-  class_named : IsMnemonic class_mnemonic word n → IsClassWord word n
-  class_numbered : IsNumbered (codes "CLASS") word n → IsClassWord word n
+-- the word of a number, however great it is: its mnemonic, or a name with the number behind it
+pub data IsWordAmong (rows : List Named) (name word : List ℕ) (n : ℕ) : Type 0 where
+  by_mnemonic : IsMnemonic rows word n → IsWordAmong rows name word n
+  by_number : IsNumbered name word n → IsWordAmong rows name word n
 
--- the word of a type by its number, however great it is
-pub data IsKindWord (word : List ℕ) (n : ℕ) : Type 0 where
-  kind_named : IsMnemonic kind_mnemonic word n → IsKindWord word n
-  kind_numbered : IsNumbered (codes "TYPE") word n → IsKindWord word n
+-- the word of a class by its number
+abbrev pub IsClassWord : List ℕ → ℕ → Type 0
+IsClassWord = IsWordAmong classes (codes "CLASS")
+
+-- the word of a type by its number
+abbrev pub IsKindWord : List ℕ → ℕ → Type 0
+IsKindWord = IsWordAmong type_names (codes "TYPE")
 
 abbrev pub word_or_numbered : Option (List ℕ) → List ℕ → ℕ → List ℕ
 word_or_numbered None name n = name ++ decimal n

@@ -1,9 +1,9 @@
-ghost use Rattle.std.specs.Prelude.{[], ◌≡◌, ◌↔◌, ◌<◌, ℕ, IfSome, IfNone, IfOk, IfErr, OnOk, OnErr, Option, Some, None, option_copied, min};
-ghost use Rattle.zone_rdata.specs.Words.{IsClass, IsClassWord, IsMnemonic, class_mnemonic, class_text};
+ghost use Rattle.std.specs.Prelude.{[], ◌≡◌, ◌↔◌, ◌<◌, ℕ, IfSome, IfNone, IfOk, IfErr, OnOk, OnErr};
+ghost use Rattle.zone_rdata.specs.Words.{IsClass, IsClassWord, class_text};
 
 use crate::fault::Fault;
-use crate::number::CAP;
-use crate::word::{is_word, numbered, push_numbered};
+use crate::table::{CLASSES, mnemonic_of};
+use crate::word::{number_of_word, push_numbered};
 use std::marker::Model;
 use zone_name::Sink;
 
@@ -24,48 +24,6 @@ impl Model for Class {
     ghost invariant = { λ c. IsClass c.number };
 
     ghost inverse = { λ n. record { number = n } };
-}
-
-/// The mnemonic of a class.
-fn mnemonic(number: u16) -> Option<&'static [u8]>
-    ensures { option_copied result ≡ class_mnemonic number }
-{
-    match number {
-        1 => Some(b"IN"),
-        2 => Some(b"CS"),
-        3 => Some(b"CH"),
-        4 => Some(b"HS"),
-        _ => None,
-    }
-}
-
-/// The number of a class's mnemonic.
-fn number_of_mnemonic(word: &[u8]) -> Option<u16>
-    ensures found { IfSome result (IsMnemonic class_mnemonic word.now) }
-    ensures none { IfNone result ((n : ℕ) → IsMnemonic class_mnemonic word.now n → ⊥) }
-{
-    if is_word(word, b"IN") {
-        Some(1)
-    } else if is_word(word, b"CS") {
-        Some(2)
-    } else if is_word(word, b"CH") {
-        Some(3)
-    } else if is_word(word, b"HS") {
-        Some(4)
-    } else {
-        None
-    }
-}
-
-/// The number that a class's word stands for, at most `CAP`. `None`: it is no such word.
-fn number_of_word(word: &[u8]) -> Option<u64>
-    ensures found { IfSome result (λ n. (m : ℕ) × (IsClassWord word.now m × (n ≡ min CAP m))) }
-    ensures none { IfNone result ((n : ℕ) → IsClassWord word.now n → ⊥) }
-{
-    match number_of_mnemonic(word) {
-        Some(number) => Some(u64::from(number)),
-        None => numbered(b"CLASS", word),
-    }
 }
 
 impl Class {
@@ -94,7 +52,7 @@ impl Class {
         ensures none { IfOk result (λ class. IfNone class ((n : ℕ) → IsClassWord word.now n → ⊥)) }
         ensures err { IfErr result (λ fault. (fault ≡ Fault.BadClass) × ((n : ℕ) × (IsClassWord word.now n × (IsClass n → ⊥)))) }
     {
-        match number_of_word(word) {
+        match number_of_word(CLASSES, b"CLASS", word) {
             Some(number) => Ok(Some(Class::from_number(number)?)),
             None => Ok(None),
         }
@@ -124,7 +82,7 @@ impl Class {
         ensures ok { OnOk result (S.takes out.old (class_text self) out.new) }
         ensures err { OnErr result (S.takes out.old [] out.new) }
     {
-        match mnemonic(self.number) {
+        match mnemonic_of(CLASSES, self.number) {
             Some(word) => out.push(word),
             None => push_numbered(b"CLASS", self.number, out),
         }

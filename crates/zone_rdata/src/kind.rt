@@ -1,12 +1,12 @@
-ghost use Rattle.std.specs.Prelude.{[], ◌≡◌, ◌↔◌, ◌<◌, ℕ, IsTrue, IfSome, IfNone, IfOk, IfErr, OnOk, OnErr, Option, Some, None, option_copied, ◌≤◌, min};
-ghost use Rattle.zone_rdata.specs.Words.{laid_out_mnemonic, IsKind, IsKindWord, IsMnemonic, kind_mnemonic, kind_text, is_meta, IsWordFault};
+ghost use Rattle.std.specs.Prelude.{[], ◌≡◌, ◌↔◌, ◌<◌, ℕ, IsTrue, IfSome, IfNone, IfOk, IfErr, OnOk, OnErr, option_copied, ◌≤◌};
+ghost use Rattle.zone_rdata.specs.Words.{laid_out_mnemonic, IsKind, IsKindWord, kind_text, IsWordFault};
 ghost use Rattle.zone_rdata.specs.Layout.{layout};
 
 use crate::class::Class;
 use crate::fault::Fault;
 use crate::layout::layout_of;
-use crate::number::CAP;
-use crate::word::{is_word, numbered, push_numbered};
+use crate::table::{TYPES, mnemonic_of};
+use crate::word::{number_of_word, push_numbered};
 use std::marker::Model;
 use zone_name::Sink;
 
@@ -31,54 +31,6 @@ impl Model for Kind {
 
 /// The number of SOA (RFC 1035 3.3.13).
 const SOA: u16 = 6;
-
-/// The numbers of the types that have a mnemonic.
-static KNOWN: [u16; 10] = [1, 2, 5, 6, 12, 15, 16, 28, 33, 35];
-
-/// The mnemonic of a type.
-fn mnemonic(number: u16) -> Option<&'static [u8]>
-    ensures { option_copied result ≡ kind_mnemonic number }
-{
-    match number {
-        1 => Some(b"A"),
-        2 => Some(b"NS"),
-        5 => Some(b"CNAME"),
-        6 => Some(b"SOA"),
-        12 => Some(b"PTR"),
-        15 => Some(b"MX"),
-        16 => Some(b"TXT"),
-        28 => Some(b"AAAA"),
-        33 => Some(b"SRV"),
-        35 => Some(b"NAPTR"),
-        _ => None,
-    }
-}
-
-/// The number of a type's mnemonic.
-fn number_of_mnemonic(word: &[u8]) -> Option<u16>
-    ensures found { IfSome result (IsMnemonic kind_mnemonic word.now) }
-    ensures none { IfNone result ((n : ℕ) → IsMnemonic kind_mnemonic word.now n → ⊥) }
-{
-    for number in &KNOWN {
-        if let Some(name) = mnemonic(*number)
-            && is_word(word, name)
-        {
-            return Some(*number);
-        }
-    }
-    None
-}
-
-/// The number that a type's word stands for, at most `CAP`. `None`: it is no such word.
-fn number_of_word(word: &[u8]) -> Option<u64>
-    ensures found { IfSome result (λ n. (m : ℕ) × (IsKindWord word.now m × (n ≡ min CAP m))) }
-    ensures none { IfNone result ((n : ℕ) → IsKindWord word.now n → ⊥) }
-{
-    match number_of_mnemonic(word) {
-        Some(number) => Some(u64::from(number)),
-        None => numbered(b"TYPE", word),
-    }
-}
 
 impl Kind {
     /// The type of a number (RFC 6895 3.1).
@@ -107,7 +59,7 @@ impl Kind {
         ensures found { IfOk result (IsKindWord word.now) }
         ensures err { IfErr result (IsWordFault word.now) }
     {
-        match number_of_word(word) {
+        match number_of_word(TYPES, b"TYPE", word) {
             Some(number) => Kind::from_number(number),
             None => Err(Fault::UnknownType),
         }
@@ -139,7 +91,7 @@ impl Kind {
     fn printed_mnemonic(self, class: Class) -> Option<&'static [u8]>
         ensures { option_copied result ≡ laid_out_mnemonic (layout class self) self }
     {
-        layout_of(class, self).and_then(|_| mnemonic(self.number))
+        layout_of(class, self).and_then(|_| mnemonic_of(TYPES, self.number))
     }
 
     /// Appends the word that is printed in the class.

@@ -5,6 +5,7 @@ ghost use Rattle.zone_rdata.specs.Spelling.{ends_with_strings, is_strings};
 
 use crate::class::Class;
 use crate::kind::Kind;
+use crate::table::{TYPES, row_of};
 
 /// A field of record data (RFC 1035 3.3).
 #[derive(Clone, Copy, Debug, PartialEq, Eq)]
@@ -42,52 +43,15 @@ pub struct Layout {
 /// The number of class IN (RFC 1035 3.2.4).
 const IN: u16 = 1;
 
-static A: [Field; 1] = [Field::Octets(4)];
-
-static NAME: [Field; 1] = [Field::Name];
-
-static SOA: [Field; 7] = [
-    Field::Name,
-    Field::Name,
-    Field::Serial,
-    Field::Time,
-    Field::Time,
-    Field::Time,
-    Field::Time,
-];
-
-static MX: [Field; 2] = [Field::U16, Field::Name];
-
-static TXT: [Field; 1] = [Field::Strings];
-
-static AAAA: [Field; 1] = [Field::Octets(16)];
-
-static SRV: [Field; 4] = [Field::U16, Field::U16, Field::U16, Field::Name];
-
-static NAPTR: [Field; 6] = [
-    Field::U16,
-    Field::U16,
-    Field::OneString,
-    Field::OneString,
-    Field::OneString,
-    Field::Name,
-];
-
 /// The layout of a type's data in a class. `None`: the data is opaque.
 pub fn layout_of(class: Class, kind: Kind) -> Option<Layout>
     ensures { option_map fields_of result ≡ layout class kind }
 {
-    match kind.number() {
-        1 if class.number() == IN => Some(Layout { fields: &A }),
-        2 | 5 | 12 => Some(Layout { fields: &NAME }),
-        6 => Some(Layout { fields: &SOA }),
-        15 => Some(Layout { fields: &MX }),
-        16 => Some(Layout { fields: &TXT }),
-        28 if class.number() == IN => Some(Layout { fields: &AAAA }),
-        33 => Some(Layout { fields: &SRV }),
-        35 => Some(Layout { fields: &NAPTR }),
-        _ => None,
+    let row = row_of(TYPES, kind.number())?;
+    if row.in_only && class.number() != IN {
+        return None;
     }
+    Some(Layout { fields: row.fields })
 }
 
 impl Layout {

@@ -20,6 +20,7 @@ mod reading;
 mod record;
 mod source;
 mod string;
+mod table;
 mod time;
 mod uncompressed;
 mod word;

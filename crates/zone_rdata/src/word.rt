@@ -1,8 +1,11 @@
-ghost use Rattle.std.specs.Prelude.{◌≡◌, ◌↔◌, ◌++◌, ◌≤◌, ℕ, [], length, min, IsTrue, IfSome, IfNone, OnOk, OnErr, decimal};
+ghost use Rattle.std.specs.Prelude.{◌≡◌, ◌↔◌, ◌++◌, ◌≤◌, ℕ, [], bytes_eq, length, map, min, true, IsTrue, IfSome, IfNone, OnOk, OnErr, option_copied, decimal};
+ghost use Rattle.std.specs.List.{find};
 ghost use Rattle.zone_name.specs.Name.{folded_label};
-ghost use Rattle.zone_rdata.specs.Words.{IsNumbered};
+ghost use Rattle.zone_rdata.specs.Table.{ascend};
+ghost use Rattle.zone_rdata.specs.Words.{IsNumbered, IsWordAmong};
 
 use crate::number::{CAP, decimal_of};
+use crate::table::Row;
 use arrayvec::ArrayVec;
 use itoa::Buffer;
 use zone_name::Sink;
@@ -27,6 +30,31 @@ pub(crate) fn numbered(name: &[u8], word: &[u8]) -> Option<u64>
         return None;
     }
     decimal_of(digits)
+}
+
+/// The row whose mnemonic a word is, in any case.
+fn row_named<'r, R: Row>(rows: &'r [R], word: &[u8]) -> Option<&'r R>
+    ensures { option_copied result ≡ find (λ row. bytes_eq (folded_label word.now) (folded_label (R.names row).mnemonic)) rows.now }
+{
+    for row in rows {
+        if is_word(word, row.mnemonic()) {
+            return Some(row);
+        }
+    }
+    None
+}
+
+/// The number that a word stands for in any case, at most `CAP`: that of a mnemonic of the rows, or the one right behind
+/// the name. `None`: it is no such word.
+pub(crate) fn number_of_word<R: Row>(rows: &[R], name: &[u8], word: &[u8]) -> Option<u64>
+    requires { ascend 0 (map R.names rows.now) ≡ true }
+    ensures found { IfSome result (λ n. (m : ℕ) × (IsWordAmong (map R.names rows.now) name.now word.now m × (n ≡ min CAP m))) }
+    ensures none { IfNone result ((n : ℕ) → IsWordAmong (map R.names rows.now) name.now word.now n → ⊥) }
+{
+    match row_named(rows, word) {
+        Some(row) => Some(u64::from(row.number())),
+        None => numbered(name, word),
+    }
 }
 
 /// The octets of the longest word with its number, `CLASS65535`.

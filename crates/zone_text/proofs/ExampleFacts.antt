@@ -11,7 +11,7 @@ use Rattle.zone_rdata.specs.Number as number
 use Rattle.zone_rdata.specs.Record.{IsRecord}
 use Rattle.zone_rdata.specs.Spelling.{RawItem, bare, States, in_words}
 use Rattle.zone_rdata.specs.Minimum.{minimum}
-use Rattle.zone_rdata.specs.Words.{IsClass, IsClassWord, class_named, class_numbered, IsKind, IsKindWord, kind_named, kind_numbered, IsWordFault, beyond, for_queries}
+use Rattle.zone_rdata.specs.Words.{IsClass, IsClassWord, by_mnemonic, by_number, IsKind, IsKindWord, IsWordFault, beyond, for_queries}
 use Rattle.zone_rdata.specs.declared.fault.Fault.TheVariants.{UnknownType, MetaType}
 use Rattle.zone_text.specs.Entries.{Entry}
 use Rattle.zone_text.specs.Forms.{Parts, parts_of, form_of, Word, begins_with_digit}
@@ -62,10 +62,10 @@ pub three_hundred : IsTime (codes "300") 300
 three_hundred = number.plain (record { some = lit< tt; digits = (refl, (refl, (refl, tt))); value = refl })
 
 pub is_ns : IsKindWord (codes "NS") 2
-is_ns = kind_named (record { name = codes "NS"; row = refl; same = refl })
+is_ns = by_mnemonic (record { name = codes "NS"; row = refl; same = refl })
 
 pub is_ch : IsClassWord (codes "CH") 3
-is_ch = class_named (record { name = codes "CH"; row = refl; same = refl })
+is_ch = by_mnemonic (record { name = codes "CH"; row = refl; same = refl })
 
 pub in_class : IsClass 1
 in_class = record { short = lit< tt; not_zero = omega arith; not_none = omega arith; not_any = omega arith }
@@ -140,13 +140,13 @@ pub empty_label_between : FirstFault (Some x) (codes "a..b") EmptyLabel
 empty_label_between = within EmptyLabel (empty_label ((plain 97 ∷ []) ∷ []) (codes ".b") (record { labels = (record { some = lit< tt; each = ((omega arith, omega arith), tt) }, tt); short = (lit≤ tt, tt); octets = tt; room = lit≤ tt; parts = refl }) (inr (codes "b", refl)) (λ e. absurd (let t : ⊥ = cc in t)) (λ e. absurd (let t : ⊥ = cc in t)))
 
 pub class_zero_word : IsClassWord (codes "CLASS0") 0
-class_zero_word = class_numbered (record { front = codes "CLASS"; digits = codes "0"; parts = refl; named = refl; number = record { some = lit< tt; digits = (refl, tt); value = refl } })
+class_zero_word = by_number (record { front = codes "CLASS"; digits = codes "0"; parts = refl; named = refl; number = record { some = lit< tt; digits = (refl, tt); value = refl } })
 
 pub type_65536 : IsWordFault (codes "TYPE65536") UnknownType
-type_65536 = beyond 65536 (kind_numbered (record { front = codes "TYPE"; digits = codes "65536"; parts = refl; named = refl; number = record { some = lit< tt; digits = (refl, (refl, (refl, (refl, (refl, tt))))); value = refl } })) (lit≤ tt)
+type_65536 = beyond 65536 (by_number (record { front = codes "TYPE"; digits = codes "65536"; parts = refl; named = refl; number = record { some = lit< tt; digits = (refl, (refl, (refl, (refl, (refl, tt))))); value = refl } })) (lit≤ tt)
 
 pub type_41 : IsWordFault (codes "TYPE41") MetaType
-type_41 = for_queries 41 (kind_numbered (record { front = codes "TYPE"; digits = codes "41"; parts = refl; named = refl; number = record { some = lit< tt; digits = (refl, (refl, tt)); value = refl } })) (lit< tt) (λ is. let stored = is.stored in absurd (let t : ⊥ = cc in t))
+type_41 = for_queries 41 (by_number (record { front = codes "TYPE"; digits = codes "41"; parts = refl; named = refl; number = record { some = lit< tt; digits = (refl, (refl, tt)); value = refl } })) (lit< tt) (λ is. let stored = is.stored in absurd (let t : ⊥ = cc in t))
 
 no_minimum : (class kind : ℕ) (octets : List ℕ) (seconds : ℕ) → kind ≡ 2 → minimum (record { class = class; kind = kind; octets = octets }) ≡ Some seconds → ⊥
 no_minimum class kind octets seconds is field =
@@ -160,5 +160,5 @@ ns_has_no_minimum once before entry words items seconds split has =
     let parts : has.has.parts ≡ record { words = words; rest = bare (codes "NS") ∷ items } = cc in
     let rest : bare has.has.word ∷ has.head.items ≡ bare (codes "NS") ∷ items = sym has.has.rest ∙ ap (λ (p : Parts). p.rest) parts in
     let word : has.has.word ≡ codes "NS" = cc in
-    let kind : has.head.kind ≡ 2 = once (codes "NS") has.head.kind 2 (rw (← word) (has.has.named)) is_ns in
+    let kind : has.head.kind ≡ 2 = once (codes "NS") has.head.kind 2 (subst (λ w. IsKindWord w has.head.kind) word has.has.named) is_ns in
     no_minimum has.head.class has.head.kind has.octets seconds kind has.field

@@ -10,7 +10,7 @@ use Rattle.zone_rdata.specs.Minimum.{minimum}
 use Rattle.zone_rdata.specs.Number.{IsTime, IsDecimal, decimal_value, plain}
 use Rattle.zone_rdata.specs.Record.{IsRecord}
 use Rattle.zone_rdata.specs.Spelling.{RawItem, bare, States, in_words, of_four}
-use Rattle.zone_rdata.specs.Words.{IsKind, IsKindWord, kind_named}
+use Rattle.zone_rdata.specs.Words.{IsKind, IsKindWord, by_mnemonic}
 use Rattle.zone_text.specs.Entries.{Entry}
 use Rattle.zone_text.specs.Forms.{parts_of, form_of, Word}
 use Rattle.zone_text.specs.Inherited.{IsOrigin, IsOwner, HasClass}
@@ -34,7 +34,7 @@ pub five : IsTime (codes "5") 5
 five = plain (digit 53 5 refl refl)
 
 is_soa : IsKindWord (codes "SOA") 6
-is_soa = kind_named (record { name = codes "SOA"; row = refl; same = refl })
+is_soa = by_mnemonic (record { name = codes "SOA"; row = refl; same = refl })
 
 soa_kind : IsKind 6
 soa_kind = record { short = lit< tt; stored = refl }
@@ -136,7 +136,7 @@ address_states = record {
 }
 
 is_a : IsKindWord (codes "A") 1
-is_a = kind_named (record { name = codes "A"; row = refl; same = refl })
+is_a = by_mnemonic (record { name = codes "A"; row = refl; same = refl })
 
 address_kind : IsKind 1
 address_kind = record { short = lit< tt; stored = refl }

@@ -1,8 +1,9 @@
 -- The forms of an entry (RFC 1035 5.1; `$TTL` RFC 2308 4): blank, a directive or a record, and a record's parts.
-use Rattle.std.specs.Prelude.{ℕ, List, [], ◌∷◌, ◌++◌, codes, take, drop, ◌==◌, ◌&&◌, ◌||◌, if◌then◌else◌, Bool, false, bytes_eq, Option, Some, None}
+use Rattle.std.specs.Prelude.{ℕ, List, [], ◌∷◌, ◌++◌, codes, take, drop, ◌==◌, ◌&&◌, ◌||◌, if◌then◌else◌, Bool, false, bytes_eq, Option, Some, None, is_some}
 use Rattle.zone_name.specs.Name.{folded_label}
 use Rattle.zone_name.specs.Spelling.{is_digit}
 use Rattle.zone_rdata.specs.Spelling.{RawItem, bare, quoted}
+use Rattle.zone_rdata.specs.Table.{classes, number_among}
 use Rattle.zone_text.specs.Pieces.{is_blank}
 use Rattle.zone_text.specs.Entries.{Entry}
 
@@ -47,11 +48,10 @@ are_digits [] = false
 are_digits (c ∷ []) = is_digit c
 are_digits (c ∷ d ∷ text) = is_digit c && are_digits (d ∷ text)
 
--- IN, CS, CH, HS (RFC 1035 3.2.4), or CLASS and digits (RFC 3597 5), in any case
+-- the mnemonic of a class, or CLASS and digits (RFC 3597 5), in any case
 abbrev pub is_class_word : List ℕ → Bool
 is_class_word text =
-    let word = folded_label text in
-    bytes_eq word (codes "in") || bytes_eq word (codes "cs") || bytes_eq word (codes "ch") || bytes_eq word (codes "hs") || (bytes_eq (take 5 word) (codes "class") && are_digits (drop 5 text))
+    is_some (number_among classes text) || (bytes_eq (take 5 (folded_label text)) (codes "class") && are_digits (drop 5 text))
 
 -- a word before the type
 pub data Word : Type 0 where

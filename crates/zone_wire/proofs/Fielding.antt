@@ -1,6 +1,6 @@
 -- The data of a record is read as the values that stand there.
-use Rattle.std.proofs.Common.{◌≡◌, ◌≢◌, ℕ, zero, suc, ◌+◌, ◌-◌, ◌≤◌, ◌^◌, ◌<◌, List, [], ◌∷◌, ◌++◌, length, refl, ap, sym, ◌∙◌, subst, arith, nat_lt, nat_eq, Bool, true, false, get_or-drop, length-append}
-use Rattle.std.specs.Prelude.{get_or, slice_index, ◌==◌, ◌&&◌, if◌then◌else◌, take, drop, Option, Some, None, MatchOption, Result, Ok}
+use Rattle.std.proofs.Common.{◌≡◌, ℕ, zero, suc, ◌+◌, ◌-◌, ◌≤◌, ◌^◌, ◌<◌, List, [], ◌∷◌, ◌++◌, length, refl, ap, sym, ◌∙◌, arith, nat_lt, nat_eq, get_or-drop, length-append}
+use Rattle.std.specs.Prelude.{get_or, slice_index, take, drop, Option, Some, None, MatchOption, Result, Ok}
 use Rattle.std.specs.Int.{w16, w32, to_be_bytes, from_be_bytes}
 use Rattle.std.specs.Cmp.Lexicographic.{pointwise, bytes_decides}
 use Rattle.std.specs.List.{flat_map}
@@ -13,6 +13,7 @@ use Rattle.zone_rdata.specs.Layout.{layout, StringsLast}
 use Rattle.zone_rdata.specs.declared.fault.Fault.{Fault}
 use Rattle.zone_rdata.specs.declared.layout.Field.{Field}
 use Rattle.zone_rdata.specs.declared.layout.Field.TheVariants.{Name, Serial, Time, U16, Octets, OneString, Strings}
+use Rattle.zone_rdata.proofs.Tables.{table_row}
 use Rattle.zone_wire.specs.Data.{name_before, sized_before, strings_before, value_at, values_at, data_at}
 use Rattle.zone_wire.specs.Message.{RecordAt}
 use Rattle.zone_wire.specs.Name.{Found}
@@ -118,44 +119,7 @@ layout_reads : (octets : List ℕ) (start end : ℕ) (canonical : List ℕ) (o :
 layout_reads octets start end canonical None last within is = ap Ok (sym is)
 layout_reads octets start end canonical (Some fields) last within is = and_then_ok (values_at octets end start fields) is.values _ (values_read octets end within fields is.values start (last fields refl) is.held is.stand) ∙ ap Ok (sym is.whole)
 
--- strings stand last in every layout
-one_row : (row fields : List Field) → StringsLast row → (let o : Option (List Field) = Some row in o) ≡ Some fields → StringsLast fields
-one_row row fields last e = let same : row ≡ fields = cc in subst StringsLast same last
-
-row_or : (test : Bool) (row : List Field) (rest : Option (List Field)) (fields : List Field) → StringsLast row → (rest ≡ Some fields → StringsLast fields) → (if test then Some row else rest) ≡ Some fields → StringsLast fields
-row_or true row rest fields last more e = one_row row fields last e
-row_or false row rest fields last more e = more e
-
-names_first : Name ≢ Strings
-names_first e = cc
-
-numbers_first : U16 ≢ Strings
-numbers_first e = cc
-
-serials_first : Serial ≢ Strings
-serials_first e = cc
-
-times_first : Time ≢ Strings
-times_first e = cc
-
-string_first : OneString ≢ Strings
-string_first e = cc
-
-strings_stand_last : (class kind : ℕ) (fields : List Field) → layout class kind ≡ Some fields → StringsLast fields
-strings_stand_last class kind fields =
-    row_or (kind == 1 && class == 1) (Octets 4 ∷ []) _ fields tt
-    (row_or (kind == 2) (Name ∷ []) _ fields tt
-    (row_or (kind == 5) (Name ∷ []) _ fields tt
-    (row_or (kind == 6) (Name ∷ Name ∷ Serial ∷ Time ∷ Time ∷ Time ∷ Time ∷ []) _ fields (names_first, (names_first, (serials_first, (times_first, (times_first, (times_first, tt))))))
-    (row_or (kind == 12) (Name ∷ []) _ fields tt
-    (row_or (kind == 15) (U16 ∷ Name ∷ []) _ fields (numbers_first, tt)
-    (row_or (kind == 16) (Strings ∷ []) _ fields tt
-    (row_or (kind == 28 && class == 1) (Octets 16 ∷ []) _ fields tt
-    (row_or (kind == 33) (U16 ∷ U16 ∷ U16 ∷ Name ∷ []) _ fields (numbers_first, (numbers_first, (numbers_first, tt)))
-    (row_or (kind == 35) (U16 ∷ U16 ∷ OneString ∷ OneString ∷ OneString ∷ Name ∷ []) None fields (numbers_first, (numbers_first, (string_first, (string_first, (string_first, tt)))))
-    (λ e. cc))))))))))
-
 -- the data of a record
 pub data_reads : (octets : List ℕ) (a : RecordAt) (canonical : List ℕ) → a.end ≤ length octets → IsDataAt octets a canonical → data_at octets a ≡ Ok canonical
 unfolding data_at
-data_reads octets a canonical within is = layout_reads octets a.start a.end canonical (layout a.class a.kind) (strings_stand_last a.class a.kind) within is
+data_reads octets a canonical within is = layout_reads octets a.start a.end canonical (layout a.class a.kind) (λ fields e. (table_row a.class a.kind fields e).last) within is

@@ -1,13 +1,14 @@
 -- What a stream of octets is read as is records.
-use Rattle.std.proofs.Common.{◌≡◌, ◌≢◌, ℕ, ◌+◌, ◌-◌, ◌≤◌, ◌<◌, List, [], ◌∷◌, ◌++◌, length, refl, ap, sym, ◌∙◌, subst, Bool, true, false, nat_lt, nat_eq, inl, inr, arith}
-use Rattle.std.specs.Prelude.{drop, ◌==◌, ◌&&◌, ◌||◌, ◌⊎◌, Option, Some, None, MatchOption, Result, Ok, Err, if◌then◌else◌, ⊤}
-use Rattle.std.specs.List.{flat_map, AllByRecursion, filter, list_any}
-use Rattle.std.proofs.lemmas.Bool.{or_parts, ltb-false}
+use Rattle.std.proofs.Common.{◌≡◌, ◌≢◌, ℕ, ◌+◌, ◌-◌, ◌≤◌, ◌<◌, List, [], ◌∷◌, ◌++◌, length, refl, ap, sym, ◌∙◌, subst, Bool, true, false, not, nat_lt, nat_eq, inl, inr, arith}
+use Rattle.std.specs.Prelude.{drop, ◌==◌, ◌||◌, ◌⊎◌, Option, Some, None, MatchOption, Result, Ok, Err, if◌then◌else◌, ⊤}
+use Rattle.std.specs.List.{flat_map, AllByRecursion, filter, list_all, list_any}
+use Rattle.std.proofs.lemmas.Bool.{and_parts, or_cases, or_parts, not-true, false≢true, ltb-false}
 use Rattle.std.proofs.lemmas.List.{append-nil, length-take, length-drop}
 use Rattle.zone_name.specs.Name.{IsName}
 use Rattle.zone_rdata.specs.Field.{FieldValue, strings, field_octets, octets_of, Holds, HoldEach}
 use Rattle.zone_rdata.specs.Layout.{layout, AreLaidOut, IsData}
 use Rattle.zone_rdata.specs.Record.{Record, IsRecord}
+use Rattle.zone_rdata.specs.Spelling.{is_strings}
 use Rattle.zone_rdata.specs.Words.{is_meta}
 use Rattle.zone_rdata.specs.declared.fault.Fault.{Fault}
 use Rattle.zone_rdata.specs.declared.fault.Fault.TheVariants.{BadClass, MetaType, CompressibleType}
@@ -15,6 +16,7 @@ use Rattle.zone_rdata.specs.declared.fault.Place.{Place}
 use Rattle.zone_rdata.specs.declared.layout.Field.{Field}
 use Rattle.zone_rdata.specs.declared.layout.Field.TheVariants.{Strings}
 use Rattle.zone_rdata.specs.declared.record.Placed.{Placed}
+use Rattle.zone_rdata.proofs.Tables.{each_layout}
 use Rattle.zone_wire.specs.Answers.{is_no_class, record_of, Answered, before_others, answer_of, answers_of}
 use Rattle.zone_wire.specs.Data.{data_at}
 use Rattle.zone_wire.specs.Message.{word_at, QuestionAt, RecordAt, IsRecordAt, AreRecordsAt, Sections, IsMessage}
@@ -33,22 +35,35 @@ abbrev IsRow : Option (List Field) → Type 0
 IsRow None = ⊤
 IsRow (Some fields) = AllByRecursion (λ field. field ≢ Strings) fields ⊎ (fields ≡ Strings ∷ [])
 
-row_by : (test : Bool) (x y : Option (List Field)) → IsRow x → IsRow y → IsRow (if test then x else y)
-row_by true x y here others = here
-row_by false x y here others = others
+abbrev unstrung : List Field → Bool
+unstrung fields = list_all (λ field. not (is_strings field)) fields
+
+abbrev strings_alone : List Field → Bool
+strings_alone [] = false
+strings_alone (field ∷ []) = is_strings field
+strings_alone (field ∷ other ∷ fields) = false
+
+none_strings : (fields : List Field) → unstrung fields ≡ true → AllByRecursion (λ field. field ≢ Strings) fields
+none_strings [] e = tt
+none_strings (field ∷ fields) e =
+    let both = and_parts (not (is_strings field)) (unstrung fields) e in
+    (λ same. false≢true (sym (not-true (is_strings field) both.0) ∙ ap is_strings same), none_strings fields both.1)
+
+alone : (fields : List Field) → strings_alone fields ≡ true → fields ≡ Strings ∷ []
+alone [] e = absurd (let t : ⊥ = cc in t)
+alone (Strings ∷ []) e = refl
+alone (field ∷ []) e = absurd (let t : ⊥ = cc in t)
+alone (field ∷ other ∷ fields) e = absurd (let t : ⊥ = cc in t)
+
+row_of : (fields : List Field) → (unstrung fields || strings_alone fields) ≡ true → IsRow (Some fields)
+row_of fields e = elim (or_cases (unstrung fields) (strings_alone fields) e) [ inl none ↦ inl (none_strings fields none) | inr only ↦ inr (alone fields only) ]
+
+row_by : (laid : Option (List Field)) → ((fields : List Field) → laid ≡ Some fields → (unstrung fields || strings_alone fields) ≡ true) → IsRow laid
+row_by None each = tt
+row_by (Some fields) each = row_of fields (each fields refl)
 
 each_row : (class kind : ℕ) → IsRow (layout class kind)
-each_row class kind =
-    row_by (kind == 1 && class == 1) _ _ (inl (λ e. cc, tt))
-    (row_by (kind == 2) _ _ (inl (λ e. cc, tt))
-    (row_by (kind == 5) _ _ (inl (λ e. cc, tt))
-    (row_by (kind == 6) _ _ (inl (λ e. cc, (λ e. cc, (λ e. cc, (λ e. cc, (λ e. cc, (λ e. cc, (λ e. cc, tt))))))))
-    (row_by (kind == 12) _ _ (inl (λ e. cc, tt))
-    (row_by (kind == 15) _ _ (inl (λ e. cc, (λ e. cc, tt)))
-    (row_by (kind == 16) _ _ (inr refl)
-    (row_by (kind == 28 && class == 1) _ _ (inl (λ e. cc, tt))
-    (row_by (kind == 33) _ _ (inl (λ e. cc, (λ e. cc, (λ e. cc, (λ e. cc, tt)))))
-    (row_by (kind == 35) _ _ (inl (λ e. cc, (λ e. cc, (λ e. cc, (λ e. cc, (λ e. cc, (λ e. cc, tt))))))) tt)))))))))
+each_row class kind = row_by (layout class kind) (each_layout (λ fields. unstrung fields || strings_alone fields) refl class kind)
 
 part_short : (octets : List ℕ) (start end : ℕ) → length (part octets start end) ≤ length octets
 part_short octets start end = omega (arith, length-take (end - start) (drop start octets), length-drop start octets)

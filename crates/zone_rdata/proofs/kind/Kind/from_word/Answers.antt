@@ -1,5 +1,7 @@
+use Rattle.std.proofs.Common.{◌≡◌, ℕ, min, arith}
+use Rattle.std.proofs.lemmas.Grind.{common_steps}
 use Rattle.std.proofs.lemmas.Result.{IfErr-weaker}
-use Rattle.zone_rdata.specs.Words.{nameless}
+use Rattle.zone_rdata.specs.Words.{IsKindWord, nameless}
 use Rattle.zone_rdata.proofs.Words.{kind_refused}
 use Rattle.zone_rdata.proofs.kind.Kind.from_word.Goals as goal
 
@@ -8,3 +10,8 @@ returns-in-Some-clause-err c = IfErr-weaker c.from_number.result _ _ (kind_refus
 
 pub returns-in-None-clause-err : goal.returns-in-None-clause-err
 returns-in-None-clause-err c = nameless c.in-None.ensures.none
+
+pub returns-in-Some-clause-found : goal.returns-in-Some-clause-found
+returns-in-Some-clause-found c =
+    let found : (m : ℕ) × (IsKindWord c.args.word.now m × (c.in-Some.number ≡ min 4294967296 m)) = c.in-Some.ensures.found in
+    grind (arith, common_steps)

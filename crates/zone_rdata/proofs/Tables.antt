@@ -1,0 +1,170 @@
+-- What is found in a table of rows, and what holds of each row.
+use Rattle.std.proofs.Common.{◌≡◌, ℕ, ◌<◌, List, [], ◌∷◌, length, map, Bool, true, false, not, cond, ◌&&◌, ◌||◌, ◌==◌, nat_lt, nat_le, bytes_eq, Option, Some, None, inl, inr, refl, sym, ap, ◌∙◌, subst, arith}
+use Rattle.std.specs.List.{AllByRecursion, find, list_all}
+use Rattle.std.specs.Option.{option_map}
+use Rattle.std.proofs.lemmas.Bool.{eqb-true, eq-eqb, and_parts, or_cases, not-true, cond-true, false≢true}
+use Rattle.std.proofs.lemmas.Bool.Decides.{nat_tests}
+use Rattle.std.proofs.lemmas.Slice.Eq.{bytes_eq-Decides}
+use Rattle.zone_name.specs.Name.{folded_label}
+use Rattle.zone_rdata.specs.declared.layout.Field.{Field}
+use Rattle.zone_rdata.specs.declared.layout.Field.TheVariants as fields
+use Rattle.zone_rdata.specs.Layout.{IsLayout, IsSized, StringsLast, fields_in, layout}
+use Rattle.zone_rdata.specs.Spelling.{is_strings}
+use Rattle.zone_rdata.specs.Table.{Named, NamedType, ascend, in_class, mnemonic_among, number_among, types}
+use Rattle.zone_rdata.specs.Words.{IsMnemonic}
+
+-- ---- the first element that passes a test
+
+found_by : {X : Type 0} (y x : X) (rest : Option X) (P : X → Type 0) (t : Bool) → cond t (Some y) rest ≡ Some x → (t ≡ true → P y) → (rest ≡ Some x → P x) → P x
+found_by y x rest P true e here more = let same : y ≡ x = cc in subst P same (here refl)
+found_by y x rest P false e here more = more e
+
+-- it passes the test
+pub found_passes : {X : Type 0} (q : X → Bool) (xs : List X) (x : X) → find q xs ≡ Some x → q x ≡ true
+found_passes q [] x e = absurd cc
+found_passes q (y ∷ ys) x e = found_by y x (find q ys) (λ z. q z ≡ true) (q y) e (λ t. t) (found_passes q ys x)
+
+-- what holds of each element holds of it
+pub found_each : {X : Type 0} (p q : X → Bool) (xs : List X) (x : X) → list_all p xs ≡ true → find q xs ≡ Some x → p x ≡ true
+found_each p q [] x all e = absurd cc
+found_each p q (y ∷ ys) x all e =
+    let both = and_parts (p y) (list_all p ys) all in
+    found_by y x (find q ys) (λ z. p z ≡ true) (q y) e (λ t. both.0) (found_each p q ys x both.1)
+
+none_by : {X : Type 0} (y : X) (rest : Option X) (all t : Bool) → cond t (Some y) rest ≡ None → (rest ≡ None → all ≡ true) → (not t && all) ≡ true
+none_by y rest all true e more = absurd (let t : ⊥ = cc in t)
+none_by y rest all false e more = more e
+
+-- where there is none, none passes
+pub none_passes : {X : Type 0} (q : X → Bool) (xs : List X) → find q xs ≡ None → list_all (λ x. not (q x)) xs ≡ true
+none_passes q [] e = refl
+none_passes q (y ∷ ys) e = none_by y (find q ys) (list_all (λ x. not (q x)) ys) (q y) e (none_passes q ys)
+
+pub find_mapped : {X Y : Type 0} (f : X → Y) (q : Y → Bool) (xs : List X) → find q (map f xs) ≡ option_map f (find (λ x. q (f x)) xs)
+find_mapped f q [] = refl
+find_mapped f q (x ∷ xs) = elim (q (f x)) as (λ t. cond t (Some (f x)) (find q (map f xs)) ≡ option_map f (cond t (Some x) (find (λ x. q (f x)) xs))) [ true ↦ refl | false ↦ find_mapped f q xs ]
+
+-- ---- mnemonics
+
+mnemonic_by : (p : ℕ → List ℕ → Bool) (n : ℕ) (word : List ℕ) (found : Option Named) → ((row : Named) → found ≡ Some row → (p row.number row.mnemonic ≡ true) × ((n == row.number) ≡ true)) → option_map (λ row. row.mnemonic) found ≡ Some word → p n word ≡ true
+mnemonic_by p n word None each e = absurd (let t : ⊥ = cc in t)
+mnemonic_by p n word (Some row) each e =
+    let facts = each row refl in
+    let number : row.number ≡ n = sym (eqb-true n row.number facts.1) in
+    let mnemonic : row.mnemonic ≡ word = cc in
+    subst (λ m. p m word ≡ true) number (subst (λ w. p row.number w ≡ true) mnemonic facts.0)
+
+-- what holds of each row holds of a number and its mnemonic
+pub each_mnemonic : (p : ℕ → List ℕ → Bool) (rows : List Named) → list_all (λ row. p row.number row.mnemonic) rows ≡ true → (n : ℕ) (word : List ℕ) → mnemonic_among rows n ≡ Some word → p n word ≡ true
+each_mnemonic p rows all n word e =
+    mnemonic_by p n word (find (λ row. n == row.number) rows) (λ row found. (found_each (λ row. p row.number row.mnemonic) (λ row. n == row.number) rows row all found, found_passes (λ row. n == row.number) rows row found)) e
+
+-- the mnemonic of a number is that of the row found
+pub mnemonic_found : (R : Type 0) (names : R → Named) (rows : List R) (n : ℕ) (found : Option R) → found ≡ find (λ row. n == (names row).number) rows → option_map (λ row. (names row).mnemonic) found ≡ mnemonic_among (map names rows) n
+mnemonic_found R names rows n found e = by found e ∙ ap (option_map (λ row. row.mnemonic)) (sym (find_mapped names (λ row. n == row.number) rows))
+  where
+    by : (found : Option R) → found ≡ find (λ row. n == (names row).number) rows → option_map (λ row. (names row).mnemonic) found ≡ option_map (λ row. row.mnemonic) (option_map names (find (λ row. n == (names row).number) rows))
+    by None e = ap (λ o. option_map (λ (row : Named). row.mnemonic) (option_map names o)) e
+    by (Some row) e = ap (λ o. option_map (λ (row : Named). row.mnemonic) (option_map names o)) e
+
+-- rows whose numbers ascend from above one are above it
+found_above : (low : ℕ) (rows : List Named) (q : Named → Bool) (x : Named) → ascend low rows ≡ true → find q rows ≡ Some x → low < x.number
+found_above low [] q x up e = absurd cc
+found_above low (row ∷ rows) q x up e =
+    let both = and_parts (nat_lt low row.number) (ascend row.number rows) up in
+    let here : low < row.number = grind (arith, nat_tests) in
+    found_by row x (find q rows) (λ z. low < z.number) (q row) e (λ t. here) (λ more. let above = found_above row.number rows q x both.1 more in omega arith)
+
+own_here : (row : Named) (rest : Option Named) → cond (row.number == row.number) (Some row) rest ≡ Some row
+own_here row rest = cond-true _ _ _ (eq-eqb row.number row.number refl)
+
+own_behind : (row x : Named) (rest : Option Named) → row.number < x.number → rest ≡ Some x → cond (x.number == row.number) (Some row) rest ≡ Some x
+own_behind row x rest above e = by (x.number == row.number) refl
+  where
+    by : (t : Bool) → (x.number == row.number) ≡ t → cond t (Some row) rest ≡ Some x
+    by true t = absurd (let same : x.number ≡ row.number = eqb-true x.number row.number t in omega arith)
+    by false t = e
+
+-- a row is the one of its number
+own_row : (low : ℕ) (rows : List Named) (q : Named → Bool) (x : Named) → ascend low rows ≡ true → find q rows ≡ Some x → find (λ row. x.number == row.number) rows ≡ Some x
+own_row low [] q x up e = absurd cc
+own_row low (row ∷ rows) q x up e =
+    let both = and_parts (nat_lt low row.number) (ascend row.number rows) up in
+    found_by row x (find q rows) (λ z. cond (z.number == row.number) (Some row) (find (λ other. z.number == other.number) rows) ≡ Some z) (q row) e
+    (λ t. own_here row (find (λ other. row.number == other.number) rows))
+    (λ more. own_behind row x (find (λ other. x.number == other.number) rows) (found_above row.number rows q x both.1 more) (own_row row.number rows q x both.1 more))
+
+-- the row of a word has a number of which the word is the mnemonic
+pub row_is : (rows : List Named) → ascend 0 rows ≡ true → (word : List ℕ) (row : Named) → find (λ row. bytes_eq (folded_label word) (folded_label row.mnemonic)) rows ≡ Some row → IsMnemonic rows word row.number
+row_is rows up word row e = record {
+  name = row.mnemonic;
+  row = ap (option_map (λ row. row.mnemonic)) (own_row 0 rows (λ row. bytes_eq (folded_label word) (folded_label row.mnemonic)) row up e);
+  same = (bytes_eq-Decides (folded_label word) (folded_label row.mnemonic)).0 (found_passes (λ row. bytes_eq (folded_label word) (folded_label row.mnemonic)) rows row e);
+}
+
+-- and so has the number that a word finds
+pub number_is : (rows : List Named) → ascend 0 rows ≡ true → (word : List ℕ) (n : ℕ) → number_among rows word ≡ Some n → IsMnemonic rows word n
+number_is rows up word n = by (find (λ row. bytes_eq (folded_label word) (folded_label row.mnemonic)) rows) refl
+  where
+    by : (found : Option Named) → find (λ row. bytes_eq (folded_label word) (folded_label row.mnemonic)) rows ≡ found → option_map (λ row. row.number) found ≡ Some n → IsMnemonic rows word n
+    by None e none = absurd (let t : ⊥ = cc in t)
+    by (Some row) e some = let same : row.number ≡ n = cc in subst (IsMnemonic rows word) same (row_is rows up word row e)
+
+-- a word of no row is no mnemonic
+pub no_row : (rows : List Named) (word : List ℕ) → find (λ row. bytes_eq (folded_label word) (folded_label row.mnemonic)) rows ≡ None → (n : ℕ) → IsMnemonic rows word n → ⊥
+no_row rows word e n x =
+    let other : bytes_eq (folded_label word) (folded_label x.name) ≡ false = not-true _ (each_mnemonic (λ _ name. not (bytes_eq (folded_label word) (folded_label name))) rows (none_passes (λ row. bytes_eq (folded_label word) (folded_label row.mnemonic)) rows e) n x.name x.row) in
+    false≢true (sym other ∙ (bytes_eq-Decides (folded_label word) (folded_label x.name)).1 x.same)
+
+-- ---- layouts
+
+fields_by : (p : List Field → Bool) (class : ℕ) (fields : List Field) (found : Option NamedType) → ((row : NamedType) → found ≡ Some row → p row.fields ≡ true) → fields_in class found ≡ Some fields → p fields ≡ true
+fields_by p class fields None each e = absurd (let t : ⊥ = cc in t)
+fields_by p class fields (Some row) each e = by (not row.in_only || class == in_class) e
+  where
+    by : (t : Bool) → cond t (Some row.fields) None ≡ Some fields → p fields ≡ true
+    by true e = let same : row.fields ≡ fields = cc in subst (λ f. p f ≡ true) same (each row refl)
+    by false e = absurd (let t : ⊥ = cc in t)
+
+-- what holds of the fields of each type holds of each layout
+pub each_layout : (p : List Field → Bool) → list_all (λ row. p row.fields) types ≡ true → (class kind : ℕ) (fields : List Field) → layout class kind ≡ Some fields → p fields ≡ true
+each_layout p all class kind fields =
+    fields_by p class fields (find (λ row. kind == row.named.number) types) (λ row found. found_each (λ row. p row.fields) (λ row. kind == row.named.number) types row all found)
+
+abbrev strings_last : List Field → Bool
+strings_last [] = true
+strings_last (f ∷ []) = true
+strings_last (f ∷ g ∷ row) = not (is_strings f) && strings_last (g ∷ row)
+
+abbrev is_sized : Field → Bool
+is_sized (fields.Octets n) = n == 4 || n == 16
+is_sized f = true
+
+abbrev is_layout : List Field → Bool
+is_layout row = nat_le (length row) 7 && (strings_last row && list_all is_sized row)
+
+last_is : (row : List Field) → strings_last row ≡ true → StringsLast row
+last_is [] e = tt
+last_is (f ∷ []) e = tt
+last_is (f ∷ g ∷ row) e =
+    let both = and_parts (not (is_strings f)) (strings_last (g ∷ row)) e in
+    (λ same. false≢true (sym (not-true (is_strings f) both.0) ∙ ap is_strings same), last_is (g ∷ row) both.1)
+
+sized_is : (f : Field) → is_sized f ≡ true → IsSized f
+sized_is (fields.Octets n) e = elim (or_cases (n == 4) (n == 16) e) [ inl four ↦ inl (eqb-true n 4 four) | inr more ↦ inr (eqb-true n 16 more) ]
+sized_is f e = tt
+
+each_sized : (row : List Field) → list_all is_sized row ≡ true → AllByRecursion IsSized row
+each_sized [] e = tt
+each_sized (f ∷ row) e = let both = and_parts (is_sized f) (list_all is_sized row) e in (sized_is f both.0, each_sized row both.1)
+
+layout_is : (row : List Field) → is_layout row ≡ true → IsLayout row
+layout_is row e =
+    let outer = and_parts (nat_le (length row) 7) (strings_last row && list_all is_sized row) e in
+    let inner = and_parts (strings_last row) (list_all is_sized row) outer.1 in
+    let few : nat_le (length row) 7 ≡ true = outer.0 in
+    record { few = grind (arith, nat_tests); last = last_is row inner.0; sized = each_sized row inner.1 }
+
+-- what every layout of the table is
+pub table_row : (class kind : ℕ) (row : List Field) → layout class kind ≡ Some row → IsLayout row
+table_row class kind row e = layout_is row (each_layout is_layout refl class kind row e)
