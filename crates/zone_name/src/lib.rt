@@ -9,8 +9,6 @@ pub mod laws;
 mod name;
 mod order;
 mod reading;
-#[cfg(test)]
-mod tests;
 mod text;
 
 pub use builder::NameBuilder;
