@@ -2,7 +2,7 @@
 use crate::explain::explain_line;
 use std::alloc::{AllocError, Global};
 use std::test::Fail;
-use zone_rdata::{Fault, Stop};
+use zone_rdata::{Failing, Fault, Stop};
 
 mod addresses;
 mod data;
@@ -44,12 +44,49 @@ fn fault_name(alloc: Global, fault: &Fault) -> Result<String, AllocError> {
     format!(in alloc; "{fault:?}")
 }
 
+/// An answer or its fault.
+///
+/// # Errors
+///
+/// Want of memory.
+fn judged<T>(answer: Result<T, Failing>) -> Result<Result<T, Fault>, Fail> {
+    match answer {
+        Ok(answer) => Ok(Ok(answer)),
+        Err(Failing::Fault(fault)) => Ok(Err(fault)),
+        Err(Failing::Memory) => Err(Fail::from("memory")),
+    }
+}
+
 /// Whether the line that explains a stop has this before its colon: number, name, argument and place.
-fn is_explained(alloc: Global, stop: &Stop, front: &str) -> Result<bool, AllocError> {
+///
+/// # Errors
+///
+/// Want of memory, also where that is the stop.
+fn is_explained(alloc: Global, stop: &Stop, front: &str) -> Result<bool, Fail> {
+    if matches!(stop, Stop::Memory) {
+        return Err(Fail::from("memory"));
+    }
     let line = explain_line(alloc, stop)?;
     Ok(
         line.as_str()
             .strip_prefix(front)
             .is_some_and(|rest| rest.starts_with(": ")),
     )
+}
+
+/// Nothing, unless a run told want of memory.
+///
+/// # Errors
+///
+/// Want of memory.
+fn had_memory(told: &[u8]) -> Result<(), Fail> {
+    if told == b"out of memory\n".as_slice() {
+        return Err(Fail::from("memory"));
+    }
+    Ok(())
+}
+
+/// A vector for what is written, with room for the text of each row.
+fn roomy(alloc: Global) -> Result<Vec<u8>, AllocError> {
+    Vec::with_capacity(alloc, 1024)
 }

@@ -4,13 +4,13 @@ use crate::explain::explain_line;
 use crate::form::Form;
 use crate::order::Order;
 use crate::run::run;
-use crate::tests::{Case, first_wrong};
+use crate::tests::{Case, first_wrong, had_memory, roomy};
 use crate::{normalise, normalise_bytes};
 use std::alloc::Global;
 use std::test::Fail;
 use zone_name::Name;
 
-const BAD_RDATA: &str = "F9 BadRdata at line 2: the data doesn't fit its type\n";
+pub(super) const BAD_RDATA: &str = "F9 BadRdata at line 2: the data doesn't fit its type\n";
 
 const BAD_GENERIC: &str = "F10 BadGeneric at line 2: the generic data is malformed\n";
 
@@ -19,27 +19,38 @@ const BAD_NUMBER: &str = "F13 BadNumber at line 2: a number is malformed or out 
 const BAD_TTL: &str = "F21 BadTtl at line 2: the TTL is malformed or out of range\n";
 
 /// Whether a run over a file ends with this status, writes this text, and tells this line.
-fn ends(alloc: Global, origin: Name, file: &str, status: u8, text: &str, line: &str) -> bool {
+fn ends(
+    alloc: Global,
+    origin: Name,
+    file: &str,
+    status: u8,
+    text: &str,
+    line: &str,
+) -> Result<bool, Fail> {
     let order = Order::Normalise(origin);
-    let (mut written, mut errors) = (Vec::new(alloc), Vec::new(alloc));
+    let (mut written, mut errors) = (roomy(alloc)?, roomy(alloc)?);
     let mut reader = file.as_bytes();
-    run(alloc, &order, &mut reader, &mut written, &mut errors) == status
-        && written.as_slice() == text.as_bytes()
-        && errors.as_slice() == line.as_bytes()
+    let answered = run(alloc, &order, &mut reader, &mut written, &mut errors);
+    had_memory(&errors)?;
+    Ok(
+        answered == status
+            && written.as_slice() == text.as_bytes()
+            && errors.as_slice() == line.as_bytes(),
+    )
 }
 
 /// Whether a file under the origin has this canonical text.
 fn accepts(alloc: Global, origin: &str, file: &str, text: &str) -> Result<bool, Fail> {
     let origin = Name::from_text(origin.as_bytes(), None)?;
     let mut reader = file.as_bytes();
-    let mut written = Vec::new(alloc);
+    let mut written = roomy(alloc)?;
     let records = normalise(alloc, Form::File(&origin), &mut reader, &mut written)?;
     let answered = normalise_bytes(alloc, Form::File(&origin), file.as_bytes())?;
     Ok(
         records == text.lines().count() as u64
             && written.as_slice() == text.as_bytes()
             && answered.as_slice() == text.as_bytes()
-            && ends(alloc, origin, file, 0, text, ""),
+            && ends(alloc, origin, file, 0, text, "")?,
     )
 }
 
@@ -49,7 +60,8 @@ fn refuses(alloc: Global, origin: &str, file: &str, line: &str) -> Result<bool, 
     let answered = normalise_bytes(alloc, Form::File(&origin), file.as_bytes());
     let mut explained = explain_line(alloc, &answered.err().ok_or("accepted")?)?;
     explained.push('\n')?;
-    Ok(explained.as_str() == line && ends(alloc, origin, file, 3, "", line))
+    had_memory(explained.as_bytes())?;
+    Ok(explained.as_str() == line && ends(alloc, origin, file, 3, "", line)?)
 }
 
 /// An origin, a file, and its canonical text.
@@ -71,7 +83,7 @@ impl Case for Refused {
 }
 
 /// Lines after an SOA of the origin `x.`, and the canonical lines after that SOA.
-struct Lines(&'static str, &'static str);
+pub(super) struct Lines(pub(super) &'static str, pub(super) &'static str);
 
 impl Case for Lines {
     fn is_right(&self, alloc: Global) -> Result<bool, Fail> {
@@ -83,7 +95,7 @@ impl Case for Lines {
 }
 
 /// A line after an SOA of the origin `x.` that is refused, and the line that explains it.
-struct BadLine(&'static str, &'static str);
+pub(super) struct BadLine(pub(super) &'static str, pub(super) &'static str);
 
 impl Case for BadLine {
     fn is_right(&self, alloc: Global) -> Result<bool, Fail> {
@@ -254,7 +266,7 @@ static WORDS: [Lines; 7] = [
 ];
 
 /// Lines with a word that is missing, left over, malformed or out of range.
-static BAD_WORDS: [BadLine; 10] = [
+static BAD_WORDS: [BadLine; 16] = [
     BadLine("t 60 IN TXT\n", BAD_RDATA),
     BadLine("k 60 IN A\n", BAD_RDATA),
     BadLine("k 60 IN A 10.0.0.1 10.0.0.2\n", BAD_RDATA),
@@ -270,6 +282,30 @@ static BAD_WORDS: [BadLine; 10] = [
     BadLine(
         "k 60 IN TYPE41 \\# 0\n",
         "F8 MetaType at line 2: the type can't hold zone data\n",
+    ),
+    BadLine(
+        "a..b 60 IN A 10.0.0.1\n",
+        "F1 EmptyLabel at line 2: a label is empty\n",
+    ),
+    BadLine(
+        "aaaaaaaaaaaaaaaaaaaaaaaaaaaaaaaaaaaaaaaaaaaaaaaaaaaaaaaaaaaaaaaa 60 IN A 10.0.0.1\n",
+        "F2 LabelTooLong at line 2: a label has more than 63 octets\n",
+    ),
+    BadLine(
+        "aaaaaaaaaaaaaaaaaaaaaaaaaaaaaaaaaaaaaaaaaaaaaaaaaaaaaaaaaaaaaaa.aaaaaaaaaaaaaaaaaaaaaaaaaaaaaaaaaaaaaaaaaaaaaaaaaaaaaaaaaaaaaaa.aaaaaaaaaaaaaaaaaaaaaaaaaaaaaaaaaaaaaaaaaaaaaaaaaaaaaaaaaaaaaaa.aaaaaaaaaaaaaaaaaaaaaaaaaaaaaaaaaaaaaaaaaaaaaaaaaaaaaaaaaaaaa 60 IN A 10.0.0.1\n",
+        "F3 NameTooLong at line 2: a name has more than 255 octets\n",
+    ),
+    BadLine(
+        "a 60 IN TXT \\04\n",
+        "F4 BadEscape at line 2: a backslash escape is malformed\n",
+    ),
+    BadLine(
+        "k 60 IN CAA 0 issue y\n",
+        "F7 UnknownType at line 2: the type word is missing or unknown\n",
+    ),
+    BadLine(
+        "t 60 IN TXT aaaaaaaaaaaaaaaaaaaaaaaaaaaaaaaaaaaaaaaaaaaaaaaaaaaaaaaaaaaaaaaaaaaaaaaaaaaaaaaaaaaaaaaaaaaaaaaaaaaaaaaaaaaaaaaaaaaaaaaaaaaaaaaaaaaaaaaaaaaaaaaaaaaaaaaaaaaaaaaaaaaaaaaaaaaaaaaaaaaaaaaaaaaaaaaaaaaaaaaaaaaaaaaaaaaaaaaaaaaaaaaaaaaaaaaaaaaaaaaaaaaaaaaaaaaaaaaa\n",
+        "F11 StringTooLong at line 2: a character-string has more than 255 octets\n",
     ),
 ];
 
@@ -303,76 +339,31 @@ static BAD_SERVICES: [BadLine; 3] = [
     BadLine("k 60 IN SRV 0 5 5060\n", BAD_RDATA),
 ];
 
-/// Data of type AAAA and its short form (RFC 5952).
-static GROUPS: [Lines; 14] = [
-    Lines(
-        "@ 60 IN MX 010 M\nv 60 IN AAAA ::FFFF:10.0.0.1\n",
-        "x. 60 IN MX 10 m.x.\nv.x. 60 IN AAAA ::ffff:a00:1\n",
-    ),
-    Lines("v 60 IN AAAA 0:0:0:0:0:0:0:0\n", "v.x. 60 IN AAAA ::\n"),
-    Lines("v 60 IN AAAA 1:0:0:0:0:0:0:0\n", "v.x. 60 IN AAAA 1::\n"),
-    Lines(
-        "v 60 IN AAAA 0:0:0:1:0:0:0:1\n",
-        "v.x. 60 IN AAAA ::1:0:0:0:1\n",
-    ),
-    Lines(
-        "v 60 IN AAAA 1:0:0:2:0:0:0:3\n",
-        "v.x. 60 IN AAAA 1:0:0:2::3\n",
-    ),
-    Lines(
-        "v 60 IN AAAA 1:0:2:3:4:5:6:7\n",
-        "v.x. 60 IN AAAA 1:0:2:3:4:5:6:7\n",
-    ),
-    Lines(
-        "v 60 IN AAAA 1::2:3:4:5:6:7\n",
-        "v.x. 60 IN AAAA 1:0:2:3:4:5:6:7\n",
-    ),
-    Lines(
-        "v 60 IN AAAA 0:1:2:3:4:5:0:0\n",
-        "v.x. 60 IN AAAA 0:1:2:3:4:5::\n",
-    ),
-    Lines(
-        "v 60 IN AAAA 2001:0DB8::0001\n",
-        "v.x. 60 IN AAAA 2001:db8::1\n",
-    ),
-    Lines(
-        "v 60 IN AAAA 1:2:3:4:5:6:7::\n",
-        "v.x. 60 IN AAAA 1:2:3:4:5:6:7:0\n",
-    ),
-    Lines(
-        "v 60 IN AAAA ::2:3:4:5:6:7:8\n",
-        "v.x. 60 IN AAAA 0:2:3:4:5:6:7:8\n",
-    ),
-    Lines(
-        "v 60 IN AAAA 1:2:3:4:5:6:010.0.0.1\n",
-        "v.x. 60 IN AAAA 1:2:3:4:5:6:a00:1\n",
-    ),
-    Lines(
-        "v 60 IN AAAA 1:2:0:0:3:4:5:6\n",
-        "v.x. 60 IN AAAA 1:2::3:4:5:6\n",
-    ),
-    Lines(
-        "v 60 IN AAAA \\# 16 20010db8000000000000000000000001\n",
-        "v.x. 60 IN AAAA 2001:db8::1\n",
-    ),
-];
+#[test]
+fn services(rt: HostRuntime) -> Result<(), Fail> {
+    assert_eq!(rt; first_wrong(rt.alloc(), &SERVICES)?, None);
+    assert_eq!(rt; first_wrong(rt.alloc(), &BAD_SERVICES)?, None);
+    Ok(())
+}
 
-/// Data of type AAAA that is no address.
-static BAD_GROUPS: [BadLine; 7] = [
-    BadLine("v 60 IN AAAA 1:2:3:4:5:6:7::8\n", BAD_RDATA),
-    BadLine("v 60 IN AAAA 1::2::3\n", BAD_RDATA),
-    BadLine("v 60 IN AAAA 12345::\n", BAD_RDATA),
-    BadLine("v 60 IN AAAA :::\n", BAD_RDATA),
-    BadLine("v 60 IN AAAA 1:2:3:4:5:6:7\n", BAD_RDATA),
-    BadLine("v 60 IN AAAA ::ffff:10.0.0.256\n", BAD_RDATA),
-    BadLine("v 60 IN AAAA ::10.0.0.1:1\n", BAD_RDATA),
+/// Lines that make no zone with the SOA before them.
+static NO_ZONE: [BadLine; 3] = [
+    BadLine(
+        "x. 61 CH SOA n h 2 2 3 4 5\n",
+        "F39 ClassMismatch at line 2: the class differs from the zone's\n",
+    ),
+    BadLine(
+        "x. 60 IN SOA n h 2 2 3 4 5\n",
+        "F40 MultipleSoa at line 2: the zone has two SOA records\n",
+    ),
+    BadLine(
+        "b.y. 60 IN NS n.x.\ny. 60 IN NS n.x.\n",
+        "F43 OutOfZone y. in the input: an owner lies outside the zone\n",
+    ),
 ];
 
 #[test]
-fn services_and_addresses(rt: HostRuntime) -> Result<(), Fail> {
-    assert_eq!(rt; first_wrong(rt.alloc(), &SERVICES)?, None);
-    assert_eq!(rt; first_wrong(rt.alloc(), &BAD_SERVICES)?, None);
-    assert_eq!(rt; first_wrong(rt.alloc(), &GROUPS)?, None);
-    assert_eq!(rt; first_wrong(rt.alloc(), &BAD_GROUPS)?, None);
+fn records_that_make_no_zone(rt: HostRuntime) -> Result<(), Fail> {
+    assert_eq!(rt; first_wrong(rt.alloc(), &NO_ZONE)?, None);
     Ok(())
 }

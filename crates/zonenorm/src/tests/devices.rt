@@ -2,8 +2,8 @@
 use crate::order::Order;
 use crate::run::run;
 use crate::tests::zones::{reading_of, taken};
-use crate::tests::{Case, first_wrong};
-use std::alloc::Global;
+use crate::tests::{Case, first_wrong, had_memory, roomy};
+use std::alloc::{AllocError, Global};
 use std::io;
 use std::io::{ErrorKind, Read, Write};
 use std::test::Fail;
@@ -44,8 +44,9 @@ impl Case for Broken {
             left: self.0,
             error: self.1,
         };
-        let (mut written, mut errors) = (Vec::new(alloc), Vec::new(alloc));
+        let (mut written, mut errors) = (roomy(alloc)?, roomy(alloc)?);
         let status = run(alloc, &order()?, &mut reader, &mut written, &mut errors);
+        had_memory(&errors)?;
         Ok(status == 4 && written.is_empty() && errors.as_slice() == b"read failed\n".as_slice())
     }
 }
@@ -73,13 +74,13 @@ struct Narrow {
 }
 
 impl Narrow {
-    fn new(alloc: Global, each: usize, room: usize, fails: bool) -> Narrow {
-        Narrow {
-            taken: Vec::new(alloc),
+    fn new(alloc: Global, each: usize, room: usize, fails: bool) -> Result<Narrow, AllocError> {
+        Ok(Narrow {
+            taken: roomy(alloc)?,
             each,
             room,
             fails,
-        }
+        })
     }
 }
 
@@ -105,7 +106,7 @@ impl Write for Narrow {
 struct Narrowed(usize, usize, bool, &'static [u8]);
 
 impl Narrowed {
-    fn writer(&self, alloc: Global) -> Narrow {
+    fn writer(&self, alloc: Global) -> Result<Narrow, AllocError> {
         Narrow::new(alloc, self.0, self.1, self.2)
     }
 
@@ -116,9 +117,10 @@ impl Narrowed {
     /// Whether `write_zone` answers as it should.
     fn is_written(&self, alloc: Global) -> Result<bool, Fail> {
         let zone = taken(alloc, reading_of(alloc, FILE)?)?;
-        let mut writer = self.writer(alloc);
+        let mut writer = self.writer(alloc)?;
         let is_answered = match write_zone(alloc, &zone, &mut writer) {
             Ok(()) => self.is_whole(),
+            Err(Stop::Memory) => return Err(Fail::from("memory")),
             Err(stop) => !self.is_whole() && matches!(stop, Stop::Write),
         };
         Ok(is_answered && writer.taken.as_slice() == self.3)
@@ -131,8 +133,9 @@ impl Narrowed {
         } else {
             (4, b"write failed\n".as_slice())
         };
-        let (mut reader, mut writer, mut errors) = (FILE, self.writer(alloc), Vec::new(alloc));
+        let (mut reader, mut writer, mut errors) = (FILE, self.writer(alloc)?, roomy(alloc)?);
         let answered = run(alloc, &order()?, &mut reader, &mut writer, &mut errors);
+        had_memory(&errors)?;
         Ok(answered == status && writer.taken.as_slice() == self.3 && errors.as_slice() == line)
     }
 }
@@ -162,7 +165,7 @@ fn a_narrow_writer_has_a_front(rt: HostRuntime) -> Result<(), Fail> {
 fn a_refusal_that_cannot_be_told_fails(rt: HostRuntime) -> Result<(), Fail> {
     let mut reader = b"".as_slice();
     let mut written = Vec::new(rt.alloc());
-    let mut errors = Narrow::new(rt.alloc(), usize::MAX, 0, true);
+    let mut errors = Narrow::new(rt.alloc(), usize::MAX, 0, true)?;
     let status = run(
         rt.alloc(),
         &order()?,

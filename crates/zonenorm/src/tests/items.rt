@@ -1,10 +1,10 @@
 //! Record data: from a line of words to its text, its octets and its order (RFC 1035 3.3, RFC 3597, RFC 4034 6.3).
-use crate::tests::{Case, fault_name, first_wrong};
+use crate::tests::{Case, fault_name, first_wrong, judged};
 use std::alloc::Global;
 use std::cmp::Ordering;
 use std::test::Fail;
 use zone_name::Name;
-use zone_rdata::{Class, Failing, Item, Kind, Rdata};
+use zone_rdata::{Class, Fault, Item, Kind, Rdata};
 
 /// What data is made of.
 #[derive(Drop)]
@@ -46,10 +46,10 @@ pub(super) fn data_of(
     alloc: Global,
     origin: &str,
     line: &str,
-) -> Result<Result<Rdata, Failing>, Fail> {
+) -> Result<Result<Rdata, Fault>, Fail> {
     let origin = Name::from_text(origin.as_bytes(), None)?;
     let Words { class, kind, items } = words_of(alloc, line)?;
-    Ok(Rdata::from_items(alloc, class, kind, &items, &origin))
+    judged(Rdata::from_items(alloc, class, kind, &items, &origin))
 }
 
 /// The canonical text of data.
@@ -69,9 +69,7 @@ impl Case for Stated {
     fn is_right(&self, alloc: Global) -> Result<bool, Fail> {
         match (data_of(alloc, "x.", self.0)?, self.1) {
             (Ok(data), Ok(text)) => Ok(text_of(alloc, &data)?.as_slice() == text.as_bytes()),
-            (Err(Failing::Fault(fault)), Err(name)) => {
-                Ok(fault_name(alloc, &fault)?.as_str() == name)
-            }
+            (Err(fault), Err(name)) => Ok(fault_name(alloc, &fault)?.as_str() == name),
             _ => Ok(false),
         }
     }

@@ -44,6 +44,7 @@ impl Case for Line {
                 name.push_text(&mut spelling)?;
                 Ok(spelling.as_slice() == text)
             }
+            (Err(LineFault::Memory), _) => Err(Fail::from("memory")),
             (Err(fault), given) => Ok(is_told(&fault, given)),
             _ => Ok(false),
         }

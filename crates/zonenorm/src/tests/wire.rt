@@ -1,9 +1,9 @@
 //! Uncompressed octets of data, and data that is built part by part (RFC 1035 3.3, RFC 3597 4).
-use crate::tests::{Case, fault_name, first_wrong};
+use crate::tests::{Case, fault_name, first_wrong, judged};
 use std::alloc::Global;
 use std::test::Fail;
 use zone_name::Name;
-use zone_rdata::{Class, Failing, Fault, Kind, Rdata, RdataBuilder};
+use zone_rdata::{Class, Fault, Kind, Rdata, RdataBuilder};
 
 /// A type, octets of class IN, and the data's octets and MINIMUM, or the fault.
 struct Wired(
@@ -12,9 +12,9 @@ struct Wired(
     Result<(&'static [u8], Option<u32>), &'static str>,
 );
 
-fn data_of(alloc: Global, kind: u64, octets: &[u8]) -> Result<Result<Rdata, Failing>, Fail> {
+fn data_of(alloc: Global, kind: u64, octets: &[u8]) -> Result<Result<Rdata, Fault>, Fail> {
     let (class, kind) = (Class::from_number(1)?, Kind::from_number(kind)?);
-    Ok(Rdata::from_wire(alloc, class, kind, octets))
+    judged(Rdata::from_wire(alloc, class, kind, octets))
 }
 
 impl Case for Wired {
@@ -23,9 +23,7 @@ impl Case for Wired {
             (Ok(data), Ok((octets, minimum))) => {
                 Ok(data.octets() == octets && data.soa_minimum() == minimum)
             }
-            (Err(Failing::Fault(fault)), Err(name)) => {
-                Ok(fault_name(alloc, &fault)?.as_str() == name)
-            }
+            (Err(fault), Err(name)) => Ok(fault_name(alloc, &fault)?.as_str() == name),
             _ => Ok(false),
         }
     }
@@ -62,7 +60,7 @@ fn data_of_too_many_octets(rt: HostRuntime) -> Result<(), Fail> {
     let mut zeros = Vec::new(rt.alloc());
     zeros.resize(65536, 0)?;
     let answer = data_of(rt.alloc(), 731, &zeros)?;
-    assert!(rt; matches!(answer, Err(Failing::Fault(Fault::RdataTooLong))));
+    assert!(rt; matches!(answer, Err(Fault::RdataTooLong)));
     Ok(())
 }
 
@@ -76,8 +74,8 @@ enum Part {
 }
 
 /// The answer of a builder to a part.
-fn pushed(builder: &mut RdataBuilder, part: &Part) -> Result<Result<(), Failing>, Fail> {
-    Ok(match part {
+fn pushed(builder: &mut RdataBuilder, part: &Part) -> Result<Result<(), Fault>, Fail> {
+    judged(match part {
         Part::Name(text) => builder.push_name(&Name::from_text(text, None)?),
         Part::U16(number) => builder.push_u16(*number),
         Part::U32(number) => builder.push_u32(*number),
@@ -97,9 +95,7 @@ fn are_pushed(alloc: Global, builder: &mut RdataBuilder, steps: &[Step]) -> Resu
     for Step(part, refusal) in steps {
         let is_right = match (pushed(builder, part)?, refusal) {
             (Ok(()), None) => true,
-            (Err(Failing::Fault(fault)), Some(name)) => {
-                fault_name(alloc, &fault)?.as_str() == *name
-            }
+            (Err(fault), Some(name)) => fault_name(alloc, &fault)?.as_str() == *name,
             _ => false,
         };
         if !is_right {
