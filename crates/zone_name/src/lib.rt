@@ -10,8 +10,6 @@ mod name;
 mod order;
 mod reading;
 mod sink;
-#[cfg(test)]
-mod tests;
 mod text;
 
 pub use builder::NameBuilder;

@@ -7,6 +7,3 @@ mod print;
 mod write;
 
 pub use print::{TEXT_LIMIT, canon_len, push_zone, write_zone};
-
-#[cfg(test)]
-mod tests;

@@ -7,6 +7,3 @@ mod sixteen;
 pub(crate) use four::four_octets_of;
 pub(crate) use printing::{push_four, push_sixteen};
 pub(crate) use sixteen::sixteen_octets_of;
-
-#[cfg(test)]
-mod tests;

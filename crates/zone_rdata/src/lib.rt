@@ -35,6 +35,3 @@ pub use rdata::Rdata;
 pub use record::{MAX_TTL, Placed, Rr};
 pub use source::{Reading, RrSource};
 pub use time::seconds_of;
-
-#[cfg(test)]
-mod tests;

@@ -10,6 +10,3 @@ mod zone;
 pub use builder::ZoneBuilder;
 pub use records::{Records, RrRef};
 pub use zone::Zone;
-
-#[cfg(test)]
-mod tests;

@@ -9,6 +9,3 @@ mod reader;
 mod ttl;
 
 pub use reader::read_file;
-
-#[cfg(test)]
-mod tests;

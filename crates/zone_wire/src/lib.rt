@@ -8,6 +8,3 @@ mod place;
 mod ticks;
 
 pub use name::{Decoded, name_at};
-
-#[cfg(test)]
-mod tests;

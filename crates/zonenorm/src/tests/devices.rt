@@ -1,0 +1,179 @@
+//! Readers and writers that fail, and writers that take little at a time.
+use crate::order::Order;
+use crate::run::run;
+use crate::tests::zones::{reading_of, taken};
+use crate::tests::{Case, first_wrong, had_memory, roomy};
+use std::alloc::{AllocError, Global};
+use std::io;
+use std::io::{ErrorKind, Read, Write};
+use std::test::Fail;
+use zone_name::Name;
+use zone_print::write_zone;
+use zone_rdata::Stop;
+
+const FILE: &[u8] = b"x. 3600 IN NS n.x.\nx. 3600 IN SOA n.x. h.x. 1 2 3 4 5\n";
+
+const TEXT: &[u8] = b"x. 3600 IN SOA n.x. h.x. 1 2 3 4 5\nx. 3600 IN NS n.x.\n";
+
+fn order() -> Result<Order, Fail> {
+    Ok(Order::Normalise(Name::from_text(b"x.", None)?))
+}
+
+/// A reader that answers an error after its octets.
+#[derive(Drop)]
+struct Breaking {
+    left: &'static [u8],
+    error: ErrorKind,
+}
+
+impl Read for Breaking {
+    fn read(&mut self, buf: &mut [u8]) -> io::Result<usize> {
+        if self.left.is_empty() {
+            return Err(io::Error::from(self.error));
+        }
+        self.left.read(buf)
+    }
+}
+
+/// What a reader gives before its error, and that error.
+struct Broken(&'static [u8], ErrorKind);
+
+impl Case for Broken {
+    fn is_right(&self, alloc: Global) -> Result<bool, Fail> {
+        let mut reader = Breaking {
+            left: self.0,
+            error: self.1,
+        };
+        let (mut written, mut errors) = (roomy(alloc)?, roomy(alloc)?);
+        let status = run(alloc, &order()?, &mut reader, &mut written, &mut errors);
+        had_memory(&errors)?;
+        Ok(status == 4 && written.is_empty() && errors.as_slice() == b"read failed\n".as_slice())
+    }
+}
+
+static BROKEN: [Broken; 3] = [
+    Broken(b"x. 60 IN N", ErrorKind::Other),
+    Broken(b"x. 60 IN N", ErrorKind::Interrupted),
+    Broken(b"x. 60 IN NS n.x.\nx. 61 IN NS m.x.\n", ErrorKind::Other),
+];
+
+#[test]
+fn a_failing_reader_is_told(rt: HostRuntime) -> Result<(), Fail> {
+    assert_eq!(rt; first_wrong(rt.alloc(), &BROKEN)?, None);
+    Ok(())
+}
+
+/// A writer that takes `each` octets a call and `room` in all, and then answers an error or takes nothing. It can't
+/// be flushed.
+#[derive(Drop)]
+struct Narrow {
+    taken: Vec<u8>,
+    each: usize,
+    room: usize,
+    fails: bool,
+}
+
+impl Narrow {
+    fn new(alloc: Global, each: usize, room: usize, fails: bool) -> Result<Narrow, AllocError> {
+        Ok(Narrow {
+            taken: roomy(alloc)?,
+            each,
+            room,
+            fails,
+        })
+    }
+}
+
+impl Write for Narrow {
+    fn write(&mut self, octets: &[u8]) -> io::Result<usize> {
+        if self.room == 0 && self.fails {
+            return Err(ErrorKind::Other.into());
+        }
+        let count = octets.len().min(self.each).min(self.room);
+        let (front, _) = octets.split_at(count);
+        self.taken.extend_from_slice(front)?;
+        self.room -= count;
+        Ok(count)
+    }
+
+    fn flush(&mut self) -> io::Result<()> {
+        Err(ErrorKind::Other.into())
+    }
+}
+
+/// How many octets a writer takes a call and in all, whether it answers an error then, and what it has taken of the
+/// text.
+struct Narrowed(usize, usize, bool, &'static [u8]);
+
+impl Narrowed {
+    fn writer(&self, alloc: Global) -> Result<Narrow, AllocError> {
+        Narrow::new(alloc, self.0, self.1, self.2)
+    }
+
+    fn is_whole(&self) -> bool {
+        self.3 == TEXT
+    }
+
+    /// Whether `write_zone` answers as it should.
+    fn is_written(&self, alloc: Global) -> Result<bool, Fail> {
+        let zone = taken(alloc, reading_of(alloc, FILE)?)?;
+        let mut writer = self.writer(alloc)?;
+        let is_answered = match write_zone(alloc, &zone, &mut writer) {
+            Ok(()) => self.is_whole(),
+            Err(Stop::Memory) => return Err(Fail::from("memory")),
+            Err(stop) => !self.is_whole() && matches!(stop, Stop::Write),
+        };
+        Ok(is_answered && writer.taken.as_slice() == self.3)
+    }
+
+    /// Whether `run` answers as it should.
+    fn is_run(&self, alloc: Global) -> Result<bool, Fail> {
+        let (status, line) = if self.is_whole() {
+            (0, b"".as_slice())
+        } else {
+            (4, b"write failed\n".as_slice())
+        };
+        let (mut reader, mut writer, mut errors) = (FILE, self.writer(alloc)?, roomy(alloc)?);
+        let answered = run(alloc, &order()?, &mut reader, &mut writer, &mut errors);
+        had_memory(&errors)?;
+        Ok(answered == status && writer.taken.as_slice() == self.3 && errors.as_slice() == line)
+    }
+}
+
+impl Case for Narrowed {
+    fn is_right(&self, alloc: Global) -> Result<bool, Fail> {
+        Ok(self.is_written(alloc)? && self.is_run(alloc)?)
+    }
+}
+
+static NARROWED: [Narrowed; 6] = [
+    Narrowed(1, 100, true, TEXT),
+    Narrowed(1, usize::MAX, true, TEXT),
+    Narrowed(1, 0, false, b""),
+    Narrowed(usize::MAX, 0, false, b""),
+    Narrowed(7, 20, true, b"x. 3600 IN SOA n.x. "),
+    Narrowed(usize::MAX, 20, true, b"x. 3600 IN SOA n.x. "),
+];
+
+#[test]
+fn a_narrow_writer_has_a_front(rt: HostRuntime) -> Result<(), Fail> {
+    assert_eq!(rt; first_wrong(rt.alloc(), &NARROWED)?, None);
+    Ok(())
+}
+
+#[test]
+fn a_refusal_that_cannot_be_told_fails(rt: HostRuntime) -> Result<(), Fail> {
+    let mut reader = b"".as_slice();
+    let mut written = Vec::new(rt.alloc());
+    let mut errors = Narrow::new(rt.alloc(), usize::MAX, 0, true)?;
+    let status = run(
+        rt.alloc(),
+        &order()?,
+        &mut reader,
+        &mut written,
+        &mut errors,
+    );
+    assert_eq!(rt; status, 4);
+    assert!(rt; written.is_empty());
+    Ok(())
+}

@@ -1,0 +1,78 @@
+//! Where `rt try --test --fail-alloc N` refuses a growth, that call appends nothing and the next one goes on.
+use crate::tests::items::data_of;
+use crate::tests::names::named;
+use std::alloc::{AllocError, Global};
+use std::test::Fail;
+use zone_name::Name;
+use zone_rdata::{Class, Kind, Rdata, RdataBuilder};
+
+/// What appends its text to a vector.
+#[derive(Drop)]
+enum Printed {
+    Name(Name),
+    Class(Class),
+    Data(Rdata),
+}
+
+impl Printed {
+    fn push(&self, out: &mut Vec<u8>) -> Result<(), AllocError> {
+        match self {
+            Printed::Name(name) => name.push_text(out),
+            Printed::Class(class) => class.push_word(out),
+            Printed::Data(data) => data.push_text(out),
+        }
+    }
+}
+
+/// Whether each of four calls appends the text, or where it is refused nothing.
+fn is_whole_or_nothing(alloc: Global, printed: &Printed, text: &[u8]) -> bool {
+    let mut out = Vec::new(alloc);
+    for _ in 0..4 {
+        let before = out.len();
+        let appended = match printed.push(&mut out) {
+            Ok(()) => text,
+            Err(_) => b"",
+        };
+        if out.as_slice().get(before..) != Some(appended) {
+            return false;
+        }
+    }
+    true
+}
+
+#[test]
+fn a_refused_name_appends_nothing(rt: HostRuntime) -> Result<(), Fail> {
+    let name = Printed::Name(named(b"a\\046b", b"x.")?);
+    assert!(rt; is_whole_or_nothing(rt.alloc(), &name, b"a\\.b.x."));
+    Ok(())
+}
+
+#[test]
+fn a_refused_word_appends_nothing(rt: HostRuntime) -> Result<(), Fail> {
+    let class = Printed::Class(Class::from_number(32)?);
+    assert!(rt; is_whole_or_nothing(rt.alloc(), &class, b"CLASS32"));
+    Ok(())
+}
+
+#[test]
+fn a_refused_text_appends_nothing(rt: HostRuntime) -> Result<(), Fail> {
+    let service = Printed::Data(data_of(rt.alloc(), "x.", "IN SRV 0 5 5060 h.")??);
+    assert!(rt; is_whole_or_nothing(rt.alloc(), &service, b"0 5 5060 h."));
+    Ok(())
+}
+
+#[test]
+fn a_refused_part_is_not_pushed(rt: HostRuntime) -> Result<(), Fail> {
+    let framed: &[u8] = b"\x08abcdefgh\x08abcdefgh\x08abcdefgh\x08abcdefgh";
+    let (class, kind) = (Class::from_number(1)?, Kind::from_number(16)?);
+    let mut builder = RdataBuilder::new(rt.alloc(), class, kind);
+    let mut pushed: usize = 0;
+    for _ in 0..4 {
+        if builder.push_string(b"abcdefgh").is_ok() {
+            pushed = pushed.wrapping_add(9);
+        }
+    }
+    let strings = builder.finish()?;
+    assert_eq!(rt; framed.get(..pushed), Some(strings.octets()));
+    Ok(())
+}

@@ -1,0 +1,330 @@
+//! Names: read from text, built, compared and printed (RFC 1035, RFC 4034, RFC 4343).
+use crate::tests::{Case, first_wrong};
+use std::alloc::Global;
+use std::cmp::Ordering;
+use std::test::Fail;
+use zone_name::{Name, NameBuilder, NameFault, escape_at};
+
+/// The name of a text under an origin; an empty origin is none.
+pub(super) fn named(text: &[u8], origin: &[u8]) -> Result<Name, NameFault> {
+    if origin.is_empty() {
+        return Name::from_text(text, None);
+    }
+    let origin = Name::from_text(origin, None)?;
+    Name::from_text(text, Some(&origin))
+}
+
+/// A name of 255 octets, the most that a name has.
+const LONGEST_TEXT: &[u8] =
+    b"aaaaaaaaaaaaaaaaaaaaaaaaaaaaaaaaaaaaaaaaaaaaaaaaaaaaaaaaaaaaaaa.aaaaaaaaaaaaaaaaaaaaaaaaaaaaaaaaaaaaaaaaaaaaaaaaaaaaaaaaaaaaaaa.aaaaaaaaaaaaaaaaaaaaaaaaaaaaaaaaaaaaaaaaaaaaaaaaaaaaaaaaaaaaaaa.aaaaaaaaaaaaaaaaaaaaaaaaaaaaaaaaaaaaaaaaaaaaaaaaaaaaaaaaaaaaa.";
+
+/// The octets of that name.
+const LONGEST_OCTETS: &[u8] =
+    b"\x3faaaaaaaaaaaaaaaaaaaaaaaaaaaaaaaaaaaaaaaaaaaaaaaaaaaaaaaaaaaaaaa\x3faaaaaaaaaaaaaaaaaaaaaaaaaaaaaaaaaaaaaaaaaaaaaaaaaaaaaaaaaaaaaaa\x3faaaaaaaaaaaaaaaaaaaaaaaaaaaaaaaaaaaaaaaaaaaaaaaaaaaaaaaaaaaaaaa\x3daaaaaaaaaaaaaaaaaaaaaaaaaaaaaaaaaaaaaaaaaaaaaaaaaaaaaaaaaaaaa\x00";
+
+/// A text that spells a name under an origin, the name's octets and its canonical spelling.
+struct Spelled {
+    text: &'static [u8],
+    origin: &'static [u8],
+    octets: &'static [u8],
+    spelling: &'static [u8],
+}
+
+impl Case for Spelled {
+    fn is_right(&self, alloc: Global) -> Result<bool, Fail> {
+        let name = named(self.text, self.origin)?;
+        let mut spelling = Vec::new(alloc);
+        name.push_text(&mut spelling)?;
+        Ok(
+            name.wire() == self.octets
+                && name.copy().wire() == self.octets
+                && spelling.as_slice() == self.spelling,
+        )
+    }
+}
+
+static SPELLED: [Spelled; 9] = [
+    Spelled {
+        text: LONGEST_TEXT,
+        origin: b"",
+        octets: LONGEST_OCTETS,
+        spelling: LONGEST_TEXT,
+    },
+    Spelled {
+        text: b"\\@",
+        origin: b"x.",
+        octets: b"\x01\x40\x01x\x00",
+        spelling: b"\\@.x.",
+    },
+    Spelled {
+        text: b".",
+        origin: b"",
+        octets: b"\x00",
+        spelling: b".",
+    },
+    Spelled {
+        text: b"@",
+        origin: b"x.",
+        octets: b"\x01x\x00",
+        spelling: b"x.",
+    },
+    Spelled {
+        text: b"a",
+        origin: b"x.",
+        octets: b"\x01a\x01x\x00",
+        spelling: b"a.x.",
+    },
+    Spelled {
+        text: b"A.X.",
+        origin: b"",
+        octets: b"\x01a\x01x\x00",
+        spelling: b"a.x.",
+    },
+    Spelled {
+        text: b"\\065.",
+        origin: b"",
+        octets: b"\x01a\x00",
+        spelling: b"a.",
+    },
+    Spelled {
+        text: b"a\\046b",
+        origin: b"x.",
+        octets: b"\x03a.b\x01x\x00",
+        spelling: b"a\\.b.x.",
+    },
+    Spelled {
+        text: b"\\034\\036\\040\\041\\046\\059\\064\\092\\032\\000\\127\\255\\033\\126.",
+        origin: b"",
+        octets: b"\x0e\"$().;@\\ \x00\x7f\xff!~\x00",
+        spelling: b"\\\"\\$\\(\\)\\.\\;\\@\\\\\\032\\000\\127\\255!~.",
+    },
+];
+
+/// A text that spells no name under an origin, and the fault.
+struct Unspelled(&'static [u8], &'static [u8], NameFault);
+
+impl Case for Unspelled {
+    fn is_right(&self, _alloc: Global) -> Result<bool, Fail> {
+        Ok(named(self.0, self.1).err() == Some(self.2))
+    }
+}
+
+static UNSPELLED: [Unspelled; 17] = [
+    Unspelled(
+        b"aaaaaaaaaaaaaaaaaaaaaaaaaaaaaaaaaaaaaaaaaaaaaaaaaaaaaaaaaaaaaaa.aaaaaaaaaaaaaaaaaaaaaaaaaaaaaaaaaaaaaaaaaaaaaaaaaaaaaaaaaaaaaaa.aaaaaaaaaaaaaaaaaaaaaaaaaaaaaaaaaaaaaaaaaaaaaaaaaaaaaaaaaaaaaaa.aaaaaaaaaaaaaaaaaaaaaaaaaaaaaaaaaaaaaaaaaaaaaaaaaaaaaaaaaaaaaa.",
+        b"",
+        NameFault::NameTooLong,
+    ),
+    Unspelled(
+        b"aaaaaaaaaaaaaaaaaaaaaaaaaaaaaaaaaaaaaaaaaaaaaaaaaaaaaaaaaaaaaaaa.",
+        b"",
+        NameFault::LabelTooLong,
+    ),
+    Unspelled(b"a..b.", b"", NameFault::EmptyLabel),
+    Unspelled(b"a", b"", NameFault::RelativeName),
+    Unspelled(b"a..\\9", b"", NameFault::EmptyLabel),
+    Unspelled(b"a\\9", b"", NameFault::BadEscape),
+    Unspelled(b"a\\256", b"", NameFault::BadEscape),
+    Unspelled(b"", b"", NameFault::EmptyLabel),
+    Unspelled(b"@", b"", NameFault::RelativeName),
+    Unspelled(
+        b"aaaaaaaaaaaaaaaaaaaaaaaaaaaaaaaaaaaaaaaaaaaaaaaaaaaaaaaaaaaaaaa.aaaaaaaaaaaaaaaaaaaaaaaaaaaaaaaaaaaaaaaaaaaaaaaaaaaaaaaaaaaaaaa.aaaaaaaaaaaaaaaaaaaaaaaaaaaaaaaaaaaaaaaaaaaaaaaaaaaaaaaaaaaaaaa.aaaaaaaaaaaaaaaaaaaaaaaaaaaaaaaaaaaaaaaaaaaaaaaaaaaaaaaaaaaaaaa",
+        b"",
+        NameFault::RelativeName,
+    ),
+    Unspelled(
+        b"aaaaaaaaaaaaaaaaaaaaaaaaaaaaaaaaaaaaaaaaaaaaaaaaaaaaaaaaaaaaaaa.aaaaaaaaaaaaaaaaaaaaaaaaaaaaaaaaaaaaaaaaaaaaaaaaaaaaaaaaaaaaaaa.aaaaaaaaaaaaaaaaaaaaaaaaaaaaaaaaaaaaaaaaaaaaaaaaaaaaaaaaaaaaaaa.aaaaaaaaaaaaaaaaaaaaaaaaaaaaaaaaaaaaaaaaaaaaaaaaaaaaaaaaaaaaaaa",
+        b"x.",
+        NameFault::NameTooLong,
+    ),
+    Unspelled(
+        b"aaaaaaaaaaaaaaaaaaaaaaaaaaaaaaaaaaaaaaaaaaaaaaaaaaaaaaaaaaaaaaa.aaaaaaaaaaaaaaaaaaaaaaaaaaaaaaaaaaaaaaaaaaaaaaaaaaaaaaaaaaaaaaa.aaaaaaaaaaaaaaaaaaaaaaaaaaaaaaaaaaaaaaaaaaaaaaaaaaaaaaaaaaaaaaa.aaaaaaaaaaaaaaaaaaaaaaaaaaaaaaaaaaaaaaaaaaaaaaaaaaaaaaaaaaaaa",
+        b"x.",
+        NameFault::NameTooLong,
+    ),
+    Unspelled(b"a\\", b"", NameFault::BadEscape),
+    Unspelled(b"a\\\n.", b"", NameFault::BadEscape),
+    Unspelled(b"a\\\r.", b"", NameFault::BadEscape),
+    Unspelled(b"..", b"", NameFault::EmptyLabel),
+    Unspelled(b".a", b"x.", NameFault::EmptyLabel),
+];
+
+#[test]
+fn texts_of_names(rt: HostRuntime) -> Result<(), Fail> {
+    assert_eq!(rt; first_wrong(rt.alloc(), &SPELLED)?, None);
+    assert_eq!(rt; first_wrong(rt.alloc(), &UNSPELLED)?, None);
+    Ok(())
+}
+
+/// What is behind a backslash, the octet that its escape stands for, and what is behind the escape (RFC 1035 5.1).
+struct Escaped(&'static [u8], u8, &'static [u8]);
+
+impl Case for Escaped {
+    fn is_right(&self, _alloc: Global) -> Result<bool, Fail> {
+        let (octet, rest) = escape_at(self.0).ok_or("no escape")?;
+        Ok(octet == self.1 && rest == self.2)
+    }
+}
+
+static ESCAPED: [Escaped; 2] = [Escaped(b".b", b'.', b"b"), Escaped(b"046b", b'.', b"b")];
+
+/// A name, an apex, and whether the name is within that zone.
+struct Within(&'static [u8], &'static [u8], bool);
+
+impl Case for Within {
+    fn is_right(&self, _alloc: Global) -> Result<bool, Fail> {
+        let name = named(self.0, b"")?;
+        let apex = named(self.1, b"")?;
+        Ok(name.is_within(&apex) == self.2)
+    }
+}
+
+static WITHIN: [Within; 6] = [
+    Within(b"b.y.", b"x.", false),
+    Within(b"x.", b"x.", true),
+    Within(b"x.", b".", true),
+    Within(b"ax.", b"x.", false),
+    Within(b"a.x.", b"x.", true),
+    Within(b".", b"x.", false),
+];
+
+#[test]
+fn escapes_and_names_within(rt: HostRuntime) -> Result<(), Fail> {
+    assert_eq!(rt; first_wrong(rt.alloc(), &ESCAPED)?, None);
+    assert_eq!(rt; first_wrong(rt.alloc(), &WITHIN)?, None);
+    Ok(())
+}
+
+/// The example of RFC 4034 6.1, in order.
+static ORDERED: [&[u8]; 9] = [
+    b"example.",
+    b"a.example.",
+    b"yljkjljk.a.example.",
+    b"Z.a.example.",
+    b"zABC.a.EXAMPLE.",
+    b"z.example.",
+    b"\\001.z.example.",
+    b"*.z.example.",
+    b"\\200.z.example.",
+];
+
+/// Whether a name has this place among the ordered ones.
+fn is_at(name: &Name, at: usize) -> Result<bool, Fail> {
+    for (other_at, other) in ORDERED.iter().enumerate() {
+        let other = named(other, b"")?;
+        let ordering = at.cmp(&other_at);
+        if name.cmp(&other) != ordering || (*name == other) != (ordering == Ordering::Equal) {
+            return Ok(false);
+        }
+    }
+    Ok(true)
+}
+
+#[test]
+fn names_are_ordered(rt: HostRuntime) -> Result<(), Fail> {
+    for (at, text) in ORDERED.iter().enumerate() {
+        assert!(rt; is_at(&named(text, b"")?, at)?, "at {at}");
+    }
+    Ok(())
+}
+
+/// A label of 63 octets, the most that a label has.
+const LONGEST_LABEL: &[u8] = b"aaaaaaaaaaaaaaaaaaaaaaaaaaaaaaaaaaaaaaaaaaaaaaaaaaaaaaaaaaaaaaa";
+
+/// Labels that a builder takes, one that it refuses then, the fault, and the octets of the name.
+struct Built {
+    labels: &'static [&'static [u8]],
+    refused: &'static [u8],
+    fault: NameFault,
+    octets: &'static [u8],
+}
+
+impl Case for Built {
+    fn is_right(&self, _alloc: Global) -> Result<bool, Fail> {
+        let mut builder = NameBuilder::new();
+        for label in self.labels {
+            builder.push_label(label)?;
+        }
+        let refusal = builder.push_label(self.refused).err();
+        let name = builder.finish();
+        Ok(
+            refusal == Some(self.fault)
+                && name.wire() == self.octets
+                && has_labels(&name, self.labels)
+                && Name::from_front(name.wire()) == name,
+        )
+    }
+}
+
+/// Whether these are the labels of the name.
+fn has_labels(name: &Name, labels: &[&[u8]]) -> bool {
+    let mut wanted = labels.iter();
+    for label in name.labels() {
+        if wanted.next() != Some(&label) {
+            return false;
+        }
+    }
+    wanted.next().is_none()
+}
+
+static BUILT: [Built; 3] = [
+    Built {
+        labels: &[],
+        refused: b"",
+        fault: NameFault::EmptyLabel,
+        octets: b"\x00",
+    },
+    Built {
+        labels: &[],
+        refused: b"aaaaaaaaaaaaaaaaaaaaaaaaaaaaaaaaaaaaaaaaaaaaaaaaaaaaaaaaaaaaaaaa",
+        fault: NameFault::LabelTooLong,
+        octets: b"\x00",
+    },
+    Built {
+        labels: &[
+            LONGEST_LABEL,
+            LONGEST_LABEL,
+            LONGEST_LABEL,
+            b"aaaaaaaaaaaaaaaaaaaaaaaaaaaaaaaaaaaaaaaaaaaaaaaaaaaaaaaaaaaaa",
+        ],
+        refused: b"a",
+        fault: NameFault::NameTooLong,
+        octets: LONGEST_OCTETS,
+    },
+];
+
+#[test]
+fn names_are_built(rt: HostRuntime) -> Result<(), Fail> {
+    assert_eq!(rt; first_wrong(rt.alloc(), &BUILT)?, None);
+    assert_eq!(rt; Name::root().wire(), b"\x00".as_slice());
+    Ok(())
+}
+
+/// A fault, and how it is shown.
+struct Shown(NameFault, &'static str);
+
+impl Case for Shown {
+    fn is_right(&self, alloc: Global) -> Result<bool, Fail> {
+        let fault = self.0;
+        Ok(format!(in alloc; "{fault}")?.as_str() == self.1)
+    }
+}
+
+static SHOWN: [Shown; 5] = [
+    Shown(NameFault::EmptyLabel, "a label is empty"),
+    Shown(NameFault::LabelTooLong, "a label has more than 63 octets"),
+    Shown(NameFault::NameTooLong, "a name has more than 255 octets"),
+    Shown(NameFault::BadEscape, "a backslash escape is malformed"),
+    Shown(NameFault::RelativeName, "a relative name has no origin"),
+];
+
+#[test]
+fn faults_of_names_are_shown(rt: HostRuntime) -> Result<(), Fail> {
+    assert_eq!(rt; first_wrong(rt.alloc(), &SHOWN)?, None);
+    Ok(())
+}
+
+#[test]
+fn a_name_is_small(rt: HostRuntime) {
+    assert!(rt; std::mem::size_of::<Name>() <= 264);
+}
