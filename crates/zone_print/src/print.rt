@@ -47,7 +47,8 @@ pub fn push_zone(alloc: Global, zone: &Zone) -> Result<Vec<u8>, Stop>
 pub fn write_zone<W: Write>(alloc: Global, zone: &Zone, writer: &mut W) -> Result<(), Stop>
     ensures text { OnOk result (Appends (W.contents writer.old) (W.contents writer.new) (canon zone.now)) }
     ensures short { OnOk result (length (canon zone.now) ≤ text_limit) }
-    ensures stopped { IfErr result (StopsWrite text_limit (canon zone.now) (W.contents writer.old) (W.contents writer.new)) }
+    ensures stopped { IfErr result
+        (StopsWrite text_limit (canon zone.now) (W.contents writer.old) (W.contents writer.new)) }
 {
     write_within(alloc, zone, writer, TEXT_LIMIT)
 }
@@ -88,7 +89,8 @@ pub(crate) fn write_within<W: Write>(
     requires { limit ≤ text_limit }
     ensures text { OnOk result (Appends (W.contents writer.old) (W.contents writer.new) (canon zone.now)) }
     ensures short { OnOk result (length (canon zone.now) ≤ limit) }
-    ensures stopped { IfErr result (StopsWrite limit (canon zone.now) (W.contents writer.old) (W.contents writer.new)) }
+    ensures stopped { IfErr result
+        (StopsWrite limit (canon zone.now) (W.contents writer.old) (W.contents writer.new)) }
 {
     if len_within(zone, limit) > limit {
         return Err(Stop::Refused(Fault::ZoneTooLarge, Place::Whole));

@@ -1,4 +1,4 @@
--- A source of records: what it still has to give.
+-- What a source of records still has to give.
 use Rattle.std.specs.Prelude.{Bool, true, false, List, [], ◌∷◌, Option, Some, None, Result, Ok, Err}
 use Rattle.zone_rdata.specs.declared.fault.Fault.{Fault}
 use Rattle.zone_rdata.specs.declared.fault.Place.{Place}
@@ -7,7 +7,7 @@ use Rattle.zone_rdata.specs.declared.fault.Stop.TheVariants.{Refused, Memory}
 use Rattle.zone_rdata.specs.declared.record.Placed.{Placed}
 
 -- whether it failed, the records still to come in order, and the fault after them, if one is decided
-pub record Feed : Type 0 where
+pub record Pending : Type 0 where
   pub failed : Bool
   pub records : List Placed
   pub ending : Option (Fault × Place)
@@ -22,13 +22,13 @@ first_answer [] ending = ending_answer ending
 first_answer (r ∷ records) ending = Ok (Some r)
 
 -- the next answer: want of memory where it failed, else the first record, else the fault
-abbrev pub answer_of : Feed → Result (Option Placed) Stop
-answer_of feed = elim feed.failed [ true ↦ Err Memory | false ↦ first_answer feed.records feed.ending ]
+abbrev pub answer_of : Pending → Result (Option Placed) Stop
+answer_of pending = elim pending.failed [ true ↦ Err Memory | false ↦ first_answer pending.records pending.ending ]
 
 abbrev pub others : List Placed → List Placed
 others [] = []
 others (r ∷ records) = records
 
 -- what is left after an answer
-abbrev pub after : Feed → Feed
-after feed = elim feed.failed [ true ↦ feed | false ↦ record feed { records = others feed.records } ]
+abbrev pub after : Pending → Pending
+after pending = elim pending.failed [ true ↦ pending | false ↦ record pending { records = others pending.records } ]

@@ -1,5 +1,5 @@
 ghost use Rattle.std.specs.Prelude.{◌≡◌, false};
-ghost use Rattle.zone_rdata.specs.Source.{Feed, answer_of, after};
+ghost use Rattle.zone_rdata.specs.Source.{Pending, answer_of, after};
 
 use crate::fault::{Fault, Place, Stop};
 use crate::record::Placed;
@@ -8,7 +8,7 @@ use std::collections::VecDeque;
 /// A source of records in order, and the fault after them.
 pub trait RrSource {
     /// Whether it failed, the records still to come, and the fault after them, if one is decided.
-    ghost feed: { Self → Feed };
+    ghost pending: { Self → Pending };
 
     /// The next record. With none left the fault, and the same again from then on; `None` where no fault is decided.
     ///
@@ -16,8 +16,8 @@ pub trait RrSource {
     ///
     /// `Memory` where the source has failed, and `Refused` with the fault.
     fn next(&mut self) -> Result<Option<Placed>, Stop>
-        ensures answer { result ≡ answer_of (feed self.old) }
-        ensures left { feed self.new ≡ after (feed self.old) };
+        ensures answer { result ≡ answer_of (pending self.old) }
+        ensures left { pending self.new ≡ after (pending self.old) };
 }
 
 /// The records of a whole input up to its first fault, and that fault.
@@ -30,7 +30,7 @@ pub struct Reading {
 }
 
 impl RrSource for Reading {
-    ghost feed = { λ r. record { failed = false; records = r.placed.items; ending = r.ending } };
+    ghost pending = { λ r. record { failed = false; records = r.placed.items; ending = r.ending } };
 
     fn next(&mut self) -> Result<Option<Placed>, Stop> {
         if let Some(placed) = self.placed.pop_front() {

@@ -1,7 +1,7 @@
 -- Records taken from a source, one after another.
 use Rattle.std.proofs.Common.{◌≡◌, Bool, true, false, List, [], ◌∷◌, ◌++◌, Option, Some, None, Ok, Err, refl, ap, sym, ◌∙◌, subst, append_assoc, append-nil}
 use Rattle.zone_rdata.specs.Record.{Record}
-use Rattle.zone_rdata.specs.Source.{Feed, answer_of, after, others}
+use Rattle.zone_rdata.specs.Source.{Pending, answer_of, after, others}
 use Rattle.zone_rdata.specs.declared.fault.Fault.{Fault}
 use Rattle.zone_rdata.specs.declared.fault.Place.{Place}
 use Rattle.zone_rdata.specs.declared.fault.Stop.{Stop}
@@ -27,9 +27,9 @@ first_parts false [] (Some e) p is = cc
 first_parts false (q ∷ records) ending p is = let same : q ≡ p = cc in (refl, ap (λ (x : Placed). x ∷ records) same)
 
 -- an answer with a fault: the source failed, or the fault at its end
-pub data Stopped (feed : Feed) : Stop → Type 0 where
-  at_failure : feed.failed ≡ true → Stopped feed Memory
-  at_end : (e : Fault × Place) → feed.failed ≡ false → feed.records ≡ [] → feed.ending ≡ Some e → Stopped feed (Refused e.0 e.1)
+pub data Stopped (pending : Pending) : Stop → Type 0 where
+  at_failure : pending.failed ≡ true → Stopped pending Memory
+  at_end : (e : Fault × Place) → pending.failed ≡ false → pending.records ≡ [] → pending.ending ≡ Some e → Stopped pending (Refused e.0 e.1)
 
 stop_parts : (failed : Bool) (records : List Placed) (ending : Option (Fault × Place)) (stop : Stop) → answer_of (record { failed = failed; records = records; ending = ending }) ≡ Err stop → Stopped (record { failed = failed; records = records; ending = ending }) stop
 stop_parts true records ending stop is = let same : Memory ≡ stop = cc in subst (Stopped (record { failed = true; records = records; ending = ending })) same (at_failure refl)
@@ -38,7 +38,7 @@ stop_parts false [] (Some e) stop is = let same : Refused e.0 e.1 ≡ stop = cc 
 stop_parts false (q ∷ records) ending stop is = cc
 
 -- some first records of a source were taken, none of a source that failed, and these are held now
-pub record HasTaken (old : List Record) (start : Feed) (now : List Record) (left : Feed) : Type 0 where
+pub record HasTaken (old : List Record) (start : Pending) (now : List Record) (left : Pending) : Type 0 where
   pub taken : List Placed
   pub parts : start.records ≡ taken ++ left.records
   pub failed : left.failed ≡ start.failed
@@ -46,18 +46,18 @@ pub record HasTaken (old : List Record) (start : Feed) (now : List Record) (left
   pub ending : left.ending ≡ start.ending
   pub each : AddsEach old taken now
 
-pub HasTaken-start : (old : List Record) (start : Feed) → HasTaken old start old start
+pub HasTaken-start : (old : List Record) (start : Pending) → HasTaken old start old start
 HasTaken-start old start = record { taken = []; parts = refl; failed = refl; none = λ fails. refl; ending = refl; each = refl }
 
 -- one more answer of the source
-module _ (old : List Record) (start : Feed) (now : List Record) (left : Feed) (had : HasTaken old start now left) where
-  pub HasTaken-more : (p : Placed) (new : List Record) (next : Feed) → answer_of left ≡ Ok (Some p) → next ≡ after left → Accepts now p.rr → Adds now p.rr new → HasTaken old start new next
+module _ (old : List Record) (start : Pending) (now : List Record) (left : Pending) (had : HasTaken old start now left) where
+  pub HasTaken-more : (p : Placed) (new : List Record) (next : Pending) → answer_of left ≡ Ok (Some p) → next ≡ after left → Accepts now p.rr → Adds now p.rr new → HasTaken old start new next
   HasTaken-more p new next answer is fits adds =
       let first = first_parts left.failed left.records left.ending p answer in
       let rest = is ∙ after_parts left.failed left.records left.ending first.0 in
       record {
         taken = had.taken ++ p ∷ [];
-        parts = had.parts ∙ ap (λ rs. had.taken ++ rs) (first.1 ∙ ap (λ (f : Feed). p ∷ f.records) (sym rest)) ∙ sym (append_assoc had.taken (p ∷ []) next.records);
+        parts = had.parts ∙ ap (λ rs. had.taken ++ rs) (first.1 ∙ ap (λ (f : Pending). p ∷ f.records) (sym rest)) ∙ sym (append_assoc had.taken (p ∷ []) next.records);
         failed = ap (λ f. f.failed) rest ∙ had.failed;
         none = λ fails. let no : false ≡ true = sym first.0 ∙ had.failed ∙ fails in cc;
         ending = ap (λ f. f.ending) rest ∙ had.ending;

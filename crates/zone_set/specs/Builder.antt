@@ -4,7 +4,7 @@ use Rattle.std.specs.declared.cmp.Ordering.TheVariants.{Less}
 use Rattle.zone_name.specs.Name.{IsWithin}
 use Rattle.zone_name.specs.Order.{name_cmp}
 use Rattle.zone_rdata.specs.Record.{Record}
-use Rattle.zone_rdata.specs.Source.{Feed}
+use Rattle.zone_rdata.specs.Source.{Pending}
 use Rattle.zone_rdata.specs.declared.record.Placed.{Placed}
 use Rattle.zone_rdata.specs.declared.fault.Fault.{Fault}
 use Rattle.zone_rdata.specs.declared.fault.Fault.TheVariants.{ClassMismatch, MultipleSoa, DifferingTtl, NoSoa, OutOfZone}
@@ -58,18 +58,18 @@ AddsEach old [] new = new ≡ old
 AddsEach old (p ∷ placed) new = (next : List Record) × Accepts old p.rr × Adds old p.rr next × AddsEach next placed new
 
 -- all of a source was taken, and no fault stands at its end
-pub record TakesAll (old : List Record) (feed : Feed) (new : List Record) : Type 0 where
-  pub works : feed.failed ≡ false
-  pub whole : feed.ending ≡ None
-  pub taken : AddsEach old feed.records new
+pub record TakesAll (old : List Record) (pending : Pending) (new : List Record) : Type 0 where
+  pub works : pending.failed ≡ false
+  pub whole : pending.ending ≡ None
+  pub taken : AddsEach old pending.records new
 
 -- why taking a source ended early: it had failed, and nothing of it is taken; memory was refused for a record, or the
 -- record was, and all before it are held; or all are held, and a fault stands at its end
-pub data StopsTaking (old : List Record) (feed : Feed) (new : List Record) : Stop → Type 0 where
-  failure : feed.failed ≡ true → new ≡ old → StopsTaking old feed new Memory
-  memory : (taken rest : List Placed) (p : Placed) → feed.failed ≡ false → feed.records ≡ taken ++ p ∷ rest → AddsEach old taken new → StopsTaking old feed new Memory
-  refused : (taken rest : List Placed) (p : Placed) (f : Fault) → feed.failed ≡ false → feed.records ≡ taken ++ p ∷ rest → AddsEach old taken new → IsRefusedFor new p.rr f → StopsTaking old feed new (Refused f p.place)
-  ending : (e : Fault × Place) → feed.failed ≡ false → feed.ending ≡ Some e → AddsEach old feed.records new → StopsTaking old feed new (Refused e.0 e.1)
+pub data StopsTaking (old : List Record) (pending : Pending) (new : List Record) : Stop → Type 0 where
+  failure : pending.failed ≡ true → new ≡ old → StopsTaking old pending new Memory
+  memory : (taken rest : List Placed) (p : Placed) → pending.failed ≡ false → pending.records ≡ taken ++ p ∷ rest → AddsEach old taken new → StopsTaking old pending new Memory
+  refused : (taken rest : List Placed) (p : Placed) (f : Fault) → pending.failed ≡ false → pending.records ≡ taken ++ p ∷ rest → AddsEach old taken new → IsRefusedFor new p.rr f → StopsTaking old pending new (Refused f p.place)
+  ending : (e : Fault × Place) → pending.failed ≡ false → pending.ending ≡ Some e → AddsEach old pending.records new → StopsTaking old pending new (Refused e.0 e.1)
 
 -- no SOA is held
 abbrev pub HasNoSoa : List Record → Type 0

@@ -1,4 +1,4 @@
-ghost use Rattle.std.specs.Prelude.{◌≡◌, ◌≤◌, [], Some, MatchOption, OnOk, OnErr, IfOk, IfErr};
+ghost use Rattle.std.specs.Prelude.{◌≡◌, ◌≤◌, [], Some, IfNone, IfSome, OnOk, OnErr, IfOk, IfErr};
 ghost use Rattle.std.specs.List.{AllByRecursion};
 ghost use Rattle.zone_name.specs.Name.{IsWithin};
 ghost use Rattle.zone_rdata.specs.declared.record.TheConstants.{MAX_TTL};
@@ -84,8 +84,8 @@ impl ZoneBuilder {
     /// The first refusal of `add`, or the fault at the source's end; `Memory` where memory was refused or the source
     /// has failed. The records before it are held, and the one that was refused is dropped.
     pub fn take_all<S: RrSource>(&mut self, source: &mut S) -> Result<(), Stop>
-        ensures taken { OnOk result (TakesAll self.old (S.feed source.old) self.new) }
-        ensures stopped { IfErr result (StopsTaking self.old (S.feed source.old) self.new) }
+        ensures taken { OnOk result (TakesAll self.old (S.pending source.old) self.new) }
+        ensures stopped { IfErr result (StopsTaking self.old (S.pending source.old) self.new) }
     {
         while let Some(placed) = source.next()? {
             match self.add(placed) {
@@ -128,7 +128,8 @@ impl ZoneBuilder {
 
 /// The first owner that lies outside the zone of an apex.
 fn first_outside<'z>(records: Records<'z>, apex: &Name) -> Option<&'z Name>
-    ensures { MatchOption result (AllByRecursion (λ r. IsWithin r.owner apex.now) records.entry) (λ owner. IsFirstOutside records.entry apex.now owner.now) }
+    ensures within { IfNone result (AllByRecursion (λ r. IsWithin r.owner apex.now) records.entry) }
+    ensures outside { IfSome result (λ owner. IsFirstOutside records.entry apex.now owner.now) }
 {
     for record in records {
         if !record.owner.is_within(apex) {

@@ -80,7 +80,8 @@ impl HeldRecords {
     pub(crate) fn refusal(&self, least: &RecordKey, ttl: u32, rdata: &Rdata) -> Option<Fault>
         requires set { least.now.set ≡ set_key least.now.set.owner rdata.now }
         requires least { least.now.rdata ≡ None }
-        ensures { let r = with_data least.now.set.owner ttl (Some rdata.now) in MatchOption result (Accepts self.now r) (IsRefusedFor self.now r) }
+        ensures { let r = with_data least.now.set.owner ttl (Some rdata.now)
+            in MatchOption result (Accepts self.now r) (IsRefusedFor self.now r) }
     {
         let mut records = self.iter();
         let Some(first) = records.next() else {

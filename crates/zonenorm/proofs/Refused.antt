@@ -2,7 +2,7 @@
 use Rattle.std.proofs.Common.{◌≡◌, ℕ, ◌<◌, ◌≤◌, List, [], ◌∷◌, ◌++◌, length, refl, sym, subst, inl, inr, ⊎_elim, append_assoc, append-nil, false}
 use Rattle.std.specs.Prelude.{Option, Some, None, IfSome}
 use Rattle.zone_rdata.specs.Record.{Record}
-use Rattle.zone_rdata.specs.Source.{Feed}
+use Rattle.zone_rdata.specs.Source.{Pending}
 use Rattle.zone_rdata.specs.declared.fault.Fault.{Fault}
 use Rattle.zone_rdata.specs.declared.fault.Fault.TheVariants.{NoSoa, OutOfZone, ZoneTooLarge, InputTooLong}
 use Rattle.zone_rdata.specs.declared.fault.Place.{Place}
@@ -71,7 +71,7 @@ taken_accepted placed new taken = accepted_from [] placed [] new (λ s. (λ has.
 -- ---- what a builder refuses
 
 module _ (origin : List (List ℕ)) (octets : List ℕ) (reading : Reading) (front : ReadsFront origin octets reading) where
-  abbrev fed : Feed
+  abbrev fed : Pending
   fed = record { failed = false; records = reading.placed.items; ending = reading.ending }
 
   reads : (f : Fault) (at : Place) → RefusesReading reading.placed.items reading.ending f at → RefusesRead origin octets f at

@@ -21,7 +21,7 @@ pub fn explain_line(alloc: Global, stop: &Stop) -> Result<String, AllocError> {
 
 /// Number, name and argument of the fault, its place, and what is wrong.
 fn refusal_line(alloc: Global, fault: &Fault, place: Place) -> Result<String, AllocError> {
-    let Entry { number, name, text } = entry_of(fault);
+    let Row { number, name, text } = row_of(fault);
     let mut line = format!(in alloc; "F{number} {name}")?;
     match fault {
         Fault::ErrorCode(code) => write!(line, " {code}")?,
@@ -49,14 +49,14 @@ fn push_owner(alloc: Global, line: &mut String, owner: &Name) -> Result<(), Allo
 }
 
 /// A fault's row in the table of faults.
-struct Entry {
+struct Row {
     number: u8,
     name: &'static str,
     text: &'static str,
 }
 
 /// The row of a fault: one match, so that no fault can be without its row.
-fn entry_of(fault: &Fault) -> Entry {
+fn row_of(fault: &Fault) -> Row {
     let (number, name, text) = match fault {
         Fault::NotYet => (0, "NotYet", "this form isn't read yet"),
         Fault::EmptyLabel => (1, "EmptyLabel", "a label is empty"),
@@ -121,5 +121,5 @@ fn entry_of(fault: &Fault) -> Entry {
         Fault::ZoneTooLarge => (44, "ZoneTooLarge", "the canonical text is too long"),
         Fault::InputTooLong => (45, "InputTooLong", "the input is too long"),
     };
-    Entry { number, name, text }
+    Row { number, name, text }
 }

@@ -23,14 +23,14 @@ pub returns-in-Some-first_outside-clause-stopped : goal.returns-in-Some-first_ou
 returns-in-Some-first_outside-clause-stopped c =
     let parts = sym c.iter-records.ensures.records ∙ c.in-Some.ensures.steps in
     subst (λ held. StopsFinish held (Refused (OutOfZone c.copy.result) Whole)) c.self.view_is
-    (stops_outside _ (record_of c.in-Some.first) _ c.iter-records.ensures.compatible parts (c.is_soa.ensures.0 c.if-is_soa.true) c.in-Some-first_outside.owner.now c.copy.result c.in-Some-first_outside.ensures c.copy.ensures)
+    (stops_outside _ (record_of c.in-Some.first) _ c.iter-records.ensures.compatible parts (c.is_soa.ensures.0 c.if-is_soa.true) c.in-Some-first_outside.owner.now c.copy.result c.in-Some-first_outside.ensures.outside c.copy.ensures)
 
 pub invariant_of-result : goal.invariant_of-result
 invariant_of-result c =
     let parts = sym c.iter-records.ensures.records ∙ c.in-Some.ensures.steps in
-    IsZone-from_parts _ (record_of c.in-Some.first) _ c.iter-records.ensures.compatible parts (c.is_soa.ensures.0 c.if-is_soa.true) c.in_default-first_outside.ensures c.copy-apex.result c.copy-apex.ensures
+    IsZone-from_parts _ (record_of c.in-Some.first) _ c.iter-records.ensures.compatible parts (c.is_soa.ensures.0 c.if-is_soa.true) c.in_default-first_outside.ensures.within c.copy-apex.result c.copy-apex.ensures
 
 pub returns-clause-zone : goal.returns-clause-zone
 returns-clause-zone c =
     let parts = sym c.iter-records.ensures.records ∙ c.in-Some.ensures.steps in
-    IsZone-from_parts _ (record_of c.in-Some.first) _ c.iter-records.ensures.compatible parts (c.is_soa.ensures.0 c.if-is_soa.true) c.in_default-first_outside.ensures c.copy-apex.result c.copy-apex.ensures
+    IsZone-from_parts _ (record_of c.in-Some.first) _ c.iter-records.ensures.compatible parts (c.is_soa.ensures.0 c.if-is_soa.true) c.in_default-first_outside.ensures.within c.copy-apex.result c.copy-apex.ensures
