@@ -20,7 +20,7 @@ pub record NamedType : Type 0 where
   pub in_only : Bool
   pub fields : List Field
 
--- the classes (RFC 1035 3.2.4)
+-- the classes, their numbers ascending (RFC 1035 3.2.4)
 abbrev pub classes : List Named
 classes =
     record { number = 1; mnemonic = codes "IN" }
@@ -29,13 +29,15 @@ classes =
     ∷ record { number = 4; mnemonic = codes "HS" }
     ∷ []
 
+-- a type with the fields in every class
 abbrev pub in_every : ℕ → List ℕ → List Field → NamedType
 in_every number mnemonic fields = record { named = record { number = number; mnemonic = mnemonic }; in_only = false; fields = fields }
 
+-- a type with the fields in class IN alone
 abbrev pub in_one : ℕ → List ℕ → List Field → NamedType
 in_one number mnemonic fields = record { named = record { number = number; mnemonic = mnemonic }; in_only = true; fields = fields }
 
--- the types, in every class or in class IN alone (RFC 1035 3.3, 3.4.1)
+-- the types, their numbers ascending (RFC 1035 3.3, 3.4.1, and as noted)
 abbrev pub types : List NamedType
 types =
     in_one 1 (codes "A") (Octets 4 ∷ [])
