@@ -1,7 +1,6 @@
 pub mod Name
 pub mod Order
 pub mod Spelling
+pub mod NextUnit
 pub mod Text
-pub mod Escape
-pub mod Reading
-pub mod Seen
+pub mod Machine
