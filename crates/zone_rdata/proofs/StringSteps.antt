@@ -1,11 +1,11 @@
 -- The octets of a string as the code reads them, unit by unit.
-use Rattle.std.proofs.Common.{◌≡◌, ℕ, ◌<◌, ◌≤◌, List, [], ◌∷◌, ◌++◌, length, refl, sym, ap, ◌∙◌, subst, arith, append_assoc, length-append}
+use Rattle.std.proofs.Common.{◌≡◌, ℕ, ◌<◌, ◌≤◌, List, [], ◌∷◌, ◌++◌, length, sym, ap, ◌∙◌, subst, arith, append_assoc, length-append}
 use Rattle.std.specs.List.{AllByRecursion}
 use Rattle.std.proofs.lemmas.List.{append-nil, flat_map_more, map_push, length-map}
 use Rattle.zone_name.specs.Spelling.{Written, text_of, octet_of, IsUnit, no_octet, IsBadEscape, BeginsWithUnit, written_text, written_octets}
 use Rattle.zone_rdata.specs.declared.fault.Fault.TheVariants.{BadEscape, StringTooLong}
 use Rattle.zone_rdata.specs.Item.{RawItem}
-use Rattle.zone_rdata.specs.Strings.{IsString, ReachesUnit, SpellsString, StringFault, bad_escape, long_string, item_text}
+use Rattle.zone_rdata.specs.Strings.{ReachesUnit, SpellsString, StringFault, bad_escape, long_string, item_text}
 use Rattle.zone_name.proofs.Units.{text_of-some}
 pub use Rattle.zone_name.proofs.Pushing.{AllByRecursion-append}
 

@@ -10,7 +10,7 @@ use Rattle.zone_text.specs.Lasting.{BreaksForGood}
 use Rattle.zone_text.specs.Entries.{Entry, cut_from, and_last, entries_of, ended_entries, open_line}
 use Rattle.zone_text.specs.FileReads.{Ending, reads_none, reads_one, refused, ReadEach, FileReads, whole, broken}
 use Rattle.zone_text.specs.Decided.{ArePieces, Decided, decided, undecided, Stays}
-use Rattle.zone_text.specs.Lower.{Lower}
+use Rattle.zone_text.specs.Machine.Lower.{Lower}
 use Rattle.zone_text.proofs.Cuttings.{one_cut, one_break, cut_not_broken, cut_or_broken}
 use Rattle.zone_text.proofs.Lasting.{cut_joined, break_joined, cut_parted, break_parted, breaks_for_good}
 use Rattle.zone_text.proofs.CutAgain.{joined, cut_whole, cut_ended, cut_again, ended_at_zero, and_last_behind, numbered_front}

@@ -6,7 +6,7 @@ use Rattle.zone_rdata.specs.declared.record.Placed.{Placed}
 use Rattle.zone_text.specs.Entries.{Entry, entries_of, ended_entries, open_line}
 use Rattle.zone_text.specs.File.{states_none, states_one, StateEach, FileStates}
 use Rattle.zone_text.specs.FileReads.{Ending, reads_none, reads_one, refused, ReadEach, FileReads, whole, broken}
-use Rattle.zone_text.specs.Lower.{Lower, Once}
+use Rattle.zone_text.specs.Machine.Lower.{Lower, Once}
 use Rattle.zone_text.proofs.Cuttings.{one_cut, one_break, cut_not_broken}
 use Rattle.zone_text.proofs.Entered.{record_once, fault_once, record_or_fault, nothing_or_record, nothing_or_fault}
 

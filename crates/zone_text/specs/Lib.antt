@@ -1,7 +1,7 @@
 pub mod Pieces
 pub mod Breaks
 pub mod Lasting
-pub mod Cutting
+pub mod Machine
 pub mod ExamplePieces
 pub mod Entries
 pub mod Forms
@@ -11,7 +11,6 @@ pub mod EntryFault
 pub mod File
 pub mod FileReads
 pub mod Decided
-pub mod Lower
 pub mod Outcome
 pub mod Lines
 pub mod ExampleEntries
