@@ -8,6 +8,7 @@ pub mod Forms
 pub mod Inherited
 pub mod Records
 pub mod EntryFault
+pub mod Given
 pub mod File
 pub mod FileReads
 pub mod Decided
