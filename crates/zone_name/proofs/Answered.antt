@@ -5,13 +5,13 @@ use Rattle.std.specs.Cmp.Lexicographic.{pointwise, bytes_decides}
 use Rattle.std.proofs.lemmas.List.{length-map}
 use Rattle.std.proofs.lemmas.Bool.{false≢true, leb-true, leb-false}
 use Rattle.zone_name.specs.Name.{folded_label, folded_octet, wire, IsLabel, IsName}
-use Rattle.zone_name.specs.Spelling.{Written, plain, escaped, decimal, text_of, octet_of, IsWritten, IsWrittenLabel, AreWrittenLabels, written_text, written_octets, dotted, parted, named, Writes, root, at_origin, absolute, relative, Spells, FaultAt, empty_label, long_label, bad_escape, IsRelative, FirstFault, within, unfounded, long_name}
+use Rattle.zone_name.specs.Spelling.{Written, plain, escaped, decimal, text_of, octet_of, IsUnit, is_dot, IsWrittenLabel, AreWrittenLabels, written_text, written_octets, dotted, parted, named, Writes, root, at_origin, absolute, relative, Spells, FaultAt, empty_label, long_label, bad_escape, IsRelative, FirstFault, within, unfounded, long_name}
 use Rattle.zone_name.specs.declared.fault.NameFault.{NameFault}
 use Rattle.zone_name.specs.declared.fault.NameFault.TheVariants.{EmptyLabel, NameTooLong, RelativeName}
 use Rattle.zone_name.specs.declared.reading.Form.{Form}
 use Rattle.zone_name.specs.declared.reading.Form.TheVariants.{Root, Origin, Labels}
-use Rattle.zone_name.specs.Reading.{reading, sized, under}
-use Rattle.zone_name.specs.Seen.{HasForm}
+use Rattle.zone_name.specs.Machine.Reading.{reading, sized, under}
+use Rattle.zone_name.specs.Machine.Seen.{HasForm}
 use Rattle.zone_name.proofs.Spelled.{AreShort, Says, reading-says}
 use Rattle.zone_name.proofs.Only.{reading-dotted, reading-parted, reading-fault}
 use Rattle.zone_name.proofs.Pushing.{AllByRecursion-append, AllByRecursion-front, AllByRecursion-back, IsLabel-folded, sized-name, sized-long}
@@ -179,18 +179,18 @@ decided-fault origin text (Err fault) dot other known e = fault_by origin text (
 
 -- an `@` is a relative text
 pub at-relative : (text : List ℕ) → text ≡ codes "@" → IsRelative text
-at-relative text e = ((plain 64 ∷ []) ∷ [], record { some = omega arith; each = (record { some = omega arith; each = ((λ h. cc, λ h. cc), tt) }, tt) }, (omega arith, tt), e)
+at-relative text e = ((plain 64 ∷ []) ∷ [], record { some = omega arith; each = (record { some = omega arith; each = ((refl, λ h. cc), tt) }, tt) }, (omega arith, tt), e)
 
 -- ---- the labels of a text of octets
 abbrev AreOctets : List ℕ → Type 0
 AreOctets text = AllByRecursion (λ c. c < 256) text
 
-octet_short : (w : Written) → IsWritten w → AreOctets (text_of w) → octet_of w < 256
+octet_short : (w : Written) → IsUnit is_dot w → AreOctets (text_of w) → octet_of w < 256
 octet_short (plain c) is each = each.0
 octet_short (escaped c) is each = each.1.0
 octet_short (decimal x y z) is each = omega (arith, is.3)
 
-octets_short : (label : List Written) → AllByRecursion IsWritten label → AreOctets (written_text label) → AreOctets (written_octets label)
+octets_short : (label : List Written) → AllByRecursion (IsUnit is_dot) label → AreOctets (written_text label) → AreOctets (written_octets label)
 octets_short [] is each = tt
 octets_short (w ∷ label) is each =
     (octet_short w is.0 (AllByRecursion-front (λ c. c < 256) (text_of w) (written_text label) each), octets_short label is.1 (AllByRecursion-back (λ c. c < 256) (text_of w) (written_text label) each))

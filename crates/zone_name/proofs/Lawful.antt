@@ -12,7 +12,7 @@ use Rattle.std.proofs.lemmas.Bool.Decides.{nat_tests}
 use Rattle.zone_name.specs.Name.{IsFoldedOctet, IsLabel, IsName, folded_octet, folded_label}
 use Rattle.std.proofs.lemmas.Bool.{eqb-true, eqb-false, or_parts}
 use Rattle.zone_name.specs.Order.{name_cmp}
-use Rattle.zone_name.specs.Spelling.{Written, plain, escaped, decimal, text_of, octet_of, IsWritten, IsWrittenLabel, written_text, written_octets, dotted, named, Writes, root, absolute, Spells, is_digit}
+use Rattle.zone_name.specs.Spelling.{Written, plain, escaped, decimal, text_of, octet_of, IsUnit, is_dot, IsWrittenLabel, written_text, written_octets, dotted, named, Writes, root, absolute, Spells, is_digit}
 use Rattle.zone_name.specs.Text.{is_special, is_printed, decimal_escape, octet_text, label_text, name_text}
 
 -- names that tie are equal
@@ -90,29 +90,29 @@ special_escapes c =
     (escapes_at c 64 (refl, omega arith, omega arith)))
     (escapes_at c 92 (refl, omega arith, omega arith))
 
-plain_octets : (c : ℕ) → is_special c ≡ false → (c ≢ 46) × (c ≢ 92)
+plain_octets : (c : ℕ) → is_special c ≡ false → (is_dot c ≡ false) × (c ≢ 92)
 plain_octets c e =
     let last = or_parts (c == 34 || c == 36 || c == 40 || c == 41 || c == 46 || c == 59 || c == 64) (c == 92) e in
     let one = or_parts (c == 34 || c == 36 || c == 40 || c == 41 || c == 46 || c == 59) (c == 64) last.0 in
     let two = or_parts (c == 34 || c == 36 || c == 40 || c == 41 || c == 46) (c == 59) one.0 in
     let three = or_parts (c == 34 || c == 36 || c == 40 || c == 41) (c == 46) two.0 in
-    (eqb-false c 46 three.1, eqb-false c 92 last.1)
+    (three.1, eqb-false c 92 last.1)
 
-written_is : (special printed : Bool) (c : ℕ) → c < 256 → is_special c ≡ special → IsWritten (written_by special printed c)
+written_is : (special printed : Bool) (c : ℕ) → c < 256 → is_special c ≡ special → IsUnit is_dot (written_by special printed c)
 unfolding written_by
 written_is true printed c h e = special_escapes c e
 written_is false true c h e = plain_octets c e
 written_is false false c h e =
     (digit_test (c / 100) (omega (arith, div-add-mod' c 100)), digit_test (c / 10 % 10) (omega (arith, div-add-mod' (c / 10) 10)), digit_test (c % 10) (omega (arith, div-add-mod' c 10)), omega (arith, decimal_value c))
 
-printed_is : (c : ℕ) → c < 256 → IsWritten (printed_octet c)
+printed_is : (c : ℕ) → c < 256 → IsUnit is_dot (printed_octet c)
 unfolding printed_octet
 printed_is c h = written_is (is_special c) (is_printed c) c h refl
 
 printed_label : List ℕ → List Written
 printed_label label = map printed_octet label
 
-label_each : (label : List ℕ) → AllByRecursion IsFoldedOctet label → AllByRecursion IsWritten (map printed_octet label)
+label_each : (label : List ℕ) → AllByRecursion IsFoldedOctet label → AllByRecursion (IsUnit is_dot) (map printed_octet label)
 label_each [] each = tt
 label_each (c ∷ label) each = (printed_is c each.0.octet, label_each label each.1)
 

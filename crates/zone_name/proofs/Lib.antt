@@ -2,8 +2,8 @@ pub mod Octets
 pub mod Comparing
 pub mod Pushing
 pub mod Printing
-pub mod Escapes
-pub mod Places
+pub mod Units
+pub mod Ahead
 pub mod Steps
 pub mod Spelled
 pub mod Only

@@ -4,22 +4,23 @@ use Rattle.std.specs.List.{AllByRecursion}
 use Rattle.std.proofs.lemmas.List.{append-nil, length-map}
 use Rattle.std.proofs.lemmas.Bool.{le-leb}
 use Rattle.zone_name.specs.Name.{folded_label}
-use Rattle.zone_name.specs.Spelling.{Written, text_of, octet_of, IsWritten, IsWrittenLabel, AreWrittenLabels, written_text, written_octets, dotted, parted, named, EndsLabel, Reaches, FaultAt, empty_label, long_label, bad_escape}
+use Rattle.zone_name.specs.Spelling.{Written, text_of, octet_of, IsUnit, is_dot, IsWrittenLabel, AreWrittenLabels, written_text, written_octets, dotted, parted, named, EndsLabel, Reaches, FaultAt, empty_label, long_label, bad_escape}
 use Rattle.zone_name.specs.declared.fault.NameFault.{NameFault}
 use Rattle.zone_name.specs.declared.fault.NameFault.TheVariants.{EmptyLabel, LabelTooLong, BadEscape}
-use Rattle.zone_name.specs.Reading.{Place, at_dot, at_octet, at_fault, place_of, goes, failed, step_at, read, reading}
-use Rattle.zone_name.proofs.Places.{place-written, place-bad, text_of-some}
-use Rattle.zone_name.proofs.Steps.{after_step, read_step, octet_step, reading-nil}
+use Rattle.zone_name.specs.Machine.Reading.{Ahead, at_dot, at_octet, at_fault, ahead_in, goes, failed, step_at, read, reading}
+use Rattle.zone_name.proofs.Ahead.{ahead-unit, ahead-bad}
+use Rattle.zone_name.proofs.Units.{text_of-some}
+use Rattle.zone_name.proofs.Steps.{after_step, read_step, octet_step, bad_step, reading-nil}
 use Rattle.zone_name.proofs.Spelled.{AreShort}
 
 -- one written octet is read
-octet_reads : (w : Written) (rest open_label : List ℕ) (labels : List (List ℕ)) (n : ℕ) → IsWritten w → length open_label < 63 → read (suc n) labels open_label (text_of w ++ rest) ≡ read n labels (open_label ++ octet_of w ∷ []) rest
+octet_reads : (w : Written) (rest open_label : List ℕ) (labels : List (List ℕ)) (n : ℕ) → IsUnit is_dot w → length open_label < 63 → read (suc n) labels open_label (text_of w ++ rest) ≡ read n labels (open_label ++ octet_of w ∷ []) rest
 octet_reads w rest open_label labels n is room =
-    read_step n labels open_label (text_of w ++ rest) (at_octet (octet_of w) rest) (place-written w rest is)
+    read_step n labels open_label (text_of w ++ rest) (at_octet (octet_of w) rest) (ahead-unit w rest is)
     ∙ octet_step n labels open_label rest (octet_of w) room
 
 -- a written label is read
-label_reads : (label : List Written) (tail open_label : List ℕ) (labels : List (List ℕ)) (n : ℕ) → AllByRecursion IsWritten label → length open_label + length label ≤ 63 → length (written_text label ++ tail) < n → (m : ℕ) × (length tail < m) × (read n labels open_label (written_text label ++ tail) ≡ read m labels (open_label ++ written_octets label) tail)
+label_reads : (label : List Written) (tail open_label : List ℕ) (labels : List (List ℕ)) (n : ℕ) → AllByRecursion (IsUnit is_dot) label → length open_label + length label ≤ 63 → length (written_text label ++ tail) < n → (m : ℕ) × (length tail < m) × (read n labels open_label (written_text label ++ tail) ≡ read m labels (open_label ++ written_octets label) tail)
 label_reads [] tail open_label labels n each room enough = (n, enough, ap (λ t. read n labels t tail) (sym (append-nil open_label)))
 label_reads (w ∷ label) tail open_label labels zero each room enough = absurd (omega arith)
 label_reads (w ∷ label) tail open_label labels (suc n) each room enough =
@@ -113,7 +114,7 @@ reading-parted (label ∷ written) are short =
     ∙ parted_reads written label [] (suc (length (parted (label ∷ written)))) are.each short (omega arith)
 
 -- ---- the faults
--- a walk that has come to a place leads from there to what the whole text leads to
+-- a walk that has come to a ahead leads from there to what the whole text leads to
 reached : (text : List ℕ) (before : List (List Written)) (open_label : List Written) (rest : List ℕ) → 0 < length rest → Reaches text before open_label rest → (n : ℕ) × (length rest < n) × (reading text ≡ read n (named before) (written_octets open_label) rest)
 reached text before open_label rest some r =
     let tail = written_text open_label ++ rest in
@@ -124,36 +125,32 @@ reached text before open_label rest some r =
     let opened = label_reads open_label rest [] (named before) closed.0 r.octets (omega (arith, r.room)) closed.1 in
     (opened.0, opened.1, reading_is text longer ∙ ap (read (suc (length text)) [] []) shape ∙ closed.2 ∙ opened.2)
 
-fails_by : (n : ℕ) (labels : List (List ℕ)) (open_label rest : List ℕ) (place : Place) (fault : NameFault) → length rest < n → place_of rest ≡ place → step_at labels open_label place ≡ failed fault → read n labels open_label rest ≡ Err fault
-fails_by zero labels open_label rest place fault enough at fails = absurd (omega arith)
-fails_by (suc n) labels open_label rest place fault enough at fails = read_step n labels open_label rest place at ∙ ap (after_step n) fails
+fails_by : (n : ℕ) (labels : List (List ℕ)) (open_label rest : List ℕ) (ahead : Ahead) (fault : NameFault) → length rest < n → ahead_in rest ≡ ahead → step_at labels open_label ahead ≡ failed fault → read n labels open_label rest ≡ Err fault
+fails_by zero labels open_label rest ahead fault enough at fails = absurd (omega arith)
+fails_by (suc n) labels open_label rest ahead fault enough at fails = read_step n labels open_label rest ahead at ∙ ap (after_step n) fails
 
 -- a step that fails where a walk has come to is what is read
-reads_fault : (text : List ℕ) (before : List (List Written)) (open_label : List Written) (rest : List ℕ) (place : Place) (fault : NameFault) → 0 < length rest → Reaches text before open_label rest → place_of rest ≡ place → step_at (named before) (written_octets open_label) place ≡ failed fault → reading text ≡ Err fault
-reads_fault text before open_label rest place fault some r at fails =
+reads_fault : (text : List ℕ) (before : List (List Written)) (open_label : List Written) (rest : List ℕ) (ahead : Ahead) (fault : NameFault) → 0 < length rest → Reaches text before open_label rest → ahead_in rest ≡ ahead → step_at (named before) (written_octets open_label) ahead ≡ failed fault → reading text ≡ Err fault
+reads_fault text before open_label rest ahead fault some r at fails =
     let walk = reached text before open_label rest some r in
-    walk.2 ∙ fails_by walk.0 (named before) (written_octets open_label) rest place fault walk.1 at fails
+    walk.2 ∙ fails_by walk.0 (named before) (written_octets open_label) rest ahead fault walk.1 at fails
 
 full_step : (labels : List (List ℕ)) (open_label : List ℕ) (c : ℕ) (rest : List ℕ) → 63 ≤ length open_label → step_at labels open_label (at_octet c rest) ≡ failed LabelTooLong
 full_step labels [] c rest full = absurd (omega arith)
 full_step labels (x ∷ open_label) c rest full = ap (λ (b : Bool). if b then failed LabelTooLong else goes labels (x ∷ open_label ++ c ∷ []) rest) (le-leb 63 (length (x ∷ open_label)) full)
-
-bad_step : (labels : List (List ℕ)) (open_label : List ℕ) → step_at labels open_label at_fault ≡ failed BadEscape
-bad_step labels [] = refl
-bad_step labels (c ∷ open_label) = refl
 
 empty_reads : (text : List ℕ) (before : List (List Written)) (rest : List ℕ) → Reaches text before [] rest → EndsLabel rest → (rest ≡ [] → before ≡ []) → reading text ≡ Err EmptyLabel
 empty_reads text before rest r (inl e) first =
     let none : text ≡ [] = r.parts ∙ ap (λ t. dotted t ++ [] ++ rest) (first e) ∙ e in
     reading-nil text (ap length none)
 empty_reads text before rest r (inr dot) first =
-    reads_fault text before [] rest (at_dot dot.0) EmptyLabel (omega (arith, ap length dot.1)) r (ap place_of dot.1) refl
+    reads_fault text before [] rest (at_dot dot.0) EmptyLabel (omega (arith, ap length dot.1)) r (ap ahead_in dot.1) refl
 
 -- the leftmost fault of a text is what is read
 pub reading-fault : (text : List ℕ) (fault : NameFault) → FaultAt text fault → reading text ≡ Err fault
 reading-fault text fault (empty_label before rest r ends first other) = empty_reads text before rest r ends first
 reading-fault text fault (long_label before open_label w rest r full is) =
-    reads_fault text before open_label (text_of w ++ rest) (at_octet (octet_of w) rest) LabelTooLong (omega (arith, length-append (text_of w) rest, text_of-some w)) r (place-written w rest is)
+    reads_fault text before open_label (text_of w ++ rest) (at_octet (octet_of w) rest) LabelTooLong (omega (arith, length-append (text_of w) rest, text_of-some w)) r (ahead-unit w rest is)
     (full_step (named before) (written_octets open_label) (octet_of w) rest (omega (arith, length-map open_label octet_of)))
 reading-fault text fault (bad_escape before open_label rest r bad) =
-    reads_fault text before open_label rest at_fault BadEscape (omega (arith, ap length bad.1)) r (place-bad rest bad) (bad_step (named before) (written_octets open_label))
+    reads_fault text before open_label rest at_fault BadEscape (omega (arith, ap length bad.1)) r (ahead-bad rest bad) (bad_step (named before) (written_octets open_label))

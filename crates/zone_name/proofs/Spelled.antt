@@ -6,11 +6,11 @@ use Rattle.std.proofs.lemmas.List.{append-nil, map_push, length-map}
 use Rattle.std.proofs.lemmas.List.Concat.{flat_map-append}
 use Rattle.std.proofs.lemmas.Bool.Decides.{nat_tests}
 use Rattle.zone_name.specs.Name.{folded_label}
-use Rattle.zone_name.specs.Spelling.{Written, text_of, octet_of, IsWritten, IsWrittenLabel, AreWrittenLabels, written_text, written_octets, dotted, parted, named, Reaches, FaultAt, empty_label, long_label, bad_escape}
+use Rattle.zone_name.specs.Spelling.{Written, text_of, octet_of, IsUnit, is_dot, IsWrittenLabel, AreWrittenLabels, written_text, written_octets, dotted, parted, named, Reaches, FaultAt, empty_label, long_label, bad_escape}
 use Rattle.zone_name.specs.declared.fault.NameFault.{NameFault}
 use Rattle.zone_name.specs.declared.fault.NameFault.TheVariants.{LabelTooLong}
-use Rattle.zone_name.specs.Reading.{Place, at_end, at_dot, at_octet, at_fault, place_of, failed, goes, step_at, read, reading}
-use Rattle.zone_name.proofs.Places.{IsPlace, place_is, Shrinks, place_shrinks}
+use Rattle.zone_name.specs.Machine.Reading.{Ahead, at_end, at_dot, at_octet, at_fault, ahead_in, failed, goes, step_at, read, reading}
+use Rattle.zone_name.proofs.Ahead.{IsAhead, ahead_is, Shrinks, ahead_shrinks}
 use Rattle.zone_name.proofs.Steps.{after_step, read_step}
 use Rattle.zone_name.proofs.Pushing.{AllByRecursion-append}
 
@@ -64,11 +64,11 @@ reaches_label text before w label rest more r e = record {
   parts = r.parts ∙ ap (λ t. dotted before ++ written_text (w ∷ label) ++ t) e ∙ regroup (dotted before) (written_text (w ∷ label)) more ∙ ap (λ t. t ++ [] ++ more) (sym (dotted_push before (w ∷ label)));
 }
 
-reaches_octet : (text : List ℕ) (before : List (List Written)) (label : List Written) (w : Written) (rest more : List ℕ) → Reaches text before label rest → IsWritten w → rest ≡ text_of w ++ more → length label < 63 → Reaches text before (label ++ w ∷ []) more
+reaches_octet : (text : List ℕ) (before : List (List Written)) (label : List Written) (w : Written) (rest more : List ℕ) → Reaches text before label rest → IsUnit is_dot w → rest ≡ text_of w ++ more → length label < 63 → Reaches text before (label ++ w ∷ []) more
 reaches_octet text before label w rest more r is e room = record {
   labels = r.labels;
   short = r.short;
-  octets = AllByRecursion-append IsWritten label (w ∷ []) r.octets (is, tt);
+  octets = AllByRecursion-append (IsUnit is_dot) label (w ∷ []) r.octets (is, tt);
   room = omega (arith, length-append label (w ∷ []));
   parts = r.parts ∙ ap (λ t. dotted before ++ written_text label ++ t) e ∙ sym (append_assoc (dotted before ++ written_text label) (text_of w) more) ∙ ap (λ t. t ++ more) (append_assoc (dotted before) (written_text label) (text_of w) ∙ ap (λ t. dotted before ++ t) (sym (text_push label w)));
 }
@@ -97,7 +97,7 @@ relative_end text before w label rest r e = record {
 abbrev Later : ℕ → List ℕ → Type 0
 Later n text = (before : List (List Written)) (label : List Written) (rest : List ℕ) → Reaches text before label rest → length rest < n → Says text (read n (named before) (written_octets label) rest)
 
-full_label : (n : ℕ) (text : List ℕ) (before : List (List Written)) (label : List Written) (rest more : List ℕ) (c : ℕ) → Later n text → Reaches text before label rest → length more < length rest → length rest < suc n → (w : Written) → IsWritten w → octet_of w ≡ c → rest ≡ text_of w ++ more → (full : Bool) → nat_le 63 (length (written_octets label)) ≡ full → Says text (after_step n (if full then failed LabelTooLong else goes (named before) (written_octets label ++ c ∷ []) more))
+full_label : (n : ℕ) (text : List ℕ) (before : List (List Written)) (label : List Written) (rest more : List ℕ) (c : ℕ) → Later n text → Reaches text before label rest → length more < length rest → length rest < suc n → (w : Written) → IsUnit is_dot w → octet_of w ≡ c → rest ≡ text_of w ++ more → (full : Bool) → nat_le 63 (length (written_octets label)) ≡ full → Says text (after_step n (if full then failed LabelTooLong else goes (named before) (written_octets label ++ c ∷ []) more))
 full_label n text before label rest more c later r shorter enough w is oc e true test =
     let P : List ℕ → Type 0 = λ t. Reaches text before label t in
     long_label before label w more (subst P e r) (exact (length label) (length (written_octets label)) (length-map label octet_of) r.room test) is
@@ -112,7 +112,7 @@ full_label n text before label rest more c later r shorter enough w is oc e fals
     below : (m k : ℕ) → k ≡ m → nat_le 63 k ≡ false → m < 63
     below m k same full = grind (arith, nat_tests)
 
-step_says : (n : ℕ) (text : List ℕ) (before : List (List Written)) (label : List Written) (rest : List ℕ) (place : Place) → text ≢ codes "." → 0 < length text → Later n text → Reaches text before label rest → length rest < suc n → IsPlace rest place → Shrinks rest place → Says text (after_step n (step_at (named before) (written_octets label) place))
+step_says : (n : ℕ) (text : List ℕ) (before : List (List Written)) (label : List Written) (rest : List ℕ) (ahead : Ahead) → text ≢ codes "." → 0 < length text → Later n text → Reaches text before label rest → length rest < suc n → IsAhead rest ahead → Shrinks rest ahead → Says text (after_step n (step_at (named before) (written_octets label) ahead))
 step_says n text before [] rest at_end other some later r enough is shorter = absolute_end text before rest some r is
 step_says n text before (w ∷ label) rest at_end other some later r enough is shorter = relative_end text before w label rest r is
 step_says n text before [] rest (at_dot more) other some later r enough is shorter = empty_label before rest r (inr (more, is)) (λ h. absurd (dot_some more (sym is ∙ h))) other
@@ -121,16 +121,16 @@ step_says n text before [] rest (at_dot more) other some later r enough is short
     dot_some more e = cc
 step_says n text before (w ∷ label) rest (at_dot more) other some later r enough is shorter =
     subst (λ t. Says text (read n t [] more)) (named_push before (w ∷ label)) (later (before ++ (w ∷ label) ∷ []) [] more (reaches_label text before w label rest more r is) (omega arith))
-step_says n text before [] rest (at_octet c more) other some later r enough is shorter = full_label n text before [] rest more c later r shorter enough is.0 is.1 is.2 is.3 (nat_le 63 (length (written_octets []))) refl
-step_says n text before (w ∷ label) rest (at_octet c more) other some later r enough is shorter = full_label n text before (w ∷ label) rest more c later r shorter enough is.0 is.1 is.2 is.3 (nat_le 63 (length (written_octets (w ∷ label)))) refl
+step_says n text before [] rest (at_octet c more) other some later r enough is shorter = full_label n text before [] rest more c later r shorter enough is.unit is.is_unit is.value is.parts (nat_le 63 (length (written_octets []))) refl
+step_says n text before (w ∷ label) rest (at_octet c more) other some later r enough is shorter = full_label n text before (w ∷ label) rest more c later r shorter enough is.unit is.is_unit is.value is.parts (nat_le 63 (length (written_octets (w ∷ label)))) refl
 step_says n text before [] rest at_fault other some later r enough is shorter = bad_escape before [] rest r is
 step_says n text before (w ∷ label) rest at_fault other some later r enough is shorter = bad_escape before (w ∷ label) rest r is
 
 walk_says : (n : ℕ) (text : List ℕ) → text ≢ codes "." → 0 < length text → Later n text
 walk_says zero text other some before label rest r enough = absurd (omega arith)
 walk_says (suc n) text other some before label rest r enough =
-    let steps : Says text (after_step n (step_at (named before) (written_octets label) (place_of rest))) = step_says n text before label rest (place_of rest) other some (walk_says n text other some) r enough (place_is rest) (place_shrinks rest) in
-    subst (Says text) (sym (read_step n (named before) (written_octets label) rest (place_of rest) refl)) steps
+    let steps : Says text (after_step n (step_at (named before) (written_octets label) (ahead_in rest))) = step_says n text before label rest (ahead_in rest) other some (walk_says n text other some) r enough (ahead_is rest) (ahead_shrinks rest) in
+    subst (Says text) (sym (read_step n (named before) (written_octets label) rest (ahead_in rest) refl)) steps
 
 reaches_start : (text : List ℕ) → Reaches text [] [] text
 reaches_start text = record { labels = tt; short = tt; octets = tt; room = omega arith; parts = refl }

@@ -2,8 +2,7 @@ pub mod Common
 pub mod Name
 pub mod Order
 pub mod Spelling
+pub mod NextUnit
 pub mod Text
-pub mod Escape
-pub mod Reading
-pub mod Seen
 pub mod Sink
+pub mod Machine

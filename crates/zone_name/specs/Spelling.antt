@@ -1,5 +1,5 @@
 -- The texts that spell a name, and the first fault of a text that spells none (RFC 1035 5.1).
-use Rattle.std.specs.Prelude.{◌≡◌, ◌≢◌, ℕ, ◌+◌, ◌-◌, ◌*◌, ◌<◌, ◌≤◌, List, [], ◌∷◌, ◌++◌, length, map, codes, Option, Some, None, nat_le, ◌&&◌, Bool, true, false, ◌⊎◌}
+use Rattle.std.specs.Prelude.{◌≡◌, ◌≢◌, ℕ, ◌+◌, ◌-◌, ◌*◌, ◌<◌, ◌≤◌, List, [], ◌∷◌, ◌++◌, length, map, codes, Option, Some, None, nat_le, ◌==◌, ◌&&◌, Bool, true, false, ◌⊎◌}
 use Rattle.std.specs.List.{flat_map, AllByRecursion, join_with_byte}
 use Rattle.zone_name.specs.Name.{folded, wire, IsName}
 use Rattle.zone_name.specs.declared.fault.NameFault.{NameFault}
@@ -32,17 +32,31 @@ octet_of (plain c) = c
 octet_of (escaped c) = c
 octet_of (decimal x y z) = 100 * (x - 48) + 10 * (y - 48) + (z - 48)
 
--- neither a dot nor a backslash stands for itself; a backslash goes before any octet but a digit, a line
--- feed and a carriage return, or before three digits of at most 255
-abbrev pub IsWritten : Written → Type 0
-IsWritten (plain c) = (c ≢ 46) × (c ≢ 92)
-IsWritten (escaped c) = (is_digit c ≡ false) × (c ≢ 10) × (c ≢ 13)
-IsWritten (decimal x y z) = (is_digit x ≡ true) × (is_digit y ≡ true) × (is_digit z ≡ true) × (octet_of (decimal x y z) ≤ 255)
+-- a backslash before any octet but a digit, a line feed and a carriage return, or before three digits of at most 255
+abbrev pub IsEscape : Written → Type 0
+IsEscape (plain c) = ⊥
+IsEscape (escaped c) = (is_digit c ≡ false) × (c ≢ 10) × (c ≢ 13)
+IsEscape (decimal x y z) = (is_digit x ≡ true) × (is_digit y ≡ true) × (is_digit z ≡ true) × (octet_of (decimal x y z) ≤ 255)
+
+-- a written octet where some octets mean something else: an octet by itself that is none of them and no backslash, or an
+-- escape
+abbrev pub IsUnit : (ℕ → Bool) → Written → Type 0
+IsUnit left_out (plain c) = (left_out c ≡ false) × (c ≢ 92)
+IsUnit left_out (escaped c) = IsEscape (escaped c)
+IsUnit left_out (decimal x y z) = IsEscape (decimal x y z)
+
+-- in a name a dot parts labels
+abbrev pub is_dot : ℕ → Bool
+is_dot c = c == 46
+
+-- where no octet but a backslash means something else
+abbrev pub no_octet : ℕ → Bool
+no_octet c = false
 
 -- a label as it is written: one written octet or more
 pub record IsWrittenLabel (label : List Written) : Type 0 where
   pub some : 0 < length label
-  pub each : AllByRecursion IsWritten label
+  pub each : AllByRecursion (IsUnit is_dot) label
 
 abbrev pub written_text : List Written → List ℕ
 written_text label = flat_map text_of label
@@ -85,20 +99,27 @@ EndsLabel rest = (rest ≡ []) ⊎ ((more : List ℕ) × (rest ≡ 46 ∷ more))
 
 -- a backslash that begins no escape
 abbrev pub IsBadEscape : List ℕ → Type 0
-IsBadEscape rest = (more : List ℕ) × (rest ≡ 92 ∷ more) × ((w : Written) (after : List ℕ) → IsWritten w → rest ≢ text_of w ++ after)
+IsBadEscape rest = (more : List ℕ) × (rest ≡ 92 ∷ more) × ((w : Written) (after : List ℕ) → IsEscape w → rest ≢ text_of w ++ after)
 
 -- a text from a backslash on: an escape, which stands for the octet, and the rest
 pub record BeginsWithEscape (text : List ℕ) (octet : ℕ) (rest : List ℕ) : Type 0 where
   pub escape : Written
-  pub is_written : IsWritten escape
+  pub is_escape : IsEscape escape
   pub value : octet_of escape ≡ octet
   pub parts : text ≡ text_of escape ++ rest
+
+-- a text from a written octet on, which stands for the octet, and the rest
+pub record BeginsWithUnit (left_out : ℕ → Bool) (text : List ℕ) (octet : ℕ) (rest : List ℕ) : Type 0 where
+  pub unit : Written
+  pub is_unit : IsUnit left_out unit
+  pub value : octet_of unit ≡ octet
+  pub parts : text ≡ text_of unit ++ rest
 
 -- A text up to a place: labels of at most 63 octets with their dots, and the octets of the label that is open
 pub record Reaches (text : List ℕ) (before : List (List Written)) (open_label : List Written) (rest : List ℕ) : Type 0 where
   pub labels : AllByRecursion IsWrittenLabel before
   pub short : AllByRecursion (λ label. length label ≤ 63) before
-  pub octets : AllByRecursion IsWritten open_label
+  pub octets : AllByRecursion (IsUnit is_dot) open_label
   pub room : length open_label ≤ 63
   pub parts : text ≡ dotted before ++ written_text open_label ++ rest
 
@@ -106,7 +127,7 @@ pub record Reaches (text : List ℕ) (before : List (List Written)) (open_label 
 -- label, or at a backslash that begins no escape
 pub data FaultAt (text : List ℕ) : NameFault → Type 0 where
   empty_label : (before : List (List Written)) (rest : List ℕ) → Reaches text before [] rest → EndsLabel rest → (rest ≡ [] → before ≡ []) → text ≢ codes "." → FaultAt text EmptyLabel
-  long_label : (before : List (List Written)) (open_label : List Written) (w : Written) (rest : List ℕ) → Reaches text before open_label (text_of w ++ rest) → length open_label ≡ 63 → IsWritten w → FaultAt text LabelTooLong
+  long_label : (before : List (List Written)) (open_label : List Written) (w : Written) (rest : List ℕ) → Reaches text before open_label (text_of w ++ rest) → length open_label ≡ 63 → IsUnit is_dot w → FaultAt text LabelTooLong
   bad_escape : (before : List (List Written)) (open_label : List Written) (rest : List ℕ) → Reaches text before open_label rest → IsBadEscape rest → FaultAt text BadEscape
 
 -- a relative text of labels of at most 63 octets, `@` among them

@@ -1,6 +1,6 @@
 ghost use Rattle.std.specs.Prelude.{◌≡◌, ◌<◌, ◌≤◌, ◌↔◌, ◌++◌, ◌∷◌, [], List, ℕ, length, OnOk, OnErr, IfErr, Err};
 ghost use Rattle.zone_name.specs.Name.{folded_label, folded_octet, wire};
-ghost use Rattle.zone_name.specs.Reading.{sized};
+ghost use Rattle.zone_name.specs.Machine.Reading.{sized};
 ghost use Rattle.zone_name.specs.Spelling.{IsLabelFault};
 ghost use Rattle.zone_name.specs.declared.fault.NameFault.TheVariants.{EmptyLabel, LabelTooLong, NameTooLong};
 

@@ -1,6 +1,35 @@
 ghost use Rattle.std.specs.Prelude.{◌≡◌, ◌∷◌, true, IfSome, IfNone, option_map};
-ghost use Rattle.zone_name.specs.Escape.{digits_of};
+ghost use Rattle.zone_name.specs.Machine.Units.{digits_first, valued};
+ghost use Rattle.zone_name.specs.NextUnit.{IsNextUnit};
 ghost use Rattle.zone_name.specs.Spelling.{BeginsWithEscape, IsBadEscape, is_digit};
+
+/// The written octet at the front of a text (RFC 1035 5.1).
+#[derive(Drop)]
+pub enum NextUnit<'t> {
+    /// The text ends.
+    End,
+    /// An octet, by itself or by an escape, and what stands behind it.
+    Octet(u8, &'t [u8]),
+    /// A backslash that begins no escape.
+    BadEscape,
+}
+
+/// The octet at the front of a text, by itself or by an escape (RFC 1035 5.1). Only a backslash does not stand for
+/// itself.
+pub fn next_unit(text: &[u8]) -> NextUnit<'_>
+    ensures { IsNextUnit text.now result }
+{
+    let Some((first, after)) = text.split_first() else {
+        return NextUnit::End;
+    };
+    if *first != b'\\' {
+        return NextUnit::Octet(*first, after);
+    }
+    match escape_at(after) {
+        Some((octet, rest)) => NextUnit::Octet(octet, rest),
+        None => NextUnit::BadEscape,
+    }
+}
 
 /// The octet that an escape stands for, and what stands behind the escape (RFC 1035 5.1), from what stands behind its
 /// backslash. `None`: the backslash begins no escape.
@@ -21,7 +50,7 @@ pub fn escape_at(after: &[u8]) -> Option<(u8, &[u8])>
 /// The octet of three digits, of which the first was read, and what stands behind them.
 fn digits_at(first: u8, after: &[u8]) -> Option<(u8, &[u8])>
     requires { is_digit first ≡ true }
-    ensures { option_map (λ read. (read.0, read.1.now)) result ≡ digits_of first after.now }
+    ensures { option_map (λ read. (read.0, read.1.now)) result ≡ valued (digits_first first after.now) }
 {
     match after {
         [second, third, rest @ ..] => {

@@ -13,7 +13,7 @@ mod sink;
 mod text;
 
 pub use builder::NameBuilder;
-pub use escape::escape_at;
+pub use escape::{NextUnit, escape_at, next_unit};
 pub use fault::NameFault;
 pub use labels::Labels;
 pub use name::Name;

@@ -1,10 +1,10 @@
 ghost use Rattle.std.specs.Prelude.{◌≡◌, ℕ, ◌≤◌, List, length, IfOk, IfErr, Ok, Err, option_copied};
 ghost use Rattle.zone_name.specs.Name.{IsName};
-ghost use Rattle.zone_name.specs.Reading.{Collects, place_of, reading, under};
-ghost use Rattle.zone_name.specs.Seen.{seen, Closes, HasForm};
+ghost use Rattle.zone_name.specs.Machine.Reading.{Collects, reading, under};
+ghost use Rattle.zone_name.specs.Machine.Seen.{Closes, HasForm};
 
 use crate::builder::NameBuilder;
-use crate::escape::escape_at;
+use crate::escape::{NextUnit, next_unit};
 use crate::fault::NameFault;
 use crate::name::Name;
 use arrayvec::ArrayVec;
@@ -29,19 +29,6 @@ pub(crate) fn form_of(text: &[u8]) -> Form
         b"@" => Form::Origin,
         _ => Form::Labels,
     }
-}
-
-/// What stands at the place of a label's next octet, and what is behind it.
-#[derive(Drop)]
-enum Next<'t> {
-    /// The text ends.
-    End,
-    /// A dot.
-    Dot(&'t [u8]),
-    /// An octet, by itself or by an escape.
-    Octet(u8, &'t [u8]),
-    /// A backslash that begins no escape.
-    BadEscape,
 }
 
 /// The labels that a text spells.
@@ -117,46 +104,28 @@ fn read_labels(text: &[u8]) -> Result<Spelled, NameFault>
     let mut open: ArrayVec<u8, 63> = ArrayVec::new();
     let mut rest = text;
     loop {
-        match next_at(rest) {
-            Next::End => {
+        if let Some(after) = rest.strip_prefix(b".") {
+            spelled.close(open.as_slice())?;
+            open.clear();
+            rest = after;
+            continue;
+        }
+        match next_unit(rest) {
+            NextUnit::End => {
                 if !open.is_empty() {
                     spelled.close(open.as_slice())?;
                     spelled.is_absolute = false;
                 }
                 return Ok(spelled);
             }
-            Next::Dot(after) => {
-                spelled.close(open.as_slice())?;
-                open.clear();
-                rest = after;
-            }
-            Next::Octet(octet, after) => {
+            NextUnit::Octet(octet, after) => {
                 if open.is_full() {
                     return Err(NameFault::LabelTooLong);
                 }
                 open.push(octet);
                 rest = after;
             }
-            Next::BadEscape => return Err(NameFault::BadEscape),
+            NextUnit::BadEscape => return Err(NameFault::BadEscape),
         }
-    }
-}
-
-/// What stands at the front of the rest of a text.
-fn next_at(rest: &[u8]) -> Next<'_>
-    ensures { seen result ≡ place_of rest.now }
-{
-    let Some((first, after)) = rest.split_first() else {
-        return Next::End;
-    };
-    if *first == b'.' {
-        Next::Dot(after)
-    } else if *first == b'\\' {
-        match escape_at(after) {
-            Some((octet, rest)) => Next::Octet(octet, rest),
-            None => Next::BadEscape,
-        }
-    } else {
-        Next::Octet(*first, after)
     }
 }

@@ -4,7 +4,7 @@ use Rattle.std.specs.Prelude.{IfSome}
 use Rattle.std.proofs.lemmas.List.{take_at, drop_at, drop_more, drop_all, drop-replicate, replicate-append-replicate, length-replicate, append-nil, get_or_at, get_or_append_left, take-append-drop}
 use Rattle.std.proofs.lemmas.Bool.{cases_lt}
 use Rattle.zone_rdata.specs.Address.{Part, IsLastPart, AreParts, parts_text, ArePartsOf, AreAround, IsGroups, eight, fewer}
-use Rattle.zone_rdata.specs.AddressReading.{Lacks, HasGapAt}
+use Rattle.zone_rdata.specs.Machine.AddressReading.{Lacks, HasGapAt}
 use Rattle.zone_rdata.proofs.Addresses.{group_lacks, last_lacks}
 use Rattle.zone_rdata.proofs.AddressParts.{parts_unique}
 

@@ -5,7 +5,7 @@ use Rattle.std.specs.List.{AllByRecursion, join_with_byte}
 use Rattle.std.proofs.lemmas.List.{append-nil}
 use Rattle.std.proofs.lemmas.List.Concat.{flat_map-append}
 use Rattle.zone_rdata.specs.Address.{IsFourNumbers, Part, IsGroup, IsLastPart, AreParts, parts_text, parts_octets, ArePartsOf}
-use Rattle.zone_rdata.specs.AddressReading.{Lacks, IsCut}
+use Rattle.zone_rdata.specs.Machine.AddressReading.{Lacks, IsCut}
 use Rattle.zone_rdata.proofs.Addresses.{cut_same, not_cut, group_lacks, group_same, last_lacks, last_same}
 
 some_numbers : (text : List ℕ) (numbers : List (List ℕ)) → length numbers ≡ 4 → text ≡ join_with_byte 46 numbers → 0 < length text

@@ -7,7 +7,7 @@ use Rattle.hex.specs.Hex.{decode_sized, is_hex_digit}
 use Rattle.hex.proofs.HexLemmas.{IsOk-decode_sized}
 use Rattle.zone_name.specs.Spelling.{is_digit}
 use Rattle.zone_rdata.specs.Address.{IsOctetNumber, AreNumbers, IsFourNumbers, Part, IsGroup, IsLastPart}
-use Rattle.zone_rdata.specs.AddressReading.{Lacks, IsCut}
+use Rattle.zone_rdata.specs.Machine.AddressReading.{Lacks, IsCut}
 
 -- ---- cutting
 

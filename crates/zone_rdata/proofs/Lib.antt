@@ -25,7 +25,6 @@ pub mod StringTexts
 pub mod Times
 pub mod Decimal
 pub mod Failings
-pub mod UnitPlaces
 pub mod StringSteps
 pub mod Strings
 pub mod StringLaws

@@ -1,17 +1,17 @@
 -- The laws of strings.
-use Rattle.std.proofs.Common.{◌≡◌, ◌≢◌, ℕ, ◌+◌, ◌/◌, ◌%◌, ◌<◌, ◌≤◌, Bool, true, false, ◌||◌, ◌&&◌, ◌==◌, nat_le, if◌then◌else◌, List, [], ◌∷◌, ◌++◌, Result, Ok, Err, ◌⊎◌, inl, inr, div-add-mod', refl, sym, ap, ◌∙◌, subst, arith}
+use Rattle.std.proofs.Common.{◌≡◌, ◌≢◌, ℕ, ◌+◌, ◌/◌, ◌%◌, ◌<◌, ◌≤◌, Bool, true, false, ◌||◌, ◌&&◌, ◌==◌, nat_le, if◌then◌else◌, List, [], ◌∷◌, ◌++◌, ◌⊎◌, inl, inr, div-add-mod', refl, sym, ap, ◌∙◌, subst, arith}
 use Rattle.std.specs.Prelude.{map}
 use Rattle.std.specs.List.{AllByRecursion}
 use Rattle.std.proofs.lemmas.Bool.{false≢true}
 use Rattle.std.proofs.lemmas.Bool.Decides.{nat_tests}
-use Rattle.zone_name.specs.Spelling.{Written, plain, escaped, decimal, text_of, octet_of, written_text, written_octets, is_digit}
+use Rattle.zone_name.specs.Spelling.{Written, plain, escaped, decimal, text_of, octet_of, IsUnit, no_octet, written_text, written_octets, is_digit}
 use Rattle.zone_name.specs.Text.{decimal_escape}
 use Rattle.zone_rdata.specs.declared.fault.Fault.{Fault}
 use Rattle.zone_rdata.specs.Item.{RawItem, quoted}
-use Rattle.zone_rdata.specs.Strings.{IsString, SpellsString, StringFault, StandsInQuotes, IsUnit, IsQuotedUnit, inside_text, is_shown, item_text, unit_text}
-use Rattle.zone_rdata.specs.StringReading.{reading}
-use Rattle.zone_rdata.proofs.StringSteps.{AllByRecursion-append, FindsUnits, Says, reading-says}
-use Rattle.zone_rdata.proofs.Strings.{string_found, fault_found, string_reads, fault_reads}
+use Rattle.zone_rdata.specs.Strings.{IsString, SpellsString, StringFault, StandsInQuotes, is_quote, inside_text, is_shown, unit_text}
+use Rattle.zone_rdata.proofs.StringSteps.{AllByRecursion-append}
+use Rattle.zone_rdata.proofs.Strings.{string_reads, fault_reads}
+pub use Rattle.zone_rdata.proofs.Strings.{string-or_fault}
 
 pub string-once : (item : RawItem) (a b : List ℕ) → SpellsString item a → SpellsString item b → a ≡ b
 string-once item a b s t = let e = sym (string_reads item a s) ∙ string_reads item b t in cc
@@ -21,24 +21,6 @@ string-never_both item octets fault s f = let e = sym (string_reads item octets 
 
 pub fault-once : (item : RawItem) (a b : Fault) → StringFault item a → StringFault item b → a ≡ b
 fault-once item a b f g = let e = sym (fault_reads item a f) ∙ fault_reads item b g in cc
-
-octets_each : (units : List Written) → AllByRecursion IsUnit units → AllByRecursion (λ c. c < 256) (written_text units) → AllByRecursion (λ c. c < 256) (written_octets units)
-octets_each [] each low = tt
-octets_each (plain c ∷ units) each low = (low.0, octets_each units each.1 low.1)
-octets_each (escaped c ∷ units) each low = (low.1.0, octets_each units each.1 low.1.1)
-octets_each (decimal x y z ∷ units) each low = (omega (arith, each.0.3), octets_each units each.1 low.1.1.1.1)
-
-either_by : (item : RawItem) (found : Result (List ℕ) Fault) → reading (item_text item) ≡ found → ((octets : List ℕ) → reading (item_text item) ≡ Ok octets → AllByRecursion (λ c. c < 256) octets) → ((octets : List ℕ) × SpellsString item octets) ⊎ ((fault : Fault) × StringFault item fault)
-either_by item (Ok octets) e low = inl (octets, string_found item (item_text item) octets refl e (low octets e))
-either_by item (Err fault) e low = inr (fault, fault_found item (item_text item) fault refl e)
-
-low_octets : (text octets : List ℕ) → AllByRecursion (λ c. c < 256) text → reading text ≡ Ok octets → AllByRecursion (λ c. c < 256) octets
-low_octets text octets low e =
-    let finds : FindsUnits text octets = subst (Says text) e (reading-says text) in
-    subst (AllByRecursion (λ c. c < 256)) (sym finds.value) (octets_each finds.units finds.each (subst (AllByRecursion (λ c. c < 256)) finds.parts low))
-
-pub string-or_fault : (item : RawItem) → AllByRecursion (λ c. c < 256) (item_text item) → ((octets : List ℕ) × SpellsString item octets) ⊎ ((fault : Fault) × StringFault item fault)
-string-or_fault item low = either_by item (reading (item_text item)) refl (λ octets e. low_octets (item_text item) octets low e)
 
 -- ---- what is printed
 written_by : (special shown : Bool) → ℕ → Written
@@ -111,14 +93,14 @@ special_not : (c n : ℕ) → (c ≡ 34) ⊎ (c ≡ 92) → n < 34 → c ≢ n
 special_not c n (inl e) low h = absurd (omega arith)
 special_not c n (inr e) low h = absurd (omega arith)
 
-quoted_by : (special shown : Bool) (c : ℕ) → is_special c ≡ special → is_shown c ≡ shown → c < 256 → IsQuotedUnit (written_by special shown c)
+quoted_by : (special shown : Bool) (c : ℕ) → is_special c ≡ special → is_shown c ≡ shown → c < 256 → IsUnit is_quote (written_by special shown c)
 unfolding written_by is_special
 quoted_by true shown c e s low = let is = special_is c e in (no_digit c is, special_not c 10 is (omega arith), special_not c 13 is (omega arith))
-quoted_by false true c e s low = let parts = or_parts (c == 34) (c == 92) e in (ne_test c 34 parts.0, ne_test c 92 parts.1)
+quoted_by false true c e s low = let parts = or_parts (c == 34) (c == 92) e in (parts.0, ne_test c 92 parts.1)
 quoted_by false false c e s low =
     (digit_test (c / 100) (omega (arith, div-add-mod' c 100)), digit_test (c / 10 % 10) (omega (arith, div-add-mod' (c / 10) 10)), digit_test (c % 10) (omega (arith, div-add-mod' c 10)), omega (arith, decimal_value c))
 
-quoted_unit : (c : ℕ) → c < 256 → IsQuotedUnit (printed_unit c)
+quoted_unit : (c : ℕ) → c < 256 → IsUnit is_quote (printed_unit c)
 unfolding printed_unit
 quoted_unit c low = quoted_by (is_special c) (is_shown c) c refl refl low
 
@@ -135,7 +117,7 @@ line_unit c = line_by (is_special c) (is_shown c) c refl refl
 printed_units : List ℕ → List Written
 printed_units octets = map printed_unit octets
 
-quoted_units : (octets : List ℕ) → AllByRecursion (λ c. c < 256) octets → AllByRecursion IsQuotedUnit (printed_units octets)
+quoted_units : (octets : List ℕ) → AllByRecursion (λ c. c < 256) octets → AllByRecursion (IsUnit is_quote) (printed_units octets)
 unfolding printed_units
 quoted_units [] each = tt
 quoted_units (c ∷ octets) each = (quoted_unit c each.0, quoted_units octets each.1)
@@ -155,12 +137,12 @@ unfolding printed_units
 units_line [] = tt
 units_line (c ∷ octets) = AllByRecursion-append (λ d. d ≢ 10) (text_of (printed_unit c)) (written_text (printed_units octets)) (line_unit c) (units_line octets)
 
-unit_of_quoted : (w : Written) → IsQuotedUnit w → IsUnit w
-unit_of_quoted (plain c) is = is.1
+unit_of_quoted : (w : Written) → IsUnit is_quote w → IsUnit no_octet w
+unit_of_quoted (plain c) is = (refl, is.1)
 unit_of_quoted (escaped c) is = is
 unit_of_quoted (decimal x y z) is = is
 
-units_of_quoted : (units : List Written) → AllByRecursion IsQuotedUnit units → AllByRecursion IsUnit units
+units_of_quoted : (units : List Written) → AllByRecursion (IsUnit is_quote) units → AllByRecursion (IsUnit no_octet) units
 units_of_quoted [] each = tt
 units_of_quoted (w ∷ units) each = (unit_of_quoted w each.0, units_of_quoted units each.1)
 

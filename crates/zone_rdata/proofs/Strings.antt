@@ -1,31 +1,101 @@
--- Strings: the reading of an item's text, in the words of the item.
-use Rattle.std.proofs.Common.{◌≡◌, ℕ, ◌<◌, List, Ok, Err, sym, ◌∙◌, subst}
+-- The string of an item, or its first fault, as an answer on lists: of the units at the front of its text.
+use Rattle.std.proofs.Common.{◌≡◌, ℕ, zero, suc, ◌<◌, ◌≤◌, Bool, nat_le, if◌then◌else◌, List, [], ◌∷◌, ◌++◌, length, Result, Ok, Err, ◌⊎◌, inl, inr, refl, sym, ap, ◌∙◌, subst, arith, append_assoc, length-append}
 use Rattle.std.specs.List.{AllByRecursion}
+use Rattle.std.proofs.lemmas.Bool.{cases_Bool, false≢true, le-leb, lt-leb, leb-true, leb-false}
+use Rattle.std.proofs.lemmas.List.{append-nil, length-map}
+use Rattle.std.proofs.lemmas.List.Concat.{flat_map-append}
+use Rattle.zone_name.specs.Spelling.{Written, plain, escaped, decimal, text_of, octet_of, IsUnit, no_octet, written_text, written_octets}
+use Rattle.zone_name.specs.Machine.Units.{Units, units_first}
 use Rattle.zone_rdata.specs.declared.fault.Fault.{Fault}
+use Rattle.zone_rdata.specs.declared.fault.Fault.TheVariants.{BadEscape, StringTooLong}
 use Rattle.zone_rdata.specs.Item.{RawItem}
 use Rattle.zone_rdata.specs.Strings.{SpellsString, StringFault, bad_escape, long_string, item_text}
-use Rattle.zone_rdata.specs.StringReading.{reading}
-use Rattle.zone_rdata.proofs.StringSteps.{FindsUnits, TextFault, escape_fault, length_fault, Says, reading-says, reading-units, reading-fault}
+use Rattle.zone_name.proofs.Pushing.{AllByRecursion-append, AllByRecursion-front, AllByRecursion-back}
+use Rattle.zone_name.proofs.Units.{NoUnit, at_end, at_octet, at_backslash, UnitsAre, units_first_are, units_first_only}
 
--- the string that was read
-pub string_found : (item : RawItem) (text octets : List ℕ) → text ≡ item_text item → reading text ≡ Ok octets → AllByRecursion (λ c. c < 256) octets → SpellsString item octets
-string_found item text octets is e each =
-    let finds : FindsUnits text octets = subst (Says text) e (reading-says text) in
-    record { units = finds.units; each = finds.each; text = sym is ∙ finds.parts; value = finds.value; string = record { short = finds.short; each = each } }
+-- what is behind the last unit is nothing, or a backslash that begins no escape
+abbrev ended : List Written → List ℕ → Result (List ℕ) Fault
+ended units [] = Ok (written_octets units)
+ended units (c ∷ rest) = Err BadEscape
 
-fault_by : (item : RawItem) (fault : Fault) → TextFault (item_text item) fault → StringFault item fault
-fault_by item _ (escape_fault before rest r bad) = bad_escape before rest r bad
-fault_by item _ (length_fault before w rest r full is) = long_string before w rest r full is
+abbrev answer : Units → Result (List ℕ) Fault
+answer found = if nat_le (length found.units) 255 then ended found.units found.rest else Err StringTooLong
 
--- the fault that was met
-pub fault_found : (item : RawItem) (text : List ℕ) (fault : Fault) → text ≡ item_text item → reading text ≡ Err fault → StringFault item fault
-fault_found item text fault is e = fault_by item fault (subst (λ t. TextFault t fault) is (subst (Says text) e (reading-says text)))
+abbrev pub reading : List ℕ → Result (List ℕ) Fault
+reading text = answer (units_first no_octet text)
 
--- the way back
+-- ---- what is spelled is the answer
+
 pub string_reads : (item : RawItem) (octets : List ℕ) → SpellsString item octets → reading (item_text item) ≡ Ok octets
 string_reads item octets spells =
-    reading-units (item_text item) octets (record { units = spells.units; each = spells.each; parts = spells.text; value = spells.value; short = spells.string.short })
+    let short : length spells.units ≤ 255 = omega (arith, spells.string.short, ap length spells.value, length-map spells.units octet_of) in
+    ap answer (units_first_only no_octet (item_text item) spells.units [] refl (spells.text ∙ sym (append-nil (written_text spells.units))) spells.each (at_end refl))
+    ∙ ap (λ (b : Bool). if b then Ok (written_octets spells.units) else Err StringTooLong) (le-leb (length spells.units) 255 short) ∙ ap (λ t. Ok t) (sym spells.value)
+
+bad_ended : (units : List Written) (rest more : List ℕ) → rest ≡ 92 ∷ more → ended units rest ≡ Err BadEscape
+bad_ended units rest more e = ap (ended units) e
 
 pub fault_reads : (item : RawItem) (fault : Fault) → StringFault item fault → reading (item_text item) ≡ Err fault
-fault_reads item _ (bad_escape before rest r bad) = reading-fault (item_text item) _ (escape_fault before rest r bad)
-fault_reads item _ (long_string before w rest r full is) = reading-fault (item_text item) _ (length_fault before w rest r full is)
+fault_reads item _ (bad_escape before rest r bad) =
+    ap answer (units_first_only no_octet (item_text item) before rest refl r.parts r.units (at_backslash bad))
+    ∙ ap (λ (b : Bool). if b then ended before rest else Err StringTooLong) (le-leb (length before) 255 r.room) ∙ bad_ended before rest bad.0 bad.1
+fault_reads item _ (long_string before w rest r full is) =
+    let found : Units = units_first no_octet rest in
+    let are : UnitsAre no_octet rest found = units_first_are no_octet rest in
+    let units : List Written = before ++ (w ∷ found.units) in
+    let each : AllByRecursion (IsUnit no_octet) units = AllByRecursion-append (IsUnit no_octet) before (w ∷ found.units) r.units (is, are.each) in
+    let behind : text_of w ++ rest ≡ written_text (w ∷ found.units) ++ found.rest = ap (λ t. text_of w ++ t) are.whole ∙ sym (append_assoc (text_of w) (written_text found.units) found.rest) in
+    let whole : item_text item ≡ written_text units ++ found.rest = r.parts ∙ ap (λ t. written_text before ++ t) behind ∙ sym (append_assoc (written_text before) (written_text (w ∷ found.units)) found.rest) ∙ ap (λ t. t ++ found.rest) (sym (flat_map-append text_of before (w ∷ found.units))) in
+    ap answer (units_first_only no_octet (item_text item) units found.rest refl whole each are.none)
+    ∙ ap (λ (b : Bool). if b then ended units found.rest else Err StringTooLong) (lt-leb (length units) 255 (omega (arith, full, length-append before (w ∷ found.units))))
+
+-- ---- the answer is spelled, or is the first fault
+
+octets_each : (units : List Written) → AllByRecursion (IsUnit no_octet) units → AllByRecursion (λ c. c < 256) (written_text units) → AllByRecursion (λ c. c < 256) (written_octets units)
+octets_each [] each low = tt
+octets_each (plain c ∷ units) each low = (low.0, octets_each units each.1 low.1)
+octets_each (escaped c ∷ units) each low = (low.1.0, octets_each units each.1 low.1.1)
+octets_each (decimal x y z ∷ units) each low = (omega (arith, each.0.3), octets_each units each.1 low.1.1.1.1)
+
+-- the unit behind the first ones
+record IsSplit (n : ℕ) (units : List Written) : Type 0 where
+  pub before : List Written
+  pub unit : Written
+  pub after : List Written
+  pub whole : units ≡ before ++ unit ∷ after
+  pub count : length before ≡ n
+
+split_at : (n : ℕ) (units : List Written) → n < length units → IsSplit n units
+split_at n [] more = absurd (omega arith)
+split_at zero (w ∷ units) more = record { before = []; unit = w; after = units; whole = refl; count = refl }
+split_at (suc n) (w ∷ units) more =
+    let rest : IsSplit n units = split_at n units (omega arith) in
+    record { before = w ∷ rest.before; unit = rest.unit; after = rest.after; whole = ap (λ t. w ∷ t) rest.whole; count = omega (arith, rest.count) }
+
+abbrev EitherOf : RawItem → Type 0
+EitherOf item = ((octets : List ℕ) × SpellsString item octets) ⊎ ((fault : Fault) × StringFault item fault)
+
+long_units : (item : RawItem) (found : Units) → UnitsAre no_octet (item_text item) found → IsSplit 255 found.units → StringFault item StringTooLong
+long_units item found are split =
+    let each : AllByRecursion (IsUnit no_octet) (split.before ++ split.unit ∷ split.after) = subst (AllByRecursion (IsUnit no_octet)) split.whole are.each in
+    let whole : item_text item ≡ written_text split.before ++ (text_of split.unit ++ (written_text split.after ++ found.rest)) = are.whole ∙ ap (λ t. written_text t ++ found.rest) split.whole ∙ ap (λ t. t ++ found.rest) (flat_map-append text_of split.before (split.unit ∷ split.after)) ∙ append_assoc (written_text split.before) (text_of split.unit ++ written_text split.after) found.rest ∙ ap (λ t. written_text split.before ++ t) (append_assoc (text_of split.unit) (written_text split.after) found.rest) in
+    long_string split.before split.unit (written_text split.after ++ found.rest)
+    (record { units = AllByRecursion-front (IsUnit no_octet) split.before (split.unit ∷ split.after) each; room = omega (arith, split.count); parts = whole })
+    split.count (AllByRecursion-back (IsUnit no_octet) split.before (split.unit ∷ split.after) each).0
+
+short_units : (item : RawItem) (units : List Written) (rest : List ℕ) → item_text item ≡ written_text units ++ rest → AllByRecursion (IsUnit no_octet) units → NoUnit no_octet rest → length units ≤ 255 → AllByRecursion (λ c. c < 256) (item_text item) → EitherOf item
+short_units item units [] whole each none short low =
+    let text : item_text item ≡ written_text units = whole ∙ append-nil (written_text units) in
+    inl (written_octets units, record { units = units; each = each; text = text; value = refl; string = record { short = omega (arith, short, length-map units octet_of); each = octets_each units each (subst (AllByRecursion (λ c. c < 256)) text low) } })
+short_units item units (c ∷ rest) whole each (at_end e) short low = absurd (cc)
+short_units item units (c ∷ rest) whole each (at_octet d more e end) short low = absurd (false≢true end)
+short_units item units (c ∷ rest) whole each (at_backslash bad) short low = inr (BadEscape, bad_escape units (c ∷ rest) (record { units = each; room = short; parts = whole }) bad)
+
+pub string-or_fault : (item : RawItem) → AllByRecursion (λ c. c < 256) (item_text item) → ((octets : List ℕ) × SpellsString item octets) ⊎ ((fault : Fault) × StringFault item fault)
+string-or_fault item low =
+    let found : Units = units_first no_octet (item_text item) in
+    let are : UnitsAre no_octet (item_text item) found = units_first_are no_octet (item_text item) in
+    elim (cases_Bool (nat_le (length found.units) 255)) [
+      | inl short ↦ short_units item found.units found.rest are.whole are.each are.none (leb-true (length found.units) 255 short) low
+      | inr long ↦ inr (StringTooLong, long_units item found are (split_at 255 found.units (leb-false (length found.units) 255 long)))
+    ]

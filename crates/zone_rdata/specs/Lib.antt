@@ -1,7 +1,6 @@
 pub mod Fault
 pub mod Item
 pub mod Strings
-pub mod StringReading
 pub mod Address
 pub mod Number
 pub mod Generic
@@ -21,6 +20,6 @@ pub mod Reading
 pub mod Text
 pub mod TextItems
 pub mod Source
-pub mod AddressReading
+pub mod Machine
 pub mod Builder
 pub mod BuilderPart

@@ -3,7 +3,7 @@
 use Rattle.std.specs.Prelude.{◌≡◌, ◌≢◌, ℕ, ◌<◌, ◌≤◌, List, [], ◌∷◌, ◌++◌, length, nat_le, ◌==◌, ◌&&◌, ◌||◌, Bool, if◌then◌else◌}
 use Rattle.std.specs.List.{flat_map, AllByRecursion}
 use Rattle.zone_name.specs.Name.{frame}
-use Rattle.zone_name.specs.Spelling.{Written, plain, escaped, decimal, text_of, IsWritten, written_text, written_octets, IsBadEscape}
+use Rattle.zone_name.specs.Spelling.{Written, text_of, IsUnit, no_octet, written_text, written_octets, IsBadEscape}
 use Rattle.zone_name.specs.Text.{decimal_escape}
 use Rattle.zone_rdata.specs.declared.fault.Fault.{Fault}
 use Rattle.zone_rdata.specs.declared.fault.Fault.TheVariants.{BadEscape, StringTooLong}
@@ -19,30 +19,24 @@ abbrev pub item_text : RawItem → List ℕ
 item_text (bare text) = text
 item_text (quoted text) = text
 
--- one octet of a string as it is written: as in a name, but that a dot stands for itself
-abbrev pub IsUnit : Written → Type 0
-IsUnit (plain c) = c ≢ 92
-IsUnit (escaped c) = IsWritten (escaped c)
-IsUnit (decimal x y z) = IsWritten (decimal x y z)
-
 -- the item spells the string
 pub record SpellsString (item : RawItem) (octets : List ℕ) : Type 0 where
   pub units : List Written
-  pub each : AllByRecursion IsUnit units
+  pub each : AllByRecursion (IsUnit no_octet) units
   pub text : item_text item ≡ written_text units
   pub value : octets ≡ written_octets units
   pub string : IsString octets
 
 -- a text up to a place: the units of at most 255 octets
 pub record ReachesUnit (text : List ℕ) (before : List Written) (rest : List ℕ) : Type 0 where
-  pub units : AllByRecursion IsUnit before
+  pub units : AllByRecursion (IsUnit no_octet) before
   pub room : length before ≤ 255
   pub parts : text ≡ written_text before ++ rest
 
 -- the leftmost fault of an item that spells no string: at a backslash that begins no escape, or at the 256th octet
 pub data StringFault (item : RawItem) : Fault → Type 0 where
   bad_escape : (before : List Written) (rest : List ℕ) → ReachesUnit (item_text item) before rest → IsBadEscape rest → StringFault item BadEscape
-  long_string : (before : List Written) (w : Written) (rest : List ℕ) → ReachesUnit (item_text item) before (text_of w ++ rest) → length before ≡ 255 → IsUnit w → StringFault item StringTooLong
+  long_string : (before : List Written) (w : Written) (rest : List ℕ) → ReachesUnit (item_text item) before (text_of w ++ rest) → length before ≡ 255 → IsUnit no_octet w → StringFault item StringTooLong
 
 -- the string's octets are appended behind their number (RFC 1035 3.3)
 pub record AppendsString (item : RawItem) (old new : List ℕ) : Type 0 where
@@ -65,15 +59,13 @@ inside_text octets = flat_map unit_text octets
 abbrev pub string_text : List ℕ → List ℕ
 string_text octets = 34 ∷ inside_text octets ++ 34 ∷ []
 
--- a unit that a quoted item can have: by itself neither a quote nor a backslash
-abbrev pub IsQuotedUnit : Written → Type 0
-IsQuotedUnit (plain c) = (c ≢ 34) × (c ≢ 92)
-IsQuotedUnit (escaped c) = IsWritten (escaped c)
-IsQuotedUnit (decimal x y z) = IsWritten (decimal x y z)
+-- between quotes a quote ends the item
+abbrev pub is_quote : ℕ → Bool
+is_quote c = c == 34
 
 -- a text that stands between the quotes of an item, in one line
 pub record StandsInQuotes (text : List ℕ) : Type 0 where
   pub units : List Written
-  pub each : AllByRecursion IsQuotedUnit units
+  pub each : AllByRecursion (IsUnit is_quote) units
   pub parts : text ≡ written_text units
   pub one_line : AllByRecursion (λ c. c ≢ 10) text

@@ -1,27 +1,15 @@
-ghost use Rattle.std.specs.Prelude.{◌≡◌, ◌++◌, ◌≤◌, [], length, IfOk, IfErr, OnOk, OnErr, Ok, Err};
+ghost use Rattle.std.specs.Prelude.{◌≡◌, ◌++◌, ◌≤◌, [], length, IfOk, IfErr, OnOk, OnErr, Err};
 ghost use Rattle.zone_name.specs.Name.{frame};
 ghost use Rattle.zone_name.specs.Sink.{TakesSome};
 ghost use Rattle.zone_rdata.specs.Item.{raw};
-ghost use Rattle.zone_rdata.specs.StringReading.{place_of, reading, seen};
-ghost use Rattle.zone_rdata.specs.Strings.{AppendsString, StringFault, item_text, string_text, unit_text};
+ghost use Rattle.zone_rdata.specs.Strings.{AppendsString, SpellsString, StringFault, item_text, string_text, unit_text};
 
 use crate::fault::{Failing, Fault};
 use crate::item::Item;
 use crate::reading::are_octets;
 use arrayvec::ArrayVec;
 use std::alloc::AllocError;
-use zone_name::{Sink, escape_at};
-
-/// What stands at the place of a string's next octet, and what is behind it.
-#[derive(Drop)]
-enum Next<'t> {
-    /// The text ends.
-    End,
-    /// An octet, by itself or by an escape.
-    Octet(u8, &'t [u8]),
-    /// A backslash that begins no escape.
-    BadEscape,
-}
+use zone_name::{NextUnit, Sink, next_unit};
 
 /// Appends the string that the item spells, its octets behind their number (RFC 1035 3.3, 5.1). Refused, `out` holds
 /// what it held.
@@ -34,8 +22,7 @@ pub(crate) fn push_string(item: Item, out: &mut Vec<u8>) -> Result<(), Failing>
     ensures fault { (fault : Fault) → result ≡ Err (Failing.Fault fault) → StringFault (raw item.entry) fault }
     ensures err { OnErr result (out.new.items ≡ out.old.items) }
 {
-    let octets = string_of(text_of(item))?;
-    are_octets(octets.as_slice());
+    let octets = string_of(item)?;
     push_framed(octets.as_slice(), out)?;
     Ok(())
 }
@@ -64,41 +51,28 @@ fn text_of(item: Item<'_>) -> &[u8]
     }
 }
 
-/// The octets that a text stands for (RFC 1035 5.1).
-fn string_of(text: &[u8]) -> Result<ArrayVec<u8, 255>, Fault>
-    ensures found { IfOk result (λ octets. reading text.now ≡ Ok octets.items) }
-    ensures fault { IfErr result (λ fault. reading text.now ≡ Err fault) }
+/// The octets of the string that the item spells (RFC 1035 3.3, 5.1).
+fn string_of(item: Item<'_>) -> Result<ArrayVec<u8, 255>, Fault>
+    ensures found { IfOk result (λ octets. SpellsString (raw item.entry) octets.items) }
+    ensures fault { IfErr result (StringFault (raw item.entry)) }
 {
     let mut octets: ArrayVec<u8, 255> = ArrayVec::new();
-    let mut rest = text;
+    let mut rest = text_of(item);
     loop {
-        match next_at(rest) {
-            Next::End => return Ok(octets),
-            Next::Octet(octet, after) => {
+        match next_unit(rest) {
+            NextUnit::End => {
+                are_octets(octets.as_slice());
+                return Ok(octets);
+            }
+            NextUnit::Octet(octet, after) => {
                 if octets.is_full() {
                     return Err(Fault::StringTooLong);
                 }
                 octets.push(octet);
                 rest = after;
             }
-            Next::BadEscape => return Err(Fault::BadEscape),
+            NextUnit::BadEscape => return Err(Fault::BadEscape),
         }
-    }
-}
-
-/// What stands at the front of the rest of a text.
-fn next_at(rest: &[u8]) -> Next<'_>
-    ensures { seen result ≡ place_of rest.now }
-{
-    let Some((first, after)) = rest.split_first() else {
-        return Next::End;
-    };
-    if *first != b'\\' {
-        return Next::Octet(*first, after);
-    }
-    match escape_at(after) {
-        Some((octet, rest)) => Next::Octet(octet, rest),
-        None => Next::BadEscape,
     }
 }
 

@@ -7,7 +7,8 @@ use Rattle.zone_rdata.specs.Spelling.{RawItem}
 use Rattle.zone_rdata.specs.Spelling as raw
 use Rattle.zone_text.specs.Pieces.{Piece, blank, opening, closing, line_feed, comment, bare, quoted, piece_text, text, is_blank, MayFollow, AllFollow}
 use Rattle.zone_text.specs.Entries.{item_of}
-use Rattle.zone_text.specs.Lines.{EndsItem, IsItemThen, IsPlain}
+use Rattle.zone_text.specs.Lines.{IsPlain}
+use Rattle.zone_text.specs.Machine.Items.{EndsItem, IsItemThen}
 
 -- the piece may stand behind these
 abbrev pub MayStandBehind : List Piece → Piece → Type 0

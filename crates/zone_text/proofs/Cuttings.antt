@@ -7,8 +7,8 @@ use Rattle.zone_name.specs.Spelling.{Written, plain, escaped, decimal, text_of, 
 use Rattle.zone_rdata.specs.declared.fault.Fault.{Fault}
 use Rattle.zone_text.specs.Pieces.{Piece, blank, opening, closing, line_feed, comment, bare, quoted, piece_text, text, is_blank, ends_item, IsPiece, MayFollow, AllFollow, depth_after, Cuts}
 use Rattle.zone_text.specs.Breaks.{IsBroken, closes_nothing, no_escape, no_quoted_escape, no_quote, not_closed, MayEndBefore, Breaks}
-use Rattle.zone_text.specs.Cutting.{Front, takes, stops, front_of, depth_behind, Cutting, cut_on, cut_by, cutting}
-use Rattle.zone_text.proofs.Octets.{NoUnit, at_end, at_octet, at_backslash, first_of_unit, first_of_none, unit_of_bare}
+use Rattle.zone_text.specs.Machine.Cutting.{Front, takes, stops, front_of, depth_behind, Cutting, cut_on, cut_by, cutting}
+use Rattle.zone_name.proofs.Units.{NoUnit, at_end, at_octet, at_backslash, first_of_unit, first_of_none}
 use Rattle.zone_text.proofs.Fronts.{EndsComment, Stops, HasRoom, Takes, Ends, IsFront, front_is, front_takes, front_stops}
 
 -- ---- which piece may stand behind which, by the octets
@@ -18,7 +18,7 @@ unit_stands : (units : List Written) (rest : List ℕ) → IsPiece (bare units) 
 unit_stands [] rest is none = omega (arith, is.0)
 unit_stands (w ∷ units) rest is none =
     let P : List ℕ → Type 0 = NoUnit ends_item in
-    let found = first_of_unit ends_item w (written_text units ++ rest) refl (unit_of_bare w is.1.0) in
+    let found = first_of_unit ends_item w (written_text units ++ rest) refl is.1.0 in
     let lost = first_of_none ends_item (text_of w ++ (written_text units ++ rest)) refl (subst P (append_assoc (text_of w) (written_text units) rest) none) in
     some_is_none (w, written_text units ++ rest) (sym found ∙ lost)
   where

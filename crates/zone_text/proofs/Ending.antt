@@ -1,14 +1,15 @@
 -- The entries of a text joined are the text, and those that a line feed has ended stay.
-use Rattle.std.proofs.Common.{◌≡◌, ℕ, zero, List, [], ◌∷◌, ◌++◌, Option, refl, sym, ap, ◌∙◌, subst, append_assoc}
+use Rattle.std.proofs.Common.{◌≡◌, ℕ, zero, List, [], ◌∷◌, ◌++◌, Option, refl, sym, ap, ◌∙◌, subst, append_assoc, inl, inr}
 use Rattle.std.specs.List.{flat_map}
 use Rattle.std.proofs.lemmas.List.{append-nil}
 use Rattle.std.proofs.lemmas.List.Concat.{flat_map-append}
 use Rattle.zone_rdata.specs.declared.fault.Fault.{Fault}
 use Rattle.zone_text.specs.Pieces.{Piece, piece_text, text}
 use Rattle.zone_text.specs.Entries.{Cut, cut_from, and_last, Entry, numbered, entries_of, ended_entries}
-use Rattle.zone_text.specs.Cutting.{Cutting, cutting}
+use Rattle.zone_text.specs.Machine.Cutting.{Cutting, cutting}
+use Rattle.zone_text.specs.Decided.{ArePieces}
 use Rattle.zone_text.proofs.CutAgain.{joined, cut_whole, cut_again, cut_ended, ended_at_zero, numbered_front}
-use Rattle.zone_text.proofs.Cuttings.{IsCut, cutting_is, cutting_only}
+use Rattle.zone_text.proofs.Cuttings.{IsCut, cutting_is, cutting_only, reads_cut, reads_broken}
 use Rattle.zone_text.proofs.Lasting.{IsParted, parted, both_cut}
 
 text_of_entries : (entries : List (List Piece)) → flat_map text entries ≡ text (joined entries)
@@ -43,11 +44,20 @@ ended_stay octets more =
     let now : cutting (octets ++ more) ≡ record { pieces = front ++ back.pieces; broken = back.broken } = ap cutting longer ∙ cutting_only (text front ++ rest) (front ++ back.pieces) back.broken found in
     ((cut_from zero back.pieces).ended, ap (λ (c : Cutting). (cut_from zero c.pieces).ended) now ∙ ap (λ (c : Cut). c.ended) (cut_again pieces back.pieces))
 
-pub ended_entries_stay : (octets more : List ℕ) → (others : List Entry) × (ended_entries (cutting (octets ++ more)).pieces ≡ ended_entries (cutting octets).pieces ++ others)
-ended_entries_stay octets more =
+pieces_are : (octets : List ℕ) (pieces : List Piece) → ArePieces octets pieces → (cutting octets).pieces ≡ pieces
+pieces_are octets pieces (inl cut) = ap (λ (c : Cutting). c.pieces) (reads_cut octets pieces cut)
+pieces_are octets pieces (inr broken) = ap (λ (c : Cutting). c.pieces) (reads_broken octets pieces broken.0 broken.1)
+
+ended_cutting_stays : (octets more : List ℕ) → (others : List Entry) × (ended_entries (cutting (octets ++ more)).pieces ≡ ended_entries (cutting octets).pieces ++ others)
+ended_cutting_stays octets more =
     let stay = ended_stay octets more in
     let lines = numbered_front 1 (cut_from zero (cutting octets).pieces).ended stay.0 in
     (lines.0, ap (numbered 1) stay.1 ∙ lines.1)
+
+pub ended_entries_stay : (octets more : List ℕ) (pieces later : List Piece) → ArePieces octets pieces → ArePieces (octets ++ more) later → (others : List Entry) × (ended_entries later ≡ ended_entries pieces ++ others)
+ended_entries_stay octets more pieces later before behind =
+    let stay = ended_cutting_stays octets more in
+    (stay.0, ap ended_entries (sym (pieces_are (octets ++ more) later behind)) ∙ stay.1 ∙ ap (λ t. ended_entries t ++ stay.0) (pieces_are octets pieces before))
 
 pub ended_entries_first : (pieces : List Piece) → (others : List Entry) × (entries_of pieces ≡ ended_entries pieces ++ others)
 ended_entries_first pieces = by (cut_from zero pieces).ended (cut_from zero pieces).open_pieces

@@ -8,7 +8,7 @@ use Rattle.zone_text.specs.Forms.{Form, no_items, sets_origin, sets_ttl, include
 use Rattle.zone_text.specs.Inherited.{one_bare}
 use Rattle.zone_text.specs.Records.{StatesRecord, StatesNothing}
 use Rattle.zone_text.specs.EntryFault.{OriginFault, DefaultTtlFault, DirectiveFault, OwnerFault, EntryFault, of_directive, of_owner, of_words, of_kind, of_rdata, of_ttl}
-use Rattle.zone_text.specs.Lower.{Lower, Once}
+use Rattle.zone_text.specs.Machine.Lower.{Lower, Once}
 use Rattle.zone_text.proofs.Outcomes.{FromOwner, from_owner_once, name_fault_once, name_or_fault}
 
 -- the steps of a stated record

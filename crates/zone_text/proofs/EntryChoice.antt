@@ -16,7 +16,7 @@ use Rattle.zone_text.specs.Entries.{Entry}
 use Rattle.zone_text.specs.EntryFault.{IsNameFaultBehind, WordFault, WordsFault}
 use Rattle.zone_text.specs.Forms.{Form, no_items, sets_origin, sets_ttl, includes, unknown, owned, unowned, form_of, Word, ttl, class, Parts, parts_of, parts_in, parts_behind, class_among, word_behind, begins_with_digit, is_class_word, ttl_among, unless_stated}
 use Rattle.zone_text.specs.Inherited.{IsOrigin, SpellsBehind, IsLastOwner, IsOwner, HasClass, IsTtl, or_else, latest, origin_in, owner_in, owner_text, class_in, class_word}
-use Rattle.zone_text.specs.Lower.{Lower, Choices}
+use Rattle.zone_text.specs.Machine.Lower.{Lower, Choices}
 use Rattle.zone_text.specs.Outcome.{AllState, AreLowItems}
 use Rattle.zone_text.specs.Records.{HasValue, StatesRecord, StatesNothing}
 use Rattle.zone_text.proofs.ClassWords.{class_word_of}

@@ -2,12 +2,12 @@
 use Rattle.std.proofs.Common.{◌≡◌, ℕ, true, false, List, [], ◌∷◌, ◌++◌, refl, sym, ◌∙◌, subst, ◌⊎◌, inl, inr}
 use Rattle.std.proofs.lemmas.Bool.{cases_Bool, cases_eq, cases_lt}
 use Rattle.std.proofs.lemmas.List.{append-nil}
-use Rattle.zone_name.specs.Spelling.{Written, escaped, decimal, text_of, octet_of, IsWritten, IsBadEscape, is_digit}
+use Rattle.zone_name.specs.Spelling.{Written, escaped, decimal, text_of, octet_of, IsEscape, IsBadEscape, is_digit}
 use Rattle.zone_rdata.specs.declared.fault.Fault.{Fault}
 use Rattle.zone_text.specs.Pieces.{Piece}
 use Rattle.zone_text.specs.Breaks.{IsBroken, closes_nothing, no_escape, no_quoted_escape, no_quote, not_closed, Breaks}
 use Rattle.zone_text.specs.Lasting.{IsLostEscape, at_line_end, one_digit, two_digits, too_great, IsCutOff, behind_backslash, behind_digit, behind_two_digits, StaysBroken, closing_stays, escape_stays, quoted_escape_stays, BreaksAtEnd, nothing_left, quote_open, escape_open, quoted_escape_open}
-use Rattle.zone_text.proofs.Octets as octets
+use Rattle.zone_name.proofs.Units as octets
 use Rattle.zone_text.proofs.Lasting.{lost_escape}
 
 -- what is malformed is lost or cut off
@@ -16,7 +16,7 @@ Malformed rest = IsLostEscape rest ⊎ IsCutOff rest
 
 -- no written octet stands at the front
 abbrev NoneWritten : List ℕ → Type 0
-NoneWritten rest = (w : Written) (after : List ℕ) → IsWritten w → rest ≡ text_of w ++ after → ⊥
+NoneWritten rest = (w : Written) (after : List ℕ) → IsEscape w → rest ≡ text_of w ++ after → ⊥
 
 three_digits : (x y z : ℕ) (more : List ℕ) → is_digit x ≡ true → is_digit y ≡ true → is_digit z ≡ true → NoneWritten (92 ∷ x ∷ y ∷ z ∷ more) → Malformed (92 ∷ x ∷ y ∷ z ∷ more)
 three_digits x y z more dx dy dz none = elim (cases_lt 255 (octet_of (decimal x y z))) as (λ s. Malformed (92 ∷ x ∷ y ∷ z ∷ more)) [

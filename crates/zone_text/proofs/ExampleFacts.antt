@@ -1,8 +1,8 @@
 -- Names, words and NS records that files spell, for examples.
-use Rattle.std.proofs.Common.{◌≡◌, ◌≢◌, ℕ, ◌≤◌, List, [], ◌∷◌, codes, Some, refl, sym, ap, ◌∙◌, arith, subst, true, inr, lit<, lit≤}
+use Rattle.std.proofs.Common.{false, ◌≡◌, ◌≢◌, ℕ, ◌≤◌, List, [], ◌∷◌, codes, Some, refl, sym, ap, ◌∙◌, arith, subst, true, inr, lit<, lit≤}
 use Rattle.std.specs.List.{AllByRecursion}
 use Rattle.zone_name.specs.Name.{IsName, folded_octet, labels_of, wire}
-use Rattle.zone_name.specs.Spelling.{plain, at_origin, absolute, relative, Spells, FirstFault, within, empty_label}
+use Rattle.zone_name.specs.Spelling.{plain, at_origin, absolute, relative, Spells, FirstFault, within, empty_label, is_dot}
 use Rattle.zone_name.specs.declared.fault.NameFault.TheVariants.{EmptyLabel}
 use Rattle.zone_rdata.specs.declared.layout.Field.TheVariants.{Name}
 use Rattle.zone_rdata.specs.Field.{name}
@@ -37,21 +37,21 @@ pub at_spells : (above : List (List ℕ)) → IsName above → Spells (Some abov
 at_spells above good = record { written = at_origin refl refl; name = good }
 
 -- a relative name of one octet
-pub one_octet : (c : ℕ) (above : List (List ℕ)) → c ≢ 46 → c ≢ 92 → c ≢ 64 → IsName (under (folded_octet c) above) → Spells (Some above) (c ∷ []) (under (folded_octet c) above)
+pub one_octet : (c : ℕ) (above : List (List ℕ)) → is_dot c ≡ false → c ≢ 92 → c ≢ 64 → IsName (under (folded_octet c) above) → Spells (Some above) (c ∷ []) (under (folded_octet c) above)
 one_octet c above no_dot no_backslash no_at good = record {
   written = relative ((plain c ∷ []) ∷ []) above (record { some = lit< tt; each = (record { some = lit< tt; each = ((no_dot, no_backslash), tt) }, tt) }) (λ e. no_at (let first : c ≡ 64 = cc in first)) refl refl refl;
   name = good;
 }
 
 pub a_spells : Spells (Some x) (codes "a") (under 97 x)
-a_spells = one_octet 97 x (omega arith) (omega arith) (omega arith) ax_name
+a_spells = one_octet 97 x refl (omega arith) (omega arith) ax_name
 
 pub b_spells : Spells (Some (under 97 x)) (codes "b") (under 98 (under 97 x))
-b_spells = one_octet 98 (under 97 x) (omega arith) (omega arith) (omega arith) bax_name
+b_spells = one_octet 98 (under 97 x) refl (omega arith) (omega arith) bax_name
 
 n_spells : (above : List (List ℕ)) → Spells (Some above) (codes "n.x.") (under 110 x)
 n_spells above = record {
-  written = absolute ((plain 110 ∷ []) ∷ (plain 120 ∷ []) ∷ []) (record { some = lit< tt; each = (record { some = lit< tt; each = ((omega arith, omega arith), tt) }, (record { some = lit< tt; each = ((omega arith, omega arith), tt) }, tt)) }) refl refl;
+  written = absolute ((plain 110 ∷ []) ∷ (plain 120 ∷ []) ∷ []) (record { some = lit< tt; each = (record { some = lit< tt; each = ((refl, omega arith), tt) }, (record { some = lit< tt; each = ((refl, omega arith), tt) }, tt)) }) refl refl;
   name = n_name;
 }
 
@@ -137,7 +137,7 @@ no_digit seconds is = let first : begins_with_digit (codes "x") ≡ true = time_
 
 -- `a..b` has an empty label
 pub empty_label_between : FirstFault (Some x) (codes "a..b") EmptyLabel
-empty_label_between = within EmptyLabel (empty_label ((plain 97 ∷ []) ∷ []) (codes ".b") (record { labels = (record { some = lit< tt; each = ((omega arith, omega arith), tt) }, tt); short = (lit≤ tt, tt); octets = tt; room = lit≤ tt; parts = refl }) (inr (codes "b", refl)) (λ e. absurd (let t : ⊥ = cc in t)) (λ e. absurd (let t : ⊥ = cc in t)))
+empty_label_between = within EmptyLabel (empty_label ((plain 97 ∷ []) ∷ []) (codes ".b") (record { labels = (record { some = lit< tt; each = ((refl, omega arith), tt) }, tt); short = (lit≤ tt, tt); octets = tt; room = lit≤ tt; parts = refl }) (inr (codes "b", refl)) (λ e. absurd (let t : ⊥ = cc in t)) (λ e. absurd (let t : ⊥ = cc in t)))
 
 pub class_zero_word : IsClassWord (codes "CLASS0") 0
 class_zero_word = by_number (record { front = codes "CLASS"; digits = codes "0"; parts = refl; named = refl; number = record { some = lit< tt; digits = (refl, tt); value = refl } })

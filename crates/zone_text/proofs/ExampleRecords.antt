@@ -22,10 +22,10 @@ h_name : IsName (under 104 x)
 h_name = record { each = (record { some = lit< tt; short = lit≤ tt; each = (record { octet = lit< tt; lower = refl }, tt) }, x_name.each); short = lit≤ tt }
 
 n_spells : Spells (Some x) (codes "n") (under 110 x)
-n_spells = one_octet 110 x (omega arith) (omega arith) (omega arith) n_name
+n_spells = one_octet 110 x refl (omega arith) (omega arith) n_name
 
 h_spells : Spells (Some x) (codes "h") (under 104 x)
-h_spells = one_octet 104 x (omega arith) (omega arith) (omega arith) h_name
+h_spells = one_octet 104 x refl (omega arith) (omega arith) h_name
 
 digit : (c n : ℕ) → is_digit c ≡ true → n ≡ decimal_value (c ∷ []) → IsDecimal (c ∷ []) n
 digit c n is value = record { some = lit< tt; digits = (is, tt); value = value }

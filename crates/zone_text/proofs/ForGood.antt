@@ -3,17 +3,17 @@ use Rattle.std.proofs.Common.{◌≡◌, ℕ, true, false, List, [], ◌∷◌, 
 use Rattle.std.specs.List.{AllByRecursion}
 use Rattle.std.proofs.lemmas.Bool.{both_ways}
 use Rattle.std.proofs.lemmas.List.{append-nil, append_cancel_left}
-use Rattle.zone_name.specs.Spelling.{Written, is_digit, written_text}
+use Rattle.zone_name.specs.Spelling.{Written, is_digit, written_text, IsUnit}
 use Rattle.zone_rdata.specs.declared.fault.Fault.{Fault}
-use Rattle.zone_rdata.specs.Strings.{IsQuotedUnit}
+use Rattle.zone_rdata.specs.Strings.{is_quote}
 use Rattle.zone_text.specs.Breaks.{Breaks}
-use Rattle.zone_text.specs.Cutting.{Units, is_quote}
+use Rattle.zone_name.specs.Machine.Units.{Units}
+use Rattle.zone_rdata.specs.Strings.{is_quote}
 use Rattle.zone_text.specs.Lasting.{IsLostEscape, at_line_end, one_digit, two_digits, too_great, IsCutOff, behind_backslash, behind_digit, behind_two_digits, StaysBroken, closing_stays, escape_stays, quoted_escape_stays, BreaksAtEnd, nothing_left, quote_open, escape_open, quoted_escape_open, BreaksForGood}
 use Rattle.zone_text.specs.Pieces.{Piece, text}
 use Rattle.zone_text.proofs.Escapes.{malformed_is_bad}
-use Rattle.zone_text.proofs.Fronts.{each_so, units_first_only}
 use Rattle.zone_text.proofs.Lasting.{begins_backslash, stays_some}
-use Rattle.zone_text.proofs.Octets.{NoUnit, at_end, at_backslash, unit_of_quoted}
+use Rattle.zone_name.proofs.Units.{NoUnit, at_end, at_backslash, units_first_only}
 
 no_digit : (x c : ℕ) → is_digit x ≡ true → x ≡ c → is_digit c ≡ false → ⊥
 no_digit x c is same is_not = both_ways (is_digit c) is_not (ap is_digit (sym same) ∙ is)
@@ -38,11 +38,11 @@ lost_not_cut rest (too_great x y z more e is too all great) (behind_digit u f du
 lost_not_cut rest (too_great x y z more e is too all great) (behind_two_digits u v f du dv) = cc
 
 -- what stands behind the quoted units of a text is one thing
-behind_units : (units other : List Written) (after rest : List ℕ) → AllByRecursion IsQuotedUnit units → AllByRecursion IsQuotedUnit other → NoUnit is_quote after → NoUnit is_quote rest → written_text units ++ after ≡ written_text other ++ rest → after ≡ rest
+behind_units : (units other : List Written) (after rest : List ℕ) → AllByRecursion (IsUnit is_quote) units → AllByRecursion (IsUnit is_quote) other → NoUnit is_quote after → NoUnit is_quote rest → written_text units ++ after ≡ written_text other ++ rest → after ≡ rest
 behind_units units other after rest each another none no_more e =
     ap (λ (found : Units). found.rest) (
-    sym (units_first_only is_quote (written_text units ++ after) units after refl refl (each_so units unit_of_quoted each) none)
-    ∙ units_first_only is_quote (written_text units ++ after) other rest refl e (each_so other unit_of_quoted another) no_more
+    sym (units_first_only is_quote (written_text units ++ after) units after refl refl each none)
+    ∙ units_first_only is_quote (written_text units ++ after) other rest refl e another no_more
     )
 
 lost_begins_none : (rest : List ℕ) → IsLostEscape rest → NoUnit is_quote rest

@@ -3,72 +3,16 @@ use Rattle.std.proofs.Common.{◌≡◌, ◌≢◌, ℕ, zero, suc, ◌≤◌, �
 use Rattle.std.specs.List.{AllByRecursion}
 use Rattle.std.proofs.lemmas.Bool.{or_parts, eqb-true, eqb-false, ne_eqb, both_ways, cond_both}
 use Rattle.std.proofs.lemmas.List.{append-nil}
-use Rattle.zone_name.specs.Spelling.{Written, plain, escaped, decimal, text_of, IsBadEscape, written_text}
+use Rattle.zone_name.specs.Spelling.{Written, plain, escaped, decimal, text_of, IsBadEscape, written_text, IsUnit}
 use Rattle.zone_rdata.specs.declared.fault.Fault.{Fault}
 use Rattle.zone_rdata.specs.declared.fault.Fault.TheVariants.{BadEscape}
-use Rattle.zone_rdata.specs.Strings.{IsQuotedUnit}
-use Rattle.zone_text.specs.Pieces.{Piece, blank, opening, closing, line_feed, comment, bare, quoted, piece_text, is_blank, ends_item, IsPiece, IsBareUnit}
+use Rattle.zone_rdata.specs.Strings.{is_quote}
+use Rattle.zone_text.specs.Pieces.{Piece, blank, opening, closing, line_feed, comment, bare, quoted, piece_text, is_blank, ends_item, IsPiece}
 use Rattle.zone_text.specs.Breaks.{IsBroken, closes_nothing, no_escape, no_quoted_escape, no_quote, not_closed}
-use Rattle.zone_text.specs.Cutting.{Units, units_then, units_by, units_first, unit_first, before_line_feed, from_line_feed, Sign, a_blank, a_line_feed, an_opening, a_closing, a_semicolon, a_quote, of_item, sign_of, Front, takes, stops, is_quote, quoted_front, bare_front, front_by, end_front, front_of}
-use Rattle.zone_text.proofs.Octets.{IsUnit, NoUnit, at_end, at_octet, at_backslash, IsFirst, first_is, first_of_unit, first_of_none, bare_unit, unit_of_bare, quoted_unit, unit_of_quoted}
-
-pub each_so : {A : Type 0} {P Q : A → Type 0} (xs : List A) → ((x : A) → P x → Q x) → AllByRecursion P xs → AllByRecursion Q xs
-each_so [] more each = tt
-each_so (x ∷ xs) more each = (more x each.0, each_so xs more each.1)
-
--- ---- written octets as long as they come
-
-pub record UnitsAre (ends : ℕ → Bool) (octets : List ℕ) (found : Units) : Type 0 where
-  pub whole : octets ≡ written_text found.units ++ found.rest
-  pub each : AllByRecursion (IsUnit ends) found.units
-  pub none : NoUnit ends found.rest
-
-some_text : (w : Written) → 0 < length (text_of w)
-some_text (plain c) = omega arith
-some_text (escaped c) = omega arith
-some_text (decimal x y z) = omega arith
-
-shorter : (w : Written) (octets rest : List ℕ) → octets ≡ text_of w ++ rest → length rest < length octets
-shorter w octets rest e = omega (arith, ap length e, length-append (text_of w) rest, some_text w)
-
-one_more : (ends : ℕ → Bool) (octets rest : List ℕ) (w : Written) (found : Units) → IsUnit ends w → octets ≡ text_of w ++ rest → UnitsAre ends rest found → UnitsAre ends octets (record { units = w ∷ found.units; rest = found.rest })
-one_more ends octets rest w found is e more = record {
-  whole = e ∙ ap (λ t. text_of w ++ t) more.whole ∙ sym (append_assoc (text_of w) (written_text found.units) found.rest);
-  each = (is, more.each);
-  none = more.none;
-}
-
-units_by_first : (ends : ℕ → Bool) (octets : List ℕ) (go_on : List ℕ → Units) (found : Option (Written × List ℕ)) → IsFirst ends octets found → ((rest : List ℕ) → length rest < length octets → UnitsAre ends rest (go_on rest)) → UnitsAre ends octets (units_then go_on octets found)
-units_by_first ends octets go_on None is more = record { whole = refl; each = tt; none = is }
-units_by_first ends octets go_on (Some (w, rest)) is more = one_more ends octets rest w (go_on rest) is.0 is.1 (more rest (shorter w octets rest is.1))
-
-units_are : (n : ℕ) (ends : ℕ → Bool) (octets : List ℕ) → length octets ≤ n → UnitsAre ends octets (units_by n ends octets)
-unfolding units_by
-units_are zero ends [] enough = record { whole = refl; each = tt; none = at_end refl }
-units_are zero ends (c ∷ octets) enough = absurd (omega arith)
-units_are (suc n) ends octets enough = units_by_first ends octets (units_by n ends) (unit_first ends octets) (first_is ends octets) (λ rest less. units_are n ends rest (omega arith))
-
-units_only : (n : ℕ) (ends : ℕ → Bool) (units : List Written) (rest : List ℕ) → ends 92 ≡ false → length (written_text units ++ rest) ≤ n → AllByRecursion (IsUnit ends) units → NoUnit ends rest → units_by n ends (written_text units ++ rest) ≡ record { units = units; rest = rest }
-unfolding units_by
-units_only zero ends [] rest backslash enough each none = refl
-units_only zero ends (w ∷ units) rest backslash enough each none =
-    absurd (omega (arith, length-append (written_text (w ∷ units)) rest, length-append (text_of w) (written_text units), some_text w))
-units_only (suc n) ends [] rest backslash enough each none = ap (units_then (units_by n ends) rest) (first_of_none ends rest backslash none)
-units_only (suc n) ends (w ∷ units) rest backslash enough each none =
-    let P : List ℕ → Type 0 = λ t. units_then (units_by n ends) t (unit_first ends t) ≡ record { units = w ∷ units; rest = rest } in
-    let less : length (written_text units ++ rest) ≤ n = omega (arith, length-append (written_text (w ∷ units)) rest, length-append (text_of w) (written_text units), some_text w, length-append (written_text units) rest) in
-    subst P (sym (append_assoc (text_of w) (written_text units) rest))
-    (ap (units_then (units_by n ends) (text_of w ++ (written_text units ++ rest))) (first_of_unit ends w (written_text units ++ rest) backslash each.0)
-    ∙ ap (λ (more : Units). record { units = w ∷ more.units; rest = more.rest }) (units_only n ends units rest backslash less each.1 none))
-
-pub units_first_are : (ends : ℕ → Bool) (octets : List ℕ) → UnitsAre ends octets (units_first ends octets)
-unfolding units_first
-units_first_are ends octets = units_are (length octets) ends octets (omega arith)
-
-pub units_first_only : (ends : ℕ → Bool) (octets : List ℕ) (units : List Written) (rest : List ℕ) → ends 92 ≡ false → octets ≡ written_text units ++ rest → AllByRecursion (IsUnit ends) units → NoUnit ends rest → units_first ends octets ≡ record { units = units; rest = rest }
-unfolding units_first
-units_first_only ends octets units rest backslash e each none =
-    subst (λ t. units_by (length t) ends t ≡ record { units = units; rest = rest }) (sym e) (units_only (length (written_text units ++ rest)) ends units rest backslash (omega arith) each none)
+use Rattle.zone_name.specs.Machine.Units.{Units, units_then, units_by, units_first, unit_first}
+use Rattle.zone_rdata.specs.Strings.{is_quote}
+use Rattle.zone_text.specs.Machine.Cutting.{before_line_feed, from_line_feed, Sign, a_blank, a_line_feed, an_opening, a_closing, a_semicolon, a_quote, of_item, sign_of, Front, takes, stops, quoted_front, bare_front, front_by, end_front, front_of}
+use Rattle.zone_name.proofs.Units.{NoUnit, at_end, at_octet, at_backslash, UnitsAre, units_first_are, units_first_only}
 
 -- ---- comments
 
@@ -174,16 +118,16 @@ first_octet_is c d rest e = ap (λ t. t ∷ rest) e
 
 quoted_is : (depth c : ℕ) (octets : List ℕ) (units : List Written) (rest : List ℕ) → c ≡ 34 → octets ≡ written_text units ++ rest → AllByRecursion (IsUnit is_quote) units → NoUnit is_quote rest → IsFront depth (c ∷ octets) (quoted_front units rest)
 quoted_is depth c octets units [] is whole each none =
-    no_quote units (each_so units quoted_unit each) (first_octet_is c 34 octets is ∙ ap (λ t. 34 ∷ t) (whole ∙ append-nil (written_text units)))
+    no_quote units each (first_octet_is c 34 octets is ∙ ap (λ t. 34 ∷ t) (whole ∙ append-nil (written_text units)))
 quoted_is depth c octets units (d ∷ rest) is whole each none =
     cond_both (is_quote d) (takes (quoted units) rest) (stops (Some BadEscape)) (IsFront depth (c ∷ octets))
     (λ e. let same : d ∷ rest ≡ 34 ∷ rest = first_octet_is d 34 rest (eqb-true d 34 e) in record {
       whole = first_octet_is c 34 octets is ∙ ap (λ t. 34 ∷ t) (whole ∙ ap (λ t. written_text units ++ t) same ∙ sym (append_assoc (written_text units) (34 ∷ []) rest));
-      piece = each_so units quoted_unit each;
+      piece = each;
       stop = tt;
       room = tt;
     })
-    (λ e. no_quoted_escape units (d ∷ rest) (each_so units quoted_unit each) (first_octet_is c 34 octets is ∙ ap (λ t. 34 ∷ t) whole) (escape_of e none))
+    (λ e. no_quoted_escape units (d ∷ rest) each (first_octet_is c 34 octets is ∙ ap (λ t. 34 ∷ t) whole) (escape_of e none))
   where
     escape_of : is_quote d ≡ false → NoUnit is_quote (d ∷ rest) → IsBadEscape (d ∷ rest)
     escape_of e (at_end h) = absurd (cc)
@@ -199,7 +143,7 @@ bare_is depth c octets [] rest goes_on whole each none = no_escape (escape_of no
     escape_of (at_backslash bad) = subst IsBadEscape (sym whole) bad
 bare_is depth c octets (w ∷ units) rest goes_on whole each none = record {
   whole = whole;
-  piece = (omega arith, each_so (w ∷ units) bare_unit each);
+  piece = (omega arith, each);
   stop = none;
   room = tt;
 }
@@ -244,18 +188,18 @@ front_of_units depth c octets units rest goes_on whole each none =
     at_sign depth c octets of_item (sign_of_item c goes_on)
     ∙ ap (λ (found : Units). bare_front found.units found.rest) (units_first_only ends_item (c ∷ octets) units rest refl whole each none)
 
-front_of_bare : (depth : ℕ) (w : Written) (units : List Written) (rest : List ℕ) → AllByRecursion IsBareUnit (w ∷ units) → NoUnit ends_item rest → front_of depth (written_text (w ∷ units) ++ rest) ≡ takes (bare (w ∷ units)) rest
+front_of_bare : (depth : ℕ) (w : Written) (units : List Written) (rest : List ℕ) → AllByRecursion (IsUnit ends_item) (w ∷ units) → NoUnit ends_item rest → front_of depth (written_text (w ∷ units) ++ rest) ≡ takes (bare (w ∷ units)) rest
 front_of_bare depth (plain c) units rest each none =
-    front_of_units depth c (written_text units ++ rest) (plain c ∷ units) rest each.0.0 refl (each_so (plain c ∷ units) unit_of_bare each) none
+    front_of_units depth c (written_text units ++ rest) (plain c ∷ units) rest each.0.0 refl each none
 front_of_bare depth (escaped c) units rest each none =
-    front_of_units depth 92 (c ∷ (written_text units ++ rest)) (escaped c ∷ units) rest refl refl (each_so (escaped c ∷ units) unit_of_bare each) none
+    front_of_units depth 92 (c ∷ (written_text units ++ rest)) (escaped c ∷ units) rest refl refl each none
 front_of_bare depth (decimal x y z) units rest each none =
-    front_of_units depth 92 (x ∷ y ∷ z ∷ (written_text units ++ rest)) (decimal x y z ∷ units) rest refl refl (each_so (decimal x y z ∷ units) unit_of_bare each) none
+    front_of_units depth 92 (x ∷ y ∷ z ∷ (written_text units ++ rest)) (decimal x y z ∷ units) rest refl refl each none
 
-front_of_quote : (depth : ℕ) (octets : List ℕ) (units : List Written) (rest : List ℕ) → octets ≡ written_text units ++ rest → AllByRecursion IsQuotedUnit units → NoUnit is_quote rest → front_of depth (34 ∷ octets) ≡ quoted_front units rest
+front_of_quote : (depth : ℕ) (octets : List ℕ) (units : List Written) (rest : List ℕ) → octets ≡ written_text units ++ rest → AllByRecursion (IsUnit is_quote) units → NoUnit is_quote rest → front_of depth (34 ∷ octets) ≡ quoted_front units rest
 front_of_quote depth octets units rest whole each none =
     at_sign depth 34 octets a_quote refl
-    ∙ ap (λ (found : Units). quoted_front found.units found.rest) (units_first_only is_quote octets units rest refl whole (each_so units unit_of_quoted each) none)
+    ∙ ap (λ (found : Units). quoted_front found.units found.rest) (units_first_only is_quote octets units rest refl whole each none)
 
 pub front_takes : (depth : ℕ) (p : Piece) (rest : List ℕ) → IsPiece p → Stops p rest → HasRoom depth p → front_of depth (piece_text p ++ rest) ≡ takes p rest
 front_takes depth (blank c) rest is stop room = at_sign depth c rest a_blank (sign_of_blank c is)
@@ -276,7 +220,7 @@ bad_escape_front depth rest bad =
     let P : List ℕ → Type 0 = λ t. front_of depth t ≡ stops (Some BadEscape) in
     subst P (sym bad.1) (front_of_units depth 92 bad.0 [] (92 ∷ bad.0) refl refl tt (at_backslash (subst IsBadEscape bad.1 bad)))
 
-bad_quote_front : (depth : ℕ) (units : List Written) (after : List ℕ) → AllByRecursion IsQuotedUnit units → IsBadEscape after → front_of depth (34 ∷ (written_text units ++ after)) ≡ stops (Some BadEscape)
+bad_quote_front : (depth : ℕ) (units : List Written) (after : List ℕ) → AllByRecursion (IsUnit is_quote) units → IsBadEscape after → front_of depth (34 ∷ (written_text units ++ after)) ≡ stops (Some BadEscape)
 bad_quote_front depth units after each bad =
     front_of_quote depth (written_text units ++ after) units after refl each (at_backslash bad) ∙ ap (quoted_front units) bad.1
 

@@ -10,7 +10,7 @@ use Rattle.zone_text.specs.Forms.{Form, no_items, sets_origin, sets_ttl, include
 use Rattle.zone_text.specs.Inherited.{IsOrigin, SpellsBehind, IsLastOwner, IsOwner, HasClass, stated_ttl, latest, origin_text, owner_text, class_word}
 use Rattle.zone_text.specs.Records.{Head, HasHead, StatesData, StatesMinimum, IsLastMinimum, HasTtl}
 use Rattle.zone_text.proofs.Once.{match_once}
-use Rattle.zone_text.specs.Lower.{Lower, Once}
+use Rattle.zone_text.specs.Machine.Lower.{Lower, Once}
 
 pub spells_once : Lower → (Above : List (List ℕ) → Type 0) → Once (List (List ℕ)) Above → (text : List ℕ) → Once (List (List ℕ)) (λ name. (above : List (List ℕ)) × (Above above × Spells (Some above) text name))
 spells_once lower Above one text a b x y =

@@ -4,13 +4,13 @@ use Rattle.std.specs.List.{AllByRecursion}
 use Rattle.std.proofs.lemmas.Bool.{both_ways}
 use Rattle.std.proofs.lemmas.List.{append-nil}
 use Rattle.std.proofs.lemmas.List.Concat.{flat_map-append}
-use Rattle.zone_name.specs.Spelling.{Written, plain, escaped, decimal, text_of, octet_of, IsWritten, IsBadEscape, is_digit, written_text}
+use Rattle.zone_name.specs.Spelling.{Written, plain, escaped, decimal, text_of, octet_of, IsEscape, IsBadEscape, is_digit, written_text}
 use Rattle.zone_rdata.specs.declared.fault.Fault.{Fault}
 use Rattle.zone_rdata.specs.declared.fault.Fault.TheVariants.{BadEscape, UnbalancedParenthesis}
 use Rattle.zone_text.specs.Pieces.{Piece, blank, opening, closing, line_feed, comment, bare, quoted, piece_text, text, IsPiece, AllFollow, depth_after, Cuts}
 use Rattle.zone_text.specs.Breaks.{IsBroken, closes_nothing, no_escape, no_quoted_escape, no_quote, not_closed, MayEndBefore, Breaks}
 use Rattle.zone_text.specs.Lasting.{EndInLineFeed, IsLostEscape, at_line_end, one_digit, two_digits, too_great, StaysBroken, closing_stays, escape_stays, quoted_escape_stays, BreaksForGood}
-use Rattle.zone_text.specs.Cutting.{stops}
+use Rattle.zone_text.specs.Machine.Cutting.{stops}
 use Rattle.zone_text.proofs.Fronts.{front_stops}
 use Rattle.zone_text.proofs.Cuttings.{IsCut, is_cut, cuts, is_broken, breaks, last_behind, follow_behind}
 
@@ -172,8 +172,8 @@ line_end_is_no_digit c (inl e) = rw e refl
 line_end_is_no_digit c (inr e) = rw e refl
 
 -- no written octet begins such a text, nor one that it begins
-begins_none : (rest more after : List ℕ) (w : Written) → IsLostEscape rest → IsWritten w → rest ++ more ≡ text_of w ++ after → ⊥
-begins_none rest more after (plain d) (at_line_end c others e is) written h = let r : rest ++ more ≡ 92 ∷ c ∷ (others ++ more) = ap (λ t. t ++ more) e in written.1 (cc)
+begins_none : (rest more after : List ℕ) (w : Written) → IsLostEscape rest → IsEscape w → rest ++ more ≡ text_of w ++ after → ⊥
+begins_none rest more after (plain d) (at_line_end c others e is) written h = absurd written
 begins_none rest more after (escaped d) (at_line_end c others e is) written h =
     let r : rest ++ more ≡ 92 ∷ c ∷ (others ++ more) = ap (λ t. t ++ more) e in
     let same : c ≡ d = cc in
@@ -182,7 +182,7 @@ begins_none rest more after (decimal x y z) (at_line_end c others e is) written 
     let r : rest ++ more ≡ 92 ∷ c ∷ (others ++ more) = ap (λ t. t ++ more) e in
     let same : c ≡ x = cc in
     digit_and_none c (ap is_digit same ∙ written.0) (line_end_is_no_digit c is)
-begins_none rest more after (plain d) (one_digit x c others e is is_not) written h = let r : rest ++ more ≡ 92 ∷ x ∷ c ∷ (others ++ more) = ap (λ t. t ++ more) e in written.1 (cc)
+begins_none rest more after (plain d) (one_digit x c others e is is_not) written h = absurd written
 begins_none rest more after (escaped d) (one_digit x c others e is is_not) written h =
     let r : rest ++ more ≡ 92 ∷ x ∷ c ∷ (others ++ more) = ap (λ t. t ++ more) e in
     let same : x ≡ d = cc in
@@ -191,7 +191,7 @@ begins_none rest more after (decimal u v w) (one_digit x c others e is is_not) w
     let r : rest ++ more ≡ 92 ∷ x ∷ c ∷ (others ++ more) = ap (λ t. t ++ more) e in
     let same : c ≡ v = cc in
     digit_and_none c (ap is_digit same ∙ written.1) is_not
-begins_none rest more after (plain d) (two_digits x y c others e is is_one is_not) written h = let r : rest ++ more ≡ 92 ∷ x ∷ y ∷ c ∷ (others ++ more) = ap (λ t. t ++ more) e in written.1 (cc)
+begins_none rest more after (plain d) (two_digits x y c others e is is_one is_not) written h = absurd written
 begins_none rest more after (escaped d) (two_digits x y c others e is is_one is_not) written h =
     let r : rest ++ more ≡ 92 ∷ x ∷ y ∷ c ∷ (others ++ more) = ap (λ t. t ++ more) e in
     let same : x ≡ d = cc in
@@ -200,7 +200,7 @@ begins_none rest more after (decimal u v w) (two_digits x y c others e is is_one
     let r : rest ++ more ≡ 92 ∷ x ∷ y ∷ c ∷ (others ++ more) = ap (λ t. t ++ more) e in
     let same : c ≡ w = cc in
     digit_and_none c (ap is_digit same ∙ written.2) is_not
-begins_none rest more after (plain d) (too_great x y z others e is is_one is_too great) written h = let r : rest ++ more ≡ 92 ∷ x ∷ y ∷ z ∷ (others ++ more) = ap (λ t. t ++ more) e in written.1 (cc)
+begins_none rest more after (plain d) (too_great x y z others e is is_one is_too great) written h = absurd written
 begins_none rest more after (escaped d) (too_great x y z others e is is_one is_too great) written h =
     let r : rest ++ more ≡ 92 ∷ x ∷ y ∷ z ∷ (others ++ more) = ap (λ t. t ++ more) e in
     let same : x ≡ d = cc in

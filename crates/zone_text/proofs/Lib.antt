@@ -17,7 +17,6 @@ pub mod CutAgain
 pub mod Decides
 pub mod ExampleFacts
 pub mod ExampleRecords
-pub mod Octets
 pub mod Fronts
 pub mod Cuttings
 pub mod Lasting

@@ -1,6 +1,6 @@
 -- Relations that hold of one value at most, and of two steps one after the other.
 use Rattle.std.proofs.Common.{◌≡◌, Option, Some, None, MatchOption, Result, Ok, Err, ◌⊎◌, inl, inr, sym, ◌∙◌, ap, subst}
-use Rattle.zone_text.specs.Lower.{Once}
+use Rattle.zone_text.specs.Machine.Lower.{Once}
 
 pub match_once : (A B : Type 0) (o : Option A) (P : B → Type 0) (Q : A → B → Type 0) → Once B P → ((x : A) → Once B (Q x)) → (a b : B) → MatchOption o (P a) (λ x. Q x a) → MatchOption o (P b) (λ x. Q x b) → a ≡ b
 match_once A B None P Q p q a b x y = p a b x y

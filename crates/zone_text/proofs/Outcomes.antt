@@ -15,7 +15,7 @@ use Rattle.zone_text.specs.Inherited.{IsOrigin, SpellsBehind, IsOwner, HasClass}
 use Rattle.zone_text.specs.Records.{HasValue, HasTtl}
 use Rattle.zone_text.specs.EntryFault.{IsNameFaultBehind, OwnerFault, WordFault, WordsFault, KindFault, TtlFault, none, long}
 use Rattle.zone_text.proofs.Once.{Then, then_once}
-use Rattle.zone_text.specs.Lower.{Lower, Once}
+use Rattle.zone_text.specs.Machine.Lower.{Lower, Once}
 use Rattle.zone_text.proofs.Inherits.{origin_once, owner_once, class_once, ttl_once}
 
 abbrev pub Outcome : Type 0 → Type 0

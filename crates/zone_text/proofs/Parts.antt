@@ -7,7 +7,7 @@ use Rattle.zone_rdata.specs.Record.{Record, Data, IsRecord}
 use Rattle.zone_rdata.specs.Spelling.{RawItem, States, bare, raw}
 use Rattle.zone_rdata.specs.Words.{IsClassWord, IsKindWord}
 use Rattle.zone_rdata.specs.declared.item.Item.{Item}
-use Rattle.zone_text.specs.Lines.{ItemsState, LineParts}
+use Rattle.zone_text.specs.Machine.Items.{ItemsState, LineParts}
 
 -- what a test on an option found
 pub found_some : {A : Type 0} (P : A → Type 0) (o : Option A) (x : A) → IfSome o P → o ≡ Some x → P x

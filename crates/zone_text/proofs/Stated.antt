@@ -17,7 +17,8 @@ use Rattle.zone_text.specs.Forms.{form_by, form_of, owned, Word, ttl, class, wor
 use Rattle.zone_text.specs.Inherited.{IsOrigin}
 use Rattle.zone_text.specs.Records.{StatesRecord}
 use Rattle.zone_text.proofs.ClassWords.{time_first, class_word_first, class_word_known}
-use Rattle.zone_text.specs.Lines.{IsLineThen, HoldsItems, ItemsState, StatesOwner, ended, LineStates, LineParts, KeepsOrigin}
+use Rattle.zone_text.specs.Lines.{IsLineThen, HoldsItems, StatesOwner, ended, LineStates, KeepsOrigin}
+use Rattle.zone_text.specs.Machine.Items.{ItemsState, LineParts}
 
 pub if_ok_more : {A E : Type 0} (P Q : A → Type 0) (r : Result A E) → ((x : A) → P x → Q x) → IfOk r P → IfOk r Q
 if_ok_more P Q (Ok x) more holds = more x holds

@@ -3,10 +3,10 @@ use Rattle.std.proofs.Common.{◌≡◌, ◌≢◌, ℕ, suc, ◌-◌, ◌≤◌
 use Rattle.std.specs.List.{AllByRecursion}
 use Rattle.std.proofs.Math.Seq.{take-length}
 use Rattle.std.proofs.lemmas.List.{flat_map_more}
-use Rattle.zone_name.specs.Spelling.{Written, plain, text_of, written_text}
+use Rattle.zone_name.specs.Spelling.{Written, plain, text_of, written_text, IsUnit}
 use Rattle.zone_rdata.specs.declared.fault.Fault.{Fault}
-use Rattle.zone_text.specs.Pieces.{ends_item, IsBareUnit}
-use Rattle.zone_text.specs.Lines.{BeginsWithUnit, UnitFault, ItemFault}
+use Rattle.zone_text.specs.Pieces.{ends_item}
+use Rattle.zone_text.specs.Machine.Items.{BeginsWithUnit, UnitFault, ItemFault}
 
 -- all of a list is its front of its own length
 pub take_whole : (octets : List ℕ) (n : ℕ) → n ≡ length octets → octets ≡ take n octets
@@ -28,10 +28,10 @@ plain_first octets c rest e goes_on no_backslash = record {
 -- the text begins with the written octets of a bare item
 pub record BeginsWithUnits (octets rest : List ℕ) : Type 0 where
   pub units : List Written
-  pub each : AllByRecursion IsBareUnit units
+  pub each : AllByRecursion (IsUnit ends_item) units
   pub whole : octets ≡ written_text units ++ rest
 
-pub each_more : (units : List Written) (unit : Written) → AllByRecursion IsBareUnit units → IsBareUnit unit → AllByRecursion IsBareUnit (units ++ unit ∷ [])
+pub each_more : (units : List Written) (unit : Written) → AllByRecursion (IsUnit ends_item) units → IsUnit ends_item unit → AllByRecursion (IsUnit ends_item) (units ++ unit ∷ [])
 each_more [] unit each one = (one, tt)
 each_more (u ∷ units) unit each one = (each.0, each_more units unit each.1 one)
 

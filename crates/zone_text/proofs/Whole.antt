@@ -13,7 +13,8 @@ use Rattle.zone_rdata.specs.declared.fault.Place.TheVariants.{Line}
 use Rattle.zone_text.specs.Pieces.{Piece, blank, opening, closing, line_feed, comment, bare, quoted, piece_text, text, IsPiece, AllFollow, MayFollow, depth_after}
 use Rattle.zone_text.specs.Entries.{Entry, entry_of, Cut, cut_from, numbered, in_front_of}
 use Rattle.zone_text.specs.Records.{StatesRecord}
-use Rattle.zone_text.specs.File.{states_none, states_one, StateEach, FileStates}
+use Rattle.zone_text.specs.File.{StateEach, FileStates}
+use Rattle.zone_text.specs.Given.{gives_none, gives_one, refused}
 use Rattle.zone_text.specs.Lines.{IsPlain, AreLine, IsLineThen, ended, LineStates, AreWholeLines, some_lines, IsLineBehind, ReadsFront, KeepsOrigin}
 use Rattle.zone_text.proofs.Stated.{text_ended}
 
@@ -106,11 +107,12 @@ numbered_more n (first ∷ entries) pieces =
     rw (line_feeds_append, ← add_assoc) (ap (λ t. entry_of n first ∷ t) (numbered_more (n + line_feeds (text first)) entries pieces))
 
 state_more : (origin : List (List ℕ)) (before entries : List Entry) (placed : List Placed) (entry : Entry) (p : Placed) → AllByRecursion KeepsOrigin before → AllByRecursion KeepsOrigin entries → StateEach origin before entries placed → ((b : List Entry) → AllByRecursion KeepsOrigin b → StatesRecord origin b entry p.rr) → p.place ≡ Line entry.line → StateEach origin before (entries ++ entry ∷ []) (placed ++ p ∷ [])
-state_more origin before [] placed entry p keep keeps each states place = states_one p [] (states before keep) place (rw each refl) refl
+state_more origin before [] placed entry p keep keeps each states place = gives_one p [] (states before keep) place (rw each.0 refl) (refl, refl)
 state_more origin before (e ∷ entries) placed entry p keep keeps each states place =
     elim each [
-      | states_none none others ↦ states_none none (state_more origin (e ∷ before) entries placed entry p (keeps.0, keep) keeps.1 others states place)
-      | states_one q more one at is others ↦ states_one q (more ++ p ∷ []) one at (ap (λ t. t ++ p ∷ []) is) (state_more origin (e ∷ before) entries more entry p (keeps.0, keep) keeps.1 others states place)
+      | gives_none none others ↦ gives_none none (state_more origin (e ∷ before) entries placed entry p (keeps.0, keep) keeps.1 others states place)
+      | gives_one q more one at is others ↦ gives_one q (more ++ p ∷ []) one at (ap (λ t. t ++ p ∷ []) is) (state_more origin (e ∷ before) entries more entry p (keeps.0, keep) keeps.1 others states place)
+      | refused fault never none at ↦ absurd never
     ]
 
 keep_more : (entries : List Entry) (entry : Entry) → AllByRecursion KeepsOrigin entries → KeepsOrigin entry → AllByRecursion KeepsOrigin (entries ++ entry ∷ [])
@@ -137,7 +139,7 @@ text_of_lines [] = refl
 text_of_lines (pieces ∷ lines) = ap (λ t. text (ended pieces) ++ t) (text_of_lines lines) ∙ sym (flat_map-append piece_text (ended pieces) (flat_map ended lines))
 
 pub no_lines : (origin : List (List ℕ)) → LinesState origin [] []
-no_lines origin = record { lines = []; each = tt; whole = refl; keeps = tt; states = refl }
+no_lines origin = record { lines = []; each = tt; whole = refl; keeps = tt; states = (refl, refl) }
 
 -- one line more
 pub line_more : (origin : List (List ℕ)) (front line : List ℕ) (placed : List Placed) (p : Placed) → LinesState origin front placed → LineStates origin line p.rr → p.place ≡ Line (1 + line_feeds front) → LinesState origin (front ++ (line ++ 10 ∷ [])) (placed ++ p ∷ [])

@@ -1,10 +1,10 @@
 -- How a text that isn't cut into pieces breaks (RFC 1035 5.1).
 use Rattle.std.specs.Prelude.{◌≡◌, ℕ, zero, ◌<◌, List, [], ◌∷◌, ◌++◌, Some, ⊤}
 use Rattle.std.specs.List.{AllByRecursion}
-use Rattle.zone_name.specs.Spelling.{Written, IsBadEscape, written_text}
+use Rattle.zone_name.specs.Spelling.{Written, IsBadEscape, written_text, IsUnit}
 use Rattle.zone_rdata.specs.declared.fault.Fault.{Fault}
 use Rattle.zone_rdata.specs.declared.fault.Fault.TheVariants.{BadEscape, UnclosedQuote, UnbalancedParenthesis}
-use Rattle.zone_rdata.specs.Strings.{IsQuotedUnit}
+use Rattle.zone_rdata.specs.Strings.{is_quote}
 use Rattle.zone_text.specs.Pieces.{Piece, comment, text, IsPiece, AllFollow, depth_after}
 
 -- What stands where a text breaks, at a depth of parentheses, up to the end of the text: a `)` that closes nothing; a
@@ -14,8 +14,8 @@ use Rattle.zone_text.specs.Pieces.{Piece, comment, text, IsPiece, AllFollow, dep
 pub data IsBroken (depth : ℕ) (rest : List ℕ) : Fault → Type 0 where
   closes_nothing : (after : List ℕ) → depth ≡ 0 → rest ≡ 41 ∷ after → IsBroken depth rest UnbalancedParenthesis
   no_escape : IsBadEscape rest → IsBroken depth rest BadEscape
-  no_quoted_escape : (units : List Written) (after : List ℕ) → AllByRecursion IsQuotedUnit units → rest ≡ 34 ∷ written_text units ++ after → IsBadEscape after → IsBroken depth rest BadEscape
-  no_quote : (units : List Written) → AllByRecursion IsQuotedUnit units → rest ≡ 34 ∷ written_text units → IsBroken depth rest UnclosedQuote
+  no_quoted_escape : (units : List Written) (after : List ℕ) → AllByRecursion (IsUnit is_quote) units → rest ≡ 34 ∷ written_text units ++ after → IsBadEscape after → IsBroken depth rest BadEscape
+  no_quote : (units : List Written) → AllByRecursion (IsUnit is_quote) units → rest ≡ 34 ∷ written_text units → IsBroken depth rest UnclosedQuote
   not_closed : 0 < depth → rest ≡ [] → IsBroken depth rest UnbalancedParenthesis
 
 -- a comment ends at a line feed or where the text does

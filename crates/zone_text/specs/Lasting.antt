@@ -2,9 +2,9 @@
 -- whole files.
 use Rattle.std.specs.Prelude.{◌≡◌, ℕ, ◌<◌, List, [], ◌∷◌, ◌++◌, true, false, ◌⊎◌, ⊤}
 use Rattle.std.specs.List.{AllByRecursion}
-use Rattle.zone_name.specs.Spelling.{Written, decimal, octet_of, is_digit, written_text}
+use Rattle.zone_name.specs.Spelling.{Written, decimal, octet_of, is_digit, written_text, IsUnit}
 use Rattle.zone_rdata.specs.declared.fault.Fault.{Fault}
-use Rattle.zone_rdata.specs.Strings.{IsQuotedUnit}
+use Rattle.zone_rdata.specs.Strings.{is_quote}
 use Rattle.zone_text.specs.Pieces.{Piece, line_feed}
 use Rattle.zone_text.specs.Breaks.{Breaks}
 
@@ -33,16 +33,16 @@ pub data IsCutOff (rest : List ℕ) : Type 0 where
 pub data StaysBroken (rest : List ℕ) : Type 0 where
   closing_stays : (after : List ℕ) → rest ≡ 41 ∷ after → StaysBroken rest
   escape_stays : IsLostEscape rest → StaysBroken rest
-  quoted_escape_stays : (units : List Written) (after : List ℕ) → AllByRecursion IsQuotedUnit units → rest ≡ 34 ∷ written_text units ++ after → IsLostEscape after → StaysBroken rest
+  quoted_escape_stays : (units : List Written) (after : List ℕ) → AllByRecursion (IsUnit is_quote) units → rest ≡ 34 ∷ written_text units ++ after → IsLostEscape after → StaysBroken rest
 
 -- what breaks a text where it ends: nothing stands there, no quote closes an item, or an escape is cut off
 pub data BreaksAtEnd (rest : List ℕ) : Type 0 where
   nothing_left : rest ≡ [] → BreaksAtEnd rest
-  quote_open : (units : List Written) → AllByRecursion IsQuotedUnit units → rest ≡ 34 ∷ written_text units → BreaksAtEnd rest
+  quote_open : (units : List Written) → AllByRecursion (IsUnit is_quote) units → rest ≡ 34 ∷ written_text units → BreaksAtEnd rest
   escape_open : IsCutOff rest → BreaksAtEnd rest
-  quoted_escape_open : (units : List Written) (after : List ℕ) → AllByRecursion IsQuotedUnit units → rest ≡ 34 ∷ written_text units ++ after → IsCutOff after → BreaksAtEnd rest
+  quoted_escape_open : (units : List Written) (after : List ℕ) → AllByRecursion (IsUnit is_quote) units → rest ≡ 34 ∷ written_text units ++ after → IsCutOff after → BreaksAtEnd rest
 
--- the text breaks behind these pieces, and so does every text that it begins
+-- as the octets so far show, the text breaks behind these pieces, and so does every text that it begins
 pub record BreaksForGood (octets : List ℕ) (pieces : List Piece) (fault : Fault) : Type 0 where
   pub breaks : Breaks octets pieces fault
   pub stays : StaysBroken breaks.rest

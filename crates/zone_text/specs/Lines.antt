@@ -1,18 +1,12 @@
 -- Master files as far as they are read: lines of bare items parted by blanks, a record each (RFC 1035 5.1).
-use Rattle.std.specs.Prelude.{◌≡◌, ◌≢◌, ℕ, ◌+◌, List, [], ◌∷◌, ◌++◌, true, false, count_by, ◌==◌, Some, None, IfSome, ⊤}
+use Rattle.std.specs.Prelude.{◌≡◌, ◌≢◌, ℕ, ◌+◌, List, [], ◌∷◌, ◌++◌, true, false, count_by, ◌==◌, None, IfSome}
 use Rattle.std.specs.List.{flat_map, AllByRecursion}
-use Rattle.zone_name.specs.Spelling.{Written, text_of, Spells, written_text, IsBadEscape}
-use Rattle.zone_rdata.specs.Number.{IsTime}
-use Rattle.zone_rdata.specs.Record.{Record, IsRecord}
-use Rattle.zone_rdata.specs.Spelling.{RawItem, States}
-use Rattle.zone_rdata.specs.Spelling as raw
-use Rattle.zone_rdata.specs.Words.{IsClassWord, IsKindWord}
+use Rattle.zone_rdata.specs.Record.{Record}
+use Rattle.zone_rdata.specs.Spelling.{RawItem}
 use Rattle.zone_rdata.specs.declared.source.Reading.{Reading}
-use Rattle.zone_rdata.specs.declared.fault.Fault.{Fault}
-use Rattle.zone_rdata.specs.declared.fault.Fault.TheVariants.{BadEscape, NotYet}
 use Rattle.zone_rdata.specs.declared.fault.Place.{Place}
 use Rattle.zone_rdata.specs.declared.fault.Place.TheVariants.{Line}
-use Rattle.zone_text.specs.Pieces.{Piece, blank, bare, line_feed, text, is_blank, ends_item, IsBareUnit, IsPiece, AllFollow}
+use Rattle.zone_text.specs.Pieces.{Piece, blank, bare, line_feed, text, is_blank, IsPiece, AllFollow}
 use Rattle.zone_text.specs.Entries.{Entry, entry_of, item_of}
 use Rattle.zone_text.specs.Inherited.{origin_text}
 use Rattle.zone_text.specs.Records.{StatesRecord}
@@ -27,39 +21,6 @@ pub record IsLineThen (octets line rest : List ℕ) : Type 0 where
 abbrev pub StatesOwner : List ℕ → Type 0
 StatesOwner [] = ⊥
 StatesOwner (c ∷ octets) = (is_blank c ≡ false) × (c ≢ 36)
-
--- where a bare item ends: at a blank or at the end of the line
-abbrev pub EndsItem : List ℕ → Type 0
-EndsItem [] = ⊤
-EndsItem (c ∷ rest) = is_blank c ≡ true
-
--- the text begins with one written octet of a bare item
-pub record BeginsWithUnit (octets rest : List ℕ) : Type 0 where
-  pub unit : Written
-  pub each : IsBareUnit unit
-  pub whole : octets ≡ text_of unit ++ rest
-
--- no bare item ends or goes on there: before a backslash that begins no escape, or an octet other than a blank that
--- ends an item, of which what follows isn't read yet
-pub data UnitFault (octets : List ℕ) : Fault → Type 0 where
-  bad_escape : IsBadEscape octets → UnitFault octets BadEscape
-  not_read : (c : ℕ) (rest : List ℕ) → octets ≡ c ∷ rest → ends_item c ≡ true → is_blank c ≡ false → UnitFault octets NotYet
-
--- the text is a bare item and what follows it
-pub record IsItemThen (octets item rest : List ℕ) : Type 0 where
-  pub units : List Written
-  pub each : AllByRecursion IsBareUnit units
-  pub written : item ≡ written_text units
-  pub whole : octets ≡ item ++ rest
-  pub ends : EndsItem rest
-
--- the text is octets of a bare item and a rest where it neither ends nor goes on
-pub record ItemFault (octets : List ℕ) (fault : Fault) : Type 0 where
-  pub units : List Written
-  pub rest : List ℕ
-  pub each : AllByRecursion IsBareUnit units
-  pub whole : octets ≡ written_text units ++ rest
-  pub first : UnitFault rest fault
 
 -- a piece of such a line: a blank or a bare item
 abbrev pub IsPlain : Piece → Type 0
@@ -78,25 +39,6 @@ pub record HoldsItems (octets : List ℕ) (raws : List RawItem) : Type 0 where
   pub line : AreLine pieces
   pub whole : octets ≡ text pieces
   pub items : raws ≡ flat_map item_of pieces
-
--- the items of an entry that states everything itself: owner, TTL, class, type and data
-pub record LineParts : Type 0 where
-  pub owner : List ℕ
-  pub ttl : List ℕ
-  pub class : List ℕ
-  pub kind : List ℕ
-  pub rdata : List RawItem
-
--- the items state the record: owner, TTL, class, type and data
-pub record ItemsState (origin : List (List ℕ)) (raws : List RawItem) (r : Record) : Type 0 where
-  pub parts : LineParts
-  pub items : raws ≡ raw.bare parts.owner ∷ raw.bare parts.ttl ∷ raw.bare parts.class ∷ raw.bare parts.kind ∷ parts.rdata
-  pub owner : Spells (Some origin) parts.owner r.owner
-  pub ttl : IsTime parts.ttl r.ttl
-  pub class : IsClassWord parts.class r.class
-  pub kind : IsKindWord parts.kind r.kind
-  pub rdata : States origin r.class r.kind parts.rdata r.octets
-  pub fits : IsRecord r
 
 -- the pieces of a line and its line feed
 abbrev pub ended : List Piece → List Piece

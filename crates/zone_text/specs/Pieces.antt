@@ -1,8 +1,8 @@
 -- A master file as a list of pieces (RFC 1035 5.1).
 use Rattle.std.specs.Prelude.{◌≡◌, ◌≢◌, ℕ, zero, suc, ◌<◌, List, [], ◌∷◌, ◌++◌, length, ◌==◌, ◌||◌, Bool, true, false, Option, Some, None, ⊤}
 use Rattle.std.specs.List.{flat_map, AllByRecursion}
-use Rattle.zone_name.specs.Spelling.{Written, plain, escaped, decimal, written_text, IsWritten}
-use Rattle.zone_rdata.specs.Strings.{IsQuotedUnit}
+use Rattle.zone_name.specs.Spelling.{Written, written_text, IsUnit}
+use Rattle.zone_rdata.specs.Strings.{is_quote}
 
 -- outside quotes space, tab and carriage return are blanks
 abbrev pub is_blank : ℕ → Bool
@@ -11,12 +11,6 @@ is_blank c = c == 32 || c == 9 || c == 13
 -- what ends a bare item where no backslash stands before it: a blank, a line feed, `"`, `(`, `)` and `;`
 abbrev pub ends_item : ℕ → Bool
 ends_item c = is_blank c || c == 10 || c == 34 || c == 40 || c == 41 || c == 59
-
--- one octet of a bare item as it is written: an octet that ends none, or an escape
-abbrev pub IsBareUnit : Written → Type 0
-IsBareUnit (plain c) = (ends_item c ≡ false) × (c ≢ 92)
-IsBareUnit (escaped c) = IsWritten (escaped c)
-IsBareUnit (decimal x y z) = IsWritten (decimal x y z)
 
 pub data Piece : Type 0 where
   blank : ℕ → Piece
@@ -45,8 +39,8 @@ IsPiece opening = ⊤
 IsPiece closing = ⊤
 IsPiece line_feed = ⊤
 IsPiece (comment octets) = AllByRecursion (λ c. c ≢ 10) octets
-IsPiece (bare units) = (0 < length units) × AllByRecursion IsBareUnit units
-IsPiece (quoted units) = AllByRecursion IsQuotedUnit units
+IsPiece (bare units) = (0 < length units) × AllByRecursion (IsUnit ends_item) units
+IsPiece (quoted units) = AllByRecursion (IsUnit is_quote) units
 
 -- no bare item directly follows a bare item, and after a comment comes a line feed or the end of the text
 abbrev pub MayFollow : Piece → Piece → Type 0

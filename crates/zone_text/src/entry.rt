@@ -1,7 +1,8 @@
 ghost use Rattle.std.specs.Prelude.{◌≡◌, ℕ, List, IfOk, IfErr, map};
 ghost use Rattle.zone_rdata.specs.Item.{bare, quoted, raw};
 ghost use Rattle.zone_rdata.specs.declared.fault.Fault.TheVariants.{NotYet};
-ghost use Rattle.zone_text.specs.Lines.{ItemsState, LineStates};
+ghost use Rattle.zone_text.specs.Lines.{LineStates};
+ghost use Rattle.zone_text.specs.Machine.Items.{ItemsState};
 
 use crate::line::{cut_items, states_owner};
 use crate::ttl::ttl_of;

@@ -1,7 +1,8 @@
 ghost use Rattle.std.specs.Prelude.{◌≡◌, ◌<◌, ℕ, map, length, count_by, IfOk, IfErr, IfSome, IfNone, IsTrue, OnOk, MatchOption, ◌==◌, ◌↔◌, position};
 ghost use Rattle.zone_rdata.specs.Spelling.{raw};
 ghost use Rattle.zone_text.specs.Pieces.{ends_item, is_blank};
-ghost use Rattle.zone_text.specs.Lines.{IsLineThen, EndsItem, BeginsWithUnit, UnitFault, IsItemThen, ItemFault, HoldsItems, StatesOwner};
+ghost use Rattle.zone_text.specs.Lines.{IsLineThen, HoldsItems, StatesOwner};
+ghost use Rattle.zone_text.specs.Machine.Items.{EndsItem, BeginsWithUnit, UnitFault, IsItemThen, ItemFault};
 
 use zone_name::escape_at;
 use zone_rdata::{Failing, Fault, Item};

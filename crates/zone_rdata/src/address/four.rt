@@ -1,6 +1,6 @@
 ghost use Rattle.std.specs.Prelude.{◌≡◌, ◌+◌, ◌≤◌, ℕ, List, suc, IfSome, IfNone};
 ghost use Rattle.zone_rdata.specs.Address.{AreNumbers, IsFourNumbers, IsOctetNumber};
-ghost use Rattle.zone_rdata.specs.AddressReading.{IsCut, Lacks};
+ghost use Rattle.zone_rdata.specs.Machine.AddressReading.{IsCut, Lacks};
 
 use crate::number::decimal_of;
 

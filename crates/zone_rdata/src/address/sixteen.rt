@@ -1,6 +1,6 @@
 ghost use Rattle.std.specs.Prelude.{◌≡◌, ◌+◌, ◌<◌, ◌≤◌, ℕ, List, true, length, IfSome, IfNone};
 ghost use Rattle.zone_rdata.specs.Address.{AreAround, ArePartsOf, IsGroups};
-ghost use Rattle.zone_rdata.specs.AddressReading.{HasGapAt};
+ghost use Rattle.zone_rdata.specs.Machine.AddressReading.{HasGapAt};
 
 use super::groups::octets_of_parts;
 

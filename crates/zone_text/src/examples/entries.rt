@@ -18,6 +18,11 @@ pub fn owner_and_ttl_are_inherited()
     ensures { Reads (codes "@ 60 NS n.x.\n NS n.x.\n") (at_line 1 (ns x 1 60) ∷ at_line 2 (ns x 1 60) ∷ []) None }
 {}
 
+/// An entry goes on inside parentheses over the ends of lines, and the entry behind it stands at its own line.
+pub fn an_entry_may_take_several_lines()
+    ensures { Reads (codes "@ 60 NS (\n n.x.\n)\n NS n.x.\n") (at_line 1 (ns x 1 60) ∷ at_line 4 (ns x 1 60) ∷ []) None }
+{}
+
 /// A TTL left out is that of `$TTL` before it, not the one stated last.
 pub fn a_default_ttl_comes_first()
     ensures { Reads (codes "@ 60 NS n.x.\n$TTL 300\n NS n.x.\n") (at_line 1 (ns x 1 60) ∷ at_line 3 (ns x 1 300) ∷ []) None }

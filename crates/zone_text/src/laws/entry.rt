@@ -7,7 +7,7 @@ ghost use Rattle.zone_rdata.specs.declared.fault.Fault.{Fault};
 ghost use Rattle.zone_text.specs.Entries.{Entry};
 ghost use Rattle.zone_text.specs.EntryFault.{EntryFault};
 ghost use Rattle.zone_text.specs.Forms.{begins_with_digit, form_of, is_class_word};
-ghost use Rattle.zone_text.specs.Lower.{Choices, Lower};
+ghost use Rattle.zone_text.specs.Machine.Lower.{Choices, Lower};
 ghost use Rattle.zone_text.specs.Outcome.{AllState, AreLowItems};
 ghost use Rattle.zone_text.specs.Records.{StatesNothing, StatesRecord};
 

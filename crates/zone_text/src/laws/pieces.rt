@@ -4,7 +4,8 @@ ghost use Rattle.std.specs.List.{flat_map};
 ghost use Rattle.zone_name.specs.Spelling.{IsBadEscape};
 ghost use Rattle.zone_rdata.specs.declared.fault.Fault.{Fault};
 ghost use Rattle.zone_text.specs.Breaks.{Breaks};
-ghost use Rattle.zone_text.specs.Cutting.{cutting};
+ghost use Rattle.zone_text.specs.Machine.Cutting.{cutting};
+ghost use Rattle.zone_text.specs.Decided.{ArePieces};
 ghost use Rattle.zone_text.specs.Entries.{and_last, cut_from, ended_entries, entries_of, Entry};
 ghost use Rattle.zone_text.specs.Lasting.{BreaksAtEnd, BreaksForGood, EndInLineFeed, IsCutOff, IsLostEscape, StaysBroken};
 ghost use Rattle.zone_text.specs.Pieces.{Cuts, depth_after, Piece, text};
@@ -30,7 +31,7 @@ pub fn each_text_is_cut_or_breaks()
 {}
 
 /// The cutting from the left gives the pieces of a text, and the break of one that isn't cut.
-pub fn a_text_is_cut_from_the_left()
+pub(crate) fn a_text_is_cut_from_the_left()
     ensures cut { (octets : List ℕ) (pieces : List Piece) → (cutting octets ≡ record { pieces = pieces; broken = None }) ↔ Cuts octets pieces }
     ensures broken { (octets : List ℕ) (pieces : List Piece) (fault : Fault) → (cutting octets ≡ record { pieces = pieces; broken = Some fault }) ↔ Breaks octets pieces fault }
 {}
@@ -73,6 +74,6 @@ pub fn entries_joined_are_the_text()
 /// The entries that a line feed has ended are the first ones of every text that goes on from there, and of the text
 /// itself.
 pub fn ended_entries_stay()
-    ensures longer { (octets more : List ℕ) → (others : List Entry) × (ended_entries (cutting (octets ++ more)).pieces ≡ ended_entries (cutting octets).pieces ++ others) }
+    ensures longer { (octets more : List ℕ) (pieces later : List Piece) → ArePieces octets pieces → ArePieces (octets ++ more) later → (others : List Entry) × (ended_entries later ≡ ended_entries pieces ++ others) }
     ensures whole { (pieces : List Piece) → (others : List Entry) × (entries_of pieces ≡ ended_entries pieces ++ others) }
 {}

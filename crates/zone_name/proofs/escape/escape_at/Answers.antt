@@ -1,11 +1,11 @@
 use Rattle.std.proofs.Common.{◌≢◌, sym, ◌∙◌, arith}
 use Rattle.std.proofs.lemmas.Bool.Decides.{nat_tests}
-use Rattle.zone_name.proofs.Escapes.{digits_found, escaped_found}
+use Rattle.zone_name.proofs.Units.{valued_escape, escaped_found}
 use Rattle.zone_name.proofs.escape.escape_at.Goals as goal
 
 pub returns-then-is_decimal_digit-clause-found : goal.returns-then-is_decimal_digit-clause-found
 returns-then-is_decimal_digit-clause-found c =
-    digits_found _ c.digits_at.result c.in_ok-first.first.now c.in_ok-first.rest.now c.args.after.now c.in_ok-first.ensures.cases.0 (sym c.is_decimal_digit.ensures ∙ c.if-is_decimal_digit.true) c.digits_at.ensures
+    valued_escape _ c.digits_at.result c.in_ok-first.first.now c.in_ok-first.rest.now c.args.after.now c.in_ok-first.ensures.cases.0 (sym c.is_decimal_digit.ensures ∙ c.if-is_decimal_digit.true) c.digits_at.ensures
 
 pub returns-else-first-eq13-clause-found : goal.returns-else-first-eq13-clause-found
 returns-else-first-eq13-clause-found c =

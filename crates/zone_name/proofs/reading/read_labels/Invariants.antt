@@ -2,8 +2,8 @@ use Rattle.std.proofs.Common.{◌≡◌, length, true}
 use Rattle.zone_name.proofs.Steps.{Reads}
 use Rattle.zone_name.proofs.reading.read_labels.Given as goal
 
-abbrev pub invariant-loop-open : goal.invariant-loop-open
-invariant-loop-open l = (l.spelled.is_absolute ≡ true) × Reads l.text l.spelled.labels l.spelled.is_too_long l.open.items l.rest
+abbrev pub invariant-loop-after : goal.invariant-loop-after
+invariant-loop-after l = (l.spelled.is_absolute ≡ true) × Reads l.text l.spelled.labels l.spelled.is_too_long l.open.items l.rest
 
-abbrev pub decreases-loop-open : goal.decreases-loop-open
-decreases-loop-open l = length l.rest
+abbrev pub decreases-loop-after : goal.decreases-loop-after
+decreases-loop-after l = length l.rest

@@ -1,19 +1,17 @@
-use Rattle.std.proofs.Common.{◌++◌, ap, ◌∙◌, subst}
-use Rattle.std.specs.List.{AllByRecursion}
+use Rattle.std.proofs.Common.{◌++◌, ap, ◌∙◌}
 use Rattle.zone_name.specs.Name.{frame}
 use Rattle.zone_rdata.specs.Item.{raw}
 use Rattle.zone_rdata.specs.Strings.{StringFault}
 use Rattle.zone_rdata.proofs.Failings.{fault_passed}
-use Rattle.zone_rdata.proofs.Strings.{string_found, fault_found}
 use Rattle.zone_rdata.proofs.string.push_string.Goals as goal
 
 pub returns-in_err-octets-clause-fault : goal.returns-in_err-octets-clause-fault
 returns-in_err-octets-clause-fault c =
-    fault_passed c.from_residual.result c.in_err-octets.field-0.0 (StringFault (raw c.args.item)) c.from_residual.ensures.1 (fault_found _ _ _ c.text_of.ensures c.in_err-octets.ensures.fault)
+    fault_passed c.from_residual.result c.in_err-octets.field-0.0 (StringFault (raw c.args.item)) c.from_residual.ensures.1 c.in_err-octets.ensures.fault
 
 pub returns-clause-found : goal.returns-clause-found
 returns-clause-found c = record {
   octets = c.in_ok-octets.octets.items;
-  spelt = string_found (raw c.args.item) c.text_of.result.now c.in_ok-octets.octets.items c.text_of.ensures c.in_ok-octets.ensures.found (subst (AllByRecursion _) c.as_slice.ensures.value c.are_octets.ensures);
-  written = c.in_ok-push_framed.ensures.ok ∙ ap (λ o. c.args.out.now.items ++ frame o) c.as_slice-2.ensures.value;
+  spelt = c.in_ok-octets.ensures.found;
+  written = c.in_ok-push_framed.ensures.ok ∙ ap (λ o. c.args.out.now.items ++ frame o) c.as_slice.ensures.value;
 }

@@ -1,9 +1,10 @@
 use Rattle.std.proofs.Common.{length}
-use Rattle.zone_rdata.proofs.StringSteps.{Reads}
+use Rattle.zone_rdata.specs.Item.{raw}
+use Rattle.zone_rdata.proofs.StringSteps.{HasRead}
 use Rattle.zone_rdata.proofs.string.string_of.Given as goal
 
 abbrev pub invariant-loop-octets : goal.invariant-loop-octets
-invariant-loop-octets l = Reads l.text l.octets.items l.rest
+invariant-loop-octets l = HasRead (raw l.fn.item) l.octets.items l.rest
 
 abbrev pub decreases-loop-octets : goal.decreases-loop-octets
 decreases-loop-octets l = length l.rest

@@ -1,6 +1,6 @@
 use Rattle.std.proofs.Common.{◌∷◌, sym, ap, ◌∙◌, subst}
 use Rattle.zone_name.specs.Spelling.{IsBadEscape}
-use Rattle.zone_text.specs.Lines.{bad_escape, not_read}
+use Rattle.zone_text.specs.Machine.Items.{bad_escape, not_read}
 use Rattle.zone_text.proofs.Units.{plain_first}
 use Rattle.zone_text.proofs.line.after_unit.Goals as goal
 

@@ -1,6 +1,6 @@
 use Rattle.std.proofs.Common.{◌≡◌, get_or, sym, ◌∙◌, true, is_ok, ap}
 use Rattle.std.proofs.lemmas.List.{map-append}
-use Rattle.zone_text.specs.Lines.{EndsItem}
+use Rattle.zone_text.specs.Machine.Items.{EndsItem}
 use Rattle.zone_text.proofs.Cut.{cut_blank, cut_item, cut_nothing, goes_on_first}
 use Rattle.zone_text.proofs.Units.{first_then_rest}
 use Rattle.zone_text.proofs.line.cut_items.Goals as goal

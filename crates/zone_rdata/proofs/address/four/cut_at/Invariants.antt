@@ -1,5 +1,5 @@
 use Rattle.std.proofs.Common.{take}
-use Rattle.zone_rdata.specs.AddressReading.{Lacks}
+use Rattle.zone_rdata.specs.Machine.AddressReading.{Lacks}
 use Rattle.zone_rdata.proofs.address.four.cut_at.Given as goal
 
 abbrev pub invariant-loop-at : goal.invariant-loop-at

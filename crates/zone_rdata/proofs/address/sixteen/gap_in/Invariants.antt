@@ -1,5 +1,5 @@
 use Rattle.std.proofs.Common.{ℕ, suc, ◌<◌}
-use Rattle.zone_rdata.specs.AddressReading.{HasGapAt}
+use Rattle.zone_rdata.specs.Machine.AddressReading.{HasGapAt}
 use Rattle.zone_rdata.proofs.address.sixteen.gap_in.Given as goal
 
 abbrev pub invariant-loop-at : goal.invariant-loop-at

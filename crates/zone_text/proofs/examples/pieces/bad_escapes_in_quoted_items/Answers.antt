@@ -1,5 +1,6 @@
 use Rattle.std.proofs.Common.{refl}
-use Rattle.zone_text.specs.Cutting.{units_by, units_first, before_line_feed, from_line_feed, front_of, cut_by, cutting}
+use Rattle.zone_name.specs.Machine.Units.{units_by, units_first}
+use Rattle.zone_text.specs.Machine.Cutting.{before_line_feed, from_line_feed, front_of, cut_by, cutting}
 use Rattle.zone_text.proofs.Cuttings.{broken_is_read}
 use Rattle.zone_text.proofs.examples.pieces.bad_escapes_in_quoted_items.Goals as goal
 

@@ -1,48 +1,11 @@
 -- How a master file is cut from the left: what stands at its front, and what the rest makes of it (RFC 1035 5.1).
 use Rattle.std.specs.Prelude.{ℕ, zero, suc, ◌-◌, List, [], ◌∷◌, length, Bool, ◌==◌, ◌&&◌, ◌||◌, nat_le, if◌then◌else◌, Option, Some, None}
-use Rattle.zone_name.specs.Spelling.{Written, plain, escaped, decimal, octet_of, is_digit}
+use Rattle.zone_name.specs.Spelling.{Written}
+use Rattle.zone_name.specs.Machine.Units.{Units, units_first}
+use Rattle.zone_rdata.specs.Strings.{is_quote}
 use Rattle.zone_rdata.specs.declared.fault.Fault.{Fault}
 use Rattle.zone_rdata.specs.declared.fault.Fault.TheVariants.{BadEscape, UnclosedQuote, UnbalancedParenthesis}
 use Rattle.zone_text.specs.Pieces.{Piece, blank, opening, closing, line_feed, comment, bare, quoted, is_blank, ends_item}
-
--- ---- the written octet at the front of a text, and what is behind it; none where an octet that ends the item or a
--- backslash that begins no escape stands there
-
-abbrev pub decimal_first : ℕ → ℕ → ℕ → List ℕ → Option (Written × List ℕ)
-decimal_first x y z rest = if is_digit x && is_digit y && is_digit z && nat_le (octet_of (decimal x y z)) 255 then Some (decimal x y z, rest) else None
-
--- behind a backslash and a digit
-abbrev pub digits_first : ℕ → List ℕ → Option (Written × List ℕ)
-digits_first x [] = None
-digits_first x (y ∷ []) = None
-digits_first x (y ∷ z ∷ rest) = decimal_first x y z rest
-
--- behind a backslash
-abbrev pub escape_first : List ℕ → Option (Written × List ℕ)
-escape_first [] = None
-escape_first (x ∷ rest) = if is_digit x then digits_first x rest else (if x == 10 || x == 13 then None else Some (escaped x, rest))
-
-abbrev pub unit_first : (ℕ → Bool) → List ℕ → Option (Written × List ℕ)
-unit_first ends [] = None
-unit_first ends (c ∷ rest) = if ends c then None else (if c == 92 then escape_first rest else Some (plain c, rest))
-
--- ---- written octets at the front of a text as long as they come, and what is behind them
-
-pub record Units : Type 0 where
-  pub units : List Written
-  pub rest : List ℕ
-
-abbrev pub units_then : (List ℕ → Units) → List ℕ → Option (Written × List ℕ) → Units
-units_then go_on octets None = record { units = []; rest = octets }
-units_then go_on octets (Some (w, rest)) = let more : Units = go_on rest in record { units = w ∷ more.units; rest = more.rest }
-
--- n of them at the most
-unfoldable pub units_by : ℕ → (ℕ → Bool) → List ℕ → Units
-units_by zero ends octets = record { units = []; rest = octets }
-units_by (suc n) ends octets = units_then (units_by n ends) octets (unit_first ends octets)
-
-unfoldable pub units_first : (ℕ → Bool) → List ℕ → Units
-units_first ends octets = units_by (length octets) ends octets
 
 -- ---- a comment's octets, and what is behind them
 
@@ -80,9 +43,6 @@ sign_of c =
 pub data Front : Type 0 where
   takes : Piece → List ℕ → Front
   stops : Option Fault → Front
-
-abbrev pub is_quote : ℕ → Bool
-is_quote c = c == 34
 
 -- behind the units of a quoted item
 abbrev pub quoted_front : List Written → List ℕ → Front

@@ -1,0 +1,79 @@
+-- What is ahead in a text, in the words of its spelling.
+use Rattle.std.proofs.Common.{◌≡◌, ℕ, ◌<◌, Bool, false, nat_eq, if◌then◌else◌, List, [], ◌∷◌, ◌++◌, length, take, get_or, Option, Some, None, refl, sym, ap, ◌∙◌, inl, inr, arith, length-append}
+use Rattle.std.specs.Cmp.Lexicographic.{pointwise, bytes_decides}
+use Rattle.std.proofs.lemmas.Bool.{false≢true, cases_Bool, eqb-true, both_ways, cond_both}
+use Rattle.zone_name.specs.Spelling.{Written, plain, escaped, decimal, text_of, octet_of, IsUnit, IsBadEscape, BeginsWithUnit, is_dot, no_octet}
+use Rattle.zone_name.specs.Machine.Units.{unit_first}
+use Rattle.zone_name.specs.Machine.Reading.{Ahead, at_end, at_dot, at_octet, at_fault, unit_ahead, ahead_in}
+use Rattle.zone_name.proofs.Units.{IsFirst, at_end as no_more, at_octet as at_mark, at_backslash, first_is, first_of_unit, escape_of_unit, text_of-some}
+
+-- what is ahead, said of the text there
+abbrev pub IsAhead : List ℕ → Ahead → Type 0
+IsAhead rest at_end = rest ≡ []
+IsAhead rest (at_dot after) = rest ≡ 46 ∷ after
+IsAhead rest (at_octet c after) = BeginsWithUnit is_dot rest c after
+IsAhead rest at_fault = IsBadEscape rest
+
+-- where a text goes on with no dot, a written octet or a bad escape is ahead
+unit_is : (c : ℕ) (rest : List ℕ) (found : Option (Written × List ℕ)) → is_dot c ≡ false → IsFirst is_dot (c ∷ rest) found → IsAhead (c ∷ rest) (unit_ahead found)
+unit_is c rest None other (no_more e) = absurd (cc)
+unit_is c rest None other (at_mark d more e dot) = let same : c ≡ d = cc in absurd (both_ways (is_dot c) other (ap is_dot same ∙ dot))
+unit_is c rest None other (at_backslash bad) = bad
+unit_is c rest (Some (w, more)) other is = record { unit = w; is_unit = is.0; value = refl; parts = is.1 }
+
+-- what is ahead is what the text's spelling says
+pub ahead_is : (rest : List ℕ) → IsAhead rest (ahead_in rest)
+ahead_is [] = refl
+ahead_is (c ∷ rest) =
+    cond_both (is_dot c) (at_dot rest) (unit_ahead (unit_first is_dot (c ∷ rest))) (IsAhead (c ∷ rest)) (λ e. ap (λ t. t ∷ rest) (eqb-true c 46 e)) (λ e. unit_is c rest (unit_first is_dot (c ∷ rest)) e (first_is is_dot (c ∷ rest)))
+
+-- what is behind it is shorter
+abbrev pub Shrinks : List ℕ → Ahead → Type 0
+Shrinks rest at_end = Unit {0}
+Shrinks rest (at_dot after) = length after < length rest
+Shrinks rest (at_octet c after) = length after < length rest
+Shrinks rest at_fault = Unit {0}
+
+shrinks_by : (rest : List ℕ) (ahead : Ahead) → IsAhead rest ahead → Shrinks rest ahead
+shrinks_by rest at_end is = tt
+shrinks_by rest (at_dot after) is = omega (arith, ap length is)
+shrinks_by rest (at_octet c after) is = omega (arith, ap length is.parts, length-append (text_of is.unit) after, text_of-some is.unit)
+shrinks_by rest at_fault is = tt
+
+pub ahead_shrinks : (rest : List ℕ) → Shrinks rest (ahead_in rest)
+ahead_shrinks rest = shrinks_by rest (ahead_in rest) (ahead_is rest)
+
+-- the way back: what is ahead where a written octet stands
+pub ahead-unit : (w : Written) (rest : List ℕ) → IsUnit is_dot w → ahead_in (text_of w ++ rest) ≡ at_octet (octet_of w) rest
+ahead-unit w rest is = by w is ∙ ap unit_ahead (first_of_unit is_dot w rest refl is)
+  where
+    by : (w : Written) → IsUnit is_dot w → ahead_in (text_of w ++ rest) ≡ unit_ahead (unit_first is_dot (text_of w ++ rest))
+    by (plain c) is = ap (λ (b : Bool). if b then at_dot rest else unit_ahead (unit_first is_dot (c ∷ rest))) is.0
+    by (escaped c) is = refl
+    by (decimal x y z) is = refl
+
+bad_by : (rest : List ℕ) (ahead : Ahead) → IsBadEscape rest → IsAhead rest ahead → ahead ≡ at_fault
+bad_by rest at_end bad is = absurd (let e : [] ≡ 92 ∷ bad.0 = sym is ∙ bad.1 in cc)
+bad_by rest (at_dot after) bad is = absurd (false≢true (ap (λ t. nat_eq (get_or t 0 0) 46) (sym bad.1 ∙ is)))
+bad_by rest (at_octet c after) bad is = absurd (bad.2 is.unit after (escape_of_unit is_dot is.unit after bad.0 is.is_unit (sym is.parts ∙ bad.1)) is.parts)
+bad_by rest at_fault bad is = refl
+
+-- a backslash that begins no escape is a fault ahead
+pub ahead-bad : (rest : List ℕ) → IsBadEscape rest → ahead_in rest ≡ at_fault
+ahead-bad rest bad = bad_by rest (ahead_in rest) bad (ahead_is rest)
+
+-- ---- what the code finds
+
+-- the test of a dot at the front
+abbrev pub has_dot : List ℕ → Bool
+has_dot rest = pointwise nat_eq (take 1 rest) (46 ∷ [])
+
+unit_dot : (w : Written) (after : List ℕ) → has_dot (text_of w ++ after) ≡ false → IsUnit no_octet w → IsUnit is_dot w
+unit_dot (plain c) after e is = (elim (cases_Bool (is_dot c)) [ inl h ↦ absurd (both_ways (has_dot (c ∷ after)) e ((bytes_decides (c ∷ []) (46 ∷ [])).1 (ap (λ t. t ∷ []) (eqb-true c 46 h)))) | inr h ↦ h ], is.1)
+unit_dot (escaped c) after e is = is
+unit_dot (decimal x y z) after e is = is
+
+pub unit_seen : (rest after : List ℕ) (c : ℕ) → has_dot rest ≡ false → BeginsWithUnit no_octet rest c after → at_octet c after ≡ ahead_in rest
+unit_seen rest after c other begins =
+    let is : IsUnit is_dot begins.unit = unit_dot begins.unit after (ap has_dot (sym begins.parts) ∙ other) begins.is_unit in
+    ap (λ t. at_octet t after) (sym begins.value) ∙ sym (ahead-unit begins.unit after is) ∙ ap ahead_in (sym begins.parts)

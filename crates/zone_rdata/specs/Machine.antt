@@ -1,0 +1,2 @@
+-- What private functions and proofs cite, and no public clause.
+pub mod AddressReading

@@ -1,0 +1,4 @@
+-- What private functions and proofs cite, and no public clause.
+pub mod Cutting
+pub mod Lower
+pub mod Items
