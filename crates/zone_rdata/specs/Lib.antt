@@ -5,6 +5,7 @@ pub mod StringReading
 pub mod Address
 pub mod Number
 pub mod Generic
+pub mod Fields
 pub mod Field
 pub mod Uncompressed
 pub mod Layout

@@ -181,7 +181,7 @@ fn is_next(class: Class, kind: Kind, count: usize, part: Part) -> bool
     let Some(layout) = layout_of(class, kind) else {
         return count == 0 && matches!(part, Part::Octets(_));
     };
-    let Some(field) = layout.item_field(count) else {
+    let Some(field) = layout.part_at(count) else {
         return false;
     };
     match (field, part) {

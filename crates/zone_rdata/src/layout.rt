@@ -1,7 +1,6 @@
 ghost use Rattle.std.specs.Prelude.{◌≡◌, option_map, slice_get};
+ghost use Rattle.zone_rdata.specs.Builder.{ends_with_strings, is_strings, part_at};
 ghost use Rattle.zone_rdata.specs.Layout.{layout, fields_of};
-ghost use Rattle.zone_rdata.specs.Reading.{item_field};
-ghost use Rattle.zone_rdata.specs.Spelling.{ends_with_strings, is_strings};
 
 use crate::class::Class;
 use crate::kind::Kind;
@@ -115,9 +114,9 @@ impl Layout {
         }
     }
 
-    /// The field that the item at a place from 0 is to spell. `None`: no item stands there.
-    pub(crate) fn item_field(self, place: usize) -> Option<Field>
-        ensures { result ≡ item_field (fields_of self) place }
+    /// The field of the part at a place from 0. `None`: no part stands there.
+    pub(crate) fn part_at(self, place: usize) -> Option<Field>
+        ensures { result ≡ part_at (fields_of self) place }
     {
         match self.fields.get(place) {
             Some(field) => Some(*field),

@@ -1,12 +1,20 @@
-ghost use Rattle.std.specs.Prelude.{◌≡◌, ◌↔◌, IsTrue, ◌<◌, ◌≤◌, ◌^◌, ℕ, List, length, map, IfOk, IfErr, OnOk};
-ghost use Rattle.std.specs.List.{AllByRecursion};
-ghost use Rattle.zone_rdata.specs.DataFault.{IsItemFault, IsNameFault, IsWordsFault};
+ghost use Rattle.std.specs.Prelude.{◌≡◌, ◌↔◌, ◌∷◌, [], IsTrue, ◌<◌, ◌≤◌, Some, drop, length, map, IfOk, IfErr, IfSome, OnOk};
+ghost use Rattle.std.specs.Int.{w16, w32, to_be_bytes};
+ghost use Rattle.std.specs.List.{AllByRecursion, flat_map};
+ghost use Rattle.zone_name.specs.Name.{frame, wire};
+ghost use Rattle.zone_name.specs.Spelling.{Spells};
+ghost use Rattle.zone_rdata.specs.DataFault.{IsFieldFault, IsWordsFault, NoValue};
 ghost use Rattle.zone_rdata.specs.Fault.{IfFault};
-ghost use Rattle.zone_rdata.specs.Item.{bare, raw, IsGeneric};
+ghost use Rattle.zone_rdata.specs.Fields.Address.{IsAddress};
+ghost use Rattle.zone_rdata.specs.Fields.Name.{IsNameFault};
+ghost use Rattle.zone_rdata.specs.Fields.Serial.{SpellsSerial};
+ghost use Rattle.zone_rdata.specs.Fields.Strings.{SpellsStrings, StringsFault};
+ghost use Rattle.zone_rdata.specs.Fields.Time.{SpellsTime};
+ghost use Rattle.zone_rdata.specs.Fields.U16.{SpellsU16};
+ghost use Rattle.zone_rdata.specs.Item.{raw, IsGeneric};
 ghost use Rattle.zone_rdata.specs.Layout.{fields_of};
-ghost use Rattle.zone_rdata.specs.Number.{IsDecimal, IsTime};
-ghost use Rattle.zone_rdata.specs.Reading.{AppendsAddress, AppendsDecimal, AppendsTime, AppendsTwoOctets, AppendsField, AreSpelt};
-ghost use Rattle.zone_rdata.specs.Spelling.{IsAddress, item_fields};
+ghost use Rattle.zone_rdata.specs.Reading.{Appends, AppendsField, AppendsFirst, AreSpelt};
+ghost use Rattle.zone_rdata.specs.Spelling.{own_items};
 
 use crate::address::{four_octets_of, sixteen_octets_of};
 use crate::fault::{Failing, Fault};
@@ -19,41 +27,19 @@ use crate::time::seconds_of;
 use std::alloc::Global;
 use zone_name::Name;
 
-/// The number of 32 bits that decimal digits stand for.
-fn long_of(text: &[u8]) -> Result<u32, Fault>
-    ensures found { IfOk result (λ n. IsDecimal text.now n) }
-    ensures fault { IfErr result (λ f. (f ≡ Fault.BadNumber) × ((n : ℕ) → IsDecimal text.now n → n < 2 ^ 32 → ⊥)) }
+/// A number that was read, where it is at most so great.
+fn at_most(most: u32, number: Option<u64>) -> Result<u32, Fault>
+    ensures found { IfOk result (λ n. (number ≡ Some n) × (n ≤ most)) }
+    ensures fault { IfErr result (λ f. (f ≡ Fault.BadNumber) × IfSome number (λ n. most < n)) }
 {
-    match decimal_of(text) {
-        Some(number) if number <= u64::from(u32::MAX) => Ok(number as u32),
-        _ => Err(Fault::BadNumber),
-    }
-}
-
-/// The number of 32 bits that a time stands for.
-fn time_of(text: &[u8]) -> Result<u32, Fault>
-    ensures found { IfOk result (λ n. IsTime text.now n × (n < 2 ^ 32)) }
-    ensures fault { IfErr result (λ f. (f ≡ Fault.BadNumber) × ((n : ℕ) → IsTime text.now n → n < 2 ^ 32 → ⊥)) }
-{
-    match seconds_of(text) {
-        Some(number) if number <= u64::from(u32::MAX) => Ok(number as u32),
-        _ => Err(Fault::BadNumber),
-    }
-}
-
-/// The number of 16 bits that decimal digits stand for.
-fn short_of(text: &[u8]) -> Result<u16, Fault>
-    ensures found { IfOk result (λ n. IsDecimal text.now n) }
-    ensures fault { IfErr result (λ f. (f ≡ Fault.BadNumber) × ((n : ℕ) → IsDecimal text.now n → n < 2 ^ 16 → ⊥)) }
-{
-    match decimal_of(text) {
-        Some(number) if number <= u64::from(u16::MAX) => Ok(number as u16),
+    match number {
+        Some(number) if number <= u64::from(most) => Ok(number as u32),
         _ => Err(Fault::BadNumber),
     }
 }
 
 fn push_name(text: &[u8], origin: &Name, octets: &mut Vec<u8>) -> Result<(), Failing>
-    ensures found { OnOk result (AppendsField origin.now Field.Name (bare text.now) octets.old.items octets.new.items) }
+    ensures found { OnOk result (Appends (Spells (Some origin.now) text.now) wire octets.old.items octets.new.items) }
     ensures fault { IfErr result (IfFault (IsNameFault origin.now text.now)) }
 {
     let name = Name::from_text(text, Some(origin))?;
@@ -62,36 +48,36 @@ fn push_name(text: &[u8], origin: &Name, octets: &mut Vec<u8>) -> Result<(), Fai
 }
 
 fn push_serial(text: &[u8], octets: &mut Vec<u8>) -> Result<(), Failing>
-    ensures found { OnOk result (AppendsDecimal text.now octets.old.items octets.new.items) }
-    ensures fault { IfErr result (IfFault (λ f. (f ≡ Fault.BadNumber) × ((n : ℕ) → IsDecimal text.now n → n < 2 ^ 32 → ⊥))) }
+    ensures found { OnOk result (Appends (SpellsSerial text.now) (to_be_bytes w32) octets.old.items octets.new.items) }
+    ensures fault { IfErr result (IfFault (NoValue Fault.BadNumber (SpellsSerial text.now))) }
 {
-    let number = long_of(text)?;
+    let number = at_most(u32::MAX, decimal_of(text))?;
     octets.extend_from_slice(&long_octets(number))?;
     Ok(())
 }
 
 fn push_time(text: &[u8], octets: &mut Vec<u8>) -> Result<(), Failing>
-    ensures found { OnOk result (AppendsTime text.now octets.old.items octets.new.items) }
-    ensures fault { IfErr result (IfFault (λ f. (f ≡ Fault.BadNumber) × ((n : ℕ) → IsTime text.now n → n < 2 ^ 32 → ⊥))) }
+    ensures found { OnOk result (Appends (SpellsTime text.now) (to_be_bytes w32) octets.old.items octets.new.items) }
+    ensures fault { IfErr result (IfFault (NoValue Fault.BadNumber (SpellsTime text.now))) }
 {
-    let number = time_of(text)?;
+    let number = at_most(u32::MAX, seconds_of(text))?;
     octets.extend_from_slice(&long_octets(number))?;
     Ok(())
 }
 
 fn push_short(text: &[u8], octets: &mut Vec<u8>) -> Result<(), Failing>
-    ensures found { OnOk result (AppendsTwoOctets text.now octets.old.items octets.new.items) }
-    ensures fault { IfErr result (IfFault (λ f. (f ≡ Fault.BadNumber) × ((n : ℕ) → IsDecimal text.now n → n < 2 ^ 16 → ⊥))) }
+    ensures found { OnOk result (Appends (SpellsU16 text.now) (to_be_bytes w16) octets.old.items octets.new.items) }
+    ensures fault { IfErr result (IfFault (NoValue Fault.BadNumber (SpellsU16 text.now))) }
 {
-    let number = short_of(text)?;
-    octets.extend_from_slice(&short_octets(number))?;
+    let number = at_most(65535, decimal_of(text))?;
+    octets.extend_from_slice(&short_octets(number as u16))?;
     Ok(())
 }
 
 /// Appends the address of so many octets.
 fn push_address(count: usize, text: &[u8], octets: &mut Vec<u8>) -> Result<(), Failing>
-    ensures found { OnOk result (AppendsAddress count text.now octets.old.items octets.new.items) }
-    ensures fault { IfErr result (IfFault (λ f. (f ≡ Fault.BadRdata) × ((found : List ℕ) → IsAddress count text.now found → ⊥))) }
+    ensures found { OnOk result (Appends (IsAddress count text.now) (λ address. address) octets.old.items octets.new.items) }
+    ensures fault { IfErr result (IfFault (NoValue Fault.BadRdata (IsAddress count text.now))) }
 {
     match count {
         4 => {
@@ -107,14 +93,28 @@ fn push_address(count: usize, text: &[u8], octets: &mut Vec<u8>) -> Result<(), F
     Ok(())
 }
 
-/// Appends the octets of the value that the item spells for the field.
-fn push_field(field: Field, item: Item, origin: &Name, octets: &mut Vec<u8>) -> Result<(), Failing>
-    ensures found { OnOk result (AppendsField origin.now field (raw item.entry) octets.old.items octets.new.items) }
-    ensures fault { IfErr result (IfFault (IsItemFault origin.now field (raw item.entry))) }
+/// Appends the strings that the items spell, one or more, each behind its length.
+fn push_strings(items: &[Item], octets: &mut Vec<u8>) -> Result<(), Failing>
+    ensures found { OnOk result (Appends (SpellsStrings (map raw items.now)) (flat_map frame) octets.old.items octets.new.items) }
+    ensures fault { IfErr result (IfFault (StringsFault (map raw items.now))) }
+{
+    if items.is_empty() {
+        return Err(Failing::Fault(Fault::BadRdata));
+    }
+    for item in items {
+        push_string(*item, octets)?;
+    }
+    Ok(())
+}
+
+/// Appends the octets of the value that an item spells for a field that is no strings.
+fn push_item(field: Field, item: Item, origin: &Name, octets: &mut Vec<u8>) -> Result<(), Failing>
+    ensures found { OnOk result (AppendsField origin.now field (raw item.entry ∷ []) octets.old.items octets.new.items) }
+    ensures fault { IfErr result (IfFault (IsFieldFault origin.now field (raw item.entry ∷ []))) }
 {
     match (field, item) {
         (Field::OneString, _) => push_string(item, octets),
-        (Field::Strings, _) => push_string(item, octets),
+        (Field::Strings, _) => push_strings(&[item], octets),
         (_, Item::Quoted(_)) => Err(Failing::Fault(Fault::BadRdata)),
         (Field::Name, Item::Bare(text)) => push_name(text, origin, octets),
         (Field::Serial, Item::Bare(text)) => push_serial(text, octets),
@@ -122,6 +122,28 @@ fn push_field(field: Field, item: Item, origin: &Name, octets: &mut Vec<u8>) -> 
         (Field::U16, Item::Bare(text)) => push_short(text, octets),
         (Field::Octets(count), Item::Bare(text)) => push_address(count, text, octets),
     }
+}
+
+/// Appends the octets of the value that the field's items spell, and gives how many items these are.
+fn push_field(
+    field: Field,
+    items: &[Item],
+    origin: &Name,
+    octets: &mut Vec<u8>,
+) -> Result<usize, Failing>
+    ensures found { IfOk result (λ n. AppendsFirst origin.now field (map raw items.now) (map raw (drop n items.now)) octets.old.items octets.new.items) }
+    ensures inside { IfOk result (λ n. n ≤ length items.now) }
+    ensures fault { IfErr result (IfFault (IsFieldFault origin.now field (own_items field (map raw items.now)))) }
+{
+    if field == Field::Strings {
+        push_strings(items, octets)?;
+        return Ok(items.len());
+    }
+    let Some(item) = items.first() else {
+        return Err(Failing::Fault(Fault::BadRdata));
+    };
+    push_item(field, *item, origin, octets)?;
+    Ok(1)
 }
 
 /// That octets are below 256.
@@ -148,18 +170,16 @@ pub(crate) fn octets_of_items(
     items: &[Item],
     origin: &Name,
 ) -> Result<Vec<u8>, Failing>
-    ensures found { IfOk result (λ octets. AreSpelt origin.now (item_fields (fields_of layout) (map raw items.now)) (map raw items.now) octets.items) }
+    ensures found { IfOk result (λ octets. AreSpelt origin.now (fields_of layout) (map raw items.now) octets.items) }
     ensures short { IfOk result (λ octets. length octets.items ≤ LONGEST_DATA) }
-    ensures fault { IfErr result (IfFault (IsWordsFault origin.now (item_fields (fields_of layout) (map raw items.now)) (map raw items.now))) }
+    ensures fault { IfErr result (IfFault (IsWordsFault origin.now (fields_of layout) (map raw items.now))) }
 {
     let mut octets = Vec::new(alloc);
-    for (place, item) in items.iter().enumerate() {
-        let Some(field) = layout.item_field(place) else {
-            return Err(Failing::Fault(Fault::BadRdata));
-        };
-        push_field(field, *item, origin, &mut octets)?;
+    let mut place = 0;
+    for field in layout.fields() {
+        place += push_field(*field, &items[place..], origin, &mut octets)?;
     }
-    if items.len() < layout.fields().len() {
+    if place < items.len() {
         return Err(Failing::Fault(Fault::BadRdata));
     }
     if octets.len() > LONGEST_DATA {

@@ -19,13 +19,13 @@ pub returns-clause-found : goal.returns-clause-found
 returns-clause-found c =
     elim c.match-count.branch [
       | in-4+in_ok-address-in-4+in_ok-extend_from_slice-in-4 w ↦ record {
-        octets = w.in_ok-address-in-4.address;
-        address = of_four w.in-4.is (subst (λ found. IfSome found (IsFourNumbers c.args.text.now)) w.in_ok-address-in-4.ensures.ok_part w.four_octets_of.ensures.found);
+        value = w.in_ok-address-in-4.address;
+        stated = of_four w.in-4.is (subst (λ found. IfSome found (IsFourNumbers c.args.text.now)) w.in_ok-address-in-4.ensures.ok_part w.four_octets_of.ensures.found);
         written = rw w.octets-is w.in_ok-extend_from_slice-in-4.ensures.items;
       }
       | in-16+in_ok-address-in-16+in_ok-extend_from_slice-in-16 w ↦ record {
-        octets = w.in_ok-address-in-16.address;
-        address = of_sixteen w.in-16.is (subst (λ found. IfSome found (IsGroups c.args.text.now)) w.in_ok-address-in-16.ensures.ok_part w.sixteen_octets_of.ensures.found);
+        value = w.in_ok-address-in-16.address;
+        stated = of_sixteen w.in-16.is (subst (λ found. IfSome found (IsGroups c.args.text.now)) w.in_ok-address-in-16.ensures.ok_part w.sixteen_octets_of.ensures.found);
         written = rw w.octets-is w.in_ok-extend_from_slice-in-16.ensures.items;
       }
     ]

@@ -1,22 +1,6 @@
-use Rattle.std.proofs.Common.{inl, inr, ap}
-use Rattle.zone_rdata.specs.Item.{raw}
-use Rattle.zone_rdata.proofs.Values.{on_serial, on_time, on_two_octets, on_address, on_string}
+use Rattle.std.proofs.Common.{rules}
+use Rattle.zone_rdata.proofs.Values.{all_appended}
 use Rattle.zone_rdata.proofs.reading.push_field.Goals as goal
 
-pub returns-in-OneString-default-clause-found : goal.returns-in-OneString-default-clause-found
-returns-in-OneString-default-clause-found c = on_string _ _ _ _ _ _ (inl c.in-OneString-default.is-0) c.push_string.ensures.found
-
-pub returns-in-Strings-default-clause-found : goal.returns-in-Strings-default-clause-found
-returns-in-Strings-default-clause-found c = on_string _ _ _ _ _ _ (inr c.in-Strings-default.is-0) c.push_string-in-Strings-default.ensures.found
-
-pub returns-in-Serial-Bare-clause-found : goal.returns-in-Serial-Bare-clause-found
-returns-in-Serial-Bare-clause-found c = on_serial _ _ _ _ _ _ _ (ap raw c.in-Serial-Bare.is-1) c.in-Serial-Bare.is-0 c.push_serial.ensures.found
-
-pub returns-in-Time-Bare-clause-found : goal.returns-in-Time-Bare-clause-found
-returns-in-Time-Bare-clause-found c = on_time _ _ _ _ _ _ _ (ap raw c.in-Time-Bare.is-1) c.in-Time-Bare.is-0 c.push_time.ensures.found
-
-pub returns-in-U16-Bare-clause-found : goal.returns-in-U16-Bare-clause-found
-returns-in-U16-Bare-clause-found c = on_two_octets _ _ _ _ _ _ _ (ap raw c.in-U16-Bare.is-1) c.in-U16-Bare.is-0 c.push_short.ensures.found
-
-pub returns-in-Octets-Bare-clause-found : goal.returns-in-Octets-Bare-clause-found
-returns-in-Octets-Bare-clause-found c = on_address _ _ _ _ _ _ _ _ (ap raw c.in-Octets-Bare.is-1) c.in-Octets-Bare.is-0 c.push_address.ensures.found
+pub returns-then-eq-clause-found : goal.returns-then-eq-clause-found
+returns-then-eq-clause-found c = all_appended c.args.origin.now c.args.field c.args.items.now _ _ (search rules) c.in_ok-push_strings.ensures.found

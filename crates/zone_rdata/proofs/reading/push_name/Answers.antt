@@ -1,10 +1,9 @@
 use Rattle.std.proofs.Common.{◌∙◌, ap, ◌++◌}
-use Rattle.zone_rdata.specs.Field.{name}
 use Rattle.zone_rdata.proofs.reading.push_name.Goals as goal
 
 pub returns-clause-found : goal.returns-clause-found
 returns-clause-found c = record {
-  value = name c.in_ok-name.name;
-  spelt = c.in_ok-name.ensures.found;
+  value = c.in_ok-name.name;
+  stated = c.in_ok-name.ensures.found;
   written = c.in_ok-extend_from_slice.ensures.items ∙ ap (λ o. c.args.octets.now.items ++ o) c.wire.ensures.octets;
 }

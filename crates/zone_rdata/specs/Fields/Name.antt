@@ -1,0 +1,10 @@
+-- A field that is a domain name (RFC 1035 3.3).
+use Rattle.std.specs.Prelude.{◌≡◌, ℕ, List, Some}
+use Rattle.zone_name.specs.Spelling.{FirstFault}
+use Rattle.zone_name.specs.declared.fault.NameFault.{NameFault}
+use Rattle.zone_rdata.specs.declared.fault.Fault.{Fault}
+use Rattle.zone_rdata.specs.Fault.{fault_of}
+
+-- the fault of a bare text that is no name under the origin: the name's own first fault
+abbrev pub IsNameFault : List (List ℕ) → List ℕ → Fault → Type 0
+IsNameFault origin text fault = (f : NameFault) × FirstFault (Some origin) text f × (fault ≡ fault_of f)

@@ -1,0 +1,6 @@
+-- A field that is a number of seconds of 32 bits, written in digits or as a time (RFC 1035 3.3.13).
+use Rattle.std.specs.Prelude.{ℕ, ◌^◌, ◌<◌, List}
+use Rattle.zone_rdata.specs.Number.{IsTime}
+
+abbrev pub SpellsTime : List ℕ → ℕ → Type 0
+SpellsTime text n = IsTime text n × (n < 2 ^ 32)
