@@ -7,8 +7,8 @@ use Rattle.std.proofs.lemmas.List.{take_at, drop_at, append-nil}
 use Rattle.std.proofs.lemmas.List.Concat.{flat_map-append}
 use Rattle.std.proofs.lemmas.Nat.{from_be_bytes-to_be_bytes_2, from_be_bytes-to_be_bytes_4}
 use Rattle.zone_name.specs.Name.{frame}
-use Rattle.zone_rdata.specs.declared.layout.Field.{Field}
-use Rattle.zone_rdata.specs.declared.layout.Field.TheVariants as fields
+use Rattle.zone_rdata.specs.declared.field.Field.{Field}
+use Rattle.zone_rdata.specs.declared.field.Field.TheVariants as fields
 use Rattle.zone_rdata.specs.Field.{FieldValue, name, long, two_octets, fixed, string, strings, AreStrings, field_octets, octets_of, Holds, HoldEach, field_at, strings_of, values_of}
 use Rattle.zone_rdata.specs.Fields.Strings.{SpellEachString}
 use Rattle.zone_rdata.specs.Layout.{AreLaidOut, IsData, IsLayout, StringsLast, layout}

@@ -7,7 +7,7 @@ use Rattle.zone_rdata.specs.declared.fault.Fault.{Fault}
 use Rattle.zone_rdata.specs.declared.fault.Fault.TheVariants.{BadRdata, RdataTooLong}
 use Rattle.zone_rdata.specs.declared.item.Item.{Item}
 use Rattle.zone_rdata.specs.declared.item.Item.TheVariants.{Bare}
-use Rattle.zone_rdata.specs.declared.layout.Field.{Field}
+use Rattle.zone_rdata.specs.declared.field.Field.{Field}
 use Rattle.zone_rdata.specs.DataFault.{FirstFieldFault, IsFieldFault, IsWordsFault, unspelt, too_long}
 use Rattle.zone_rdata.specs.Field.{FieldValue, field_octets, octets_of}
 use Rattle.zone_rdata.specs.Item.{RawItem, bare, raw, generic_mark, IsGeneric}

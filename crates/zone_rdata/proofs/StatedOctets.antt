@@ -3,8 +3,8 @@ use Rattle.std.proofs.Common.{ℕ, ◌<◌, ◌^◌, List, [], ◌∷◌, Option
 use Rattle.std.specs.Int.{w16, w32, to_be_bytes}
 use Rattle.std.specs.List.{flat_map, AllByRecursion}
 use Rattle.zone_name.specs.Name.{IsFoldedOctet, IsLabel, frame}
-use Rattle.zone_rdata.specs.declared.layout.Field.{Field}
-use Rattle.zone_rdata.specs.declared.layout.Field.TheVariants.{Name, Serial, Time, U16, Octets, OneString, Strings}
+use Rattle.zone_rdata.specs.declared.field.Field.{Field}
+use Rattle.zone_rdata.specs.declared.field.Field.TheVariants.{Name, Serial, Time, U16, Octets, OneString, Strings}
 use Rattle.zone_rdata.specs.Field.{FieldValue, name, long, two_octets, fixed, string, strings, field_octets, Holds, HoldEach, octets_of}
 use Rattle.zone_rdata.specs.Item.{RawItem}
 use Rattle.zone_rdata.specs.Layout.{layout, IsData}

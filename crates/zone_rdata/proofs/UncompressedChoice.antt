@@ -4,8 +4,8 @@ use Rattle.std.specs.List.{AllByRecursion}
 use Rattle.std.proofs.lemmas.Bool.{cases_lt, cases_eq}
 use Rattle.std.proofs.lemmas.List.{append-nil}
 use Rattle.zone_name.specs.Name.{IsFoldedOctet, IsLabel, IsName, folded_octet, folded_label, folded, wire}
-use Rattle.zone_rdata.specs.declared.layout.Field.{Field}
-use Rattle.zone_rdata.specs.declared.layout.Field.TheVariants as fields
+use Rattle.zone_rdata.specs.declared.field.Field.{Field}
+use Rattle.zone_rdata.specs.declared.field.Field.TheVariants as fields
 use Rattle.zone_rdata.specs.Field.{FieldValue, field_octets}
 use Rattle.zone_rdata.specs.Layout.{StringsLast, layout}
 use Rattle.zone_rdata.specs.Uncompressed.{IsUncompressed, BeginsWithSent, BeginsWithValue, BeginsWithNone, AppendsValue, AppendsFront, AreFramed}

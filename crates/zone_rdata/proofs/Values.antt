@@ -11,8 +11,8 @@ use Rattle.zone_rdata.specs.declared.fault.Failing.{Failing}
 use Rattle.zone_rdata.specs.declared.fault.Fault.{Fault}
 use Rattle.zone_rdata.specs.declared.fault.Fault.TheVariants.{BadRdata}
 use Rattle.zone_rdata.specs.declared.item.Item.{Item}
-use Rattle.zone_rdata.specs.declared.layout.Field.{Field}
-use Rattle.zone_rdata.specs.declared.layout.Field.TheVariants as fields
+use Rattle.zone_rdata.specs.declared.field.Field.{Field}
+use Rattle.zone_rdata.specs.declared.field.Field.TheVariants as fields
 use Rattle.zone_rdata.specs.DataFault.{NoValue}
 use Rattle.zone_rdata.specs.Field.{FieldValue, name, long, two_octets, fixed, string, strings}
 use Rattle.zone_rdata.specs.Fields.Address.{IsAddress}

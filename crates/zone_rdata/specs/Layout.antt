@@ -1,8 +1,8 @@
 -- The layouts of record data by class and type (RFC 1035 3.3), and the data that a record can have.
 use Rattle.std.specs.Prelude.{◌≡◌, ◌≢◌, ℕ, ◌<◌, ◌≤◌, List, [], ◌∷◌, length, ◌==◌, ◌&&◌, if◌then◌else◌, Option, Some, None, MatchOption, ⊤, ◌⊎◌}
 use Rattle.std.specs.List.{AllByRecursion}
-use Rattle.zone_rdata.specs.declared.layout.Field.{Field}
-use Rattle.zone_rdata.specs.declared.layout.Field.TheVariants.{Name, Serial, Time, U16, Octets, OneString, Strings}
+use Rattle.zone_rdata.specs.declared.field.Field.{Field}
+use Rattle.zone_rdata.specs.declared.field.Field.TheVariants.{Name, Serial, Time, U16, Octets, OneString, Strings}
 use Rattle.zone_rdata.specs.declared.layout.Layout.{Layout}
 use Rattle.zone_rdata.specs.Field.{HoldEach, values_of, octets_of}
 

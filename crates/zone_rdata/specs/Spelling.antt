@@ -1,8 +1,8 @@
 -- The items of a master file that state record data (RFC 1035 5.1; RFC 3597 5).
 use Rattle.std.specs.Prelude.{◌≡◌, ℕ, ◌≤◌, List, [], ◌∷◌, length, take, drop, ⊤, Option, Some, None}
 use Rattle.zone_name.specs.Spelling.{Spells}
-use Rattle.zone_rdata.specs.declared.layout.Field.{Field}
-use Rattle.zone_rdata.specs.declared.layout.Field.TheVariants.{Name, Serial, Time, U16, Octets, OneString, Strings}
+use Rattle.zone_rdata.specs.declared.field.Field.{Field}
+use Rattle.zone_rdata.specs.declared.field.Field.TheVariants.{Name, Serial, Time, U16, Octets, OneString, Strings}
 use Rattle.zone_rdata.specs.Field.{FieldValue, name, long, two_octets, fixed, string, strings, octets_of}
 pub use Rattle.zone_rdata.specs.Fields.Address.{IsAddress, of_four, of_sixteen}
 use Rattle.zone_rdata.specs.Fields.Serial.{SpellsSerial}

@@ -6,8 +6,8 @@ ghost use Rattle.zone_rdata.specs.Strings.{string_text};
 ghost use Rattle.zone_rdata.specs.Text.{BeginsWithField, after_field, field_text, generic_text, laid_out_text};
 
 use crate::address::{four_len, sixteen_len};
-use crate::front::{split_long, split_name, split_short, split_string};
-use crate::layout::{Field, Layout};
+use crate::field::{Field, split_long, split_name, split_short, split_string};
+use crate::layout::Layout;
 use crate::string::string_text_len;
 use itoa::Buffer;
 

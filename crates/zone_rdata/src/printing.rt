@@ -7,8 +7,8 @@ ghost use Rattle.zone_rdata.specs.Text.{BeginsWithField, Extends, after_field, f
 ghost use Rattle.hex.specs.Hex.{encode_lower};
 
 use crate::address::{push_four, push_sixteen};
-use crate::front::{split_long, split_name, split_short, split_string};
-use crate::layout::{Field, Layout};
+use crate::field::{Field, split_long, split_name, split_short, split_string};
+use crate::layout::Layout;
 use crate::string::push_string_text;
 use hex::encode_to_slice;
 use itoa::Buffer;

@@ -3,8 +3,8 @@ ghost use Rattle.std.specs.Prelude.{◌≡◌, ◌≢◌, ◌≤◌, List, Some,
 ghost use Rattle.std.specs.List.{AllByRecursion};
 ghost use Rattle.zone_rdata.specs.Field.{FieldValue, HoldEach, octets_of};
 ghost use Rattle.zone_rdata.specs.Layout.{IsData, layout};
-ghost use Rattle.zone_rdata.specs.declared.layout.Field.{Field};
-ghost use Rattle.zone_rdata.specs.declared.layout.Field.TheVariants.{Strings};
+ghost use Rattle.zone_rdata.specs.declared.field.Field.{Field};
+ghost use Rattle.zone_rdata.specs.declared.field.Field.TheVariants.{Strings};
 
 /// Values of a layout are data, unless their octets are too many.
 pub fn held_values_are_data()
