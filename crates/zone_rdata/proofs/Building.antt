@@ -8,8 +8,8 @@ use Rattle.zone_rdata.specs.declared.fault.Fault.{Fault}
 use Rattle.zone_rdata.specs.declared.fault.Fault.TheVariants.{BadRdata}
 use Rattle.zone_rdata.specs.declared.field.Field.{Field}
 use Rattle.zone_rdata.specs.declared.field.Field.TheVariants as fields
-use Rattle.zone_rdata.specs.Builder.{Built, Suits, IsOpaque, IsNext, FitsString, Pushes, IsPushFault, misplaced, long_string, too_long, IsWhole, part_field, more_fields, part_fields, parts_of, ArePushedParts, IsBuilt, IsReal, IsOver, over_string, over_data, Grows, least_of, is_strings, ends_with_strings, part_at}
-use Rattle.zone_rdata.specs.Field.{FieldValue, name, long, two_octets, fixed, string, strings, field_octets, octets_of, Holds, HoldEach, values_of}
+use Rattle.zone_rdata.specs.Builder.{Built, IsOpaque, IsNext, FitsString, Pushes, IsPushFault, misplaced, long_string, too_long, IsWhole, part_field, more_fields, part_fields, parts_of, ArePushedParts, IsBuilt, IsReal, IsOver, over_string, over_data, Grows, least_of, ends_with_strings, part_at}
+use Rattle.zone_rdata.specs.Field.{Suits, is_strings, FieldValue, name, long, two_octets, fixed, string, strings, field_octets, octets_of, Holds, HoldEach, values_of}
 use Rattle.zone_rdata.specs.Layout.{AreLaidOut, StringsLast, layout}
 use Rattle.zone_rdata.specs.Strings.{IsString}
 use Rattle.zone_rdata.specs.Record.{Data, IsRdata}

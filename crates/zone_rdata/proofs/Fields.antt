@@ -1,27 +1,25 @@
 -- Octets of the values of a layout hold those values.
-use Rattle.std.proofs.Common.{◌≡◌, ◌≢◌, ℕ, suc, ◌^◌, ◌<◌, ◌≤◌, List, [], ◌∷◌, ◌++◌, length, take, drop, map, refl, sym, ap, ◌∙◌, subst, arith, length-append, Bool, true, false, cond, Option, Some, None, ◌==◌, ◌&&◌, inl, inr}
-use Rattle.std.specs.Prelude.{if◌then◌else◌, MatchOption}
+use Rattle.std.proofs.Common.{◌≡◌, ◌≢◌, ℕ, suc, ◌^◌, ◌<◌, ◌≤◌, List, [], ◌∷◌, ◌++◌, length, take, drop, refl, sym, ap, ◌∙◌, subst, arith, Bool, true, false, cond, Option, Some, None, ◌==◌, ◌&&◌, inl, inr}
+use Rattle.std.specs.Prelude.{MatchOption}
 use Rattle.std.specs.Int.{w16, w32, to_be_bytes, from_be_bytes}
 use Rattle.std.specs.List.{flat_map, AllByRecursion}
 use Rattle.std.proofs.lemmas.List.{take_at, drop_at, append-nil}
-use Rattle.std.proofs.lemmas.List.Concat.{flat_map-append}
 use Rattle.std.proofs.lemmas.Nat.{from_be_bytes-to_be_bytes_2, from_be_bytes-to_be_bytes_4}
 use Rattle.zone_name.specs.Name.{frame}
 use Rattle.zone_rdata.specs.declared.field.Field.{Field}
 use Rattle.zone_rdata.specs.declared.field.Field.TheVariants as fields
-use Rattle.zone_rdata.specs.Field.{FieldValue, name, long, two_octets, fixed, string, strings, AreStrings, field_octets, octets_of, Holds, HoldEach, field_at, strings_of, values_of}
-use Rattle.zone_rdata.specs.Fields.Strings.{SpellEachString}
+use Rattle.zone_rdata.specs.Field.{FieldValue, name, long, two_octets, fixed, string, strings, field_octets, octets_of, Holds, HoldEach, field_at, values_of, SpellsField, own_items, items_behind}
+use Rattle.zone_rdata.specs.Fields.Strings.{strings_of, SpellEachString}
 use Rattle.zone_rdata.specs.Layout.{AreLaidOut, IsData, IsLayout, StringsLast, layout}
 use Rattle.zone_rdata.specs.Reading.{AreSpelt}
 use Rattle.zone_rdata.specs.Item.{RawItem, bare}
-use Rattle.zone_rdata.specs.Spelling.{IsCanonicalOf, SpellsField, SpellEach, States, StatesFor, own_items, items_behind, in_words, in_octets}
+use Rattle.zone_rdata.specs.Spelling.{IsCanonicalOf, SpellEach, States, StatesFor, in_words, in_octets}
 use Rattle.zone_rdata.specs.DataFault.{IsDataFault, IsFaultFor}
 use Rattle.zone_rdata.specs.Generic.{StatesGeneric}
 use Rattle.zone_rdata.specs.declared.fault.Fault.{Fault}
 use Rattle.zone_rdata.specs.Strings.{IsString}
 use Rattle.zone_rdata.proofs.AddressFields.{address_fixed}
 use Rattle.zone_rdata.proofs.StringFields.{strings_back}
-use Rattle.zone_rdata.proofs.StringSteps.{AllByRecursion-append}
 use Rattle.zone_rdata.proofs.Names.{name_back}
 use Rattle.zone_rdata.proofs.SentLengths.{uncompressed_length}
 

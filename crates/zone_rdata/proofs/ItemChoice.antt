@@ -1,9 +1,8 @@
 -- Items state a value or have a first fault.
-use Rattle.std.proofs.Common.{◌≡◌, ◌≢◌, ℕ, ◌<◌, List, [], ◌∷◌, ◌++◌, length, Option, Some, None, ◌⊎◌, inl, inr, refl, sym, ap, subst, arith}
+use Rattle.std.proofs.Common.{◌≡◌, ◌≢◌, ℕ, ◌<◌, List, [], ◌∷◌, length, Option, Some, None, ◌⊎◌, inl, inr, refl, sym, ap, subst, arith}
 use Rattle.std.specs.Prelude.{IfSome}
 use Rattle.std.specs.List.{AllByRecursion}
 use Rattle.std.proofs.lemmas.Bool.{cases_lt}
-use Rattle.std.proofs.lemmas.List.{append-nil}
 use Rattle.hex.proofs.HexLemmas.{decode_of-ok}
 use Rattle.zone_name.specs.Name.{IsName}
 use Rattle.zone_name.specs.Spelling.{Spells, FirstFault}
@@ -13,15 +12,16 @@ use Rattle.zone_rdata.specs.declared.fault.Fault.TheVariants.{BadRdata, BadGener
 use Rattle.zone_rdata.specs.declared.field.Field.{Field}
 use Rattle.zone_rdata.specs.declared.field.Field.TheVariants.{Name, Serial, Time, U16, Octets, OneString, Strings}
 use Rattle.zone_rdata.specs.DataFault as faults
-use Rattle.zone_rdata.specs.DataFault.{IsFieldFault, FirstFieldFault, IsFormFault, IsFaultFor, IsDataFault, unspelt, too_long, malformed, no_value, in_form, opaque_words}
+use Rattle.zone_rdata.specs.DataFault.{FirstFieldFault, IsFormFault, IsFaultFor, IsDataFault, unspelt, too_long, malformed, no_value, in_form, opaque_words}
+use Rattle.zone_rdata.specs.Field.{IsFieldFault, FieldValue, name, long, two_octets, fixed, string, strings, octets_of, SpellsField, own_items, items_behind}
 use Rattle.zone_rdata.specs.Fault.{fault_of}
-use Rattle.zone_rdata.specs.Field.{FieldValue, name, long, two_octets, fixed, string, strings, octets_of}
 use Rattle.zone_rdata.specs.Fields.Strings.{SpellEachString, FirstStringFault}
 use Rattle.zone_rdata.specs.Generic.{JoinTo, StatesGeneric, GenericFault}
 use Rattle.zone_rdata.specs.Item.{RawItem, bare, quoted, IsGeneric}
 use Rattle.zone_rdata.specs.Layout.{layout}
 use Rattle.zone_rdata.specs.Number.{IsDecimal, IsTime}
-use Rattle.zone_rdata.specs.Spelling.{IsAddress, SpellsField, SpellEach, States, StatesFor, in_words, in_octets, own_items, items_behind}
+use Rattle.zone_rdata.specs.Fields.Address.{IsAddress}
+use Rattle.zone_rdata.specs.Spelling.{SpellEach, States, StatesFor, in_words, in_octets}
 use Rattle.zone_rdata.specs.Strings.{item_text, SpellsString, StringFault}
 use Rattle.zone_rdata.specs.Uncompressed.{IsUncompressed}
 use Rattle.zone_rdata.proofs.AddressChoice.{Choice, address_or_not}

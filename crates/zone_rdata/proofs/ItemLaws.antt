@@ -1,21 +1,20 @@
 -- Items state at most one value, or have at most one first fault.
-use Rattle.std.proofs.Common.{◌≡◌, ℕ, suc, ◌<◌, ◌≤◌, List, [], ◌∷◌, ◌++◌, length, refl, sym, ap, ◌∙◌, subst, arith, length-append, Option, Some, None, inl, inr}
-use Rattle.std.proofs.lemmas.Bool.{cases_lt}
-use Rattle.std.proofs.lemmas.List.{append-nil}
+use Rattle.std.proofs.Common.{◌≡◌, ℕ, ◌≤◌, List, [], ◌∷◌, length, refl, sym, ap, ◌∙◌, subst, arith, Option, Some, None, inl, inr}
 use Rattle.zone_name.specs.Spelling.{Spells, FirstFault}
 use Rattle.zone_name.specs.declared.fault.NameFault.{NameFault}
 use Rattle.zone_rdata.specs.declared.fault.Fault.{Fault}
 use Rattle.zone_rdata.specs.declared.field.Field.{Field}
 use Rattle.zone_rdata.specs.declared.field.Field.TheVariants.{Name, Serial, Time, U16, Octets, OneString, Strings}
 use Rattle.zone_rdata.specs.DataFault as faults
-use Rattle.zone_rdata.specs.DataFault.{IsFieldFault, FirstFieldFault, IsWordsFault, IsFormFault, IsFaultFor, IsDataFault, unspelt, too_long, malformed, no_value, in_form, opaque_words}
+use Rattle.zone_rdata.specs.DataFault.{FirstFieldFault, IsWordsFault, IsFormFault, IsFaultFor, IsDataFault, unspelt, too_long, malformed, no_value, in_form, opaque_words}
+use Rattle.zone_rdata.specs.Field.{IsFieldFault, FieldValue, name, long, two_octets, fixed, string, strings, octets_of, SpellsField, own_items, items_behind}
 use Rattle.zone_rdata.specs.Fault.{fault_of}
-use Rattle.zone_rdata.specs.Field.{FieldValue, name, long, two_octets, fixed, string, strings, octets_of}
 use Rattle.zone_rdata.specs.Fields.Strings.{SpellEachString, FirstStringFault}
 use Rattle.zone_rdata.specs.Generic.{StatesGeneric}
 use Rattle.zone_rdata.specs.Item.{RawItem, bare, quoted}
 use Rattle.zone_rdata.specs.Layout.{layout}
-use Rattle.zone_rdata.specs.Spelling.{IsAddress, of_four, of_sixteen, IsCanonicalOf, SpellsField, SpellEach, States, StatesFor, in_words, in_octets, own_items, items_behind}
+use Rattle.zone_rdata.specs.Fields.Address.{IsAddress, of_four, of_sixteen}
+use Rattle.zone_rdata.specs.Spelling.{IsCanonicalOf, SpellEach, States, StatesFor, in_words, in_octets}
 use Rattle.zone_rdata.specs.Uncompressed.{IsUncompressed}
 use Rattle.zone_rdata.proofs.Addresses.{numbers_unique}
 use Rattle.zone_rdata.proofs.AddressGaps.{groups_unique}

@@ -1,5 +1,5 @@
 -- Items read from the left, field after field.
-use Rattle.std.proofs.Common.{◌≡◌, ◌≢◌, ℕ, ◌+◌, ◌-◌, ◌<◌, ◌≤◌, List, [], ◌∷◌, ◌++◌, length, get_or, take, drop, map, refl, sym, ap, ◌∙◌, subst, arith, append_assoc, Bor, Bool, IsTrue, ◌↔◌, inl, inr}
+use Rattle.std.proofs.Common.{◌≡◌, ℕ, ◌+◌, ◌-◌, ◌<◌, ◌≤◌, List, [], ◌∷◌, ◌++◌, length, get_or, take, drop, map, refl, sym, ap, ◌∙◌, subst, arith, append_assoc, Bor, Bool, IsTrue, ◌↔◌, inl, inr}
 use Rattle.std.specs.Str.{bytes_eq}
 use Rattle.std.proofs.lemmas.Slice.Eq.{bytes_eq-Decides}
 use Rattle.std.proofs.lemmas.List.{append-nil, length-drop, take_all, drop_more, drop_all, drop-drop}
@@ -8,11 +8,11 @@ use Rattle.zone_rdata.specs.declared.fault.Fault.TheVariants.{BadRdata, RdataToo
 use Rattle.zone_rdata.specs.declared.item.Item.{Item}
 use Rattle.zone_rdata.specs.declared.item.Item.TheVariants.{Bare}
 use Rattle.zone_rdata.specs.declared.field.Field.{Field}
-use Rattle.zone_rdata.specs.DataFault.{FirstFieldFault, IsFieldFault, IsWordsFault, unspelt, too_long}
-use Rattle.zone_rdata.specs.Field.{FieldValue, field_octets, octets_of}
+use Rattle.zone_rdata.specs.DataFault.{FirstFieldFault, IsWordsFault, unspelt, too_long}
+use Rattle.zone_rdata.specs.Field.{IsFieldFault, FieldValue, field_octets, octets_of, own_items}
 use Rattle.zone_rdata.specs.Item.{RawItem, bare, raw, generic_mark, IsGeneric}
-use Rattle.zone_rdata.specs.Reading.{AppendsField, AppendsFirst, AreSpelt}
-use Rattle.zone_rdata.specs.Spelling.{SpellsField, SpellEach, own_items, items_behind}
+use Rattle.zone_rdata.specs.Reading.{AppendsFirst, AreSpelt}
+use Rattle.zone_rdata.specs.Spelling.{SpellEach}
 
 -- some fields were read, and what the items that are left are for the other fields, all items are for all fields
 pub record HaveRead (origin : List (List ℕ)) (row : List Field) (items : List RawItem) (later : List Field) (left : List RawItem) (octets : List ℕ) : Type 0 where

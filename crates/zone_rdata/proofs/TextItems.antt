@@ -1,24 +1,25 @@
 -- The canonical text of data is its items, and they state that data.
-use Rattle.std.proofs.Common.{◌≡◌, ◌≢◌, ℕ, ◌^◌, ◌<◌, ◌≤◌, List, [], ◌∷◌, ◌++◌, length, get_or, drop, map, refl, sym, ap, ◌∙◌, subst, arith, append_assoc, length-append, Bool, true, false, Option, Some, None, ◌==◌, ◌⊎◌, inl, inr}
+use Rattle.std.proofs.Common.{◌≡◌, ◌≢◌, ℕ, ◌^◌, ◌<◌, ◌≤◌, List, [], ◌∷◌, ◌++◌, length, get_or, drop, map, refl, sym, ap, ◌∙◌, subst, arith, append_assoc, length-append, true, Option, Some, None, ◌==◌, ◌⊎◌, inl, inr}
 use Rattle.std.specs.Prelude.{decimal, if◌then◌else◌}
 use Rattle.std.specs.List.{flat_map, AllByRecursion, join_with_byte}
 use Rattle.std.proofs.lemmas.Bool.{false≢true}
 use Rattle.std.proofs.lemmas.List.{append-nil, length-map, map-append}
 use Rattle.std.proofs.lemmas.List.Concat.{flat_map-append}
-use Rattle.zone_name.specs.Name.{IsName, frame}
+use Rattle.zone_name.specs.Name.{IsName}
 use Rattle.zone_name.specs.Spelling.{Spells, is_digit}
 use Rattle.zone_name.specs.Text.{name_text, label_text, octet_text}
 use Rattle.zone_rdata.specs.declared.field.Field.{Field}
 use Rattle.zone_rdata.specs.declared.field.Field.TheVariants as fields
 use Rattle.zone_rdata.specs.Address.{IsAddressOctet, IsFourNumbers, IsGroups, four_text, groups_text}
-use Rattle.zone_rdata.specs.Field.{FieldValue, name, long, two_octets, fixed, string, strings, AreFixed, AreStrings, field_octets, octets_of, Holds, HoldEach, values_of}
-use Rattle.zone_rdata.specs.Fields.Strings.{SpellEachString}
+use Rattle.zone_rdata.specs.Field.{FieldValue, name, long, two_octets, fixed, string, strings, Holds, HoldEach, values_of, SpellsField}
+use Rattle.zone_rdata.specs.Fields.Address.{AreFixed, IsAddress, of_four, of_sixteen}
+use Rattle.zone_rdata.specs.Fields.Strings.{AreStrings, SpellEachString}
 use Rattle.zone_rdata.specs.Generic.{digit_items, generic_items}
 use Rattle.zone_rdata.specs.Item.{RawItem, bare, generic_mark, IsGeneric}
 use Rattle.zone_rdata.specs.Layout.{IsLayout, IsSized, StringsLast, layout}
 use Rattle.zone_rdata.specs.Number.{plain}
 use Rattle.zone_rdata.specs.Record.{Data, IsRdata}
-use Rattle.zone_rdata.specs.Spelling.{IsAddress, of_four, of_sixteen, SpellsField, SpellEach, States, StatesFor, in_words, in_octets}
+use Rattle.zone_rdata.specs.Spelling.{SpellEach, States, StatesFor, in_words, in_octets}
 use Rattle.zone_rdata.specs.Strings.{IsString, string_text}
 use Rattle.zone_rdata.specs.Text.{data_text, field_text, generic_text, laid_out_text}
 use Rattle.zone_rdata.specs.TextItems.{data_items, field_items, laid_out_items, string_item, written_item}

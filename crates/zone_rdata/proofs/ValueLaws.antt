@@ -46,3 +46,6 @@ pub equal_values : (class kind : ℕ) (row : List Field) (values others : List F
 equal_values class kind row values others e held other_held same =
     let last = (table_row class kind row e).last in
     sym (values_back row values last held) ∙ ap (values_of row) same ∙ values_back row others last other_held
+
+pub got_back : (class kind : ℕ) (row : List Field) (values : List FieldValue) → layout class kind ≡ Some row → HoldEach row values → values_of row (octets_of values) ≡ values
+got_back class kind row values e held = values_back row values (table_row class kind row e).last held

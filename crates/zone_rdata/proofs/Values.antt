@@ -9,12 +9,10 @@ use Rattle.zone_name.specs.Name.{frame, wire}
 use Rattle.zone_name.specs.Spelling.{Spells}
 use Rattle.zone_rdata.specs.declared.fault.Failing.{Failing}
 use Rattle.zone_rdata.specs.declared.fault.Fault.{Fault}
-use Rattle.zone_rdata.specs.declared.fault.Fault.TheVariants.{BadRdata}
 use Rattle.zone_rdata.specs.declared.item.Item.{Item}
 use Rattle.zone_rdata.specs.declared.field.Field.{Field}
 use Rattle.zone_rdata.specs.declared.field.Field.TheVariants as fields
-use Rattle.zone_rdata.specs.DataFault.{NoValue}
-use Rattle.zone_rdata.specs.Field.{FieldValue, name, long, two_octets, fixed, string, strings}
+use Rattle.zone_rdata.specs.Field.{name, long, two_octets, fixed, string, strings}
 use Rattle.zone_rdata.specs.Fields.Address.{IsAddress}
 use Rattle.zone_rdata.specs.Fields.Serial.{SpellsSerial}
 use Rattle.zone_rdata.specs.Fields.Strings.{SpellEachString, SpellsStrings, FirstStringFault, StringsFault}
@@ -22,8 +20,7 @@ use Rattle.zone_rdata.specs.Fields.Time.{SpellsTime}
 use Rattle.zone_rdata.specs.Fields.U16.{SpellsU16}
 use Rattle.zone_rdata.specs.Item.{RawItem, bare, raw}
 use Rattle.zone_rdata.specs.Reading.{Appends, AppendsField, AppendsFirst}
-use Rattle.zone_rdata.specs.Spelling.{own_items, items_behind}
-use Rattle.zone_rdata.specs.Strings.{AppendsString, SpellsString, StringFault}
+use Rattle.zone_rdata.specs.Strings.{AppendsString, StringFault}
 
 -- ---- one item
 

@@ -1,37 +1,14 @@
 -- The first fault of items that state no record data.
 use Rattle.std.specs.Prelude.{◌≡◌, ℕ, ◌<◌, List, [], ◌∷◌, length, Option, Some, None, ◌⊎◌}
 use Rattle.zone_rdata.specs.declared.fault.Fault.{Fault}
-use Rattle.zone_rdata.specs.declared.fault.Fault.TheVariants.{BadRdata, BadGeneric, BadNumber, RdataTooLong}
+use Rattle.zone_rdata.specs.declared.fault.Fault.TheVariants.{BadRdata, BadGeneric, RdataTooLong}
 use Rattle.zone_rdata.specs.declared.field.Field.{Field}
-use Rattle.zone_rdata.specs.declared.field.Field.TheVariants.{Name, Serial, Time, U16, Octets, OneString, Strings}
-use Rattle.zone_rdata.specs.Field.{FieldValue, octets_of}
-pub use Rattle.zone_rdata.specs.Fields.Name.{IsNameFault}
-use Rattle.zone_rdata.specs.Fields.Serial.{SpellsSerial}
-use Rattle.zone_rdata.specs.Fields.Strings.{StringsFault}
-use Rattle.zone_rdata.specs.Fields.Time.{SpellsTime}
-use Rattle.zone_rdata.specs.Fields.U16.{SpellsU16}
+use Rattle.zone_rdata.specs.Field.{FieldValue, IsFieldFault, SpellsField, octets_of, own_items, items_behind}
 use Rattle.zone_rdata.specs.Generic.{StatesGeneric, GenericFault}
-use Rattle.zone_rdata.specs.Item.{RawItem, bare, quoted, IsGeneric}
+use Rattle.zone_rdata.specs.Item.{RawItem, IsGeneric}
 use Rattle.zone_rdata.specs.Layout.{layout}
-use Rattle.zone_rdata.specs.Spelling.{IsAddress, SpellsField, SpellEach, own_items, items_behind}
-use Rattle.zone_rdata.specs.Strings.{StringFault}
+use Rattle.zone_rdata.specs.Spelling.{SpellEach}
 use Rattle.zone_rdata.specs.Uncompressed.{IsUncompressed}
-
--- the fault of a text that states no value
-abbrev pub NoValue : {V : Type 0} → Fault → (V → Type 0) → Fault → Type 0
-NoValue own Stated fault = (fault ≡ own) × ((value : _) → Stated value → ⊥)
-
--- why the items of a field spell no value of it: none is there, one is quoted that has to be bare, or its text
-abbrev pub IsFieldFault : List (List ℕ) → Field → List RawItem → Fault → Type 0
-IsFieldFault origin Strings items fault = StringsFault items fault
-IsFieldFault origin field [] fault = fault ≡ BadRdata
-IsFieldFault origin OneString (item ∷ items) fault = StringFault item fault
-IsFieldFault origin field (quoted text ∷ items) fault = fault ≡ BadRdata
-IsFieldFault origin Name (bare text ∷ items) fault = IsNameFault origin text fault
-IsFieldFault origin Serial (bare text ∷ items) fault = NoValue BadNumber (SpellsSerial text) fault
-IsFieldFault origin Time (bare text ∷ items) fault = NoValue BadNumber (SpellsTime text) fault
-IsFieldFault origin U16 (bare text ∷ items) fault = NoValue BadNumber (SpellsU16 text) fault
-IsFieldFault origin (Octets n) (bare text ∷ items) fault = NoValue BadRdata (IsAddress n text) fault
 
 -- The first fault of items from the left: the items of the next field spell no value of it, or behind the last field an
 -- item is left over

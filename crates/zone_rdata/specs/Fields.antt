@@ -4,4 +4,5 @@ pub mod Serial
 pub mod Time
 pub mod U16
 pub mod Address
+pub mod OneString
 pub mod Strings

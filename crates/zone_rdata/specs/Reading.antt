@@ -1,9 +1,9 @@
 -- Octets that grow while the items of record data are read.
 use Rattle.std.specs.Prelude.{◌≡◌, ℕ, List, ◌++◌}
 use Rattle.zone_rdata.specs.declared.field.Field.{Field}
-use Rattle.zone_rdata.specs.Field.{FieldValue, field_octets, octets_of}
+use Rattle.zone_rdata.specs.Field.{FieldValue, field_octets, octets_of, SpellsField, own_items, items_behind}
 use Rattle.zone_rdata.specs.Item.{RawItem}
-use Rattle.zone_rdata.specs.Spelling.{SpellsField, SpellEach, own_items, items_behind}
+use Rattle.zone_rdata.specs.Spelling.{SpellEach}
 
 -- the octets of a value that is stated are appended
 pub record Appends {V : Type 0} (Stated : V → Type 0) (octets : V → List ℕ) (old new : List ℕ) : Type 0 where

@@ -1,41 +1,11 @@
 -- The items of a master file that state record data (RFC 1035 5.1; RFC 3597 5).
-use Rattle.std.specs.Prelude.{◌≡◌, ℕ, ◌≤◌, List, [], ◌∷◌, length, take, drop, ⊤, Option, Some, None}
-use Rattle.zone_name.specs.Spelling.{Spells}
+use Rattle.std.specs.Prelude.{◌≡◌, ℕ, ◌≤◌, List, [], ◌∷◌, length, ⊤, Option, Some, None}
 use Rattle.zone_rdata.specs.declared.field.Field.{Field}
-use Rattle.zone_rdata.specs.declared.field.Field.TheVariants.{Name, Serial, Time, U16, Octets, OneString, Strings}
-use Rattle.zone_rdata.specs.Field.{FieldValue, name, long, two_octets, fixed, string, strings, octets_of}
-pub use Rattle.zone_rdata.specs.Fields.Address.{IsAddress, of_four, of_sixteen}
-use Rattle.zone_rdata.specs.Fields.Serial.{SpellsSerial}
-use Rattle.zone_rdata.specs.Fields.Strings.{SpellsStrings}
-use Rattle.zone_rdata.specs.Fields.Time.{SpellsTime}
-use Rattle.zone_rdata.specs.Fields.U16.{SpellsU16}
+use Rattle.zone_rdata.specs.Field.{FieldValue, SpellsField, octets_of, own_items, items_behind}
 use Rattle.zone_rdata.specs.Generic.{StatesGeneric}
 use Rattle.zone_rdata.specs.Layout.{layout}
-use Rattle.zone_rdata.specs.Strings.{SpellsString}
 use Rattle.zone_rdata.specs.Uncompressed.{IsUncompressed}
 pub use Rattle.zone_rdata.specs.Item.{RawItem, bare, quoted, raw, generic_mark, IsGeneric}
-
--- The items spell a value of a field: one bare item a name under the origin, a decimal number, a time or an address;
--- one item, bare or quoted, a string; one or more items strings, one each
-abbrev pub SpellsField : List (List ℕ) → Field → List RawItem → FieldValue → Type 0
-SpellsField origin Name (bare text ∷ []) (name labels) = Spells (Some origin) text labels
-SpellsField origin Serial (bare text ∷ []) (long n) = SpellsSerial text n
-SpellsField origin Time (bare text ∷ []) (long n) = SpellsTime text n
-SpellsField origin U16 (bare text ∷ []) (two_octets n) = SpellsU16 text n
-SpellsField origin (Octets n) (bare text ∷ []) (fixed octets) = IsAddress n text octets
-SpellsField origin OneString (item ∷ []) (string octets) = SpellsString item octets
-SpellsField origin Strings items (strings many) = SpellsStrings items many
-SpellsField origin field items value = ⊥
-
--- the items of a field, among those that are left: the first, but strings take all
-abbrev pub own_items : Field → List RawItem → List RawItem
-own_items Strings items = items
-own_items field items = take 1 items
-
--- the items behind them
-abbrev pub items_behind : Field → List RawItem → List RawItem
-items_behind Strings items = []
-items_behind field items = drop 1 items
 
 -- one value for each field, in order, and no item is left
 abbrev pub SpellEach : List (List ℕ) → List Field → List RawItem → List FieldValue → Type 0

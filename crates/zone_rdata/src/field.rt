@@ -1,13 +1,10 @@
 ghost use Rattle.std.specs.Prelude.{◌≡◌, ◌↔◌, ◌≤◌, ◌∷◌, [], Some, drop, length, map, IsTrue, IfOk, IfErr, OnOk};
-ghost use Rattle.zone_rdata.specs.Builder.{Suits, is_strings};
+ghost use Rattle.zone_rdata.specs.Field.{Suits, is_strings, IsFieldFault, field_at, own_items};
 ghost use Rattle.zone_rdata.specs.BuilderPart.{value_of};
-ghost use Rattle.zone_rdata.specs.DataFault.{IsFieldFault};
 ghost use Rattle.zone_rdata.specs.Fault.{IfFault};
-ghost use Rattle.zone_rdata.specs.Field.{field_at};
 ghost use Rattle.zone_rdata.specs.Item.{raw};
 ghost use Rattle.zone_rdata.specs.Minimum.{number_in};
 ghost use Rattle.zone_rdata.specs.Reading.{AppendsField, AppendsFirst};
-ghost use Rattle.zone_rdata.specs.Spelling.{own_items};
 ghost use Rattle.zone_rdata.specs.Text.{BeginsWithField, after_field};
 ghost use Rattle.zone_rdata.specs.Uncompressed.{AppendsValue, BeginsWithNone};
 

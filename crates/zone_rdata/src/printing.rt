@@ -1,6 +1,7 @@
 ghost use Rattle.std.specs.Prelude.{◌≡◌, ◌++◌, ◌<◌, [], length, map, IfOk, OnOk, OnErr, option_map, decimal, MatchOption, IfSome, Some, ◌⊎◌};
 ghost use Rattle.std.specs.List.{AllByRecursion, join_with_byte};
-ghost use Rattle.zone_rdata.specs.Field.{HoldsStrings, field_at, fixed, strings_of};
+ghost use Rattle.zone_rdata.specs.Field.{field_at, fixed};
+ghost use Rattle.zone_rdata.specs.Fields.Strings.{HoldsStrings, strings_of};
 ghost use Rattle.zone_rdata.specs.Layout.{AreLaidOut, IsSized, fields_of};
 ghost use Rattle.zone_rdata.specs.Strings.{string_text};
 ghost use Rattle.zone_rdata.specs.Text.{BeginsWithField, Extends, after_field, field_text, generic_head, generic_text, laid_out_text, spaced};

@@ -9,7 +9,8 @@ use Rattle.zone_rdata.specs.Field.{FieldValue, name, long, fixed, octets_of}
 use Rattle.zone_rdata.specs.Minimum.{minimum}
 use Rattle.zone_rdata.specs.Number.{IsTime, IsDecimal, decimal_value, plain}
 use Rattle.zone_rdata.specs.Record.{IsRecord}
-use Rattle.zone_rdata.specs.Spelling.{RawItem, bare, States, in_words, of_four}
+use Rattle.zone_rdata.specs.Fields.Address.{of_four}
+use Rattle.zone_rdata.specs.Spelling.{RawItem, bare, States, in_words}
 use Rattle.zone_rdata.specs.Words.{IsKind, IsKindWord, kind_named}
 use Rattle.zone_text.specs.Entries.{Entry}
 use Rattle.zone_text.specs.Forms.{parts_of, form_of, Word}

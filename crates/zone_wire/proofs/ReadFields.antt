@@ -8,7 +8,9 @@ use Rattle.std.proofs.lemmas.Bool.{and_parts, leb-true, ltb-true, eqb-true}
 use Rattle.std.proofs.lemmas.List.{take_all, length-take, length-take-le, length-drop}
 use Rattle.std.proofs.lemmas.Nat.{be_bytes_2, be_bytes_4}
 use Rattle.zone_name.specs.Name.{frame}
-use Rattle.zone_rdata.specs.Field.{FieldValue, string_at, strings_by, strings_of, octets_of, Holds, HoldEach, field_at}
+use Rattle.zone_rdata.specs.Field.{FieldValue, octets_of, Holds, HoldEach, field_at}
+use Rattle.zone_rdata.specs.Fields.OneString.{string_at}
+use Rattle.zone_rdata.specs.Fields.Strings.{strings_by, strings_of}
 use Rattle.zone_rdata.specs.Layout.{layout}
 use Rattle.zone_rdata.specs.Strings.{IsString}
 use Rattle.zone_rdata.specs.declared.fault.Fault.{Fault}

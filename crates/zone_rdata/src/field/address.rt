@@ -1,6 +1,5 @@
 ghost use Rattle.std.specs.Prelude.{IfErr, OnOk};
-ghost use Rattle.zone_rdata.specs.DataFault.{NoValue};
-ghost use Rattle.zone_rdata.specs.Fault.{IfFault};
+ghost use Rattle.zone_rdata.specs.Fault.{NoValue, IfFault};
 ghost use Rattle.zone_rdata.specs.Fields.Address.{IsAddress};
 ghost use Rattle.zone_rdata.specs.Reading.{Appends};
 

@@ -2,9 +2,9 @@ ghost use Rattle.std.specs.Prelude.{◌≡◌, ◌<◌, ℕ, List, Some, drop, l
 ghost use Rattle.zone_name.specs.Name.{BeginsWithName, labels_of, wire};
 ghost use Rattle.zone_name.specs.Spelling.{Spells};
 ghost use Rattle.zone_rdata.specs.Fault.{IfFault};
-ghost use Rattle.zone_rdata.specs.Fields.Name.{IsNameFault};
+ghost use Rattle.zone_rdata.specs.Fields.Name.{IsNameFault, BeginsWithSent};
 ghost use Rattle.zone_rdata.specs.Reading.{Appends};
-ghost use Rattle.zone_rdata.specs.Uncompressed.{AppendsValue, BeginsWithNone, BeginsWithSent};
+ghost use Rattle.zone_rdata.specs.Uncompressed.{AppendsValue, BeginsWithNone};
 
 use super::Field;
 use crate::fault::{Failing, Fault};

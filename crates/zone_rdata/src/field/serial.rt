@@ -1,7 +1,6 @@
 ghost use Rattle.std.specs.Prelude.{◌≡◌, ◌≤◌, drop, length, take, IfErr, OnOk};
 ghost use Rattle.std.specs.Int.{w32, from_be_bytes, to_be_bytes};
-ghost use Rattle.zone_rdata.specs.DataFault.{NoValue};
-ghost use Rattle.zone_rdata.specs.Fault.{IfFault};
+ghost use Rattle.zone_rdata.specs.Fault.{NoValue, IfFault};
 ghost use Rattle.zone_rdata.specs.Fields.Serial.{SpellsSerial};
 ghost use Rattle.zone_rdata.specs.Reading.{Appends};
 

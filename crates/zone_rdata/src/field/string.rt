@@ -1,7 +1,7 @@
 ghost use Rattle.std.specs.Prelude.{◌≡◌, ◌<◌, ◌≤◌, drop, length, IfOk, IfErr};
 ghost use Rattle.zone_name.specs.Name.{frame};
 ghost use Rattle.zone_rdata.specs.Fault.{IfFault};
-ghost use Rattle.zone_rdata.specs.Field.{BeginsWithString, string_at};
+ghost use Rattle.zone_rdata.specs.Fields.OneString.{BeginsWithString, string_at};
 ghost use Rattle.zone_rdata.specs.Uncompressed.{AppendsValue, BeginsWithNone};
 
 use super::Field;

@@ -2,10 +2,10 @@ ghost use Rattle.std.specs.Prelude.{◌≡◌, ◌↔◌, ◌<◌, map, IsTrue, 
 ghost use Rattle.std.specs.List.{flat_map};
 ghost use Rattle.zone_name.specs.Name.{frame};
 ghost use Rattle.zone_rdata.specs.Fault.{IfFault};
-ghost use Rattle.zone_rdata.specs.Fields.Strings.{SpellsStrings, StringsFault};
+ghost use Rattle.zone_rdata.specs.Fields.Strings.{SpellsStrings, StringsFault, AreFramed};
 ghost use Rattle.zone_rdata.specs.Item.{raw};
 ghost use Rattle.zone_rdata.specs.Reading.{Appends};
-ghost use Rattle.zone_rdata.specs.Uncompressed.{AppendsValue, AreFramed, BeginsWithNone};
+ghost use Rattle.zone_rdata.specs.Uncompressed.{AppendsValue, BeginsWithNone};
 
 use super::Field;
 use super::front::push_front;

@@ -1,7 +1,7 @@
 use Rattle.std.proofs.Common.{subst}
 use Rattle.std.specs.Prelude.{IfSome}
 use Rattle.zone_rdata.specs.Address.{IsFourNumbers, IsGroups}
-use Rattle.zone_rdata.specs.Spelling.{of_four, of_sixteen}
+use Rattle.zone_rdata.specs.Fields.Address.{of_four, of_sixteen}
 use Rattle.zone_rdata.proofs.AddressFields.{four_missing, sixteen_missing}
 use Rattle.zone_rdata.proofs.Failings.{fault_answered}
 use Rattle.zone_rdata.proofs.field.address.push_address.Goals as goal

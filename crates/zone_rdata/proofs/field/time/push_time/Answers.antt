@@ -1,4 +1,4 @@
-use Rattle.std.proofs.Common.{◌∙◌, ap, ◌++◌, refl, arith}
+use Rattle.std.proofs.Common.{◌∙◌, ap, ◌++◌, arith}
 use Rattle.zone_rdata.specs.Number.{IsTime}
 use Rattle.zone_rdata.proofs.Failings.{fault_answered}
 use Rattle.zone_rdata.proofs.TimeLaws.{one_time}
