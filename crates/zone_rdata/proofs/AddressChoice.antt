@@ -7,7 +7,7 @@ use Rattle.hex.specs.declared.error.FromHexError.{FromHexError}
 use Rattle.zone_rdata.specs.Address.{IsOctetNumber, AreNumbers, IsFourNumbers, Part, IsGroup, IsLastPart, AreParts, parts_text, parts_octets, ArePartsOf, AreAround, IsGroups, eight}
 use Rattle.zone_rdata.specs.Machine.AddressReading.{Lacks, IsCut, HasGapAt}
 use Rattle.zone_rdata.specs.Number.{IsDecimal}
-use Rattle.zone_rdata.specs.Spelling.{IsAddress, of_four, of_sixteen}
+use Rattle.zone_rdata.specs.Fields.Address.{IsAddress, of_four, of_sixteen}
 use Rattle.zone_rdata.proofs.Addresses.{numbers_one, numbers_more, numbers_none, number_refused, rest_refused, last_refused, lacks_push}
 use Rattle.zone_rdata.proofs.AddressParts.{AreSomeParts, parts_cut, only_part, text_some, no_parts, parts_unique}
 use Rattle.zone_rdata.proofs.AddressGaps.{IsFirstGap, refused_without_gap, refused_at_gap, found_at_gap}

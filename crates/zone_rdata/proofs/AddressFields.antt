@@ -5,8 +5,7 @@ use Rattle.std.specs.Option.{ok_or}
 use Rattle.zone_rdata.specs.declared.fault.Fault.{Fault}
 use Rattle.zone_rdata.specs.declared.fault.Fault.TheVariants.{BadRdata}
 use Rattle.zone_rdata.specs.Address.{IsFourNumbers, IsGroups}
-use Rattle.zone_rdata.specs.Field.{AreFixed}
-use Rattle.zone_rdata.specs.Spelling.{IsAddress, of_four, of_sixteen}
+use Rattle.zone_rdata.specs.Fields.Address.{AreFixed, IsAddress, of_four, of_sixteen}
 use Rattle.zone_rdata.proofs.AddressOctets.{four_count, four_bytes, sixteen_count, sixteen_bytes}
 
 -- an address of n octets has n octets

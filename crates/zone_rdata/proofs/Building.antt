@@ -1,21 +1,31 @@
 -- Data that is made part by part.
-use Rattle.std.proofs.Common.{◌≡◌, ◌≢◌, ℕ, zero, suc, ◌+◌, ◌<◌, ◌≤◌, Bool, true, false, IsTrue, ◌↔◌, List, [], ◌∷◌, ◌++◌, length, Option, Some, None, refl, sym, ap, ◌∙◌, subst, arith, add-one, length-append}
+use Rattle.std.proofs.Common.{◌≡◌, ◌≢◌, ℕ, zero, suc, ◌+◌, ◌-◌, ◌<◌, ◌≤◌, Bool, true, false, IsTrue, ◌↔◌, List, [], ◌∷◌, ◌++◌, length, get_or, Option, Some, None, refl, sym, ap, ◌∙◌, subst, arith, add-one, length-append}
 use Rattle.std.specs.List.{flat_map, AllByRecursion}
 use Rattle.std.proofs.lemmas.List.{append-nil}
 use Rattle.std.proofs.lemmas.List.Concat.{flat_map-append}
 use Rattle.zone_name.specs.Name.{frame}
 use Rattle.zone_rdata.specs.declared.fault.Fault.{Fault}
 use Rattle.zone_rdata.specs.declared.fault.Fault.TheVariants.{BadRdata}
-use Rattle.zone_rdata.specs.declared.layout.Field.{Field}
-use Rattle.zone_rdata.specs.declared.layout.Field.TheVariants as fields
-use Rattle.zone_rdata.specs.Builder.{Built, Suits, IsOpaque, IsNext, FitsString, Pushes, IsPushFault, misplaced, long_string, too_long, IsWhole, part_field, more_fields, part_fields, parts_of, ArePushedParts, IsBuilt, IsReal, IsOver, over_string, over_data, Grows, least_of}
-use Rattle.zone_rdata.specs.Field.{FieldValue, name, long, two_octets, fixed, string, strings, field_octets, octets_of, Holds, HoldEach, values_of}
+use Rattle.zone_rdata.specs.declared.field.Field.{Field}
+use Rattle.zone_rdata.specs.declared.field.Field.TheVariants as fields
+use Rattle.zone_rdata.specs.Builder.{Built, IsOpaque, IsNext, FitsString, Pushes, IsPushFault, misplaced, long_string, too_long, IsWhole, part_field, more_fields, part_fields, parts_of, ArePushedParts, IsBuilt, IsReal, IsOver, over_string, over_data, Grows, least_of, ends_with_strings, part_at}
+use Rattle.zone_rdata.specs.Field.{Suits, is_strings, FieldValue, name, long, two_octets, fixed, string, strings, field_octets, octets_of, Holds, HoldEach, values_of}
 use Rattle.zone_rdata.specs.Layout.{AreLaidOut, StringsLast, layout}
-use Rattle.zone_rdata.specs.Reading.{item_field}
 use Rattle.zone_rdata.specs.Strings.{IsString}
 use Rattle.zone_rdata.specs.Record.{Data, IsRdata}
 use Rattle.zone_rdata.proofs.Fields.{AreFor, laid_out, values_back}
 use Rattle.zone_rdata.proofs.Tables.{table_row}
+
+-- ---- the fields of parts
+
+-- the last field says whether strings stand last
+pub ends_at : (row : List Field) (d : Field) → 0 < length row → ends_with_strings row ≡ is_strings (get_or row (length row - 1) d)
+ends_at [] d some = absurd (omega arith)
+ends_at (f ∷ []) d some = refl
+ends_at (f ∷ g ∷ row) d some =
+    let here : length (f ∷ g ∷ row) - 1 ≡ suc (length row) = omega arith in
+    let there : length (g ∷ row) - 1 ≡ length row = omega arith in
+    ends_at (g ∷ row) d (omega arith) ∙ ap (λ i. is_strings (get_or (g ∷ row) i d)) there ∙ sym (ap (λ i. is_strings (get_or (f ∷ g ∷ row) i d)) here)
 
 -- ---- the parts that are held
 length-values_of : (row : List Field) (octets : List ℕ) → length (values_of row octets) ≡ length row
@@ -63,13 +73,13 @@ more_push : (n : ℕ) → more_fields fields.Strings (suc n) ≡ more_fields fie
 more_push zero = refl
 more_push (suc n) = ap (λ r. fields.OneString ∷ r) (more_push n)
 
-last_push : (f g : Field) (n : ℕ) → item_field (f ∷ []) n ≡ Some g → part_fields (f ∷ []) (suc n) ≡ part_fields (f ∷ []) n ++ part_field g ∷ []
+last_push : (f g : Field) (n : ℕ) → part_at (f ∷ []) n ≡ Some g → part_fields (f ∷ []) (suc n) ≡ part_fields (f ∷ []) n ++ part_field g ∷ []
 last_push fields.Strings g zero e = ap (λ h. part_field h ∷ []) (let s : fields.Strings ≡ g = cc in s)
 last_push fields.Strings g (suc n) e = ap (λ r. fields.OneString ∷ r) (more_push n) ∙ ap (λ h. fields.OneString ∷ (more_fields fields.Strings n ++ part_field h ∷ [])) (let s : fields.Strings ≡ g = cc in s)
 last_push f g zero e = ap (λ h. part_field h ∷ []) (let s : f ≡ g = cc in s)
 last_push f g (suc n) e = absurd (let s : None ≡ Some g = e in cc)
 
-fields_push : (row : List Field) (f : Field) (n : ℕ) → item_field row n ≡ Some f → part_fields row (suc n) ≡ part_fields row n ++ part_field f ∷ []
+fields_push : (row : List Field) (f : Field) (n : ℕ) → part_at row n ≡ Some f → part_fields row (suc n) ≡ part_fields row n ++ part_field f ∷ []
 fields_push [] f n e = absurd (let s : None ≡ Some f = e in cc)
 fields_push (g ∷ []) f n e = last_push g f n e
 fields_push (g ∷ h ∷ row) f zero e = ap (λ k. part_field k ∷ []) (let s : g ≡ f = cc in s)
@@ -111,7 +121,7 @@ pub record Pushed (laid : Option (List Field)) (count : ℕ) (octets : List ℕ)
   pub made : parts_of laid (suc count) (octets ++ field_octets part) ≡ parts_of laid count octets ++ part ∷ []
   pub few : count ≤ length octets + 1 → suc count ≤ length (octets ++ field_octets part) + 1
 
-pushed_field : (row : List Field) (f : Field) (count : ℕ) (octets : List ℕ) (part : FieldValue) → ArePushedParts (Some row) count octets → item_field row count ≡ Some f → Holds (part_field f) part → 0 < length (field_octets part) → Pushed (Some row) count octets part
+pushed_field : (row : List Field) (f : Field) (count : ℕ) (octets : List ℕ) (part : FieldValue) → ArePushedParts (Some row) count octets → part_at row count ≡ Some f → Holds (part_field f) part → 0 < length (field_octets part) → Pushed (Some row) count octets part
 pushed_field row f count octets part held e holds some =
     let here = part_fields row count in
     let values = values_of here octets in
@@ -132,7 +142,7 @@ pushed_opaque count octets part held s = absurd s
 pub pushed_part : (laid : Option (List Field)) (count : ℕ) (octets : List ℕ) (part : FieldValue) → ArePushedParts laid count octets → IsNext laid count part → FitsString part → IsReal part → Pushed laid count octets part
 pushed_part None count octets part held next fits real = pushed_opaque count octets part held next
 pushed_part (Some row) count octets part held next fits real =
-    let f = some_field (item_field row count) part next in
+    let f = some_field (part_at row count) part next in
     pushed_field row f.0 count octets part held f.1 (holds_part f.0 part f.2 fits real) (some_octets f.0 part f.2)
 
 -- ---- all parts

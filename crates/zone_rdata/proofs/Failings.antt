@@ -1,5 +1,5 @@
 -- A fault that is passed on, and one that is not.
-use Rattle.std.proofs.Common.{◌≡◌, Result, Ok, Err, sym, subst}
+use Rattle.std.proofs.Common.{◌≡◌, Result, Ok, Err, refl, sym, subst}
 use Rattle.std.specs.Prelude.{IfErr, IsErrAnd}
 use Rattle.std.proofs.lemmas.Result.{err_from_is_err_and}
 use Rattle.zone_rdata.specs.declared.fault.Fault.{Fault}
@@ -42,3 +42,11 @@ if_fault_passed r e P Q is goes h =
 -- the answer of a `?` on a fault
 pub fault_answered : {T : Type 0} (r : Result T Failing) (found : Fault) (P : Fault → Type 0) → IsErrAnd r (λ e. e ≡ failings.Fault found) → P found → IfErr r (IfFault P)
 fault_answered r found P is holds = if_fault_passed r (failings.Fault found) P P is (λ fault h. h) holds
+
+abbrev stopped : Failing → Result (Unit {0}) Failing
+stopped e = Err e
+
+-- likewise where the callee says what each fault is that it answers
+pub each_fault_passed : {T : Type 0} (r : Result T Failing) (e : Failing) (P Q : Fault → Type 0) → IsErrAnd r (λ y. y ≡ e) → ((fault : Fault) → P fault → Q fault) → ((fault : Fault) → stopped e ≡ Err (failings.Fault fault) → P fault) → IfErr r (IfFault Q)
+each_fault_passed r (failings.Fault own) P Q is goes h = if_fault_passed r (failings.Fault own) P Q is goes (h own refl)
+each_fault_passed r failings.Memory P Q is goes h = if_fault_passed r failings.Memory P Q is goes tt

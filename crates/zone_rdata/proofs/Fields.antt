@@ -1,26 +1,25 @@
 -- Octets of the values of a layout hold those values.
-use Rattle.std.proofs.Common.{◌≡◌, ℕ, ◌^◌, ◌<◌, ◌≤◌, List, [], ◌∷◌, ◌++◌, length, take, drop, map, refl, sym, ap, ◌∙◌, subst, arith, length-append, Bool, true, false, Option, Some, None}
+use Rattle.std.proofs.Common.{◌≡◌, ◌≢◌, ℕ, suc, ◌^◌, ◌<◌, ◌≤◌, List, [], ◌∷◌, ◌++◌, length, take, drop, map, refl, sym, ap, ◌∙◌, subst, arith, length-append, Bool, true, false, Option, Some, None}
 use Rattle.std.specs.Prelude.{if◌then◌else◌, MatchOption}
 use Rattle.std.specs.Int.{w16, w32, to_be_bytes, from_be_bytes}
 use Rattle.std.specs.List.{flat_map, AllByRecursion}
 use Rattle.std.proofs.lemmas.List.{take_at, drop_at, append-nil}
-use Rattle.std.proofs.lemmas.List.Concat.{flat_map-append}
 use Rattle.std.proofs.lemmas.Nat.{from_be_bytes-to_be_bytes_2, from_be_bytes-to_be_bytes_4}
 use Rattle.zone_name.specs.Name.{frame}
-use Rattle.zone_rdata.specs.declared.layout.Field.{Field}
-use Rattle.zone_rdata.specs.declared.layout.Field.TheVariants as fields
-use Rattle.zone_rdata.specs.Field.{FieldValue, name, long, two_octets, fixed, string, strings, AreStrings, field_octets, octets_of, Holds, HoldEach, field_at, strings_of, values_of}
+use Rattle.zone_rdata.specs.declared.field.Field.{Field}
+use Rattle.zone_rdata.specs.declared.field.Field.TheVariants as fields
+use Rattle.zone_rdata.specs.Field.{FieldValue, name, long, two_octets, fixed, string, strings, field_octets, octets_of, Holds, HoldEach, field_at, values_of, SpellsField, own_items, items_behind}
+use Rattle.zone_rdata.specs.Fields.Strings.{strings_of, SpellEachString}
 use Rattle.zone_rdata.specs.Layout.{AreLaidOut, IsData, IsLayout, StringsLast, layout}
 use Rattle.zone_rdata.specs.Reading.{AreSpelt}
 use Rattle.zone_rdata.specs.Item.{RawItem, bare}
-use Rattle.zone_rdata.specs.Spelling.{IsCanonicalOf, SpellsField, SpellEach, States, StatesFor, ends_with_strings, item_fields, in_words, in_octets}
+use Rattle.zone_rdata.specs.Spelling.{IsCanonicalOf, SpellEach, States, StatesFor, in_words, in_octets}
 use Rattle.zone_rdata.specs.DataFault.{IsDataFault, IsFaultFor}
 use Rattle.zone_rdata.specs.Generic.{StatesGeneric}
 use Rattle.zone_rdata.specs.declared.fault.Fault.{Fault}
 use Rattle.zone_rdata.specs.Strings.{IsString}
 use Rattle.zone_rdata.proofs.AddressFields.{address_fixed}
 use Rattle.zone_rdata.proofs.StringFields.{strings_back}
-use Rattle.zone_rdata.proofs.StringSteps.{AllByRecursion-append}
 use Rattle.zone_rdata.proofs.Names.{name_back}
 use Rattle.zone_rdata.proofs.SentLengths.{uncompressed_length}
 use Rattle.zone_rdata.proofs.Tables.{table_row}
@@ -61,74 +60,36 @@ laid_out row values last h =
     let back : values_of row (octets_of values) ≡ values = values_back row values last h in
     record { held = subst (HoldEach row) (sym back) h; whole = ap octets_of back }
 
--- what an item spells for a field, the field can hold
-spelt_holds : (origin : List (List ℕ)) (f : Field) (item : RawItem) (v : FieldValue) → SpellsField origin f item v → Holds f v
-spelt_holds origin fields.Name (bare text) (name labels) h = h.name
-spelt_holds origin fields.Serial (bare text) (long n) h = h.1
-spelt_holds origin fields.Time (bare text) (long n) h = h.1
-spelt_holds origin fields.U16 (bare text) (two_octets n) h = h.1
-spelt_holds origin (fields.Octets n) (bare text) (fixed octets) h = address_fixed n text octets h
-spelt_holds origin fields.OneString item (string octets) h = h.string
-spelt_holds origin fields.Strings item (strings (octets ∷ [])) h = record { some = omega arith; each = (h.string, tt) }
-spelt_holds origin f item v h = absurd h
+strings_spelt : (items : List RawItem) (many : List (List ℕ)) → SpellEachString items many → AllByRecursion IsString many × (length many ≡ length items)
+strings_spelt [] [] h = (tt, refl)
+strings_spelt [] (octets ∷ many) h = absurd h
+strings_spelt (item ∷ items) [] h = absurd h
+strings_spelt (item ∷ items) (octets ∷ many) h = let rest = strings_spelt items many h.1 in ((h.0.string, rest.0), ap suc rest.1)
+
+-- what items spell for a field, the field can hold
+spelt_holds : (origin : List (List ℕ)) (f : Field) (items : List RawItem) (v : FieldValue) → SpellsField origin f items v → Holds f v
+spelt_holds origin fields.Name (bare text ∷ []) (name labels) h = h.name
+spelt_holds origin fields.Serial (bare text ∷ []) (long n) h = h.1
+spelt_holds origin fields.Time (bare text ∷ []) (long n) h = h.1
+spelt_holds origin fields.U16 (bare text ∷ []) (two_octets n) h = h.1
+spelt_holds origin (fields.Octets n) (bare text ∷ []) (fixed octets) h = address_fixed n text octets h
+spelt_holds origin fields.OneString (item ∷ []) (string octets) h = h.string
+spelt_holds origin fields.Strings items (strings many) h =
+    let each = strings_spelt items many h.each in
+    record { some = omega (arith, h.some, each.1); each = each.0 }
+spelt_holds origin f items v h = absurd h
 
 pub spelt_hold : (origin : List (List ℕ)) (row : List Field) (items : List RawItem) (values : List FieldValue) → SpellEach origin row items values → HoldEach row values
 spelt_hold origin [] [] [] h = tt
 spelt_hold origin [] [] (v ∷ values) h = absurd h
 spelt_hold origin [] (i ∷ items) values h = absurd h
-spelt_hold origin (f ∷ row) [] values h = absurd h
-spelt_hold origin (f ∷ row) (i ∷ items) [] h = absurd h
-spelt_hold origin (f ∷ row) (i ∷ items) (v ∷ values) h = (spelt_holds origin f i v h.0, spelt_hold origin row items values h.1)
-
--- values that one field of strings and more of them hold, as the value of one field
-record OneOfStrings (values : List FieldValue) : Type 0 where
-  pub many : List (List ℕ)
-  pub are : AreStrings many
-  pub same : flat_map frame many ≡ octets_of values
-
-join_strings : (items : List RawItem) (values : List FieldValue) → HoldEach (fields.Strings ∷ map (λ _. fields.Strings) items) values → OneOfStrings values
-join_strings [] (strings many ∷ []) h = record { many = many; are = h.0; same = sym (append-nil (flat_map frame many)) }
-join_strings (item ∷ items) (strings many ∷ values) h =
-    let rest = join_strings items values h.1 in
-    record {
-      many = many ++ rest.many;
-      are = record { some = let s : 0 < length many = h.0.some in omega (arith, length-append many rest.many); each = AllByRecursion-append IsString many rest.many h.0.each rest.are.each };
-      same = flat_map-append frame many rest.many ∙ ap (λ o. flat_map frame many ++ o) rest.same;
-    }
-join_strings [] [] h = absurd h
-join_strings [] (strings many ∷ v ∷ values) h = absurd h.1
-join_strings (item ∷ items) [] h = absurd h
-join_strings items (v ∷ values) h = absurd h.0
-
--- the values that the items of a row spell, as one value for each field of the layout
-record OneEach (row : List Field) (values : List FieldValue) : Type 0 where
-  pub own : List FieldValue
-  pub held : HoldEach row own
-  pub same : octets_of own ≡ octets_of values
-
-split_strings : (row : List Field) (more : List RawItem) (values : List FieldValue) → ends_with_strings row ≡ true → HoldEach (row ++ map (λ _. fields.Strings) more) values → OneEach row values
-split_strings [] more values ends h = absurd cc
-split_strings (fields.Strings ∷ []) more values ends h =
-    let one = join_strings more values h in
-    record { own = strings one.many ∷ []; held = (one.are, tt); same = append-nil (flat_map frame one.many) ∙ one.same }
-split_strings (f ∷ []) more values ends h = absurd cc
-split_strings (f ∷ g ∷ row) more [] ends h = absurd h
-split_strings (f ∷ g ∷ row) more (v ∷ values) ends h =
-    let rest = split_strings (g ∷ row) more values ends h.1 in
-    record { own = v ∷ rest.own; held = (h.0, rest.held); same = ap (λ o. field_octets v ++ o) rest.same }
-
-one_each_by : (b : Bool) (row : List Field) (items : List RawItem) (values : List FieldValue) → ends_with_strings row ≡ b → HoldEach (if b then row ++ map (λ _. fields.Strings) (drop (length row) items) else row) values → OneEach row values
-one_each_by true row items values ends h = split_strings row (drop (length row) items) values ends h
-one_each_by false row items values ends h = record { own = values; held = h; same = refl }
-
-one_each : (row : List Field) (items : List RawItem) (values : List FieldValue) → HoldEach (item_fields row items) values → OneEach row values
-one_each row items values h = one_each_by (ends_with_strings row) row items values refl h
+spelt_hold origin (f ∷ row) items [] h = absurd h
+spelt_hold origin (f ∷ row) items (v ∷ values) h = (spelt_holds origin f (own_items f items) v h.0, spelt_hold origin row (items_behind f items) values h.1)
 
 -- octets that items spell for a layout are one value of it
-spelt_laid : (origin : List (List ℕ)) (row : List Field) (items : List RawItem) (octets : List ℕ) → StringsLast row → AreSpelt origin (item_fields row items) items octets → AreLaidOut row octets
+spelt_laid : (origin : List (List ℕ)) (row : List Field) (items : List RawItem) (octets : List ℕ) → StringsLast row → AreSpelt origin row items octets → AreLaidOut row octets
 spelt_laid origin row items octets last spelt =
-    let one = one_each row items spelt.values (spelt_hold origin (item_fields row items) items spelt.values spelt.spelt) in
-    subst (AreLaidOut row) (one.same ∙ sym spelt.written) (laid_out row one.own last one.held)
+    subst (AreLaidOut row) (sym spelt.written) (laid_out row spelt.values last (spelt_hold origin row items spelt.values spelt.spelt))
 
 -- data for a layout, if there is one: octets that are one value
 abbrev pub AreFor : Option (List Field) → List ℕ → Type 0

@@ -5,7 +5,7 @@ use Rattle.zone_rdata.specs.declared.fault.Failing.TheVariants as failings
 use Rattle.zone_rdata.specs.declared.fault.Failing.{Failing}
 use Rattle.zone_rdata.specs.declared.fault.Fault.{Fault}
 use Rattle.zone_rdata.specs.declared.fault.Fault.TheVariants.{BadRdata, BadGeneric}
-use Rattle.zone_rdata.specs.declared.layout.Field.{Field}
+use Rattle.zone_rdata.specs.declared.field.Field.{Field}
 use Rattle.zone_rdata.specs.declared.layout.Layout.{Layout}
 use Rattle.zone_rdata.specs.DataFault.{IsFaultFor, IsFormFault, IsWordsFault, no_value, in_form, opaque_words}
 use Rattle.zone_rdata.specs.DataFault as faults
@@ -14,7 +14,7 @@ use Rattle.zone_rdata.specs.Generic.{StatesGeneric}
 use Rattle.zone_rdata.specs.Item.{RawItem, IsGeneric}
 use Rattle.zone_rdata.specs.Layout.{fields_of}
 use Rattle.zone_rdata.specs.Reading.{AreSpelt}
-use Rattle.zone_rdata.specs.Spelling.{IsCanonicalOf, StatesFor, in_words, in_octets, item_fields}
+use Rattle.zone_rdata.specs.Spelling.{IsCanonicalOf, StatesFor, in_words, in_octets}
 use Rattle.zone_rdata.specs.Uncompressed.{IsUncompressed}
 use Rattle.zone_rdata.proofs.Faults.{fault_more}
 
@@ -35,10 +35,10 @@ not_marked : (items : List RawItem) (b : Bool) → b ≡ false → (IsTrue b ↔
 not_marked items b plain_items test g = let marked = test.1 g in cc (sym plain_items ∙ marked)
 
 -- items in words
-pub words_found : (origin : List (List ℕ)) (laid : Option Layout) (own : Layout) (items : List RawItem) (b : Bool) (octets : List ℕ) → laid ≡ Some own → b ≡ false → (IsTrue b ↔ IsGeneric items) → AreSpelt origin (item_fields (fields_of own) items) items octets → length octets ≤ 65535 → StatesFor origin (option_map fields_of laid) items octets
+pub words_found : (origin : List (List ℕ)) (laid : Option Layout) (own : Layout) (items : List RawItem) (b : Bool) (octets : List ℕ) → laid ≡ Some own → b ≡ false → (IsTrue b ↔ IsGeneric items) → AreSpelt origin (fields_of own) items octets → length octets ≤ 65535 → StatesFor origin (option_map fields_of laid) items octets
 words_found origin laid own items b octets e plain_items test spelt short = in_words (fields_of own) spelt.values (ap (option_map fields_of) e) (not_marked items b plain_items test) spelt.spelt spelt.written short
 
-pub words_fault : (origin : List (List ℕ)) (laid : Option Layout) (own : Layout) (items : List RawItem) (b : Bool) (fault : Fault) → laid ≡ Some own → b ≡ false → (IsTrue b ↔ IsGeneric items) → IsWordsFault origin (item_fields (fields_of own) items) items fault → IsFaultFor origin (option_map fields_of laid) items fault
+pub words_fault : (origin : List (List ℕ)) (laid : Option Layout) (own : Layout) (items : List RawItem) (b : Bool) (fault : Fault) → laid ≡ Some own → b ≡ false → (IsTrue b ↔ IsGeneric items) → IsWordsFault origin (fields_of own) items fault → IsFaultFor origin (option_map fields_of laid) items fault
 words_fault origin laid own items b fault e plain_items test bad = faults.in_words (fields_of own) fault (ap (option_map fields_of) e) (not_marked items b plain_items test) bad
 
 pub opaque_fault : (origin : List (List ℕ)) (laid : Option Layout) (items : List RawItem) (b : Bool) → laid ≡ None → b ≡ false → (IsTrue b ↔ IsGeneric items) → IsFaultFor origin (option_map fields_of laid) items BadGeneric

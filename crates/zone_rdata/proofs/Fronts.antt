@@ -5,11 +5,13 @@ use Rattle.std.specs.List.{flat_map, AllByRecursion}
 use Rattle.std.proofs.lemmas.List.{append-nil, append_cancel_left, take_all, drop_all, take-append-drop, length-take}
 use Rattle.std.proofs.lemmas.Nat.{be_bytes_2, be_bytes_4}
 use Rattle.zone_name.specs.Name.{frame, wire}
-use Rattle.zone_rdata.specs.declared.layout.Field.{Field}
-use Rattle.zone_rdata.specs.declared.layout.Field.TheVariants as fields
-use Rattle.zone_rdata.specs.Field.{FieldValue, name, long, two_octets, fixed, string, strings, field_octets, Holds, field_at}
+use Rattle.zone_rdata.specs.declared.field.Field.{Field}
+use Rattle.zone_rdata.specs.declared.field.Field.TheVariants as fields
+use Rattle.zone_rdata.specs.Field.{FieldValue, name, long, two_octets, fixed, string, strings, field_octets, Holds, field_at, IsSent}
 use Rattle.zone_rdata.specs.Strings.{IsString}
-use Rattle.zone_rdata.specs.Uncompressed.{IsSent, BeginsWithSent, BeginsWithValue, BeginsWithNone, AppendsValue, AppendsFront, AreFramed}
+use Rattle.zone_rdata.specs.Fields.Name.{BeginsWithSent}
+use Rattle.zone_rdata.specs.Fields.Strings.{AreFramed}
+use Rattle.zone_rdata.specs.Uncompressed.{BeginsWithValue, BeginsWithNone, AppendsValue, AppendsFront}
 use Rattle.zone_rdata.proofs.Fields.{field_back}
 use Rattle.zone_rdata.proofs.Sent.{frame_same, frame_at, frames_push, sent_once}
 use Rattle.zone_rdata.proofs.StringSteps.{AllByRecursion-append}

@@ -1,33 +1,33 @@
 -- Items state a value or have a first fault.
-use Rattle.std.proofs.Common.{◌≡◌, ℕ, ◌<◌, List, [], ◌∷◌, ◌++◌, length, Option, Some, None, ◌⊎◌, inl, inr, refl, sym, ap, subst, arith, append_assoc}
+use Rattle.std.proofs.Common.{◌≡◌, ◌≢◌, ℕ, ◌<◌, List, [], ◌∷◌, length, Option, Some, None, ◌⊎◌, inl, inr, refl, sym, ap, subst, arith}
 use Rattle.std.specs.Prelude.{IfSome}
 use Rattle.std.specs.List.{AllByRecursion}
 use Rattle.std.proofs.lemmas.Bool.{cases_lt}
-use Rattle.std.proofs.lemmas.List.{append-nil}
 use Rattle.hex.proofs.HexLemmas.{decode_of-ok}
 use Rattle.zone_name.specs.Name.{IsName}
 use Rattle.zone_name.specs.Spelling.{Spells, FirstFault}
 use Rattle.zone_name.specs.declared.fault.NameFault.{NameFault}
 use Rattle.zone_rdata.specs.declared.fault.Fault.{Fault}
 use Rattle.zone_rdata.specs.declared.fault.Fault.TheVariants.{BadRdata, BadGeneric, BadNumber, RdataTooLong}
-use Rattle.zone_rdata.specs.declared.layout.Field.{Field}
-use Rattle.zone_rdata.specs.declared.layout.Field.TheVariants.{Name, Serial, Time, U16, Octets, OneString, Strings}
+use Rattle.zone_rdata.specs.declared.field.Field.{Field}
+use Rattle.zone_rdata.specs.declared.field.Field.TheVariants.{Name, Serial, Time, U16, Octets, OneString, Strings}
 use Rattle.zone_rdata.specs.DataFault as faults
-use Rattle.zone_rdata.specs.DataFault.{IsItemFault, IsWordsFault, IsFormFault, IsFaultFor, IsDataFault, unspelt, missing, left_over, too_long, malformed, no_value, in_form, opaque_words}
+use Rattle.zone_rdata.specs.DataFault.{FirstFieldFault, IsFormFault, IsFaultFor, IsDataFault, unspelt, too_long, malformed, no_value, in_form, opaque_words}
+use Rattle.zone_rdata.specs.Field.{IsFieldFault, FieldValue, name, long, two_octets, fixed, string, strings, octets_of, SpellsField, own_items, items_behind}
 use Rattle.zone_rdata.specs.Fault.{fault_of}
-use Rattle.zone_rdata.specs.Field.{FieldValue, name, long, two_octets, fixed, string, strings, octets_of}
+use Rattle.zone_rdata.specs.Fields.Strings.{SpellEachString, FirstStringFault}
 use Rattle.zone_rdata.specs.Generic.{JoinTo, StatesGeneric, GenericFault}
 use Rattle.zone_rdata.specs.Item.{RawItem, bare, quoted, IsGeneric}
 use Rattle.zone_rdata.specs.Layout.{layout}
 use Rattle.zone_rdata.specs.Number.{IsDecimal, IsTime}
-use Rattle.zone_rdata.specs.Spelling.{IsAddress, SpellsField, SpellEach, States, StatesFor, in_words, in_octets, item_fields}
+use Rattle.zone_rdata.specs.Fields.Address.{IsAddress}
+use Rattle.zone_rdata.specs.Spelling.{SpellEach, States, StatesFor, in_words, in_octets}
 use Rattle.zone_rdata.specs.Strings.{item_text, SpellsString, StringFault}
 use Rattle.zone_rdata.specs.Uncompressed.{IsUncompressed}
 use Rattle.zone_rdata.proofs.AddressChoice.{Choice, address_or_not}
 use Rattle.zone_rdata.proofs.Bytes.{bytes_each}
 use Rattle.zone_rdata.proofs.Fronts.{AreLow}
 use Rattle.zone_rdata.proofs.GenericLaws.{decimal_or_not, generic-or_fault}
-use Rattle.zone_rdata.proofs.Items.{spell_push}
 use Rattle.zone_rdata.proofs.StringLaws.{string-or_fault}
 use Rattle.zone_rdata.proofs.StringSteps.{AllByRecursion-append}
 use Rattle.zone_rdata.proofs.TimeChoice.{time_or_not}
@@ -39,86 +39,103 @@ use Rattle.zone_rdata.proofs.WordChoice.{same_or_not}
 abbrev pub NameOrFault : Type 0
 NameOrFault = (origin : Option (List (List ℕ))) (text : List ℕ) → IfSome origin IsName → AllByRecursion (λ c. c < 256) text → ((labels : List (List ℕ)) × Spells origin text labels) ⊎ ((fault : NameFault) × FirstFault origin text fault)
 
--- ---- one item
-abbrev ItemChoice : List (List ℕ) → Field → RawItem → Type 0
-ItemChoice origin f item = ((value : FieldValue) × SpellsField origin f item value) ⊎ ((fault : Fault) × IsItemFault origin f item fault)
+-- ---- one field
+abbrev FieldChoice : List (List ℕ) → Field → List RawItem → Type 0
+FieldChoice origin f items = ((value : FieldValue) × SpellsField origin f items value) ⊎ ((fault : Fault) × IsFieldFault origin f items fault)
 
-name_item : (origin : List (List ℕ)) (text : List ℕ) → ((labels : List (List ℕ)) × Spells (Some origin) text labels) ⊎ ((fault : NameFault) × FirstFault (Some origin) text fault) → ItemChoice origin Name (bare text)
-name_item origin text (inl found) = inl (name found.0, found.1)
-name_item origin text (inr bad) = inr (fault_of bad.0, (bad.0, bad.1, refl))
+name_field : (origin : List (List ℕ)) (text : List ℕ) → ((labels : List (List ℕ)) × Spells (Some origin) text labels) ⊎ ((fault : NameFault) × FirstFault (Some origin) text fault) → FieldChoice origin Name (bare text ∷ [])
+name_field origin text (inl found) = inl (name found.0, found.1)
+name_field origin text (inr bad) = inr (fault_of bad.0, (bad.0, bad.1, refl))
 
-serial_item : (origin : List (List ℕ)) (text : List ℕ) → ((n : ℕ) × IsDecimal text n) ⊎ ((n : ℕ) → IsDecimal text n → ⊥) → ItemChoice origin Serial (bare text)
-serial_item origin text (inr none) = inr (BadNumber, (refl, λ n h short. none n h))
-serial_item origin text (inl found) = elim (cases_lt found.0 4294967296) [
+serial_field : (origin : List (List ℕ)) (text : List ℕ) → ((n : ℕ) × IsDecimal text n) ⊎ ((n : ℕ) → IsDecimal text n → ⊥) → FieldChoice origin Serial (bare text ∷ [])
+serial_field origin text (inr none) = inr (BadNumber, (refl, λ n h. none n h.0))
+serial_field origin text (inl found) = elim (cases_lt found.0 4294967296) [
   | inl short ↦ inl (long found.0, (found.1, short))
-  | inr over ↦ inr (BadNumber, (refl, λ n h short. omega (arith, h.value, found.1.value)))
+  | inr over ↦ inr (BadNumber, (refl, λ n h. omega (arith, h.1, h.0.value, found.1.value)))
 ]
 
-time_item : (origin : List (List ℕ)) (text : List ℕ) → ((n : ℕ) × IsTime text n) ⊎ ((n : ℕ) → IsTime text n → ⊥) → ItemChoice origin Time (bare text)
-time_item origin text (inr none) = inr (BadNumber, (refl, λ n h short. none n h))
-time_item origin text (inl found) = elim (cases_lt found.0 4294967296) [
+time_field : (origin : List (List ℕ)) (text : List ℕ) → ((n : ℕ) × IsTime text n) ⊎ ((n : ℕ) → IsTime text n → ⊥) → FieldChoice origin Time (bare text ∷ [])
+time_field origin text (inr none) = inr (BadNumber, (refl, λ n h. none n h.0))
+time_field origin text (inl found) = elim (cases_lt found.0 4294967296) [
   | inl short ↦ inl (long found.0, (found.1, short))
-  | inr over ↦ inr (BadNumber, (refl, λ n h short. omega (arith, one_time text n found.0 h found.1)))
+  | inr over ↦ inr (BadNumber, (refl, λ n h. omega (arith, h.1, one_time text n found.0 h.0 found.1)))
 ]
 
-two_item : (origin : List (List ℕ)) (text : List ℕ) → ((n : ℕ) × IsDecimal text n) ⊎ ((n : ℕ) → IsDecimal text n → ⊥) → ItemChoice origin U16 (bare text)
-two_item origin text (inr none) = inr (BadNumber, (refl, λ n h short. none n h))
-two_item origin text (inl found) = elim (cases_lt found.0 65536) [
+two_field : (origin : List (List ℕ)) (text : List ℕ) → ((n : ℕ) × IsDecimal text n) ⊎ ((n : ℕ) → IsDecimal text n → ⊥) → FieldChoice origin U16 (bare text ∷ [])
+two_field origin text (inr none) = inr (BadNumber, (refl, λ n h. none n h.0))
+two_field origin text (inl found) = elim (cases_lt found.0 65536) [
   | inl short ↦ inl (two_octets found.0, (found.1, short))
-  | inr over ↦ inr (BadNumber, (refl, λ n h short. omega (arith, h.value, found.1.value)))
+  | inr over ↦ inr (BadNumber, (refl, λ n h. omega (arith, h.1, h.0.value, found.1.value)))
 ]
 
-address_item : (origin : List (List ℕ)) (n : ℕ) (text : List ℕ) → Choice (IsAddress n text) → ItemChoice origin (Octets n) (bare text)
-address_item origin n text (inl found) = inl (fixed found.0, found.1)
-address_item origin n text (inr none) = inr (BadRdata, (refl, none))
+address_field : (origin : List (List ℕ)) (n : ℕ) (text : List ℕ) → Choice (IsAddress n text) → FieldChoice origin (Octets n) (bare text ∷ [])
+address_field origin n text (inl found) = inl (fixed found.0, found.1)
+address_field origin n text (inr none) = inr (BadRdata, (refl, none))
 
-string_item : (origin : List (List ℕ)) (item : RawItem) → ((octets : List ℕ) × SpellsString item octets) ⊎ ((fault : Fault) × StringFault item fault) → ItemChoice origin OneString item
-string_item origin item (inl found) = inl (string found.0, found.1)
-string_item origin item (inr bad) = inr (bad.0, bad.1)
+string_field : (origin : List (List ℕ)) (item : RawItem) → ((octets : List ℕ) × SpellsString item octets) ⊎ ((fault : Fault) × StringFault item fault) → FieldChoice origin OneString (item ∷ [])
+string_field origin item (inl found) = inl (string found.0, found.1)
+string_field origin item (inr bad) = inr (bad.0, bad.1)
 
-strings_item : (origin : List (List ℕ)) (item : RawItem) → ((octets : List ℕ) × SpellsString item octets) ⊎ ((fault : Fault) × StringFault item fault) → ItemChoice origin Strings item
-strings_item origin item (inl found) = inl (strings (found.0 ∷ []), found.1)
-strings_item origin item (inr bad) = inr (bad.0, bad.1)
-
-item_or_fault : NameOrFault → (origin : List (List ℕ)) → IsName origin → (f : Field) (item : RawItem) → AreLow (item_text item) → ItemChoice origin f item
-item_or_fault names origin is OneString item low = string_item origin item (string-or_fault item low)
-item_or_fault names origin is Strings item low = strings_item origin item (string-or_fault item low)
-item_or_fault names origin is Name (bare text) low = name_item origin text (names (Some origin) text is low)
-item_or_fault names origin is Serial (bare text) low = serial_item origin text (decimal_or_not text)
-item_or_fault names origin is Time (bare text) low = time_item origin text (time_or_not text)
-item_or_fault names origin is U16 (bare text) low = two_item origin text (decimal_or_not text)
-item_or_fault names origin is (Octets n) (bare text) low = address_item origin n text (address_or_not n text)
-item_or_fault names origin is Name (quoted text) low = inr (BadRdata, refl)
-item_or_fault names origin is Serial (quoted text) low = inr (BadRdata, refl)
-item_or_fault names origin is Time (quoted text) low = inr (BadRdata, refl)
-item_or_fault names origin is U16 (quoted text) low = inr (BadRdata, refl)
-item_or_fault names origin is (Octets n) (quoted text) low = inr (BadRdata, refl)
-
--- ---- items in words
 abbrev pub AreLowItems : List RawItem → Type 0
 AreLowItems items = AllByRecursion (λ item. AllByRecursion (λ c. c < 256) (item_text item)) items
 
+abbrev StringsChoice : List RawItem → Type 0
+StringsChoice items = ((many : List (List ℕ)) × SpellEachString items many) ⊎ ((fault : Fault) × FirstStringFault items fault)
+
+next_string : (item : RawItem) (items : List RawItem) → ((octets : List ℕ) × SpellsString item octets) ⊎ ((fault : Fault) × StringFault item fault) → StringsChoice items → StringsChoice (item ∷ items)
+next_string item items (inr bad) rest = inr (bad.0, inl bad.1)
+next_string item items (inl found) (inl more) = inl (found.0 ∷ more.0, (found.1, more.1))
+next_string item items (inl found) (inr bad) = inr (bad.0, inr (found.0, found.1, bad.1))
+
+strings_by : (items : List RawItem) → AreLowItems items → StringsChoice items
+strings_by [] low = inl ([], tt)
+strings_by (item ∷ items) low = next_string item items (string-or_fault item low.0) (strings_by items low.1)
+
+strings_field : (origin : List (List ℕ)) (item : RawItem) (items : List RawItem) → StringsChoice (item ∷ items) → FieldChoice origin Strings (item ∷ items)
+strings_field origin item items (inl found) = inl (strings found.0, record { some = omega arith; each = found.1 })
+strings_field origin item items (inr bad) = inr (bad.0, bad.1)
+
+bare_field : NameOrFault → (origin : List (List ℕ)) → IsName origin → (f : Field) (item : RawItem) → f ≢ Strings → AreLow (item_text item) → FieldChoice origin f (item ∷ [])
+bare_field names origin is OneString item other low = string_field origin item (string-or_fault item low)
+bare_field names origin is Strings item other low = absurd (other refl)
+bare_field names origin is Name (bare text) other low = name_field origin text (names (Some origin) text is low)
+bare_field names origin is Serial (bare text) other low = serial_field origin text (decimal_or_not text)
+bare_field names origin is Time (bare text) other low = time_field origin text (time_or_not text)
+bare_field names origin is U16 (bare text) other low = two_field origin text (decimal_or_not text)
+bare_field names origin is (Octets n) (bare text) other low = address_field origin n text (address_or_not n text)
+bare_field names origin is f (quoted text) other low = inr (BadRdata, refl)
+
+field_or_fault : NameOrFault → (origin : List (List ℕ)) → IsName origin → (f : Field) (items : List RawItem) → AreLowItems items → FieldChoice origin f (own_items f items)
+field_or_fault names origin is Strings [] low = inr (BadRdata, refl)
+field_or_fault names origin is Strings (item ∷ items) low = strings_field origin item items (strings_by (item ∷ items) low)
+field_or_fault names origin is f [] low = inr (BadRdata, refl)
+field_or_fault names origin is f (item ∷ items) low = bare_field names origin is f item (λ e. cc) low.0
+
+low_behind : (f : Field) (items : List RawItem) → AreLowItems items → AreLowItems (items_behind f items)
+low_behind Strings items low = tt
+low_behind f [] low = tt
+low_behind f (item ∷ items) low = low.1
+
+-- ---- items in words
 abbrev WordsChoice : List (List ℕ) → List Field → List RawItem → Type 0
-WordsChoice origin row items = ((values : List FieldValue) × SpellEach origin row items values) ⊎ ((fault : Fault) × IsWordsFault origin row items fault)
+WordsChoice origin row items = ((values : List FieldValue) × SpellEach origin row items values) ⊎ ((fault : Fault) × FirstFieldFault origin row items fault)
 
-next_item : (origin : List (List ℕ)) (front back : List Field) (f : Field) (before after : List RawItem) (item : RawItem) (values : List FieldValue) → SpellEach origin front before values → ItemChoice origin f item → ((value : FieldValue) → SpellEach origin (front ++ f ∷ []) (before ++ item ∷ []) (values ++ value ∷ []) → WordsChoice origin ((front ++ f ∷ []) ++ back) ((before ++ item ∷ []) ++ after)) → WordsChoice origin (front ++ f ∷ back) (before ++ item ∷ after)
-next_item origin front back f before after item values spelt (inr bad) goes = inr (bad.0, unspelt front back f before after item values bad.0 refl refl spelt bad.1)
-next_item origin front back f before after item values spelt (inl found) goes =
-    subst (λ r. WordsChoice origin r (before ++ item ∷ after)) (append_assoc front (f ∷ []) back)
-    (subst (λ x. WordsChoice origin ((front ++ f ∷ []) ++ back) x) (append_assoc before (item ∷ []) after) (goes found.0 (spell_push origin front before values f item found.0 spelt found.1)))
+next_field : (origin : List (List ℕ)) (f : Field) (row : List Field) (items : List RawItem) → FieldChoice origin f (own_items f items) → WordsChoice origin row (items_behind f items) → WordsChoice origin (f ∷ row) items
+next_field origin f row items (inr bad) rest = inr (bad.0, inl bad.1)
+next_field origin f row items (inl found) (inl more) = inl (found.0 ∷ more.0, (found.1, more.1))
+next_field origin f row items (inl found) (inr bad) = inr (bad.0, inr (found.0, found.1, bad.1))
 
-words_by : NameOrFault → (origin : List (List ℕ)) → IsName origin → (back : List Field) (after : List RawItem) (front : List Field) (before : List RawItem) (values : List FieldValue) → SpellEach origin front before values → AreLowItems after → WordsChoice origin (front ++ back) (before ++ after)
-words_by names origin is [] [] front before values spelt low = inl (values, subst (λ r. SpellEach origin r (before ++ []) values) (sym (append-nil front)) (subst (λ x. SpellEach origin front x values) (sym (append-nil before)) spelt))
-words_by names origin is [] (item ∷ after) front before values spelt low = inr (BadRdata, left_over before after item values refl (subst (λ r. SpellEach origin r before values) (sym (append-nil front)) spelt))
-words_by names origin is (f ∷ back) [] front before values spelt low = inr (BadRdata, missing front back f values refl (subst (λ x. SpellEach origin front x values) (sym (append-nil before)) spelt))
-words_by names origin is (f ∷ back) (item ∷ after) front before values spelt low = next_item origin front back f before after item values spelt (item_or_fault names origin is f item low.0) (λ value more. words_by names origin is back after (front ++ f ∷ []) (before ++ item ∷ []) (values ++ value ∷ []) more low.1)
+words_by : NameOrFault → (origin : List (List ℕ)) → IsName origin → (row : List Field) (items : List RawItem) → AreLowItems items → WordsChoice origin row items
+words_by names origin is [] [] low = inl ([], tt)
+words_by names origin is [] (item ∷ items) low = inr (BadRdata, refl)
+words_by names origin is (f ∷ row) items low = next_field origin f row items (field_or_fault names origin is f items low) (words_by names origin is row (items_behind f items) (low_behind f items low))
 
 -- ---- items of a layout, if there is one
 abbrev Outcome : List (List ℕ) → Option (List Field) → List RawItem → Type 0
 Outcome origin laid items = ((octets : List ℕ) × StatesFor origin laid items octets) ⊎ ((fault : Fault) × IsFaultFor origin laid items fault)
 
-worded : (origin : List (List ℕ)) (row : List Field) (items : List RawItem) → (IsGeneric items → ⊥) → WordsChoice origin (item_fields row items) items → Outcome origin (Some row) items
-worded origin row items unmarked (inr bad) = inr (bad.0, faults.in_words row bad.0 refl unmarked bad.1)
+worded : (origin : List (List ℕ)) (row : List Field) (items : List RawItem) → (IsGeneric items → ⊥) → WordsChoice origin row items → Outcome origin (Some row) items
+worded origin row items unmarked (inr bad) = inr (bad.0, faults.in_words row bad.0 refl unmarked (unspelt bad.0 bad.1))
 worded origin row items unmarked (inl found) = elim (cases_lt 65535 (length (octets_of found.0))) [
   | inl over ↦ inr (RdataTooLong, faults.in_words row RdataTooLong refl unmarked (too_long found.0 found.1 over))
   | inr short ↦ inl (octets_of found.0, in_words row found.0 refl unmarked found.1 refl short)
@@ -126,7 +143,7 @@ worded origin row items unmarked (inl found) = elim (cases_lt 65535 (length (oct
 
 words_or_fault : NameOrFault → (origin : List (List ℕ)) → IsName origin → (laid : Option (List Field)) (items : List RawItem) → AreLowItems items → (IsGeneric items → ⊥) → Outcome origin laid items
 words_or_fault names origin is None items low unmarked = inr (BadGeneric, opaque_words refl unmarked)
-words_or_fault names origin is (Some row) items low unmarked = worded origin row items unmarked (words_by names origin is (item_fields row items) items [] [] [] tt low)
+words_or_fault names origin is (Some row) items low unmarked = worded origin row items unmarked (words_by names origin is row items low)
 
 -- octets that hexadecimal digits stand for
 pub joined_low : (items : List RawItem) (octets : List ℕ) → JoinTo items octets → AreLow octets

@@ -1,84 +1,79 @@
 -- Items read from the left, field after field.
-use Rattle.std.proofs.Common.{◌≡◌, ℕ, ◌+◌, ◌<◌, ◌≤◌, List, [], ◌∷◌, ◌++◌, length, get_or, take, drop, map, sym, ap, ◌∙◌, subst, arith, Bor, Bool, IsTrue, ◌↔◌}
+use Rattle.std.proofs.Common.{◌≡◌, ℕ, ◌+◌, ◌-◌, ◌<◌, ◌≤◌, List, [], ◌∷◌, ◌++◌, length, get_or, take, drop, map, refl, sym, ap, ◌∙◌, subst, arith, append_assoc, Bor, Bool, IsTrue, ◌↔◌, inl, inr}
 use Rattle.std.specs.Str.{bytes_eq}
 use Rattle.std.proofs.lemmas.Slice.Eq.{bytes_eq-Decides}
-use Rattle.std.proofs.lemmas.List.{take_more, take_all, drop_more, take-append-drop, append-nil}
-use Rattle.std.proofs.lemmas.List.Concat.{flat_map-append}
+use Rattle.std.proofs.lemmas.List.{append-nil, length-drop, take_all, drop_more, drop_all, drop-drop}
 use Rattle.zone_rdata.specs.declared.fault.Fault.{Fault}
 use Rattle.zone_rdata.specs.declared.fault.Fault.TheVariants.{BadRdata, RdataTooLong}
 use Rattle.zone_rdata.specs.declared.item.Item.{Item}
 use Rattle.zone_rdata.specs.declared.item.Item.TheVariants.{Bare}
-use Rattle.zone_rdata.specs.declared.layout.Field.{Field}
-use Rattle.zone_rdata.specs.DataFault.{IsItemFault, IsWordsFault, unspelt, missing, left_over, too_long}
-use Rattle.zone_rdata.specs.Field.{FieldValue, field_octets, octets_of}
+use Rattle.zone_rdata.specs.declared.field.Field.{Field}
+use Rattle.zone_rdata.specs.DataFault.{FirstFieldFault, IsWordsFault, unspelt, too_long}
+use Rattle.zone_rdata.specs.Field.{IsFieldFault, FieldValue, field_octets, octets_of, own_items}
 use Rattle.zone_rdata.specs.Item.{RawItem, bare, raw, generic_mark, IsGeneric}
-use Rattle.zone_rdata.specs.Reading.{AppendsField, AreSpelt}
-use Rattle.zone_rdata.specs.Spelling.{SpellsField, SpellEach}
+use Rattle.zone_rdata.specs.Reading.{AppendsFirst, AreSpelt}
+use Rattle.zone_rdata.specs.Spelling.{SpellEach}
 
--- the first items spell the first fields, and the octets are those of their values
-pub record HaveRead (origin : List (List ℕ)) (row : List Field) (items : List RawItem) (i : ℕ) (octets : List ℕ) : Type 0 where
-  pub values : List FieldValue
-  pub spelt : SpellEach origin (take i row) (take i items) values
-  pub written : octets ≡ octets_of values
+-- some fields were read, and what the items that are left are for the other fields, all items are for all fields
+pub record HaveRead (origin : List (List ℕ)) (row : List Field) (items : List RawItem) (later : List Field) (left : List RawItem) (octets : List ℕ) : Type 0 where
+  pub leads : (values : List FieldValue) → SpellEach origin later left values → AreSpelt origin row items (octets ++ octets_of values)
+  pub fault : (fault : Fault) → FirstFieldFault origin later left fault → FirstFieldFault origin row items fault
 
-pub read_none : (origin : List (List ℕ)) (row : List Field) (items : List RawItem) (octets : List ℕ) → octets ≡ [] → HaveRead origin row items 0 octets
-read_none origin row items octets e = record { values = []; spelt = tt; written = e }
+pub read_none : (origin : List (List ℕ)) (row : List Field) (items left : List RawItem) (octets : List ℕ) → left ≡ items → octets ≡ [] → HaveRead origin row items row left octets
+read_none origin row items left octets all e = record {
+  leads = λ values h. record { values = values; spelt = subst (λ is. SpellEach origin row is values) all h; written = ap (λ o. o ++ octets_of values) e };
+  fault = λ fault h. subst (λ is. FirstFieldFault origin row is fault) all h;
+}
 
--- one more item at the end
-pub spell_push : (origin : List (List ℕ)) (row : List Field) (items : List RawItem) (values : List FieldValue) (f : Field) (item : RawItem) (v : FieldValue) → SpellEach origin row items values → SpellsField origin f item v → SpellEach origin (row ++ f ∷ []) (items ++ item ∷ []) (values ++ v ∷ [])
-spell_push origin [] [] [] f item v each h = (h, tt)
-spell_push origin [] [] (w ∷ values) f item v each h = absurd each
-spell_push origin [] (i ∷ items) values f item v each h = absurd each
-spell_push origin (g ∷ row) [] values f item v each h = absurd each
-spell_push origin (g ∷ row) (i ∷ items) [] f item v each h = absurd each
-spell_push origin (g ∷ row) (i ∷ items) (w ∷ values) f item v each h = (each.0, spell_push origin row items values f item v each.1 h)
-
--- a list up to a place, what stands there, and the rest
-pub parted_at : {X : Type 0} (l : List X) (i : ℕ) (d : X) → i < length l → l ≡ take i l ++ get_or l i d ∷ drop (i + 1) l
-parted_at l i d lt = sym (take-append-drop i l) ∙ ap (λ r. take i l ++ r) (drop_more l i d lt)
-
-pub read_more : (origin : List (List ℕ)) (row : List Field) (items : List RawItem) (i : ℕ) (f d : Field) (item e : RawItem) (octets new : List ℕ) → i < length row → f ≡ get_or row i d → i < length items → item ≡ get_or items i e → HaveRead origin row items i octets → AppendsField origin f item octets new → HaveRead origin row items (i + 1) new
-read_more origin row items i f d item e octets new inside at within is read grows =
-    let row_more : take (i + 1) row ≡ take i row ++ f ∷ [] = take_more row i d inside ∙ ap (λ x. take i row ++ x ∷ []) (sym at) in
-    let items_more : take (i + 1) items ≡ take i items ++ item ∷ [] = take_more items i e within ∙ ap (λ x. take i items ++ x ∷ []) (sym is) in
-    let spelt = spell_push origin (take i row) (take i items) read.values f item grows.value read.spelt grows.spelt in
+read_step : (origin : List (List ℕ)) (row : List Field) (items : List RawItem) (f : Field) (later : List Field) (left rest : List RawItem) (octets new : List ℕ) → HaveRead origin row items (f ∷ later) left octets → AppendsFirst origin f left rest octets new → HaveRead origin row items later rest new
+read_step origin row items f later left rest octets new read grows =
+    let v = grows.appends.value in
     record {
-      values = read.values ++ grows.value ∷ [];
-      spelt = subst (λ r. SpellEach origin r (take (i + 1) items) (read.values ++ grows.value ∷ [])) (sym row_more) (subst (λ x. SpellEach origin (take i row ++ f ∷ []) x (read.values ++ grows.value ∷ [])) (sym items_more) spelt);
-      written = grows.written ∙ ap (λ o. o ++ field_octets grows.value) read.written ∙ sym (flat_map-append field_octets read.values (grows.value ∷ []) ∙ ap (λ o. octets_of read.values ++ o) (append-nil (field_octets grows.value)));
+      leads = λ values h.
+          let all = read.leads (v ∷ values) (grows.appends.stated, subst (λ is. SpellEach origin later is values) grows.behind h) in
+          record { values = all.values; spelt = all.spelt; written = ap (λ o. o ++ octets_of values) grows.appends.written ∙ append_assoc octets (field_octets v) (octets_of values) ∙ all.written };
+      fault = λ fault h. read.fault fault (inr (v, grows.appends.stated, subst (λ is. FirstFieldFault origin later is fault) grows.behind h));
     }
 
--- the next item spells no value of its field
-pub read_stops : (origin : List (List ℕ)) (row : List Field) (items : List RawItem) (i : ℕ) (f d : Field) (item e : RawItem) (octets : List ℕ) (fault : Fault) → i < length row → f ≡ get_or row i d → i < length items → item ≡ get_or items i e → HaveRead origin row items i octets → IsItemFault origin f item fault → IsWordsFault origin row items fault
-read_stops origin row items i f d item e octets fault inside at within is read bad =
-    unspelt (take i row) (drop (i + 1) row) f (take i items) (drop (i + 1) items) item read.values fault
-    (parted_at row i d inside ∙ ap (λ x. take i row ++ x ∷ drop (i + 1) row) (sym at))
-    (parted_at items i e within ∙ ap (λ x. take i items ++ x ∷ drop (i + 1) items) (sym is))
-    read.spelt bad
+here_at : (row : List Field) (i : ℕ) (f d : Field) → i < length row → f ≡ get_or row i d → drop i row ≡ f ∷ drop (i + 1) row
+here_at row i f d lt found = drop_more row i d lt ∙ ap (λ x. x ∷ drop (i + 1) row) (sym found)
+
+-- a slice up to the end
+slice_end : (items : List Item) (place : ℕ) → take (length items - place) (drop place items) ≡ drop place items
+slice_end items place = take_all (length items - place) (drop place items) (let l = length-drop place items in omega (arith, l))
+
+pub read_more : (origin : List (List ℕ)) (row : List Field) (items : List Item) (i place n : ℕ) (f d : Field) (octets new : List ℕ) → i < length row → f ≡ get_or row i d → HaveRead origin row (map raw items) (drop i row) (map raw (drop place items)) octets → AppendsFirst origin f (map raw (take (length items - place) (drop place items))) (map raw (drop n (take (length items - place) (drop place items)))) octets new → HaveRead origin row (map raw items) (drop (i + 1) row) (map raw (drop (place + n) items)) new
+read_more origin row items i place n f d octets new lt found read sliced =
+    let grows = subst (λ rest. AppendsFirst origin f (map raw rest) (map raw (drop n rest)) octets new) (slice_end items place) sliced in
+    let left = map raw (drop place items) in
+    let here : HaveRead origin row (map raw items) (f ∷ drop (i + 1) row) left octets = subst (λ r. HaveRead origin row (map raw items) r left octets) (here_at row i f d lt found) read in
+    subst (λ rest. HaveRead origin row (map raw items) (drop (i + 1) row) (map raw rest) new) (drop-drop n place items) (read_step origin row (map raw items) f (drop (i + 1) row) left (map raw (drop n (drop place items))) octets new here grows)
+
+-- the items of the next field spell no value of it
+pub read_bad : (origin : List (List ℕ)) (row own : List Field) (items : List Item) (i place : ℕ) (f d : Field) (octets : List ℕ) (fault : Fault) → row ≡ own → i < length row → f ≡ get_or row i d → HaveRead origin row (map raw items) (drop i row) (map raw (drop place items)) octets → IsFieldFault origin f (own_items f (map raw (take (length items - place) (drop place items)))) fault → IsWordsFault origin own (map raw items) fault
+read_bad origin row own items i place f d octets fault same lt found read sliced =
+    let bad = subst (λ rest. IsFieldFault origin f (own_items f (map raw rest)) fault) (slice_end items place) sliced in
+    let left = map raw (drop place items) in
+    let here : HaveRead origin row (map raw items) (f ∷ drop (i + 1) row) left octets = subst (λ r. HaveRead origin row (map raw items) r left octets) (here_at row i f d lt found) read in
+    subst (λ r. IsWordsFault origin r (map raw items) fault) same (unspelt fault (here.fault fault (inl bad)))
+
+nothing_later : (origin : List (List ℕ)) (row : List Field) (items : List RawItem) (i : ℕ) (left : List RawItem) (octets : List ℕ) → length row ≤ i → HaveRead origin row items (drop i row) left octets → HaveRead origin row items [] left octets
+nothing_later origin row items i left octets past read = subst (λ r. HaveRead origin row items r left octets) (drop_all i row past) read
 
 -- no field is left for the next item
-pub read_over : (origin : List (List ℕ)) (row : List Field) (items : List RawItem) (i : ℕ) (e : RawItem) (octets : List ℕ) → length row ≤ i → i < length items → HaveRead origin row items i octets → IsWordsFault origin row items BadRdata
-read_over origin row items i e octets past within read =
-    left_over (take i items) (drop (i + 1) items) (get_or items i e) read.values (parted_at items i e within) (subst (λ r. SpellEach origin r (take i items) read.values) (take_all i row past) read.spelt)
+pub read_over : (origin : List (List ℕ)) (row own : List Field) (items : List RawItem) (i : ℕ) (left : List RawItem) (octets : List ℕ) → row ≡ own → length row ≤ i → 0 < length left → HaveRead origin row items (drop i row) left octets → IsWordsFault origin own items BadRdata
+read_over origin row own items i [] octets same past some read = absurd (omega arith)
+read_over origin row own items i (item ∷ left) octets same past some read =
+    subst (λ r. IsWordsFault origin r items BadRdata) same (unspelt BadRdata ((nothing_later origin row items i (item ∷ left) octets past read).fault BadRdata refl))
 
--- no item is left for the next field
-pub read_short : (origin : List (List ℕ)) (row : List Field) (items : List RawItem) (i : ℕ) (d : Field) (octets : List ℕ) → i < length row → length items ≤ i → HaveRead origin row items i octets → IsWordsFault origin row items BadRdata
-read_short origin row items i d octets inside past read =
-    missing (take i row) (drop (i + 1) row) (get_or row i d) read.values (parted_at row i d inside) (subst (λ x. SpellEach origin (take i row) x read.values) (take_all i items past) read.spelt)
-
-pub read_all : (origin : List (List ℕ)) (row : List Field) (items : List RawItem) (i : ℕ) (octets : List ℕ) → length row ≤ i → length items ≤ i → HaveRead origin row items i octets → AreSpelt origin row items octets
-read_all origin row items i octets past none read =
-    record {
-      values = read.values;
-      spelt = subst (λ r. SpellEach origin r items read.values) (take_all i row past) (subst (λ x. SpellEach origin (take i row) x read.values) (take_all i items none) read.spelt);
-      written = read.written;
-    }
+pub read_all : (origin : List (List ℕ)) (row own : List Field) (items : List RawItem) (i : ℕ) (left : List RawItem) (octets : List ℕ) → row ≡ own → length row ≤ i → left ≡ [] → HaveRead origin row items (drop i row) left octets → AreSpelt origin own items octets
+read_all origin row own items i left octets same past none read =
+    let last : HaveRead origin row items [] [] octets = subst (λ is. HaveRead origin row items [] is octets) none (nothing_later origin row items i left octets past read) in
+    subst (λ r. AreSpelt origin r items octets) same (subst (AreSpelt origin row items) (append-nil octets) (last.leads [] tt))
 
 -- all is spelled, and takes too many octets
-pub read_long : (origin : List (List ℕ)) (row : List Field) (items : List RawItem) (i : ℕ) (octets : List ℕ) → length row ≤ i → length items ≤ i → 65535 < length octets → HaveRead origin row items i octets → IsWordsFault origin row items RdataTooLong
-read_long origin row items i octets past none long read =
-    let all = read_all origin row items i octets past none read in
-    too_long all.values all.spelt (subst (λ o. 65535 < length o) all.written long)
+pub read_long : (origin : List (List ℕ)) (fields : List Field) (items : List RawItem) (octets : List ℕ) → 65535 < length octets → AreSpelt origin fields items octets → IsWordsFault origin fields items RdataTooLong
+read_long origin fields items octets long all = too_long all.values all.spelt (subst (λ o. 65535 < length o) all.written long)
 
 -- a first item that is bare is the mark exactly where its text is
 pub generic_first : (items : List Item) (first : Item) (text : Bor (List ℕ)) (mark : List ℕ) (r : Bool) → 0 < length items → first ≡ get_or items 0 first → first ≡ Bare text → mark ≡ 92 ∷ 35 ∷ [] → r ≡ bytes_eq text.now mark → IsTrue r ↔ IsGeneric (map raw items)

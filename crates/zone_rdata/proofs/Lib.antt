@@ -13,8 +13,6 @@ pub mod Taken
 pub mod Wire
 pub mod Items
 pub mod Forms
-pub mod Rows
-pub mod Walks
 pub mod ItemLaws
 pub mod TimeLaws
 pub mod Values

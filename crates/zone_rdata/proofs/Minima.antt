@@ -1,7 +1,7 @@
 -- The last number of data, field after field.
 use Rattle.std.proofs.Common.{◌≡◌, ℕ, ◌+◌, ◌<◌, ◌≤◌, List, ◌∷◌, length, get_or, drop, refl, sym, ap, ◌∙◌, subst, Option, None}
 use Rattle.std.proofs.lemmas.List.{drop_more, drop_all}
-use Rattle.zone_rdata.specs.declared.layout.Field.{Field}
+use Rattle.zone_rdata.specs.declared.field.Field.{Field}
 use Rattle.zone_rdata.specs.Field.{field_at, values_of}
 use Rattle.zone_rdata.specs.Layout.{AreLaidOut}
 use Rattle.zone_rdata.specs.Minimum.{number_in, last_number}

@@ -1,6 +1,6 @@
 -- Printed words are those of their class or type.
 use Rattle.std.proofs.Common.{◌≡◌, ℕ, ◌^◌, ◌<◌, List, ◌++◌, codes, decimal, Option, Some, None, refl, arith}
-use Rattle.zone_rdata.specs.declared.layout.Field.{Field}
+use Rattle.zone_rdata.specs.declared.field.Field.{Field}
 use Rattle.zone_rdata.specs.Layout.{layout}
 use Rattle.zone_rdata.specs.Table.{Named, classes, type_names, mnemonic_among}
 use Rattle.zone_rdata.specs.Words.{IsClass, IsClassWord, IsKind, IsKindWord, IsNumbered, IsWordAmong, by_mnemonic, by_number, class_text, kind_text, laid_out_mnemonic, word_or_numbered}

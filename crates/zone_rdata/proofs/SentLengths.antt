@@ -3,9 +3,9 @@ use Rattle.std.proofs.Common.{◌≡◌, ℕ, List, [], ◌∷◌, length, refl,
 use Rattle.std.specs.List.{flat_map}
 use Rattle.std.proofs.lemmas.List.{length-map}
 use Rattle.zone_name.specs.Name.{folded_octet, folded_label, folded, frame}
-use Rattle.zone_rdata.specs.declared.layout.Field.{Field}
-use Rattle.zone_rdata.specs.Field.{FieldValue, name, long, two_octets, fixed, string, strings, field_octets, octets_of}
-use Rattle.zone_rdata.specs.Uncompressed.{IsSent, AreSent, IsUncompressed}
+use Rattle.zone_rdata.specs.declared.field.Field.{Field}
+use Rattle.zone_rdata.specs.Field.{FieldValue, name, long, two_octets, fixed, string, strings, field_octets, octets_of, IsSent}
+use Rattle.zone_rdata.specs.Uncompressed.{AreSent, IsUncompressed}
 
 length_frames_folded : (sent : List (List ℕ)) → length (flat_map frame (folded sent)) ≡ length (flat_map frame sent)
 length_frames_folded [] = refl

@@ -3,12 +3,12 @@ use Rattle.std.proofs.Common.{ℕ, ◌<◌, ◌^◌, List, [], ◌∷◌, Option
 use Rattle.std.specs.Int.{w16, w32, to_be_bytes}
 use Rattle.std.specs.List.{flat_map, AllByRecursion}
 use Rattle.zone_name.specs.Name.{IsFoldedOctet, IsLabel, frame}
-use Rattle.zone_rdata.specs.declared.layout.Field.{Field}
-use Rattle.zone_rdata.specs.declared.layout.Field.TheVariants.{Name, Serial, Time, U16, Octets, OneString, Strings}
+use Rattle.zone_rdata.specs.declared.field.Field.{Field}
+use Rattle.zone_rdata.specs.declared.field.Field.TheVariants.{Name, Serial, Time, U16, Octets, OneString, Strings}
 use Rattle.zone_rdata.specs.Field.{FieldValue, name, long, two_octets, fixed, string, strings, field_octets, Holds, HoldEach, octets_of}
 use Rattle.zone_rdata.specs.Item.{RawItem}
 use Rattle.zone_rdata.specs.Layout.{layout, IsData}
-use Rattle.zone_rdata.specs.Spelling.{IsCanonicalOf, States, StatesFor, in_words, in_octets, item_fields}
+use Rattle.zone_rdata.specs.Spelling.{IsCanonicalOf, States, StatesFor, in_words, in_octets}
 use Rattle.zone_rdata.specs.Strings.{IsString}
 use Rattle.zone_rdata.proofs.Fields.{spelt_hold, stated_data}
 use Rattle.zone_rdata.proofs.Fronts.{AreLow}
@@ -60,7 +60,7 @@ low_form None stated octets low is = subst AreLow (sym is) low
 low_form (Some row) stated octets low is = subst AreLow (sym is.whole) (low_values row is.values is.held)
 
 stated_low : (origin : List (List ℕ)) (laid : Option (List Field)) (items : List RawItem) (octets : List ℕ) → StatesFor origin laid items octets → AreLow octets
-stated_low origin laid items octets (in_words row values e unmarked spelt written short) = subst AreLow (sym written) (low_values (item_fields row items) values (spelt_hold origin (item_fields row items) items values spelt))
+stated_low origin laid items octets (in_words row values e unmarked spelt written short) = subst AreLow (sym written) (low_values row values (spelt_hold origin row items values spelt))
 stated_low origin laid items octets (in_octets stated marked form canonical) = low_form laid stated octets (joined_low form.digits stated form.joined) canonical
 
 pub stated_is_data : (origin : List (List ℕ)) (class kind : ℕ) (items : List RawItem) (octets : List ℕ) → States origin class kind items octets → IsData class kind octets

@@ -3,11 +3,12 @@ use Rattle.std.proofs.Common.{◌≡◌, ℕ, zero, suc, ◌+◌, ◌<◌, ◌�
 use Rattle.std.specs.List.{flat_map, AllByRecursion}
 use Rattle.std.proofs.lemmas.List.{take_at, drop_at, take_all, drop_all, take-append-drop}
 use Rattle.zone_name.specs.Name.{frame}
-use Rattle.zone_rdata.specs.Field.{HoldsStrings, BeginsWithString, AreStrings, string_at, strings_by, strings_of}
+use Rattle.zone_rdata.specs.Fields.OneString.{BeginsWithString, string_at}
+use Rattle.zone_rdata.specs.Fields.Strings.{HoldsStrings, AreStrings, strings_by, strings_of}
 use Rattle.zone_rdata.specs.Strings.{IsString}
 use Rattle.zone_rdata.specs.Text.{BeginsWithField, after_field}
-use Rattle.zone_rdata.specs.declared.layout.Field.{Field}
-use Rattle.zone_rdata.specs.declared.layout.Field.TheVariants as fields
+use Rattle.zone_rdata.specs.declared.field.Field.{Field}
+use Rattle.zone_rdata.specs.declared.field.Field.TheVariants as fields
 use Rattle.zone_rdata.proofs.Names.{length-frames}
 
 -- one string cut off the front

@@ -3,7 +3,8 @@ use Rattle.std.proofs.Common.{◌≡◌, ℕ, ◌<◌, ◌≤◌, List, [], ◌�
 use Rattle.std.specs.List.{flat_map, join_with_byte}
 use Rattle.std.proofs.lemmas.List.{append-nil, length-drop}
 use Rattle.zone_name.specs.Name.{frame}
-use Rattle.zone_rdata.specs.Field.{BeginsWithString, HoldsStrings, string_at, strings_of}
+use Rattle.zone_rdata.specs.Fields.OneString.{BeginsWithString, string_at}
+use Rattle.zone_rdata.specs.Fields.Strings.{HoldsStrings, strings_of}
 use Rattle.zone_rdata.specs.Strings.{string_text}
 use Rattle.zone_rdata.proofs.StringFields.{first_string, no_strings}
 use Rattle.zone_rdata.proofs.Texts.{joined_more}

@@ -6,10 +6,10 @@ use Rattle.std.proofs.lemmas.Bool.{eqb-true, eq-eqb, and_parts, or_cases, not-tr
 use Rattle.std.proofs.lemmas.Bool.Decides.{nat_tests}
 use Rattle.std.proofs.lemmas.Slice.Eq.{bytes_eq-Decides}
 use Rattle.zone_name.specs.Name.{folded_label}
-use Rattle.zone_rdata.specs.declared.layout.Field.{Field}
-use Rattle.zone_rdata.specs.declared.layout.Field.TheVariants as fields
+use Rattle.zone_rdata.specs.declared.field.Field.{Field}
+use Rattle.zone_rdata.specs.declared.field.Field.TheVariants as fields
 use Rattle.zone_rdata.specs.Layout.{IsLayout, IsSized, StringsLast, fields_in, layout}
-use Rattle.zone_rdata.specs.Spelling.{is_strings}
+use Rattle.zone_rdata.specs.Field.{is_strings}
 use Rattle.zone_rdata.specs.Table.{Named, NamedType, ascend, in_class, mnemonic_among, number_among, types}
 use Rattle.zone_rdata.specs.Words.{IsMnemonic}
 

@@ -1,7 +1,7 @@
 -- Uncompressed octets, field after field.
 use Rattle.std.proofs.Common.{◌≡◌, ℕ, ◌+◌, ◌<◌, ◌≤◌, List, [], ◌∷◌, ◌++◌, length, get_or, drop, Some, refl, sym, ap, ◌∙◌, subst, arith, append_assoc}
 use Rattle.std.proofs.lemmas.List.{append-nil, drop_more, drop_all}
-use Rattle.zone_rdata.specs.declared.layout.Field.{Field}
+use Rattle.zone_rdata.specs.declared.field.Field.{Field}
 use Rattle.zone_rdata.specs.Field.{FieldValue, field_octets, octets_of, HoldEach}
 use Rattle.zone_rdata.specs.Layout.{StringsLast, layout}
 use Rattle.zone_rdata.specs.Uncompressed.{AreSent, IsUncompressed, BeginsWithValue, BeginsWithNone, AppendsValue}

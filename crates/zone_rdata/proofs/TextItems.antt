@@ -1,23 +1,25 @@
 -- The canonical text of data is its items, and they state that data.
-use Rattle.std.proofs.Common.{◌≡◌, ◌≢◌, ℕ, ◌^◌, ◌<◌, ◌≤◌, List, [], ◌∷◌, ◌++◌, length, get_or, drop, map, refl, sym, ap, ◌∙◌, subst, arith, append_assoc, length-append, Bool, true, false, Option, Some, None, ◌==◌, ◌⊎◌, inl, inr}
+use Rattle.std.proofs.Common.{◌≡◌, ◌≢◌, ℕ, ◌^◌, ◌<◌, ◌≤◌, List, [], ◌∷◌, ◌++◌, length, get_or, drop, map, refl, sym, ap, ◌∙◌, subst, arith, append_assoc, length-append, true, Option, Some, None, ◌==◌, ◌⊎◌, inl, inr}
 use Rattle.std.specs.Prelude.{decimal, if◌then◌else◌}
 use Rattle.std.specs.List.{flat_map, AllByRecursion, join_with_byte}
 use Rattle.std.proofs.lemmas.Bool.{false≢true}
-use Rattle.std.proofs.lemmas.List.{append-nil, map-append}
+use Rattle.std.proofs.lemmas.List.{append-nil, length-map, map-append}
 use Rattle.std.proofs.lemmas.List.Concat.{flat_map-append}
-use Rattle.zone_name.specs.Name.{IsName, frame}
+use Rattle.zone_name.specs.Name.{IsName}
 use Rattle.zone_name.specs.Spelling.{Spells, is_digit}
 use Rattle.zone_name.specs.Text.{name_text, label_text, octet_text}
-use Rattle.zone_rdata.specs.declared.layout.Field.{Field}
-use Rattle.zone_rdata.specs.declared.layout.Field.TheVariants as fields
+use Rattle.zone_rdata.specs.declared.field.Field.{Field}
+use Rattle.zone_rdata.specs.declared.field.Field.TheVariants as fields
 use Rattle.zone_rdata.specs.Address.{IsAddressOctet, IsFourNumbers, IsGroups, four_text, groups_text}
-use Rattle.zone_rdata.specs.Field.{FieldValue, name, long, two_octets, fixed, string, strings, AreFixed, AreStrings, field_octets, octets_of, Holds, HoldEach, values_of}
+use Rattle.zone_rdata.specs.Field.{FieldValue, name, long, two_octets, fixed, string, strings, Holds, HoldEach, values_of, SpellsField}
+use Rattle.zone_rdata.specs.Fields.Address.{AreFixed, IsAddress, of_four, of_sixteen}
+use Rattle.zone_rdata.specs.Fields.Strings.{AreStrings, SpellEachString}
 use Rattle.zone_rdata.specs.Generic.{digit_items, generic_items}
 use Rattle.zone_rdata.specs.Item.{RawItem, bare, generic_mark, IsGeneric}
 use Rattle.zone_rdata.specs.Layout.{IsLayout, IsSized, StringsLast, layout}
 use Rattle.zone_rdata.specs.Number.{plain}
 use Rattle.zone_rdata.specs.Record.{Data, IsRdata}
-use Rattle.zone_rdata.specs.Spelling.{IsAddress, of_four, of_sixteen, SpellsField, SpellEach, States, StatesFor, ends_with_strings, item_fields, in_words, in_octets}
+use Rattle.zone_rdata.specs.Spelling.{SpellEach, States, StatesFor, in_words, in_octets}
 use Rattle.zone_rdata.specs.Strings.{IsString, string_text}
 use Rattle.zone_rdata.specs.Text.{data_text, field_text, generic_text, laid_out_text}
 use Rattle.zone_rdata.specs.TextItems.{data_items, field_items, laid_out_items, string_item, written_item}
@@ -76,27 +78,6 @@ written_for (Some row) octets value =
 pub data_written : (d : Data) → IsRdata d → data_text d ≡ join_with_byte 32 (map written_item (data_items d))
 data_written d h = written_for (layout d.class d.kind) d.octets h.octets.value
 
--- ---- one value for each item
-
-abbrev single : List ℕ → FieldValue
-single octets = strings (octets ∷ [])
-
-abbrev item_values : FieldValue → List FieldValue
-item_values (strings many) = map single many
-item_values v = v ∷ []
-
-strings_octets : (many : List (List ℕ)) → octets_of (map single many) ≡ flat_map frame many
-strings_octets [] = refl
-strings_octets (octets ∷ many) = ap (λ t. t ++ octets_of (map single many)) (append-nil (frame octets)) ∙ ap (λ t. frame octets ++ t) (strings_octets many)
-
-value_octets : (v : FieldValue) → octets_of (item_values v) ≡ field_octets v
-value_octets (strings many) = strings_octets many
-value_octets v = append-nil (field_octets v)
-
-values_octets : (values : List FieldValue) → octets_of (flat_map item_values values) ≡ octets_of values
-values_octets [] = refl
-values_octets (v ∷ values) = flat_map-append field_octets (item_values v) (flat_map item_values values) ∙ ap (λ t. t ++ octets_of (flat_map item_values values)) (value_octets v) ∙ ap (λ t. field_octets v ++ t) (values_octets values)
-
 -- ---- the items spell the values
 
 abbrev pub NamesPrinted : Type 0
@@ -106,8 +87,7 @@ NamesPrinted = (origin : Option (List (List ℕ))) (labels : List (List ℕ)) �
 record OneItem (origin : List (List ℕ)) (f : Field) (v : FieldValue) : Type 0 where
   pub item : RawItem
   pub items : field_items v ≡ item ∷ []
-  pub values : item_values v ≡ v ∷ []
-  pub spelt : SpellsField origin f item v
+  pub spelt : SpellsField origin f (item ∷ []) v
 
 text_of_four : (octets : List ℕ) → length octets ≡ 4 → field_text (fixed octets) ≡ four_text octets
 text_of_four octets e = ap (λ (n : ℕ). if n == 4 then four_text octets else groups_text octets) e
@@ -120,70 +100,42 @@ address_spelt n octets (inl e) h = of_four e (subst (λ t. IsFourNumbers t octet
 address_spelt n octets (inr e) h = of_sixteen e (subst (λ t. IsGroups t octets) (sym (text_of_sixteen octets (h.size ∙ e))) (sixteen_printed octets (h.size ∙ e) h.each))
 
 one_item : NamesPrinted → (origin : List (List ℕ)) (f : Field) (v : FieldValue) → f ≢ fields.Strings → IsSized f → Holds f v → OneItem origin f v
-one_item names origin fields.Name (name labels) other sized h = record { item = bare (name_text labels); items = refl; values = refl; spelt = names (Some origin) labels h }
-one_item names origin fields.Serial (long n) other sized h = record { item = bare (decimal n); items = refl; values = refl; spelt = (decimal-is n (omega arith), h) }
-one_item names origin fields.Time (long n) other sized h = record { item = bare (decimal n); items = refl; values = refl; spelt = (plain (decimal-is n (omega arith)), h) }
-one_item names origin fields.U16 (two_octets n) other sized h = record { item = bare (decimal n); items = refl; values = refl; spelt = (decimal-is n (omega arith), h) }
-one_item names origin (fields.Octets n) (fixed octets) other sized h = record { item = bare (field_text (fixed octets)); items = refl; values = refl; spelt = address_spelt n octets sized h }
-one_item names origin fields.OneString (string octets) other sized h = record { item = string_item octets; items = refl; values = refl; spelt = printed-spells octets h }
+one_item names origin fields.Name (name labels) other sized h = record { item = bare (name_text labels); items = refl; spelt = names (Some origin) labels h }
+one_item names origin fields.Serial (long n) other sized h = record { item = bare (decimal n); items = refl; spelt = (decimal-is n (omega arith), h) }
+one_item names origin fields.Time (long n) other sized h = record { item = bare (decimal n); items = refl; spelt = (plain (decimal-is n (omega arith)), h) }
+one_item names origin fields.U16 (two_octets n) other sized h = record { item = bare (decimal n); items = refl; spelt = (decimal-is n (omega arith), h) }
+one_item names origin (fields.Octets n) (fixed octets) other sized h = record { item = bare (field_text (fixed octets)); items = refl; spelt = address_spelt n octets sized h }
+one_item names origin fields.OneString (string octets) other sized h = record { item = string_item octets; items = refl; spelt = printed-spells octets h }
 one_item names origin fields.Strings (strings many) other sized h = absurd (other refl)
 one_item names origin f v other sized h = absurd h
 
-abbrev AreSpelled : List (List ℕ) → List Field → List RawItem → List FieldValue → Type 0
-AreSpelled origin row items values = SpellEach origin (item_fields row items) items values
-
-next_by : (b : Bool) (f : Field) (row : List Field) (item : RawItem) (items : List RawItem) → (if b then (f ∷ row) ++ map (λ _. fields.Strings) (drop (length (f ∷ row)) (item ∷ items)) else f ∷ row) ≡ f ∷ (if b then row ++ map (λ _. fields.Strings) (drop (length row) items) else row)
-next_by true f row item items = refl
-next_by false f row item items = refl
-
-alone_by : (b : Bool) (f : Field) (item : RawItem) → (if b then (f ∷ []) ++ map (λ _. fields.Strings) (drop (length (f ∷ [])) (item ∷ [])) else f ∷ []) ≡ f ∷ []
-alone_by true f item = refl
-alone_by false f item = refl
-
 -- a field with one item before the others
-one_more : (origin : List (List ℕ)) (f g : Field) (row : List Field) (v : FieldValue) (items : List RawItem) (values : List FieldValue) → OneItem origin f v → AreSpelled origin (g ∷ row) items values → AreSpelled origin (f ∷ g ∷ row) (field_items v ++ items) (item_values v ++ values)
-one_more origin f g row v items values one rest =
-    subst (λ is. AreSpelled origin (f ∷ g ∷ row) (is ++ items) (item_values v ++ values)) (sym one.items)
-    (subst (λ vs. AreSpelled origin (f ∷ g ∷ row) (one.item ∷ items) (vs ++ values)) (sym one.values)
-    (subst (λ r. SpellEach origin r (one.item ∷ items) (v ∷ values)) (sym (next_by (ends_with_strings (g ∷ row)) f (g ∷ row) one.item items)) (one.spelt, rest)))
+one_more : (origin : List (List ℕ)) (f : Field) (row : List Field) (v : FieldValue) (items : List RawItem) (values : List FieldValue) → f ≢ fields.Strings → OneItem origin f v → SpellEach origin row items values → SpellEach origin (f ∷ row) (field_items v ++ items) (v ∷ values)
+one_more origin fields.Strings row v items values other one rest = absurd (other refl)
+one_more origin f row v items values other one rest = subst (λ own. SpellEach origin (f ∷ row) (own ++ items) (v ∷ values)) (sym one.items) (one.spelt, rest)
 
-one_alone : (origin : List (List ℕ)) (f : Field) (v : FieldValue) → OneItem origin f v → AreSpelled origin (f ∷ []) (field_items v ++ []) (item_values v ++ [])
-one_alone origin f v one =
-    subst (λ is. AreSpelled origin (f ∷ []) (is ++ []) (item_values v ++ [])) (sym one.items)
-    (subst (λ vs. AreSpelled origin (f ∷ []) (one.item ∷ []) (vs ++ [])) (sym one.values)
-    (subst (λ r. SpellEach origin r (one.item ∷ []) (v ∷ [])) (sym (alone_by (ends_with_strings (f ∷ [])) f one.item)) (one.spelt, tt)))
+strings_printed : (many : List (List ℕ)) → AllByRecursion IsString many → SpellEachString (map string_item many) many
+strings_printed [] each = tt
+strings_printed (octets ∷ many) each = (printed-spells octets each.0, strings_printed many each.1)
 
-further_spelt : (origin : List (List ℕ)) (many : List (List ℕ)) → AllByRecursion IsString many → SpellEach origin (map (λ _. fields.Strings) (map string_item many)) (map string_item many) (map single many)
-further_spelt origin [] each = tt
-further_spelt origin (octets ∷ many) each = (printed-spells octets each.0, further_spelt origin many each.1)
+strings_spelt : (origin : List (List ℕ)) (many : List (List ℕ)) → AreStrings many → SpellEach origin (fields.Strings ∷ []) (field_items (strings many) ++ []) (strings many ∷ [])
+strings_spelt origin many h =
+    let all : SpellEach origin (fields.Strings ∷ []) (map string_item many) (strings many ∷ []) = (record { some = omega (arith, h.some, length-map many string_item); each = strings_printed many h.each }, tt) in
+    subst (λ items. SpellEach origin (fields.Strings ∷ []) items (strings many ∷ [])) (sym (append-nil (map string_item many))) all
 
-many_spelt : (origin : List (List ℕ)) (many : List (List ℕ)) → AreStrings many → AreSpelled origin (fields.Strings ∷ []) (map string_item many) (map single many)
-many_spelt origin [] h = absurd (omega (arith, h.some))
-many_spelt origin (octets ∷ many) h = (printed-spells octets h.each.0, further_spelt origin many h.each.1)
+last_spelt : NamesPrinted → (origin : List (List ℕ)) (f : Field) (v : FieldValue) → IsSized f → Holds f v → SpellEach origin (f ∷ []) (field_items v ++ []) (v ∷ [])
+last_spelt names origin fields.Strings (strings many) sized h = strings_spelt origin many h
+last_spelt names origin fields.Strings v sized h = absurd h
+last_spelt names origin f v sized h = one_more origin f [] v [] [] (λ e. cc) (one_item names origin f v (λ e. cc) sized h) tt
 
-strings_spelt : (origin : List (List ℕ)) (v : FieldValue) → Holds fields.Strings v → AreSpelled origin (fields.Strings ∷ []) (field_items v ++ []) (item_values v ++ [])
-strings_spelt origin (strings many) h =
-    let singles = map single many in
-    subst (λ vs. AreSpelled origin (fields.Strings ∷ []) (map string_item many ++ []) vs) (sym (append-nil singles))
-    (subst (λ is. AreSpelled origin (fields.Strings ∷ []) is singles) (sym (append-nil (map string_item many))) (many_spelt origin many h))
-strings_spelt origin v h = absurd h
-
-strings_or_other : (f : Field) → (f ≡ fields.Strings) ⊎ (f ≢ fields.Strings)
-strings_or_other fields.Strings = inl refl
-strings_or_other f = inr (λ e. cc)
-
-last_spelt : NamesPrinted → (origin : List (List ℕ)) (f : Field) (v : FieldValue) → IsSized f → Holds f v → (f ≡ fields.Strings) ⊎ (f ≢ fields.Strings) → AreSpelled origin (f ∷ []) (field_items v ++ []) (item_values v ++ [])
-last_spelt names origin f v sized h (inl e) = subst (λ g. AreSpelled origin (g ∷ []) (field_items v ++ []) (item_values v ++ [])) (sym e) (strings_spelt origin v (subst (λ g. Holds g v) e h))
-last_spelt names origin f v sized h (inr other) = one_alone origin f v (one_item names origin f v other sized h)
-
-each_spelt : NamesPrinted → (origin : List (List ℕ)) (row : List Field) (values : List FieldValue) → StringsLast row → AllByRecursion IsSized row → HoldEach row values → AreSpelled origin row (flat_map field_items values) (flat_map item_values values)
+each_spelt : NamesPrinted → (origin : List (List ℕ)) (row : List Field) (values : List FieldValue) → StringsLast row → AllByRecursion IsSized row → HoldEach row values → SpellEach origin row (flat_map field_items values) values
 each_spelt names origin [] [] last sized h = tt
 each_spelt names origin [] (v ∷ values) last sized h = absurd h
 each_spelt names origin (f ∷ row) [] last sized h = absurd h
-each_spelt names origin (f ∷ []) (v ∷ []) last sized h = last_spelt names origin f v sized.0 h.0 (strings_or_other f)
+each_spelt names origin (f ∷ []) (v ∷ []) last sized h = last_spelt names origin f v sized.0 h.0
 each_spelt names origin (f ∷ []) (v ∷ w ∷ values) last sized h = absurd h.1
 each_spelt names origin (f ∷ g ∷ row) (v ∷ values) last sized h =
-    one_more origin f g row v (flat_map field_items values) (flat_map item_values values) (one_item names origin f v last.0 sized.0 h.0) (each_spelt names origin (g ∷ row) values last.1 sized.1 h.1)
+    one_more origin f (g ∷ row) v (flat_map field_items values) values last.0 (one_item names origin f v last.0 sized.0 h.0) (each_spelt names origin (g ∷ row) values last.1 sized.1 h.1)
 
 -- ---- the first item is not the mark of the generic form
 
@@ -242,7 +194,7 @@ stated_for names origin None octets table short each value = in_octets octets (b
 stated_for names origin (Some row) octets table short each value =
     let values = values_of row octets in
     let sound = table row refl in
-    in_words row (flat_map item_values values) refl (fields_unmarked row values sound.sized value.held) (each_spelt names origin row values sound.last sound.sized value.held) (sym (values_octets values ∙ value.whole)) short
+    in_words row values refl (fields_unmarked row values sound.sized value.held) (each_spelt names origin row values sound.last sound.sized value.held) (sym value.whole) short
 
 pub data_stated : NamesPrinted → (origin : List (List ℕ)) (d : Data) → IsRdata d → States origin d.class d.kind (data_items d) d.octets
 data_stated names origin d h = record { stated = stated_for names origin (layout d.class d.kind) d.octets (table_row d.class d.kind) h.octets.short h.octets.each h.octets.value }

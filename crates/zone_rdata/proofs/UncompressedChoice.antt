@@ -4,11 +4,13 @@ use Rattle.std.specs.List.{AllByRecursion}
 use Rattle.std.proofs.lemmas.Bool.{cases_lt, cases_eq}
 use Rattle.std.proofs.lemmas.List.{append-nil}
 use Rattle.zone_name.specs.Name.{IsFoldedOctet, IsLabel, IsName, folded_octet, folded_label, folded, wire}
-use Rattle.zone_rdata.specs.declared.layout.Field.{Field}
-use Rattle.zone_rdata.specs.declared.layout.Field.TheVariants as fields
+use Rattle.zone_rdata.specs.declared.field.Field.{Field}
+use Rattle.zone_rdata.specs.declared.field.Field.TheVariants as fields
 use Rattle.zone_rdata.specs.Field.{FieldValue, field_octets}
 use Rattle.zone_rdata.specs.Layout.{StringsLast, layout}
-use Rattle.zone_rdata.specs.Uncompressed.{IsUncompressed, BeginsWithSent, BeginsWithValue, BeginsWithNone, AppendsValue, AppendsFront, AreFramed}
+use Rattle.zone_rdata.specs.Fields.Name.{BeginsWithSent}
+use Rattle.zone_rdata.specs.Fields.Strings.{AreFramed}
+use Rattle.zone_rdata.specs.Uncompressed.{IsUncompressed, BeginsWithValue, BeginsWithNone, AppendsValue, AppendsFront}
 use Rattle.zone_rdata.proofs.AddressChoice.{Choice}
 use Rattle.zone_rdata.proofs.Tables.{table_row}
 use Rattle.zone_rdata.proofs.Fronts.{AreLow, Framed, framed_none, framed_more, framed_all, framed_empty, framed_short, appends_serial, appends_time, appends_two, appends_fixed, appends_string, appends_strings, appends_name, none_serial, none_time, none_two, none_fixed, none_string, none_nil, none_strings, none_name, value_once}

@@ -1,8 +1,8 @@
 -- Values of a layout are data, and without strings they are short.
 use Rattle.std.proofs.Common.{◌≡◌, ◌≢◌, ℕ, ◌*◌, ◌≤◌, List, [], ◌∷◌, length, Some, refl, sym, ap, ◌∙◌, subst, arith, length-append, inl, inr}
 use Rattle.std.specs.List.{AllByRecursion}
-use Rattle.zone_rdata.specs.declared.layout.Field.{Field}
-use Rattle.zone_rdata.specs.declared.layout.Field.TheVariants.{Name, Serial, Time, U16, Octets, OneString, Strings}
+use Rattle.zone_rdata.specs.declared.field.Field.{Field}
+use Rattle.zone_rdata.specs.declared.field.Field.TheVariants.{Name, Serial, Time, U16, Octets, OneString, Strings}
 use Rattle.zone_rdata.specs.Field.{FieldValue, name, long, two_octets, fixed, string, field_octets, octets_of, values_of, Holds, HoldEach}
 use Rattle.zone_rdata.specs.Layout.{IsData, IsSized, layout}
 use Rattle.zone_rdata.proofs.Fields.{AreFor, laid_out, values_back}
@@ -47,3 +47,6 @@ pub equal_values : (class kind : ℕ) (row : List Field) (values others : List F
 equal_values class kind row values others e held other_held same =
     let last = (table_row class kind row e).last in
     sym (values_back row values last held) ∙ ap (values_of row) same ∙ values_back row others last other_held
+
+pub got_back : (class kind : ℕ) (row : List Field) (values : List FieldValue) → layout class kind ≡ Some row → HoldEach row values → values_of row (octets_of values) ≡ values
+got_back class kind row values e held = values_back row values (table_row class kind row e).last held

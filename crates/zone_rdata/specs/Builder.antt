@@ -1,14 +1,14 @@
 -- Record data that is made part by part.
-use Rattle.std.specs.Prelude.{◌≡◌, ℕ, zero, suc, ◌+◌, ◌^◌, ◌<◌, ◌≤◌, List, [], ◌∷◌, ◌++◌, length, ⊤, Option, Some, None}
+use Rattle.std.specs.Prelude.{◌≡◌, ℕ, zero, suc, ◌+◌, ◌^◌, ◌<◌, ◌≤◌, List, [], ◌∷◌, ◌++◌, length, slice_get, Bool, false, if◌then◌else◌, ⊤, Option, Some, None}
 use Rattle.std.specs.List.{AllByRecursion}
+use Rattle.std.specs.Option.{option_or}
 use Rattle.zone_name.specs.Name.{IsName}
 use Rattle.zone_rdata.specs.declared.fault.Fault.{Fault}
 use Rattle.zone_rdata.specs.declared.fault.Fault.TheVariants.{BadRdata, StringTooLong, RdataTooLong}
-use Rattle.zone_rdata.specs.declared.layout.Field.{Field}
-use Rattle.zone_rdata.specs.declared.layout.Field.TheVariants.{Name, Serial, Time, U16, Octets, OneString, Strings}
-use Rattle.zone_rdata.specs.Field.{FieldValue, name, long, two_octets, fixed, string, field_octets, octets_of, values_of}
+use Rattle.zone_rdata.specs.declared.field.Field.{Field}
+use Rattle.zone_rdata.specs.declared.field.Field.TheVariants.{OneString, Strings}
+use Rattle.zone_rdata.specs.Field.{FieldValue, name, long, two_octets, fixed, string, Suits, field_octets, is_strings, octets_of, values_of}
 use Rattle.zone_rdata.specs.Layout.{AreLaidOut, layout}
-use Rattle.zone_rdata.specs.Reading.{item_field}
 use Rattle.zone_rdata.specs.Words.{IsClass, IsKind}
 
 -- Class, type and the parts that were pushed, one for each call: a value for each field in order, each of several
@@ -18,16 +18,14 @@ pub record Built : Type 0 where
   pub kind : ℕ
   pub parts : List FieldValue
 
--- the part is one for the field, however many octets a string has; a field of octets has some
-abbrev pub Suits : Option Field → FieldValue → Type 0
-Suits (Some Name) (name labels) = ⊤
-Suits (Some Serial) (long n) = ⊤
-Suits (Some Time) (long n) = ⊤
-Suits (Some U16) (two_octets n) = ⊤
-Suits (Some (Octets n)) (fixed octets) = (length octets ≡ n) × (0 < n)
-Suits (Some OneString) (string octets) = ⊤
-Suits (Some Strings) (string octets) = ⊤
-Suits field part = ⊥
+abbrev pub ends_with_strings : List Field → Bool
+ends_with_strings [] = false
+ends_with_strings (f ∷ []) = is_strings f
+ends_with_strings (f ∷ g ∷ fields) = ends_with_strings (g ∷ fields)
+
+-- the field of the part behind so many: one more of strings behind the fields, where they stand last
+abbrev pub part_at : List Field → ℕ → Option Field
+part_at fields i = option_or (slice_get fields i) (if ends_with_strings fields then Some Strings else None)
 
 -- opaque data is one part of octets
 abbrev pub IsOpaque : ℕ → FieldValue → Type 0
@@ -37,7 +35,7 @@ IsOpaque count part = ⊥
 -- the part is the next behind so many
 abbrev pub IsNext : Option (List Field) → ℕ → FieldValue → Type 0
 IsNext None count part = IsOpaque count part
-IsNext (Some fields) count part = Suits (item_field fields count) part
+IsNext (Some fields) count part = Suits (part_at fields count) part
 
 -- a string has at most 255 octets
 abbrev pub FitsString : FieldValue → Type 0

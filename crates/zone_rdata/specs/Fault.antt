@@ -1,5 +1,5 @@
 -- The faults of names among those of an input, and what is said of a fault.
-use Rattle.std.specs.Prelude.{⊤}
+use Rattle.std.specs.Prelude.{◌≡◌, ⊤}
 use Rattle.zone_name.specs.declared.fault.NameFault.{NameFault}
 use Rattle.zone_name.specs.declared.fault.NameFault.TheVariants as names
 use Rattle.zone_rdata.specs.declared.fault.Failing.{Failing}
@@ -18,3 +18,7 @@ fault_of names.RelativeName = RelativeName
 abbrev pub IfFault : (Fault → Type 0) → Failing → Type 0
 IfFault Is (failings.Fault fault) = Is fault
 IfFault Is failings.Memory = ⊤
+
+-- the fault of what states no value
+abbrev pub NoValue : {V : Type 0} → Fault → (V → Type 0) → Fault → Type 0
+NoValue own Stated fault = (fault ≡ own) × ((value : _) → Stated value → ⊥)

@@ -1,11 +1,23 @@
--- What the fields of record data hold, and their octets (RFC 1035 3.3).
-use Rattle.std.specs.Prelude.{◌≡◌, ℕ, zero, suc, ◌^◌, ◌<◌, List, [], ◌∷◌, length, take, drop, ⊤}
-use Rattle.std.specs.List.{flat_map, AllByRecursion}
-use Rattle.std.specs.Int.{w16, w32, to_be_bytes, from_be_bytes}
+-- What the fields of record data hold (RFC 1035 3.3): for each kind of field its values, their octets, the items that
+-- spell them and the fault of items that don't. What is said of a kind stands in `Fields`, a file each.
+use Rattle.std.specs.Prelude.{◌≡◌, ℕ, ◌<◌, List, [], ◌∷◌, length, take, drop, Bool, true, false, ⊤, Option, Some}
+use Rattle.std.specs.List.{flat_map}
 use Rattle.zone_name.specs.Name.{frame, wire, labels_of, IsName}
-use Rattle.zone_rdata.specs.Strings.{IsString}
-use Rattle.zone_rdata.specs.declared.layout.Field.{Field}
-use Rattle.zone_rdata.specs.declared.layout.Field.TheVariants.{Name, Serial, Time, U16, Octets, OneString, Strings}
+use Rattle.zone_name.specs.Spelling.{Spells}
+use Rattle.zone_rdata.specs.declared.fault.Fault.{Fault}
+use Rattle.zone_rdata.specs.declared.fault.Fault.TheVariants.{BadRdata, BadNumber}
+use Rattle.zone_rdata.specs.declared.field.Field.{Field}
+use Rattle.zone_rdata.specs.declared.field.Field.TheVariants.{Name, Serial, Time, U16, Octets, OneString, Strings}
+use Rattle.zone_rdata.specs.Fault.{NoValue}
+use Rattle.zone_rdata.specs.Fields.Address.{AreFixed, IsAddress}
+use Rattle.zone_rdata.specs.Fields.Name.{IsNameFault, IsSentName}
+use Rattle.zone_rdata.specs.Fields.OneString.{string_at}
+use Rattle.zone_rdata.specs.Fields.Serial.{IsSerial, SpellsSerial, serial_at, serial_octets}
+use Rattle.zone_rdata.specs.Fields.Strings.{AreStrings, SpellsStrings, StringsFault, strings_of}
+use Rattle.zone_rdata.specs.Fields.Time.{SpellsTime}
+use Rattle.zone_rdata.specs.Fields.U16.{IsU16, SpellsU16, u16_at, u16_octets}
+use Rattle.zone_rdata.specs.Item.{RawItem, bare, quoted}
+use Rattle.zone_rdata.specs.Strings.{IsString, SpellsString, StringFault}
 
 -- the value of one field: a name, a number of 32 or of 16 bits, octets of a fixed number, a string, or strings
 pub data FieldValue : Type 0 where
@@ -19,8 +31,8 @@ pub data FieldValue : Type 0 where
 -- its octets: a name uncompressed, a number with the highest octet first, a string behind its length
 abbrev pub field_octets : FieldValue → List ℕ
 field_octets (name labels) = wire labels
-field_octets (long n) = to_be_bytes w32 n
-field_octets (two_octets n) = to_be_bytes w16 n
+field_octets (long n) = serial_octets n
+field_octets (two_octets n) = u16_octets n
 field_octets (fixed octets) = octets
 field_octets (string octets) = frame octets
 field_octets (strings many) = flat_map frame many
@@ -28,22 +40,12 @@ field_octets (strings many) = flat_map frame many
 abbrev pub octets_of : List FieldValue → List ℕ
 octets_of values = flat_map field_octets values
 
--- octets of a fixed number
-pub record AreFixed (n : ℕ) (octets : List ℕ) : Type 0 where
-  pub size : length octets ≡ n
-  pub each : AllByRecursion (λ c. c < 256) octets
-
--- one string or more
-pub record AreStrings (many : List (List ℕ)) : Type 0 where
-  pub some : 0 < length many
-  pub each : AllByRecursion IsString many
-
 -- the value is one that the field can hold
 abbrev pub Holds : Field → FieldValue → Type 0
 Holds Name (name labels) = IsName labels
-Holds Serial (long n) = n < 2 ^ 32
-Holds Time (long n) = n < 2 ^ 32
-Holds U16 (two_octets n) = n < 2 ^ 16
+Holds Serial (long n) = IsSerial n
+Holds Time (long n) = IsSerial n
+Holds U16 (two_octets n) = IsU16 n
 Holds (Octets n) (fixed octets) = AreFixed n octets
 Holds OneString (string octets) = IsString octets
 Holds Strings (strings many) = AreStrings many
@@ -56,27 +58,12 @@ HoldEach [] (v ∷ values) = ⊥
 HoldEach (f ∷ fields) [] = ⊥
 HoldEach (f ∷ fields) (v ∷ values) = Holds f v × HoldEach fields values
 
--- the string at the front of octets, by the length before it
-abbrev pub string_at : List ℕ → List ℕ
-string_at [] = []
-string_at (n ∷ octets) = take n octets
-
--- the strings one behind another in octets, n at the most
-abbrev pub strings_by : ℕ → List ℕ → List (List ℕ)
-strings_by zero octets = []
-strings_by (suc n) [] = []
-strings_by (suc n) (c ∷ octets) = take c octets ∷ strings_by n (drop c octets)
-
--- the strings that octets hold: the inverse of joining them
-unfoldable pub strings_of : List ℕ → List (List ℕ)
-strings_of octets = strings_by (length octets) octets
-
 -- the value of a field at the front of octets; strings are all that is left
 abbrev pub field_at : Field → List ℕ → FieldValue
 field_at Name octets = name (labels_of octets)
-field_at Serial octets = long (from_be_bytes w32 (take 4 octets))
-field_at Time octets = long (from_be_bytes w32 (take 4 octets))
-field_at U16 octets = two_octets (from_be_bytes w16 (take 2 octets))
+field_at Serial octets = long (serial_at octets)
+field_at Time octets = long (serial_at octets)
+field_at U16 octets = two_octets (u16_at octets)
 field_at (Octets n) octets = fixed (take n octets)
 field_at OneString octets = string (string_at octets)
 field_at Strings octets = strings (strings_of octets)
@@ -86,13 +73,57 @@ abbrev pub values_of : List Field → List ℕ → List FieldValue
 values_of [] octets = []
 values_of (f ∷ fields) octets = field_at f octets ∷ values_of fields (drop (length (field_octets (field_at f octets))) octets)
 
--- octets that begin with a string behind its length
-pub record BeginsWithString (octets : List ℕ) : Type 0 where
-  pub some : 0 < length octets
-  pub held : IsString (string_at octets)
-  pub front : take (length (frame (string_at octets))) octets ≡ frame (string_at octets)
+-- the octets of a value as they are sent: a name's labels in any letter case, all else as it is kept
+abbrev pub IsSent : FieldValue → List ℕ → Type 0
+IsSent (name labels) octets = IsSentName labels octets
+IsSent value octets = octets ≡ field_octets value
 
--- octets that are strings, each behind its length
-pub record HoldsStrings (octets : List ℕ) : Type 0 where
-  pub each : AllByRecursion IsString (strings_of octets)
-  pub whole : flat_map frame (strings_of octets) ≡ octets
+-- The items spell a value of a field: one bare item a name under the origin, a decimal number, a time or an address;
+-- one item, bare or quoted, a string; one or more items strings, one each
+abbrev pub SpellsField : List (List ℕ) → Field → List RawItem → FieldValue → Type 0
+SpellsField origin Name (bare text ∷ []) (name labels) = Spells (Some origin) text labels
+SpellsField origin Serial (bare text ∷ []) (long n) = SpellsSerial text n
+SpellsField origin Time (bare text ∷ []) (long n) = SpellsTime text n
+SpellsField origin U16 (bare text ∷ []) (two_octets n) = SpellsU16 text n
+SpellsField origin (Octets n) (bare text ∷ []) (fixed octets) = IsAddress n text octets
+SpellsField origin OneString (item ∷ []) (string octets) = SpellsString item octets
+SpellsField origin Strings items (strings many) = SpellsStrings items many
+SpellsField origin field items value = ⊥
+
+-- the items of a field, among those that are left: the first, but strings take all
+abbrev pub own_items : Field → List RawItem → List RawItem
+own_items Strings items = items
+own_items field items = take 1 items
+
+-- the items behind them
+abbrev pub items_behind : Field → List RawItem → List RawItem
+items_behind Strings items = []
+items_behind field items = drop 1 items
+
+-- why the items of a field spell no value of it: none is there, one is quoted that has to be bare, or its text
+abbrev pub IsFieldFault : List (List ℕ) → Field → List RawItem → Fault → Type 0
+IsFieldFault origin Strings items fault = StringsFault items fault
+IsFieldFault origin field [] fault = fault ≡ BadRdata
+IsFieldFault origin OneString (item ∷ items) fault = StringFault item fault
+IsFieldFault origin field (quoted text ∷ items) fault = fault ≡ BadRdata
+IsFieldFault origin Name (bare text ∷ items) fault = IsNameFault origin text fault
+IsFieldFault origin Serial (bare text ∷ items) fault = NoValue BadNumber (SpellsSerial text) fault
+IsFieldFault origin Time (bare text ∷ items) fault = NoValue BadNumber (SpellsTime text) fault
+IsFieldFault origin U16 (bare text ∷ items) fault = NoValue BadNumber (SpellsU16 text) fault
+IsFieldFault origin (Octets n) (bare text ∷ items) fault = NoValue BadRdata (IsAddress n text) fault
+
+-- the field takes all that is left
+abbrev pub is_strings : Field → Bool
+is_strings Strings = true
+is_strings field = false
+
+-- the part is one for the field, however many octets a string has; a field of octets has some
+abbrev pub Suits : Option Field → FieldValue → Type 0
+Suits (Some Name) (name labels) = ⊤
+Suits (Some Serial) (long n) = ⊤
+Suits (Some Time) (long n) = ⊤
+Suits (Some U16) (two_octets n) = ⊤
+Suits (Some (Octets n)) (fixed octets) = (length octets ≡ n) × (0 < n)
+Suits (Some OneString) (string octets) = ⊤
+Suits (Some Strings) (string octets) = ⊤
+Suits field part = ⊥

@@ -1,8 +1,8 @@
 -- The layouts of record data by class and type (RFC 1035 3.3), and the data that a record can have.
 use Rattle.std.specs.Prelude.{◌≡◌, ◌≢◌, ℕ, ◌<◌, ◌≤◌, List, [], ◌∷◌, length, ◌==◌, ◌||◌, not, if◌then◌else◌, Option, Some, None, MatchOption, ⊤, ◌⊎◌}
 use Rattle.std.specs.List.{AllByRecursion, find}
-use Rattle.zone_rdata.specs.declared.layout.Field.{Field}
-use Rattle.zone_rdata.specs.declared.layout.Field.TheVariants.{Octets, Strings}
+use Rattle.zone_rdata.specs.declared.field.Field.{Field}
+use Rattle.zone_rdata.specs.declared.field.Field.TheVariants.{Octets, Strings}
 use Rattle.zone_rdata.specs.declared.layout.Layout.{Layout}
 use Rattle.zone_rdata.specs.Field.{HoldEach, values_of, octets_of}
 use Rattle.zone_rdata.specs.Table.{NamedType, types, in_class}

@@ -4,6 +4,7 @@ pub mod Strings
 pub mod Address
 pub mod Number
 pub mod Generic
+pub mod Fields
 pub mod Field
 pub mod Uncompressed
 pub mod Table

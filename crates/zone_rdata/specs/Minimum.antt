@@ -1,6 +1,6 @@
 -- The MINIMUM of an SOA's data (RFC 1035 3.3.13): its last field.
 use Rattle.std.specs.Prelude.{ℕ, List, ◌==◌, if◌then◌else◌, fold, Option, Some, None}
-use Rattle.zone_rdata.specs.declared.layout.Field.{Field}
+use Rattle.zone_rdata.specs.declared.field.Field.{Field}
 use Rattle.zone_rdata.specs.Field.{FieldValue, long, values_of}
 use Rattle.zone_rdata.specs.Layout.{layout}
 use Rattle.zone_rdata.specs.Record.{Data}

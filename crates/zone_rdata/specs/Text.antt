@@ -3,7 +3,7 @@ use Rattle.std.specs.Prelude.{◌≡◌, ℕ, zero, suc, take, drop, List, [], �
 use Rattle.std.specs.List.{join_with_byte}
 use Rattle.hex.specs.Hex.{encode_lower}
 use Rattle.zone_name.specs.Text.{name_text}
-use Rattle.zone_rdata.specs.declared.layout.Field.{Field}
+use Rattle.zone_rdata.specs.declared.field.Field.{Field}
 use Rattle.zone_rdata.specs.Field.{FieldValue, name, long, two_octets, fixed, string, strings, Holds, field_octets, field_at, values_of}
 use Rattle.zone_rdata.specs.Address.{four_text, groups_text}
 use Rattle.zone_rdata.specs.Layout.{layout}

@@ -1,7 +1,7 @@
 -- The items of the canonical text of record data (RFC 1035 5.1; RFC 3597 5).
 use Rattle.std.specs.Prelude.{ℕ, List, [], ◌∷◌, ◌++◌, map, Option, Some, None}
 use Rattle.std.specs.List.{flat_map}
-use Rattle.zone_rdata.specs.declared.layout.Field.{Field}
+use Rattle.zone_rdata.specs.declared.field.Field.{Field}
 use Rattle.zone_rdata.specs.Field.{FieldValue, string, strings, values_of}
 use Rattle.zone_rdata.specs.Generic.{generic_items}
 use Rattle.zone_rdata.specs.Item.{RawItem, bare, quoted}

@@ -1,15 +1,8 @@
 -- Uncompressed octets of record data, as a message can have them: names in any letter case (RFC 1035 3.3; RFC 4343 3).
 use Rattle.std.specs.Prelude.{◌≡◌, ℕ, ◌≤◌, List, [], ◌∷◌, ◌++◌, length, take, drop}
-use Rattle.std.specs.List.{flat_map}
-use Rattle.zone_name.specs.Name.{IsName, folded, frame, wire}
-use Rattle.zone_rdata.specs.declared.layout.Field.{Field}
-use Rattle.zone_rdata.specs.declared.layout.Field.TheVariants.{Strings}
-use Rattle.zone_rdata.specs.Field.{FieldValue, name, field_octets, AreStrings, Holds, HoldEach, octets_of}
-
--- the octets of a value as they are sent: a name's labels in any letter case, all else as it is kept
-abbrev pub IsSent : FieldValue → List ℕ → Type 0
-IsSent (name labels) octets = (sent : List (List ℕ)) × (folded sent ≡ labels) × (octets ≡ wire sent)
-IsSent value octets = octets ≡ field_octets value
+use Rattle.zone_rdata.specs.declared.field.Field.{Field}
+use Rattle.zone_rdata.specs.declared.field.Field.TheVariants.{Strings}
+use Rattle.zone_rdata.specs.Field.{FieldValue, field_octets, Holds, HoldEach, IsSent, octets_of}
 
 -- the octets of values, one behind another
 abbrev pub AreSent : List FieldValue → List ℕ → Type 0
@@ -22,17 +15,6 @@ pub record IsUncompressed (fields : List Field) (octets canonical : List ℕ) : 
   pub held : HoldEach fields values
   pub sent : AreSent values octets
   pub whole : canonical ≡ octets_of values
-
--- octets that begin with a name, in any letter case
-pub record BeginsWithSent (octets : List ℕ) (labels : List (List ℕ)) (rest : List ℕ) : Type 0 where
-  pub is_name : IsName labels
-  pub sent : List (List ℕ)
-  pub folds : folded sent ≡ labels
-  pub parts : octets ≡ wire sent ++ rest
-
--- octets that are one string or more, each behind its length
-abbrev pub AreFramed : List ℕ → Type 0
-AreFramed octets = (many : List (List ℕ)) × AreStrings many × (octets ≡ flat_map frame many)
 
 -- octets that begin with a value of the field; strings are all that is left
 pub record BeginsWithValue (field : Field) (octets : List ℕ) (value : FieldValue) (rest : List ℕ) : Type 0 where

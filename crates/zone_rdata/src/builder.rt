@@ -8,7 +8,7 @@ ghost use Rattle.zone_rdata.specs.Layout.{layout};
 use crate::class::Class;
 use crate::fault::{Failing, Fault};
 use crate::kind::Kind;
-use crate::layout::{Field, layout_of};
+use crate::layout::layout_of;
 use crate::number::{long_octets, short_octets};
 use crate::rdata::Rdata;
 use crate::reading::are_octets;
@@ -41,7 +41,7 @@ impl Model for RdataBuilder {
 
 /// What a push hands in.
 #[derive(Clone, Copy)]
-enum Part<'p> {
+pub(crate) enum Part<'p> {
     Octets(&'p [u8]),
     U16(u16),
     U32(u32),
@@ -181,16 +181,9 @@ fn is_next(class: Class, kind: Kind, count: usize, part: Part) -> bool
     let Some(layout) = layout_of(class, kind) else {
         return count == 0 && matches!(part, Part::Octets(_));
     };
-    let Some(field) = layout.item_field(count) else {
-        return false;
-    };
-    match (field, part) {
-        (Field::Octets(count), Part::Octets(octets)) => octets.len() == count,
-        (Field::U16, Part::U16(_)) => true,
-        (Field::Serial | Field::Time, Part::U32(_)) => true,
-        (Field::Name, Part::Name(_)) => true,
-        (Field::OneString | Field::Strings, Part::String(_)) => true,
-        _ => false,
+    match layout.part_at(count) {
+        Some(field) => field.suits(part),
+        None => false,
     }
 }
 

@@ -1,38 +1,11 @@
 ghost use Rattle.std.specs.Prelude.{◌≡◌, option_map, slice_get};
+ghost use Rattle.zone_rdata.specs.Builder.{ends_with_strings, part_at};
 ghost use Rattle.zone_rdata.specs.Layout.{layout, fields_of};
-ghost use Rattle.zone_rdata.specs.Reading.{item_field};
-ghost use Rattle.zone_rdata.specs.Spelling.{ends_with_strings, is_strings};
 
 use crate::class::Class;
+use crate::field::Field;
 use crate::kind::Kind;
 use crate::table::{TYPES, row_of};
-
-/// A field of record data (RFC 1035 3.3).
-#[derive(Clone, Copy, Debug, PartialEq, Eq)]
-pub enum Field {
-    /// A domain name.
-    Name,
-    /// A number of 32 bits, written in digits.
-    Serial,
-    /// A number of seconds of 32 bits, written in digits or as a time.
-    Time,
-    /// A number of 16 bits, written in digits.
-    U16,
-    /// An address of this number of octets.
-    Octets(usize),
-    /// A character-string.
-    OneString,
-    /// One or more character-strings, up to the end of the data.
-    Strings,
-}
-
-impl Field {
-    fn is_strings(self) -> bool
-        ensures { result ≡ is_strings self }
-    {
-        matches!(self, Field::Strings)
-    }
-}
 
 /// The fields of one type's data, in order.
 #[derive(Clone, Copy, Debug)]
@@ -79,9 +52,9 @@ impl Layout {
         }
     }
 
-    /// The field that the item at a place from 0 is to spell. `None`: no item stands there.
-    pub(crate) fn item_field(self, place: usize) -> Option<Field>
-        ensures { result ≡ item_field (fields_of self) place }
+    /// The field of the part at a place from 0. `None`: no part stands there.
+    pub(crate) fn part_at(self, place: usize) -> Option<Field>
+        ensures { result ≡ part_at (fields_of self) place }
     {
         match self.fields.get(place) {
             Some(field) => Some(*field),

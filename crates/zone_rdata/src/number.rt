@@ -1,7 +1,8 @@
-ghost use Rattle.std.specs.Prelude.{◌≡◌, ℕ, min, IfSome, IfNone};
+ghost use Rattle.std.specs.Prelude.{◌≡◌, ◌<◌, ◌≤◌, ℕ, Some, min, IfOk, IfErr, IfSome, IfNone};
 ghost use Rattle.std.specs.Int.{w16, w32, to_be_bytes};
 ghost use Rattle.zone_rdata.specs.Number.{IsDecimal};
 
+use crate::fault::Fault;
 use byteorder::{BigEndian, ByteOrder};
 
 /// What a number is cut off at: one over the greatest number of 32 bits.
@@ -23,6 +24,17 @@ pub(crate) fn decimal_of(text: &[u8]) -> Option<u64>
         number = CAP.min(number * 10 + u64::from(*octet - b'0'));
     }
     Some(number)
+}
+
+/// A number that was read, where it is at most so great.
+pub(crate) fn at_most(most: u32, number: Option<u64>) -> Result<u32, Fault>
+    ensures found { IfOk result (λ n. (number ≡ Some n) × (n ≤ most)) }
+    ensures fault { IfErr result (λ f. (f ≡ Fault.BadNumber) × IfSome number (λ n. most < n)) }
+{
+    match number {
+        Some(number) if number <= u64::from(most) => Ok(number as u32),
+        _ => Err(Fault::BadNumber),
+    }
 }
 
 /// The octets of a number of 16 bits, the highest first.

@@ -1,15 +1,16 @@
 ghost use Rattle.std.specs.Prelude.{◌≡◌, ◌<◌, [], length, map, IfOk, OnOk, OnErr, option_map, decimal, MatchOption, IfSome, Some, ◌⊎◌};
 ghost use Rattle.std.specs.List.{AllByRecursion, join_with_byte};
 ghost use Rattle.zone_name.specs.Sink.{TakesSome};
-ghost use Rattle.zone_rdata.specs.Field.{HoldsStrings, field_at, fixed, strings_of};
+ghost use Rattle.zone_rdata.specs.Field.{field_at, fixed};
+ghost use Rattle.zone_rdata.specs.Fields.Strings.{HoldsStrings, strings_of};
 ghost use Rattle.zone_rdata.specs.Layout.{AreLaidOut, IsSized, fields_of};
 ghost use Rattle.zone_rdata.specs.Strings.{string_text};
 ghost use Rattle.zone_rdata.specs.Text.{BeginsWithField, after_field, field_text, generic_head, generic_text, laid_out_text, spaced};
 ghost use Rattle.hex.specs.Hex.{encode_lower};
 
 use crate::address::{push_four, push_sixteen};
-use crate::front::{split_long, split_name, split_short, split_string};
-use crate::layout::{Field, Layout};
+use crate::field::{Field, split_long, split_name, split_short, split_string};
+use crate::layout::Layout;
 use crate::string::push_string_text;
 use arrayvec::ArrayVec;
 use hex::encode_to_slice;

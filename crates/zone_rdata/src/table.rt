@@ -3,7 +3,7 @@ ghost use Rattle.std.specs.Prelude.{◌≡◌, ◌==◌, map, option_copied};
 ghost use Rattle.std.specs.List.{find};
 ghost use Rattle.zone_rdata.specs.Table.{Named, mnemonic_among};
 
-use crate::layout::Field;
+use crate::field::Field;
 
 /// A row of a table: a number and the mnemonic that stands for it.
 pub(crate) trait Row {

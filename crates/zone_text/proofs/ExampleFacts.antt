@@ -4,7 +4,7 @@ use Rattle.std.specs.List.{AllByRecursion}
 use Rattle.zone_name.specs.Name.{IsName, folded_octet, labels_of, wire}
 use Rattle.zone_name.specs.Spelling.{plain, at_origin, absolute, relative, Spells, FirstFault, within, empty_label, is_dot}
 use Rattle.zone_name.specs.declared.fault.NameFault.TheVariants.{EmptyLabel}
-use Rattle.zone_rdata.specs.declared.layout.Field.TheVariants.{Name}
+use Rattle.zone_rdata.specs.declared.field.Field.TheVariants.{Name}
 use Rattle.zone_rdata.specs.Field.{name}
 use Rattle.zone_rdata.specs.Number.{IsTime}
 use Rattle.zone_rdata.specs.Number as number

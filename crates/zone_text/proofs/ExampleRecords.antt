@@ -3,13 +3,14 @@ use Rattle.std.proofs.Common.{◌≡◌, ℕ, ◌<◌, ◌≤◌, ◌^◌, List,
 use Rattle.std.specs.List.{AllByRecursion}
 use Rattle.zone_name.specs.Name.{IsName, labels_of}
 use Rattle.zone_name.specs.Spelling.{Spells, is_digit}
-use Rattle.zone_rdata.specs.declared.layout.Field.TheVariants.{Name, Serial, Time, Octets}
+use Rattle.zone_rdata.specs.declared.field.Field.TheVariants.{Name, Serial, Time, Octets}
 use Rattle.zone_rdata.specs.Address.{IsOctetNumber}
 use Rattle.zone_rdata.specs.Field.{FieldValue, name, long, fixed, octets_of}
 use Rattle.zone_rdata.specs.Minimum.{minimum}
 use Rattle.zone_rdata.specs.Number.{IsTime, IsDecimal, decimal_value, plain}
 use Rattle.zone_rdata.specs.Record.{IsRecord}
-use Rattle.zone_rdata.specs.Spelling.{RawItem, bare, States, in_words, of_four}
+use Rattle.zone_rdata.specs.Fields.Address.{of_four}
+use Rattle.zone_rdata.specs.Spelling.{RawItem, bare, States, in_words}
 use Rattle.zone_rdata.specs.Words.{IsKind, IsKindWord, by_mnemonic}
 use Rattle.zone_text.specs.Entries.{Entry}
 use Rattle.zone_text.specs.Forms.{parts_of, form_of, Word}

@@ -8,11 +8,10 @@ use Rattle.std.proofs.lemmas.List.Sums.{sum_by-append, fails_before_first}
 use Rattle.std.proofs.lemmas.List.Quantifiers.{position-Some}
 use Rattle.std.proofs.lemmas.Grind.{common_steps, flat_map-append}
 use Rattle.zone_rdata.specs.Record.{Record}
-use Rattle.zone_rdata.specs.Spelling.{RawItem}
+use Rattle.zone_rdata.specs.Spelling.{RawItem, bare}
 use Rattle.zone_text.specs.Pieces.{Piece, line_feed, piece_text, text, is_blank}
 use Rattle.zone_text.specs.Entries.{Entry, entry_of, item_of, first_octet}
 use Rattle.zone_text.proofs.Units.{take_whole}
-use Rattle.zone_rdata.specs.Spelling.{bare}
 use Rattle.zone_text.specs.Forms.{form_by, form_of, owned, Word, ttl, class, word_behind, Parts, parts_behind, parts_of, begins_with_digit, is_class_word}
 use Rattle.zone_text.specs.Inherited.{IsOrigin}
 use Rattle.zone_text.specs.Records.{StatesRecord}

@@ -2,7 +2,8 @@
 -- are those of a text that breaks.
 use Rattle.std.specs.Prelude.{◌≡◌, ℕ, ◌<◌, List, [], ◌∷◌, Option, Some, None, ◌⊎◌}
 use Rattle.std.specs.List.{AllByRecursion}
-use Rattle.zone_rdata.specs.DataFault.{IsDataFault, IsNameFault}
+use Rattle.zone_rdata.specs.DataFault.{IsDataFault}
+use Rattle.zone_rdata.specs.Fields.Name.{IsNameFault}
 use Rattle.zone_rdata.specs.Spelling.{RawItem, bare, quoted}
 use Rattle.zone_rdata.specs.Words.{IsClass, IsClassWord, IsWordFault}
 use Rattle.zone_rdata.specs.declared.fault.Fault.{Fault}

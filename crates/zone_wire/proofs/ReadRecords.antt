@@ -8,13 +8,13 @@ use Rattle.zone_name.specs.Name.{IsName}
 use Rattle.zone_rdata.specs.Field.{FieldValue, strings, field_octets, octets_of, Holds, HoldEach}
 use Rattle.zone_rdata.specs.Layout.{layout, AreLaidOut, IsData}
 use Rattle.zone_rdata.specs.Record.{Record, IsRecord}
-use Rattle.zone_rdata.specs.Spelling.{is_strings}
+use Rattle.zone_rdata.specs.Field.{is_strings}
 use Rattle.zone_rdata.specs.Words.{is_meta}
 use Rattle.zone_rdata.specs.declared.fault.Fault.{Fault}
 use Rattle.zone_rdata.specs.declared.fault.Fault.TheVariants.{BadClass, MetaType, CompressibleType}
 use Rattle.zone_rdata.specs.declared.fault.Place.{Place}
-use Rattle.zone_rdata.specs.declared.layout.Field.{Field}
-use Rattle.zone_rdata.specs.declared.layout.Field.TheVariants.{Strings}
+use Rattle.zone_rdata.specs.declared.field.Field.{Field}
+use Rattle.zone_rdata.specs.declared.field.Field.TheVariants.{Strings}
 use Rattle.zone_rdata.specs.declared.record.Placed.{Placed}
 use Rattle.zone_rdata.proofs.Tables.{each_layout}
 use Rattle.zone_wire.specs.Answers.{is_no_class, record_of, Answered, before_others, answer_of, answers_of}

@@ -3,12 +3,13 @@ use Rattle.std.specs.Prelude.{ℕ, ◌+◌, List, [], ◌∷◌, length, slice_i
 use Rattle.std.specs.Cmp.Lexicographic.{pointwise}
 use Rattle.std.specs.List.{flat_map}
 use Rattle.zone_name.specs.Name.{frame}
-use Rattle.zone_rdata.specs.Field.{FieldValue, name, strings, strings_of, field_at, octets_of}
+use Rattle.zone_rdata.specs.Field.{FieldValue, name, strings, field_at, octets_of}
+use Rattle.zone_rdata.specs.Fields.Strings.{strings_of}
 use Rattle.zone_rdata.specs.Layout.{layout}
 use Rattle.zone_rdata.specs.declared.fault.Fault.{Fault}
 use Rattle.zone_rdata.specs.declared.fault.Fault.TheVariants.{BadRdata}
-use Rattle.zone_rdata.specs.declared.layout.Field.{Field}
-use Rattle.zone_rdata.specs.declared.layout.Field.TheVariants.{Name, Serial, Time, U16, Octets, OneString, Strings}
+use Rattle.zone_rdata.specs.declared.field.Field.{Field}
+use Rattle.zone_rdata.specs.declared.field.Field.TheVariants.{Name, Serial, Time, U16, Octets, OneString, Strings}
 use Rattle.zone_wire.specs.Message.{RecordAt}
 use Rattle.zone_wire.specs.Reading.{Outcome, named, refused, outcome}
 use Rattle.zone_wire.specs.Sections.{and_then}

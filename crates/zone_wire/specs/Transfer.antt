@@ -5,7 +5,7 @@ use Rattle.zone_rdata.specs.Field.{FieldValue, name, field_octets, octets_of, Ho
 use Rattle.zone_rdata.specs.Layout.{layout}
 use Rattle.zone_rdata.specs.Record.{Record, IsRecord}
 use Rattle.zone_rdata.specs.declared.fault.Place.TheVariants.{Message}
-use Rattle.zone_rdata.specs.declared.layout.Field.{Field}
+use Rattle.zone_rdata.specs.declared.field.Field.{Field}
 use Rattle.zone_rdata.specs.declared.record.Placed.{Placed}
 use Rattle.zone_wire.specs.Message.{QuestionAt, RecordAt, Sections, IsMessage}
 use Rattle.zone_wire.specs.Name.{Found, IsNameAt}

@@ -8,7 +8,7 @@ ghost use Rattle.zone_rdata.specs.Layout.{IsData, IsLayout, layout};
 ghost use Rattle.zone_rdata.specs.Spelling.{States};
 ghost use Rattle.zone_rdata.specs.Strings.{item_text};
 ghost use Rattle.zone_rdata.specs.declared.fault.Fault.{Fault};
-ghost use Rattle.zone_rdata.specs.declared.layout.Field.{Field};
+ghost use Rattle.zone_rdata.specs.declared.field.Field.{Field};
 
 use zone_name::laws::{spelling_is_unique, texts_have_one_verdict};
 

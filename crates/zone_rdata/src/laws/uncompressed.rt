@@ -3,7 +3,7 @@ ghost use Rattle.std.specs.Prelude.{◌≡◌, ◌⊎◌, List, ℕ, Some};
 ghost use Rattle.zone_name.specs.Common.{AreOctets, AtMostOneIs, NothingIs, Octets};
 ghost use Rattle.zone_rdata.specs.Layout.{layout};
 ghost use Rattle.zone_rdata.specs.Uncompressed.{IsUncompressed};
-ghost use Rattle.zone_rdata.specs.declared.layout.Field.{Field};
+ghost use Rattle.zone_rdata.specs.declared.field.Field.{Field};
 
 /// Octets have at most one canonical form in the layout of a class and type.
 pub fn canonical_octets_are_unique()

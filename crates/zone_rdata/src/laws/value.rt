@@ -1,10 +1,10 @@
 //! Laws of the values of a layout and their octets (RFC 1035 3.3).
 ghost use Rattle.std.specs.Prelude.{◌≡◌, ◌≢◌, ◌≤◌, List, Some, length, ℕ};
 ghost use Rattle.std.specs.List.{AllByRecursion};
-ghost use Rattle.zone_rdata.specs.Field.{FieldValue, HoldEach, octets_of};
+ghost use Rattle.zone_rdata.specs.Field.{FieldValue, HoldEach, octets_of, values_of};
 ghost use Rattle.zone_rdata.specs.Layout.{IsData, layout};
-ghost use Rattle.zone_rdata.specs.declared.layout.Field.{Field};
-ghost use Rattle.zone_rdata.specs.declared.layout.Field.TheVariants.{Strings};
+ghost use Rattle.zone_rdata.specs.declared.field.Field.{Field};
+ghost use Rattle.zone_rdata.specs.declared.field.Field.TheVariants.{Strings};
 
 /// Values of a layout are data, unless their octets are too many.
 pub fn held_values_are_data()
@@ -20,4 +20,9 @@ pub fn values_without_strings_are_short()
 /// Values of a layout with the same octets are the same values.
 pub fn equal_octets_are_equal_values()
     ensures { (class kind : ℕ) (fields : List Field) (values others : List FieldValue) → layout class kind ≡ Some fields → HoldEach fields values → HoldEach fields others → octets_of values ≡ octets_of others → values ≡ others }
+{}
+
+/// The values of a layout are got back from their octets.
+pub fn values_are_got_back()
+    ensures { (class kind : ℕ) (fields : List Field) (values : List FieldValue) → layout class kind ≡ Some fields → HoldEach fields values → values_of fields (octets_of values) ≡ values }
 {}

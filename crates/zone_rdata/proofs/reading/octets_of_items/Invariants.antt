@@ -1,9 +1,7 @@
-use Rattle.std.proofs.Common.{map}
+use Rattle.std.proofs.Common.{◌≤◌, length, drop, map}
 use Rattle.zone_rdata.specs.Item.{raw}
-use Rattle.zone_rdata.specs.Spelling.{item_fields}
-use Rattle.zone_rdata.specs.Layout.{fields_of}
 use Rattle.zone_rdata.proofs.Items.{HaveRead}
 use Rattle.zone_rdata.proofs.reading.octets_of_items.Given as goal
 
-abbrev pub invariant-loop-place : goal.invariant-loop-place
-invariant-loop-place l = HaveRead l.origin (item_fields (fields_of l.layout) (map raw l.items)) (map raw l.items) l.place l.octets.items
+abbrev pub invariant-loop-field : goal.invariant-loop-field
+invariant-loop-field l = (l.place ≤ length l.items) × HaveRead l.origin l.field-items (map raw l.items) (drop l.field-index l.field-items) (map raw (drop l.place l.items)) l.octets.items

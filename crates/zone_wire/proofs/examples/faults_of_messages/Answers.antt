@@ -1,5 +1,5 @@
 use Rattle.std.proofs.Common.{[], ◌∷◌, ◌++◌, refl}
-use Rattle.zone_rdata.specs.Field.{strings_of}
+use Rattle.zone_rdata.specs.Fields.Strings.{strings_of}
 use Rattle.zone_wire.specs.Answers.{record_of, answer_of}
 use Rattle.zone_wire.specs.Data.{value_at, data_at}
 use Rattle.zone_wire.specs.Examples.{answer_header, numbers, question_x, opening_x, record_x, server_x, closing_x, message_with, small_body, small_message, first_message}

@@ -1,6 +1,6 @@
 use Rattle.std.proofs.Common.{sym, ap, ◌∙◌}
-use Rattle.zone_rdata.specs.Spelling.{is_strings}
-use Rattle.zone_rdata.proofs.Rows.{ends_at}
+use Rattle.zone_rdata.specs.Field.{is_strings}
+use Rattle.zone_rdata.proofs.Building.{ends_at}
 use Rattle.zone_rdata.proofs.layout.Layout.ends_with_strings.Goals as goal
 
 pub returns-in-Some : goal.returns-in-Some

@@ -1,0 +1,5 @@
+use Rattle.zone_rdata.proofs.ValueLaws.{got_back}
+use Rattle.zone_rdata.proofs.laws.value.values_are_got_back.Goals as goal
+
+pub returns : goal.returns
+returns c = got_back

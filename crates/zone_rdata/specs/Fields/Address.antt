@@ -1,0 +1,14 @@
+-- A field that is an address of a fixed number of octets (RFC 1035 3.4.1; RFC 3596 2.2).
+use Rattle.std.specs.Prelude.{◌≡◌, ℕ, ◌<◌, List, length}
+use Rattle.std.specs.List.{AllByRecursion}
+use Rattle.zone_rdata.specs.Address.{IsFourNumbers, IsGroups}
+
+-- octets of a fixed number
+pub record AreFixed (n : ℕ) (octets : List ℕ) : Type 0 where
+  pub size : length octets ≡ n
+  pub each : AllByRecursion (λ c. c < 256) octets
+
+-- the text of an address of n octets
+pub data IsAddress (n : ℕ) (text octets : List ℕ) : Type 0 where
+  of_four : n ≡ 4 → IsFourNumbers text octets → IsAddress n text octets
+  of_sixteen : n ≡ 16 → IsGroups text octets → IsAddress n text octets

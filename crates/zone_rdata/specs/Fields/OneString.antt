@@ -1,0 +1,15 @@
+-- A field that is one character-string, behind its length (RFC 1035 3.3). An item spells it by `SpellsString`.
+use Rattle.std.specs.Prelude.{◌≡◌, ℕ, ◌<◌, List, [], ◌∷◌, length, take}
+use Rattle.zone_name.specs.Name.{frame}
+use Rattle.zone_rdata.specs.Strings.{IsString}
+
+-- the string at the front of octets, by the length before it
+abbrev pub string_at : List ℕ → List ℕ
+string_at [] = []
+string_at (n ∷ octets) = take n octets
+
+-- octets that begin with a string behind its length
+pub record BeginsWithString (octets : List ℕ) : Type 0 where
+  pub some : 0 < length octets
+  pub held : IsString (string_at octets)
+  pub front : take (length (frame (string_at octets))) octets ≡ frame (string_at octets)

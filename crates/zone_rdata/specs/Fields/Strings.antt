@@ -1,0 +1,53 @@
+-- Several strings: one or more character-strings, up to the end of the data (RFC 1035 3.3.14).
+use Rattle.std.specs.Prelude.{◌≡◌, ℕ, zero, suc, ◌<◌, List, [], ◌∷◌, length, take, drop, ⊤, ◌⊎◌}
+use Rattle.std.specs.List.{flat_map, AllByRecursion}
+use Rattle.zone_name.specs.Name.{frame}
+use Rattle.zone_rdata.specs.declared.fault.Fault.{Fault}
+use Rattle.zone_rdata.specs.declared.fault.Fault.TheVariants.{BadRdata}
+use Rattle.zone_rdata.specs.Item.{RawItem}
+use Rattle.zone_rdata.specs.Strings.{IsString, SpellsString, StringFault}
+
+-- one string or more
+pub record AreStrings (many : List (List ℕ)) : Type 0 where
+  pub some : 0 < length many
+  pub each : AllByRecursion IsString many
+
+-- the strings one behind another in octets, n at the most
+abbrev pub strings_by : ℕ → List ℕ → List (List ℕ)
+strings_by zero octets = []
+strings_by (suc n) [] = []
+strings_by (suc n) (c ∷ octets) = take c octets ∷ strings_by n (drop c octets)
+
+-- the strings that octets hold: the inverse of joining them
+unfoldable pub strings_of : List ℕ → List (List ℕ)
+strings_of octets = strings_by (length octets) octets
+
+-- octets that are strings, each behind its length
+pub record HoldsStrings (octets : List ℕ) : Type 0 where
+  pub each : AllByRecursion IsString (strings_of octets)
+  pub whole : flat_map frame (strings_of octets) ≡ octets
+
+-- octets that are one string or more, each behind its length
+abbrev pub AreFramed : List ℕ → Type 0
+AreFramed octets = (many : List (List ℕ)) × AreStrings many × (octets ≡ flat_map frame many)
+
+-- an item for each string, in order, which spells it
+abbrev pub SpellEachString : List RawItem → List (List ℕ) → Type 0
+SpellEachString [] [] = ⊤
+SpellEachString (item ∷ items) (octets ∷ many) = SpellsString item octets × SpellEachString items many
+SpellEachString items many = ⊥
+
+-- one item or more spell the strings
+pub record SpellsStrings (items : List RawItem) (many : List (List ℕ)) : Type 0 where
+  pub some : 0 < length items
+  pub each : SpellEachString items many
+
+-- the fault of the leftmost item that spells no string
+abbrev pub FirstStringFault : List RawItem → Fault → Type 0
+FirstStringFault [] fault = ⊥
+FirstStringFault (item ∷ items) fault = StringFault item fault ⊎ ((octets : List ℕ) × SpellsString item octets × FirstStringFault items fault)
+
+-- why items spell no strings: there is no item, or the leftmost that spells none
+abbrev pub StringsFault : List RawItem → Fault → Type 0
+StringsFault [] fault = fault ≡ BadRdata
+StringsFault items fault = FirstStringFault items fault

@@ -1,0 +1,162 @@
+ghost use Rattle.std.specs.Prelude.{◌≡◌, ◌↔◌, ◌≤◌, ◌∷◌, [], Some, drop, length, map, IsTrue, IfOk, IfErr, OnOk};
+ghost use Rattle.zone_rdata.specs.Field.{Suits, is_strings, IsFieldFault, field_at, own_items};
+ghost use Rattle.zone_rdata.specs.BuilderPart.{value_of};
+ghost use Rattle.zone_rdata.specs.Fault.{IfFault};
+ghost use Rattle.zone_rdata.specs.Item.{raw};
+ghost use Rattle.zone_rdata.specs.Minimum.{number_in};
+ghost use Rattle.zone_rdata.specs.Reading.{AppendsField, AppendsFirst};
+ghost use Rattle.zone_rdata.specs.Text.{BeginsWithField, after_field};
+ghost use Rattle.zone_rdata.specs.Uncompressed.{AppendsValue, BeginsWithNone};
+
+mod address;
+mod front;
+mod name;
+mod serial;
+mod string;
+mod strings;
+mod time;
+mod u16;
+
+use crate::builder::Part;
+use crate::fault::{Failing, Fault};
+use crate::item::Item;
+use crate::string::push_string;
+use address::push_address;
+use front::push_front;
+pub(crate) use name::split_name;
+use name::{push_name, push_sent_name};
+use serial::push_serial;
+pub(crate) use serial::split_long;
+use string::push_sent_string;
+pub(crate) use string::split_string;
+use strings::{push_sent_strings, push_strings};
+use time::push_time;
+use u16::push_short;
+pub(crate) use u16::split_short;
+use zone_name::Name;
+
+/// A field of record data (RFC 1035 3.3).
+#[derive(Clone, Copy, Debug, PartialEq, Eq)]
+pub enum Field {
+    /// A domain name.
+    Name,
+    /// A number of 32 bits, written in digits.
+    Serial,
+    /// A number of seconds of 32 bits, written in digits or as a time.
+    Time,
+    /// A number of 16 bits, written in digits.
+    U16,
+    /// An address of this number of octets.
+    Octets(usize),
+    /// A character-string.
+    OneString,
+    /// One or more character-strings, up to the end of the data.
+    Strings,
+}
+
+impl Field {
+    /// Whether the field takes all that is left.
+    pub(crate) fn is_strings(self) -> bool
+        ensures { result ≡ is_strings self }
+    {
+        matches!(self, Field::Strings)
+    }
+
+    /// Appends the octets of the value that an item spells for a field that is no strings.
+    fn push_item(self, item: Item, origin: &Name, octets: &mut Vec<u8>) -> Result<(), Failing>
+        ensures found { OnOk result (AppendsField origin.now self (raw item.entry ∷ []) octets.old.items octets.new.items) }
+        ensures fault { IfErr result (IfFault (IsFieldFault origin.now self (raw item.entry ∷ []))) }
+    {
+        match (self, item) {
+            (Field::OneString, _) => push_string(item, octets),
+            (Field::Strings, _) => push_strings(&[item], octets),
+            (_, Item::Quoted(_)) => Err(Failing::Fault(Fault::BadRdata)),
+            (Field::Name, Item::Bare(text)) => push_name(text, origin, octets),
+            (Field::Serial, Item::Bare(text)) => push_serial(text, octets),
+            (Field::Time, Item::Bare(text)) => push_time(text, octets),
+            (Field::U16, Item::Bare(text)) => push_short(text, octets),
+            (Field::Octets(count), Item::Bare(text)) => push_address(count, text, octets),
+        }
+    }
+
+    /// Appends the octets of the value that the field's items spell, and gives how many items these are.
+    pub(crate) fn push_items(
+        self,
+        items: &[Item],
+        origin: &Name,
+        octets: &mut Vec<u8>,
+    ) -> Result<usize, Failing>
+        ensures found { IfOk result (λ n. AppendsFirst origin.now self (map raw items.now) (map raw (drop n items.now)) octets.old.items octets.new.items) }
+        ensures inside { IfOk result (λ n. n ≤ length items.now) }
+        ensures fault { IfErr result (IfFault (IsFieldFault origin.now self (own_items self (map raw items.now)))) }
+    {
+        if self == Field::Strings {
+            push_strings(items, octets)?;
+            return Ok(items.len());
+        }
+        let Some(item) = items.first() else {
+            return Err(Failing::Fault(Fault::BadRdata));
+        };
+        self.push_item(*item, origin, octets)?;
+        Ok(1)
+    }
+
+    /// Appends the canonical octets of the field's value at the front of octets, and gives the octets after it.
+    pub(crate) fn push_sent<'o>(
+        self,
+        octets: &'o [u8],
+        canonical: &mut Vec<u8>,
+    ) -> Result<&'o [u8], Failing>
+        ensures found { IfOk result (λ rest. AppendsValue self octets.now rest.now canonical.old.items canonical.new.items) }
+        ensures fault { IfErr result (IfFault (λ f. (f ≡ Fault.BadRdata) × BeginsWithNone self octets.now)) }
+    {
+        match self {
+            Field::Name => push_sent_name(octets, canonical),
+            Field::Serial | Field::Time => push_front(4, octets, canonical),
+            Field::U16 => push_front(2, octets, canonical),
+            Field::Octets(count) => push_front(count, octets, canonical),
+            Field::OneString => push_sent_string(octets, canonical),
+            Field::Strings => push_sent_strings(octets, canonical),
+        }
+    }
+
+    /// The octets after the field at the front of octets.
+    pub(crate) fn after(self, octets: &[u8]) -> &[u8]
+        requires { BeginsWithField self octets.now }
+        ensures { result.now ≡ after_field self octets.now }
+    {
+        match self {
+            Field::Name => split_name(octets).1,
+            Field::Serial | Field::Time => split_long(octets).1,
+            Field::U16 => split_short(octets).1,
+            Field::Octets(count) => octets.split_at(count).1,
+            Field::OneString => split_string(octets).1,
+            Field::Strings => octets.split_at(octets.len()).1,
+        }
+    }
+
+    /// The field at the front of octets, if it is a number of 32 bits.
+    pub(crate) fn number_at(self, octets: &[u8]) -> Option<u32>
+        requires { BeginsWithField self octets.now }
+        ensures { result ≡ number_in (field_at self octets.now) }
+    {
+        match self {
+            Field::Serial | Field::Time => Some(split_long(octets).0),
+            _ => None,
+        }
+    }
+
+    /// Whether the part is one for the field.
+    pub(crate) fn suits(self, part: Part) -> bool
+        ensures { IsTrue result ↔ Suits (Some self) (value_of part.entry) }
+    {
+        match (self, part) {
+            (Field::Octets(count), Part::Octets(octets)) => octets.len() == count && count > 0,
+            (Field::U16, Part::U16(_)) => true,
+            (Field::Serial | Field::Time, Part::U32(_)) => true,
+            (Field::Name, Part::Name(_)) => true,
+            (Field::OneString | Field::Strings, Part::String(_)) => true,
+            _ => false,
+        }
+    }
+}

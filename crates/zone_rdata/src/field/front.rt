@@ -1,0 +1,22 @@
+ghost use Rattle.std.specs.Prelude.{◌≡◌, ◌<◌, length, IfOk, IfErr};
+ghost use Rattle.zone_rdata.specs.Fault.{IfFault};
+ghost use Rattle.zone_rdata.specs.Uncompressed.{AppendsFront};
+
+use crate::fault::{Failing, Fault};
+
+/// Appends so many octets at the front of octets.
+pub(crate) fn push_front<'o>(
+    count: usize,
+    octets: &'o [u8],
+    canonical: &mut Vec<u8>,
+) -> Result<&'o [u8], Failing>
+    ensures found { IfOk result (λ rest. AppendsFront count octets.now rest.now canonical.old.items canonical.new.items) }
+    ensures fault { IfErr result (IfFault (λ f. (f ≡ Fault.BadRdata) × (length octets.now < count))) }
+{
+    if octets.len() < count {
+        return Err(Failing::Fault(Fault::BadRdata));
+    }
+    let (front, rest) = octets.split_at(count);
+    canonical.extend_from_slice(front)?;
+    Ok(rest)
+}

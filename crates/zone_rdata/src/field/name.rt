@@ -1,0 +1,75 @@
+ghost use Rattle.std.specs.Prelude.{◌≡◌, ◌<◌, ℕ, List, Some, drop, length, IfOk, IfErr, IfSome, IfNone, OnOk};
+ghost use Rattle.zone_name.specs.Name.{BeginsWithName, labels_of, wire};
+ghost use Rattle.zone_name.specs.Spelling.{Spells};
+ghost use Rattle.zone_rdata.specs.Fault.{IfFault};
+ghost use Rattle.zone_rdata.specs.Fields.Name.{IsNameFault, BeginsWithSent};
+ghost use Rattle.zone_rdata.specs.Reading.{Appends};
+ghost use Rattle.zone_rdata.specs.Uncompressed.{AppendsValue, BeginsWithNone};
+
+use super::Field;
+use crate::fault::{Failing, Fault};
+use zone_name::{Name, NameBuilder};
+
+/// Appends the octets of the name that a text spells under the origin.
+pub(crate) fn push_name(text: &[u8], origin: &Name, octets: &mut Vec<u8>) -> Result<(), Failing>
+    ensures found { OnOk result (Appends (Spells (Some origin.now) text.now) wire octets.old.items octets.new.items) }
+    ensures fault { IfErr result (IfFault (IsNameFault origin.now text.now)) }
+{
+    let name = Name::from_text(text, Some(origin))?;
+    octets.extend_from_slice(name.wire())?;
+    Ok(())
+}
+
+/// Appends the name at the front of octets, in lower case.
+pub(crate) fn push_sent_name<'o>(
+    octets: &'o [u8],
+    canonical: &mut Vec<u8>,
+) -> Result<&'o [u8], Failing>
+    ensures found { IfOk result (λ rest. AppendsValue Field.Name octets.now rest.now canonical.old.items canonical.new.items) }
+    ensures fault { IfErr result (IfFault (λ f. (f ≡ Fault.BadRdata) × BeginsWithNone Field.Name octets.now)) }
+{
+    let Some((name, rest)) = name_at(octets) else {
+        return Err(Failing::Fault(Fault::BadRdata));
+    };
+    canonical.extend_from_slice(name.wire())?;
+    Ok(rest)
+}
+
+/// The name at the front of uncompressed octets, in lower case, and the octets after it.
+fn name_at(octets: &[u8]) -> Option<(Name, &[u8])>
+    ensures found { IfSome result (λ r. BeginsWithSent octets.now r.0 r.1.now) }
+    ensures none { IfNone result ((labels : List (List ℕ)) (rest : List ℕ) → BeginsWithSent octets.now labels rest → ⊥) }
+{
+    let mut labels = NameBuilder::new();
+    let mut rest = octets;
+    loop {
+        let Some((first, behind)) = rest.split_first() else {
+            return None;
+        };
+        let count = usize::from(*first);
+        if count == 0 {
+            let name = labels.finish();
+            name.known();
+            return Some((name, behind));
+        }
+        if behind.len() < count {
+            return None;
+        }
+        let (label, after) = behind.split_at(count);
+        match labels.push_label(label) {
+            Ok(()) => rest = after,
+            Err(_) => return None,
+        }
+    }
+}
+
+/// The name at the front of octets, and the octets after it.
+pub(crate) fn split_name(octets: &[u8]) -> (Name, &[u8])
+    requires { BeginsWithName octets.now }
+    ensures name { result.0 ≡ labels_of octets.now }
+    ensures rest { result.1.now ≡ drop (length (wire (labels_of octets.now))) octets.now }
+{
+    let name = Name::from_front(octets);
+    let (_, rest) = octets.split_at(name.wire().len());
+    (name, rest)
+}

@@ -1,0 +1,34 @@
+ghost use Rattle.std.specs.Prelude.{◌≡◌, ◌<◌, ◌≤◌, drop, length, IfOk, IfErr};
+ghost use Rattle.zone_name.specs.Name.{frame};
+ghost use Rattle.zone_rdata.specs.Fault.{IfFault};
+ghost use Rattle.zone_rdata.specs.Fields.OneString.{BeginsWithString, string_at};
+ghost use Rattle.zone_rdata.specs.Uncompressed.{AppendsValue, BeginsWithNone};
+
+use super::Field;
+use super::front::push_front;
+use crate::fault::{Failing, Fault};
+
+/// Appends the string at the front of octets, with its length.
+pub(crate) fn push_sent_string<'o>(
+    octets: &'o [u8],
+    canonical: &mut Vec<u8>,
+) -> Result<&'o [u8], Failing>
+    ensures found { IfOk result (λ rest. AppendsValue Field.OneString octets.now rest.now canonical.old.items canonical.new.items) }
+    ensures fault { IfErr result (IfFault (λ f. (f ≡ Fault.BadRdata) × BeginsWithNone Field.OneString octets.now)) }
+{
+    match octets {
+        [count, ..] => push_front(usize::from(*count) + 1, octets, canonical),
+        [] => Err(Failing::Fault(Fault::BadRdata)),
+    }
+}
+
+/// The string at the front of octets, and the octets after it.
+pub(crate) fn split_string(octets: &[u8]) -> (&[u8], &[u8])
+    requires { BeginsWithString octets.now }
+    ensures string { result.0.now ≡ string_at octets.now }
+    ensures rest { result.1.now ≡ drop (length (frame (string_at octets.now))) octets.now }
+    ensures short { length result.0.now ≤ 255 }
+{
+    let (count, behind) = octets.split_at(1);
+    behind.split_at(usize::from(count[0]))
+}

@@ -1,0 +1,19 @@
+ghost use Rattle.std.specs.Prelude.{IfErr, OnOk};
+ghost use Rattle.std.specs.Int.{w32, to_be_bytes};
+ghost use Rattle.zone_rdata.specs.Fault.{NoValue, IfFault};
+ghost use Rattle.zone_rdata.specs.Fields.Time.{SpellsTime};
+ghost use Rattle.zone_rdata.specs.Reading.{Appends};
+
+use crate::fault::{Failing, Fault};
+use crate::number::{at_most, long_octets};
+use crate::time::seconds_of;
+
+/// Appends the number of seconds that a time stands for.
+pub(crate) fn push_time(text: &[u8], octets: &mut Vec<u8>) -> Result<(), Failing>
+    ensures found { OnOk result (Appends (SpellsTime text.now) (to_be_bytes w32) octets.old.items octets.new.items) }
+    ensures fault { IfErr result (IfFault (NoValue Fault.BadNumber (SpellsTime text.now))) }
+{
+    let number = at_most(u32::MAX, seconds_of(text))?;
+    octets.extend_from_slice(&long_octets(number))?;
+    Ok(())
+}
