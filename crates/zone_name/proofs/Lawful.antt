@@ -12,7 +12,7 @@ use Rattle.std.proofs.lemmas.Bool.Decides.{nat_tests}
 use Rattle.zone_name.specs.Name.{IsFoldedOctet, IsLabel, IsName, folded_octet, folded_label}
 use Rattle.std.proofs.lemmas.Bool.{eqb-true, eqb-false, or_parts}
 use Rattle.zone_name.specs.Order.{name_cmp}
-use Rattle.zone_name.specs.Spelling.{Written, plain, escaped, decimal, text_of, octet_of, IsUnit, is_dot, IsWrittenLabel, written_text, written_octets, dotted, named, Writes, root, absolute, Spells, is_digit}
+use Rattle.zone_name.specs.Spelling.{Written, plain, escaped, decimal, text_of, octet_of, IsEscape, IsUnit, is_dot, IsWrittenLabel, written_text, written_octets, dotted, named, Writes, root, absolute, Spells, is_digit}
 use Rattle.zone_name.specs.Text.{is_special, is_printed, decimal_escape, octet_text, label_text, name_text}
 
 -- names that tie are equal
@@ -26,8 +26,8 @@ pub name_cmp-total : IsTotalOrder name_cmp
 name_cmp-total = on_total reverse (lists_total (lists_total nat_cmp_total))
 
 -- ---- what is printed spells the name
--- an octet as it is printed
-written_by : (special printed : Bool) → ℕ → Written
+-- an octet as it is printed, behind a backslash, by itself or by its value
+unfoldable pub written_by : (special printed : Bool) → ℕ → Written
 written_by true printed c = escaped c
 written_by false true c = plain c
 written_by false false c = decimal (48 + c / 100) (48 + c / 10 % 10) (48 + c % 10)
@@ -35,7 +35,7 @@ written_by false false c = decimal (48 + c / 100) (48 + c / 10 % 10) (48 + c % 1
 printed_octet : ℕ → Written
 printed_octet c = written_by (is_special c) (is_printed c) c
 
-printed_text : (special printed : Bool) (c : ℕ) → text_of (written_by special printed c) ≡ (if special then 92 ∷ c ∷ [] else (if printed then c ∷ [] else decimal_escape c))
+pub printed_text : (special printed : Bool) (c : ℕ) → text_of (written_by special printed c) ≡ (if special then 92 ∷ c ∷ [] else (if printed then c ∷ [] else decimal_escape c))
 unfolding written_by
 printed_text true printed c = refl
 printed_text false true c = refl
@@ -48,7 +48,7 @@ text_of-printed c = printed_text (is_special c) (is_printed c) c
 decimal_value : (c : ℕ) → octet_of (decimal (48 + c / 100) (48 + c / 10 % 10) (48 + c % 10)) ≡ c
 decimal_value c = omega (arith, div-add-mod' c 100, div-add-mod' c 10, div-add-mod' (c / 10) 10)
 
-value_by : (special printed : Bool) (c : ℕ) → octet_of (written_by special printed c) ≡ c
+pub value_by : (special printed : Bool) (c : ℕ) → octet_of (written_by special printed c) ≡ c
 unfolding written_by
 value_by true printed c = refl
 value_by false true c = refl
@@ -60,6 +60,10 @@ octet_of-printed c = value_by (is_special c) (is_printed c) c
 
 digit_test : (d : ℕ) → d < 10 → is_digit (48 + d) ≡ true
 digit_test d h = grind (arith, nat_tests)
+
+pub decimal_escapes : (c : ℕ) → c < 256 → IsEscape (decimal (48 + c / 100) (48 + c / 10 % 10) (48 + c % 10))
+decimal_escapes c h =
+    (digit_test (c / 100) (omega (arith, div-add-mod' c 100)), digit_test (c / 10 % 10) (omega (arith, div-add-mod' (c / 10) 10)), digit_test (c % 10) (omega (arith, div-add-mod' c 10)), omega (arith, decimal_value c))
 
 -- no special octet is a digit or ends a line
 abbrev Escapes : ℕ → Type 0
@@ -102,8 +106,7 @@ written_is : (special printed : Bool) (c : ℕ) → c < 256 → is_special c ≡
 unfolding written_by
 written_is true printed c h e = special_escapes c e
 written_is false true c h e = plain_octets c e
-written_is false false c h e =
-    (digit_test (c / 100) (omega (arith, div-add-mod' c 100)), digit_test (c / 10 % 10) (omega (arith, div-add-mod' (c / 10) 10)), digit_test (c % 10) (omega (arith, div-add-mod' c 10)), omega (arith, decimal_value c))
+written_is false false c h e = decimal_escapes c h
 
 printed_is : (c : ℕ) → c < 256 → IsUnit is_dot (printed_octet c)
 unfolding printed_octet

@@ -1,15 +1,14 @@
 -- The laws of strings.
-use Rattle.std.proofs.Common.{◌≡◌, ◌≢◌, ℕ, ◌+◌, ◌/◌, ◌%◌, ◌<◌, ◌≤◌, Bool, true, false, ◌||◌, ◌&&◌, ◌==◌, nat_le, if◌then◌else◌, List, [], ◌∷◌, ◌++◌, ◌⊎◌, inl, inr, div-add-mod', refl, sym, ap, ◌∙◌, subst, arith}
+use Rattle.std.proofs.Common.{◌≡◌, ◌≢◌, ℕ, ◌<◌, Bool, true, false, ◌||◌, ◌==◌, nat_le, List, [], ◌∷◌, ◌++◌, ◌⊎◌, inl, inr, refl, sym, ap, ◌∙◌, subst, arith}
 use Rattle.std.specs.Prelude.{map}
 use Rattle.std.specs.List.{AllByRecursion}
-use Rattle.std.proofs.lemmas.Bool.{false≢true}
-use Rattle.std.proofs.lemmas.Bool.Decides.{nat_tests}
+use Rattle.std.proofs.lemmas.Bool.{and_parts, or_parts, or_cases, eqb-true, eqb-false, leb-true}
 use Rattle.zone_name.specs.Spelling.{Written, plain, escaped, decimal, text_of, octet_of, IsUnit, no_octet, written_text, written_octets, is_digit}
-use Rattle.zone_name.specs.Text.{decimal_escape}
 use Rattle.zone_rdata.specs.declared.fault.Fault.{Fault}
 use Rattle.zone_rdata.specs.Item.{RawItem, quoted}
 use Rattle.zone_rdata.specs.Strings.{IsString, SpellsString, StringFault, StandsInQuotes, is_quote, inside_text, is_shown, unit_text}
 use Rattle.zone_rdata.proofs.StringSteps.{AllByRecursion-append}
+use Rattle.zone_name.proofs.Lawful.{written_by, printed_text, value_by, decimal_escapes}
 use Rattle.zone_rdata.proofs.Strings.{string_reads, fault_reads}
 pub use Rattle.zone_rdata.proofs.Strings.{string-or_fault}
 
@@ -23,63 +22,19 @@ pub fault-once : (item : RawItem) (a b : Fault) → StringFault item a → Strin
 fault-once item a b f g = let e = sym (fault_reads item a f) ∙ fault_reads item b g in cc
 
 -- ---- what is printed
-written_by : (special shown : Bool) → ℕ → Written
-written_by true shown c = escaped c
-written_by false true c = plain c
-written_by false false c = decimal (48 + c / 100) (48 + c / 10 % 10) (48 + c % 10)
-
 is_special : ℕ → Bool
 is_special c = c == 34 || c == 92
 
 printed_unit : ℕ → Written
 printed_unit c = written_by (is_special c) (is_shown c) c
 
-text_by : (special shown : Bool) (c : ℕ) → text_of (written_by special shown c) ≡ (if special then 92 ∷ c ∷ [] else (if shown then c ∷ [] else decimal_escape c))
-unfolding written_by
-text_by true shown c = refl
-text_by false true c = refl
-text_by false false c = refl
-
 text_of-printed : (c : ℕ) → text_of (printed_unit c) ≡ unit_text c
 unfolding printed_unit is_special
-text_of-printed c = text_by (is_special c) (is_shown c) c
-
-decimal_value : (c : ℕ) → octet_of (decimal (48 + c / 100) (48 + c / 10 % 10) (48 + c % 10)) ≡ c
-decimal_value c = omega (arith, div-add-mod' c 100, div-add-mod' c 10, div-add-mod' (c / 10) 10)
-
-value_by : (special shown : Bool) (c : ℕ) → octet_of (written_by special shown c) ≡ c
-unfolding written_by
-value_by true shown c = refl
-value_by false true c = refl
-value_by false false c = decimal_value c
+text_of-printed c = printed_text (is_special c) (is_shown c) c
 
 octet_of-printed : (c : ℕ) → octet_of (printed_unit c) ≡ c
 unfolding printed_unit
 octet_of-printed c = value_by (is_special c) (is_shown c) c
-
-or_parts : (a b : Bool) → (a || b) ≡ false → (a ≡ false) × (b ≡ false)
-or_parts true b e = absurd (false≢true (sym e))
-or_parts false b e = (refl, e)
-
-or_either : (a b : Bool) → (a || b) ≡ true → (a ≡ true) ⊎ (b ≡ true)
-or_either true b e = inl refl
-or_either false b e = inr e
-
-and_first : (a b : Bool) → (a && b) ≡ true → a ≡ true
-and_first true b e = refl
-and_first false b e = absurd (false≢true e)
-
-eq_test : (m n : ℕ) → (m == n) ≡ true → m ≡ n
-eq_test m n e = grind (arith, nat_tests)
-
-ne_test : (m n : ℕ) → (m == n) ≡ false → m ≢ n
-ne_test m n e = grind (arith, nat_tests)
-
-le_test : (m n : ℕ) → nat_le m n ≡ true → m ≤ n
-le_test m n e = grind (arith, nat_tests)
-
-digit_test : (d : ℕ) → d < 10 → is_digit (48 + d) ≡ true
-digit_test d h = grind (arith, nat_tests)
 
 no_digit : (c : ℕ) → (c ≡ 34) ⊎ (c ≡ 92) → is_digit c ≡ false
 no_digit c (inl e) = rw e refl
@@ -87,7 +42,7 @@ no_digit c (inr e) = rw e refl
 
 special_is : (c : ℕ) → is_special c ≡ true → (c ≡ 34) ⊎ (c ≡ 92)
 unfolding is_special
-special_is c e = elim (or_either (c == 34) (c == 92) e) [ inl h ↦ inl (eq_test c 34 h) | inr h ↦ inr (eq_test c 92 h) ]
+special_is c e = elim (or_cases (c == 34) (c == 92) e) [ inl h ↦ inl (eqb-true c 34 h) | inr h ↦ inr (eqb-true c 92 h) ]
 
 special_not : (c n : ℕ) → (c ≡ 34) ⊎ (c ≡ 92) → n < 34 → c ≢ n
 special_not c n (inl e) low h = absurd (omega arith)
@@ -96,9 +51,8 @@ special_not c n (inr e) low h = absurd (omega arith)
 quoted_by : (special shown : Bool) (c : ℕ) → is_special c ≡ special → is_shown c ≡ shown → c < 256 → IsUnit is_quote (written_by special shown c)
 unfolding written_by is_special
 quoted_by true shown c e s low = let is = special_is c e in (no_digit c is, special_not c 10 is (omega arith), special_not c 13 is (omega arith))
-quoted_by false true c e s low = let parts = or_parts (c == 34) (c == 92) e in (parts.0, ne_test c 92 parts.1)
-quoted_by false false c e s low =
-    (digit_test (c / 100) (omega (arith, div-add-mod' c 100)), digit_test (c / 10 % 10) (omega (arith, div-add-mod' (c / 10) 10)), digit_test (c % 10) (omega (arith, div-add-mod' c 10)), omega (arith, decimal_value c))
+quoted_by false true c e s low = let parts = or_parts (c == 34) (c == 92) e in (parts.0, eqb-false c 92 parts.1)
+quoted_by false false c e s low = decimal_escapes c low
 
 quoted_unit : (c : ℕ) → c < 256 → IsUnit is_quote (printed_unit c)
 unfolding printed_unit
@@ -107,7 +61,7 @@ quoted_unit c low = quoted_by (is_special c) (is_shown c) c refl refl low
 line_by : (special shown : Bool) (c : ℕ) → is_special c ≡ special → is_shown c ≡ shown → AllByRecursion (λ d. d ≢ 10) (text_of (written_by special shown c))
 unfolding written_by
 line_by true shown c e s = (λ h. absurd (omega (arith, h)), (special_not c 10 (special_is c e) (omega arith), tt))
-line_by false true c e s = let low = le_test 32 c (and_first (nat_le 32 c) (nat_le c 126) s) in (λ h. absurd (omega (arith, h)), tt)
+line_by false true c e s = let low = leb-true 32 c (and_parts (nat_le 32 c) (nat_le c 126) s).0 in (λ h. absurd (omega (arith, h)), tt)
 line_by false false c e s = (λ h. absurd (omega (arith, h)), (λ h. absurd (omega (arith, h)), (λ h. absurd (omega (arith, h)), (λ h. absurd (omega (arith, h)), tt))))
 
 line_unit : (c : ℕ) → AllByRecursion (λ d. d ≢ 10) (text_of (printed_unit c))

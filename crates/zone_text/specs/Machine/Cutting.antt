@@ -1,5 +1,5 @@
 -- How a master file is cut from the left: what stands at its front, and what the rest makes of it (RFC 1035 5.1).
-use Rattle.std.specs.Prelude.{ℕ, zero, suc, ◌-◌, List, [], ◌∷◌, length, Bool, ◌==◌, ◌&&◌, ◌||◌, nat_le, if◌then◌else◌, Option, Some, None}
+use Rattle.std.specs.Prelude.{ℕ, zero, suc, ◌-◌, List, [], ◌∷◌, length, ◌==◌, if◌then◌else◌, Option, Some, None}
 use Rattle.zone_name.specs.Spelling.{Written}
 use Rattle.zone_name.specs.Machine.Units.{Units, units_first}
 use Rattle.zone_rdata.specs.Strings.{is_quote}
