@@ -62,7 +62,7 @@ impl Field {
         matches!(self, Field::Strings)
     }
 
-    /// Appends the octets of the value that an item spells for a field that is no strings.
+    /// Appends the octets of the value that an item by itself spells for the field.
     fn push_item(self, item: Item, origin: &Name, octets: &mut Vec<u8>) -> Result<(), Failing>
         ensures found { OnOk result (AppendsField origin.now self (raw item.entry ∷ []) octets.old.items octets.new.items) }
         ensures fault { IfErr result (IfFault (IsFieldFault origin.now self (raw item.entry ∷ []))) }

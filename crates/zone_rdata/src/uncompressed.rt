@@ -1,5 +1,5 @@
-ghost use Rattle.std.specs.Prelude.{◌≡◌, ℕ, List, IfOk, IfErr, IfSome, option_map};
-ghost use Rattle.zone_rdata.specs.Fault.{IfFault};
+ghost use Rattle.std.specs.Prelude.{IfOk, IfErr, IfSome, option_map};
+ghost use Rattle.zone_rdata.specs.Fault.{IfFault, NoValue};
 ghost use Rattle.zone_rdata.specs.Layout.{StringsLast, fields_of};
 ghost use Rattle.zone_rdata.specs.Spelling.{IsCanonicalOf};
 ghost use Rattle.zone_rdata.specs.Uncompressed.{IsUncompressed};
@@ -16,7 +16,7 @@ use std::alloc::Global;
 pub(crate) fn canonical_of(alloc: Global, layout: Layout, octets: &[u8]) -> Result<Vec<u8>, Failing>
     requires { StringsLast (fields_of layout) }
     ensures found { IfOk result (λ canonical. IsUncompressed (fields_of layout) octets.now canonical.items) }
-    ensures fault { IfErr result (IfFault (λ f. (f ≡ Fault.BadRdata) × ((canonical : List ℕ) → IsUncompressed (fields_of layout) octets.now canonical → ⊥))) }
+    ensures fault { IfErr result (IfFault (NoValue Fault.BadRdata (IsUncompressed (fields_of layout) octets.now))) }
 {
     let mut canonical = Vec::with_capacity(alloc, octets.len())?;
     let mut rest = octets;
@@ -41,7 +41,7 @@ pub(crate) fn canonical_for(
 ) -> Result<Vec<u8>, Failing>
     requires { IfSome layout (λ l. StringsLast (fields_of l)) }
     ensures found { IfOk result (λ canonical. IsCanonicalOf (option_map fields_of layout) octets.now canonical.items) }
-    ensures fault { IfErr result (IfFault (λ f. (f ≡ Fault.BadRdata) × ((canonical : List ℕ) → IsCanonicalOf (option_map fields_of layout) octets.now canonical → ⊥))) }
+    ensures fault { IfErr result (IfFault (NoValue Fault.BadRdata (IsCanonicalOf (option_map fields_of layout) octets.now))) }
 {
     if let Some(layout) = layout {
         return canonical_of(alloc, layout, octets);
