@@ -84,10 +84,6 @@ within_decided a b rest m n answer long_a long_b fits is says = (
   λ w. says.1 (is ∙ ap (drop (m - n)) w.1 ∙ drop_at w.0 b (m - n) (omega (arith, ap length w.1, length-append w.0 b))),
 )
 
--- a longer name lies within no shorter one
-pub within_longer : (a b : List (List ℕ)) → length a < length b → IsWithin a b → ⊥
-within_longer a b h w = omega (arith, ap length w.1, length-append w.0 b)
-
 -- one label further
 pub drop_next : {A : Type 0} (r : Option A) (now : A → List ℕ) (left next whole : List (List ℕ)) (k : ℕ) → MatchOption r ((left ≡ []) × (next ≡ [])) (λ x. left ≡ now x ∷ next) → left ≡ drop k whole → next ≡ drop (k + 1) whole
 drop_next None now left next whole k says is = says.1 ∙ ap (drop 1) (sym says.0 ∙ is) ∙ drop-drop 1 k whole

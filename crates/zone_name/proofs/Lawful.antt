@@ -112,9 +112,6 @@ printed_is : (c : ℕ) → c < 256 → IsUnit is_dot (printed_octet c)
 unfolding printed_octet
 printed_is c h = written_is (is_special c) (is_printed c) c h refl
 
-printed_label : List ℕ → List Written
-printed_label label = map printed_octet label
-
 label_each : (label : List ℕ) → AllByRecursion IsFoldedOctet label → AllByRecursion (IsUnit is_dot) (map printed_octet label)
 label_each [] each = tt
 label_each (c ∷ label) each = (printed_is c each.0.octet, label_each label each.1)

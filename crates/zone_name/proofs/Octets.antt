@@ -70,11 +70,6 @@ BeginsWithName-wire_append labels rest name =
     let back = labels_of-wire_append labels rest name.each in
     record { name = subst IsName (sym back) name; front = rw back (take_at (wire labels) rest (length (wire labels)) refl) }
 
--- octets that hold a name begin with one
-pub BeginsWithName-from_holds : (octets : List ℕ) → HoldsName octets → BeginsWithName octets
-BeginsWithName-from_holds octets holds =
-    subst BeginsWithName (append-nil (wire (labels_of octets)) ∙ holds.whole) (BeginsWithName-wire_append (labels_of octets) [] holds.name)
-
 -- octets that begin with a name, taken apart at their first octet
 pub record NextLabel (n : ℕ) (more : List ℕ) (labels : List (List ℕ)) : Type 0 where
   pub fits : n ≤ length more
@@ -118,13 +113,6 @@ next_label n more begins positive = next_in (labels_of (n ∷ more)) (drop (leng
 pub root_label : (n : ℕ) (more : List ℕ) → n ≡ 0 → labels_of (n ∷ more) ≡ []
 unfolding labels_of
 root_label n more e = rw e (labels_by-root (length (0 ∷ more)) more)
-
--- octets that begin with a name are some
-wire-some : (labels : List (List ℕ)) (rest : List ℕ) → 0 < length (wire labels ++ rest)
-wire-some labels rest = omega (arith, length-append (wire labels) rest, length-append (flat_map frame labels) (0 ∷ []))
-
-pub BeginsWithName-some : (octets : List ℕ) → BeginsWithName octets → 0 < length octets
-BeginsWithName-some octets begins = subst (λ t. 0 < length t) (octets_split octets begins) (wire-some (labels_of octets) (drop (length (wire (labels_of octets))) octets))
 
 -- the root's octets, as they are pushed
 pub HoldsName-root : (octets : List ℕ) → octets ≡ [] ++ 0 ∷ [] → HoldsName octets

@@ -21,10 +21,6 @@ octets_text-short (c ∷ label) = omega (arith, length-append (octet_text c) (fl
 pub label_text-short : (label : List ℕ) → length (label_text label) ≤ 4 * length label + 1
 label_text-short label = omega (arith, length-append (flat_map octet_text label) (46 ∷ []), octets_text-short label)
 
--- a label's spelling has its dot
-label_text-some : (label : List ℕ) → 0 < length (label_text label)
-label_text-some label = omega (arith, length-append (flat_map octet_text label) (46 ∷ []))
-
 -- what a walk over labels has written, and what is left
 pub record WritesText (text whole : List ℕ) (left : List (List ℕ)) : Type 0 where
   pub spells : text ++ flat_map label_text left ≡ whole
@@ -44,13 +40,3 @@ WritesText-more text text' whole left next label e is so_far = record {
   each = (subst (AllByRecursion IsLabel) e so_far.each).1;
   room = omega (arith, so_far.room, ap length is, length-append text (label_text label), ap (λ t. length (flat_map frame t)) e, length-append label (flat_map frame next), label_text-short label);
 }
-
--- the root is a dot alone
-name_text-done : (labels : List (List ℕ)) (text : List ℕ) → text ≡ flat_map label_text labels → (length text ≡ 0 → text ++ 46 ∷ [] ≡ name_text labels) × (length text ≢ 0 → text ≡ name_text labels)
-name_text-done [] text e = (λ h. ap (λ t. t ++ 46 ∷ []) e, λ h. absurd (h (ap length e)))
-name_text-done (label ∷ labels) text e =
-    (λ h. absurd (omega (arith, ap length e, length-append (label_text label) (flat_map label_text labels), label_text-some label)), λ h. e)
-
-pub WritesText-end : (text : List ℕ) (labels left : List (List ℕ)) → left ≡ [] → WritesText text (flat_map label_text labels) left → (length text ≡ 0 → text ++ 46 ∷ [] ≡ name_text labels) × (length text ≢ 0 → text ≡ name_text labels)
-WritesText-end text labels left e writes =
-    name_text-done labels text (sym (append-nil text) ∙ ap (λ t. text ++ flat_map label_text t) (sym e) ∙ writes.spells)

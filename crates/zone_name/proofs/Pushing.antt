@@ -98,11 +98,6 @@ pushed_octets octets label pushed new n first after all =
     after ∙ ap (λ t. t ++ map folded_octet (take n label)) first ∙ ap (λ t. octets ++ length label ∷ [] ++ map folded_octet t) (take_all n label all)
     ∙ append_assoc octets (length label ∷ []) (map folded_octet label) ∙ ap (λ k. octets ++ (k ∷ map folded_octet label)) (sym (length-map label folded_octet))
 
--- a longer list of labels takes more octets
-pub length-wire_append : (labels more : List (List ℕ)) → length (wire (labels ++ more)) + 1 ≡ length (wire labels) + length (wire more)
-length-wire_append labels more =
-    omega (arith, length-append (flat_map frame (labels ++ more)) (0 ∷ []), length-append (flat_map frame labels) (0 ∷ []), length-append (flat_map frame more) (0 ∷ []), ap length (flat_map-append frame labels more), length-append (flat_map frame labels) (flat_map frame more))
-
 -- the labels of two names, one behind the other
 pub record Joined (left right : List (List ℕ)) (new : List ℕ) : Type 0 where
   pub holds : HoldsName new

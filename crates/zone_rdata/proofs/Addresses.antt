@@ -19,18 +19,6 @@ lacks_append : (c : ℕ) (text more : List ℕ) → Lacks c text → Lacks c mor
 lacks_append c [] more h k = k
 lacks_append c (x ∷ text) more h k = (h.0, lacks_append c text more h.1 k)
 
-pub lacks_more : (c : ℕ) (text : List ℕ) (i d : ℕ) → i < length text → Lacks c (take i text) → get_or text i d ≢ c → Lacks c (take (i + 1) text)
-lacks_more c text i d lt h other = subst (Lacks c) (sym (take_more text i d lt)) (lacks_push c (take i text) (get_or text i d) h other)
-
-pub lacks_all : (c : ℕ) (text : List ℕ) (i : ℕ) → length text ≤ i → Lacks c (take i text) → Lacks c text
-lacks_all c text i past h = subst (Lacks c) (take_all i text past) h
-
-pub cut_here : (c : ℕ) (text : List ℕ) (i d : ℕ) → i < length text → Lacks c (take i text) → get_or text i d ≡ c → IsCut c text (take i text) (drop (i + 1) text)
-cut_here c text i d lt h at = record {
-  parted = sym (take-append-drop i text) ∙ ap (λ t. take i text ++ t) (drop_more text i d lt ∙ ap (λ x. x ∷ drop (i + 1) text) at);
-  lacks = h;
-}
-
 -- a text that lacks the octet isn't cut at it
 lacks_cut : (c : ℕ) (front back : List ℕ) → Lacks c (front ++ c ∷ back) → ⊥
 lacks_cut c [] back h = h.0 refl

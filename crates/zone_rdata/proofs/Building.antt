@@ -50,9 +50,6 @@ plain_part : (f : Field) → part_field f ≢ fields.Strings
 plain_part fields.Strings = λ e. cc
 plain_part f = λ e. cc
 
-AreOne : List Field → Type 0
-AreOne row = AllByRecursion (λ f. f ≢ fields.Strings) row
-
 more_plain : (f : Field) (n : ℕ) → AllByRecursion (λ g. g ≢ fields.Strings) (more_fields f n)
 more_plain fields.Strings zero = tt
 more_plain fields.Strings (suc n) = (λ e. cc, more_plain fields.Strings n)
@@ -200,9 +197,6 @@ whole_laid row count octets last past held =
 pub over_as : (octets more : List ℕ) (v : FieldValue) → FitsString v → more ≡ field_octets v → (fault : Fault) → IsOver octets (fixed more) fault → IsOver octets v fault
 over_as octets more v fits e _ (over_string none) = absurd (none tt)
 over_as octets more v fits e _ (over_data f h) = over_data fits (subst (λ m. 65535 < length octets + length m) e h)
-
-pub grows_as : (octets more new : List ℕ) (v : FieldValue) → FitsString v → more ≡ field_octets v → Grows octets (fixed more) new → Grows octets v new
-grows_as octets more new v fits e g = record { string_fits = fits; fits = subst (λ m. length octets + length m ≤ 65535) e g.fits; written = g.written ∙ ap (λ m. octets ++ m) e }
 
 abbrev pub built : ℕ → ℕ → ℕ → List ℕ → Built
 built class kind count octets = record { class = class; kind = kind; parts = parts_of (layout class kind) count octets }

@@ -19,13 +19,6 @@ pub digits_push : (digits : List ℕ) (c : ℕ) → AllByRecursion (λ c. is_dig
 digits_push [] c each h = (h, tt)
 digits_push (d ∷ digits) c each h = (each.0, digits_push digits c each.1 h)
 
-pub digits_more : (cap : ℕ) (text : List ℕ) (i n c : ℕ) → i < length text → c ≡ get_or text i 0 → ReadsDigits cap (take i text) n → is_digit c ≡ true → ReadsDigits cap (take (i + 1) text) (min cap (n * 10 + (c - 48)))
-digits_more cap text i n c lt at reads digit =
-    let more : take (i + 1) text ≡ take i text ++ c ∷ [] = take_more text i 0 lt ∙ ap (λ x. take i text ++ x ∷ []) (sym at) in
-    let value = value_push (take i text) c 0 in
-    let sum : min cap (n * 10 + (c - 48)) ≡ min cap (decimal_value (take i text ++ c ∷ [])) = rw value (let e = reads.value in omega arith) in
-    subst (λ t. ReadsDigits cap t (min cap (n * 10 + (c - 48)))) (sym more) (record { each = digits_push (take i text) c reads.each digit; value = sum })
-
 -- an octet that is no digit stands in no number
 digit_at : (text : List ℕ) (i : ℕ) → i < length text → AllByRecursion (λ c. is_digit c ≡ true) text → is_digit (get_or text i 0) ≡ true
 digit_at [] i lt each = absurd (omega arith)

@@ -16,15 +16,6 @@ fault_passed r found P is holds fault h =
     let p = err_from_is_err_and r is in
     subst P (same_fault r p.0 found fault p.1 p.2 h) holds
 
-memory_only : {T : Type 0} (r : Result T Failing) (e : Failing) (b : Fault) → r ≡ Err e → e ≡ failings.Memory → r ≡ Err (failings.Fault b) → ⊥
-memory_only r e b is was h = cc
-
--- want of memory is no fault
-pub memory_passed : {T : Type 0} (r : Result T Failing) (P : Fault → Type 0) → IsErrAnd r (λ e. e ≡ failings.Memory) → (fault : Fault) → r ≡ Err (failings.Fault fault) → P fault
-memory_passed r P is fault h =
-    let p = err_from_is_err_and r is in
-    absurd (memory_only r p.0 fault p.1 p.2 h)
-
 pub IfFault-weaker : (P Q : Fault → Type 0) (e : Failing) → ((fault : Fault) → P fault → Q fault) → IfFault P e → IfFault Q e
 IfFault-weaker P Q (failings.Fault fault) goes h = goes fault h
 IfFault-weaker P Q failings.Memory goes h = tt

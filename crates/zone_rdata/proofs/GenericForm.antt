@@ -28,12 +28,6 @@ pub record HaveJoined (items : List RawItem) (rest : List RawItem) (octets : Lis
   pub leads : (more : List ℕ) → JoinTo rest more → JoinTo items (octets ++ more)
   pub back : (whole : List ℕ) → JoinTo items whole → (more : List ℕ) × JoinTo rest more × (whole ≡ octets ++ more)
 
-pub joined_none : (items : List RawItem) (octets : List ℕ) → octets ≡ [] → HaveJoined items items octets
-joined_none items octets e = record {
-  leads = λ more h. subst (λ t. JoinTo items (t ++ more)) (sym e) h;
-  back = λ whole h. (whole, h, ap (λ t. t ++ whole) (sym e));
-}
-
 joined_step : (items rest : List RawItem) (text octets front new : List ℕ) → HaveJoined items (bare text ∷ rest) octets → decode_of text ≡ Ok front → new ≡ octets ++ front → HaveJoined items rest new
 joined_step items rest text octets front new joined e grown = record {
   leads = λ more h.
@@ -53,13 +47,6 @@ pub joined_more : (items : List Item) (i : ℕ) (item d : Item) (text octets new
 joined_more items i item d text octets new lt found is joined grows =
     let here : map raw (drop i items) ≡ bare text ∷ map raw (drop (i + 1) items) = items_at items i item d lt found ∙ ap (λ x. x ∷ map raw (drop (i + 1) items)) is in
     joined_step (map raw items) (map raw (drop (i + 1) items)) text octets grows.octets new (subst (λ r. HaveJoined (map raw items) r octets) here joined) grows.stands grows.written
-
--- a quoted item joins to nothing
-pub joined_quoted : (items : List Item) (i : ℕ) (item d : Item) (text octets : List ℕ) → i < length items → item ≡ get_or items i d → raw item ≡ quoted text → HaveJoined (map raw items) (map raw (drop i items)) octets → (whole : List ℕ) → JoinTo (map raw items) whole → ⊥
-joined_quoted items i item d text octets lt found is joined whole h =
-    let here : map raw (drop i items) ≡ quoted text ∷ map raw (drop (i + 1) items) = items_at items i item d lt found ∙ ap (λ x. x ∷ map raw (drop (i + 1) items)) is in
-    let b = joined.back whole h in
-    subst (λ r. JoinTo r b.0) here b.1
 
 next_front : (items : List Item) (i : ℕ) (item d : Item) (text octets : List ℕ) → i < length items → item ≡ get_or items i d → raw item ≡ bare text → HaveJoined (map raw items) (map raw (drop i items)) octets → (whole : List ℕ) → JoinTo (map raw items) whole → (front : List ℕ) × (rest : List ℕ) × (decode_of text ≡ Ok front) × (whole ≡ octets ++ (front ++ rest))
 next_front items i item d text octets lt found is joined whole h =
@@ -86,9 +73,6 @@ pub joined_all : (items : List Item) (i : ℕ) (octets : List ℕ) → length it
 joined_all items i octets past joined =
     let nothing : map raw (drop i items) ≡ [] = ap (map raw) (drop_all i items past) in
     subst (JoinTo (map raw items)) (append-nil octets) (joined.leads [] (subst (λ r. JoinTo r []) (sym nothing) refl))
-
-pub joined_few : (items : List RawItem) (octets : List ℕ) (len : ℕ) → JoinTo items octets → length octets < len → (whole : List ℕ) → JoinTo items whole → length whole ≢ len
-joined_few items octets len j few whole h e = absurd (omega (arith, ap length (JoinTo-once items octets whole j h)))
 
 -- ---- the length
 decimal_once : (text : List ℕ) (m n : ℕ) → IsDecimal text m → IsDecimal text n → m ≡ n

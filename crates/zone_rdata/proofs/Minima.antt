@@ -13,13 +13,6 @@ pub record HaveWalked (row : List Field) (whole : List ℕ) (i : ℕ) (rest : Li
   pub laid : AreLaidOut (drop i row) rest
   pub left : last_number last (values_of (drop i row) rest) ≡ last_number None (values_of row whole)
 
-pub walked_none : (row : List Field) (whole : List ℕ) → AreLaidOut row whole → HaveWalked row whole 0 whole None
-walked_none row whole laid = record { laid = laid; left = refl }
-
--- the field at the place where the rest begins
-pub walked_at : (row : List Field) (whole rest : List ℕ) (i : ℕ) (last : Option ℕ) (d : Field) → i < length row → HaveWalked row whole i rest last → BeginsWithField (get_or row i d) rest
-walked_at row whole rest i last d lt walked = (first_field (get_or row i d) (drop (i + 1) row) rest (subst (λ r. AreLaidOut r rest) (drop_more row i d lt) walked.laid)).0
-
 pub walked_more : (row : List Field) (whole rest after : List ℕ) (i : ℕ) (last next : Option ℕ) (f d : Field) → i < length row → f ≡ get_or row i d → HaveWalked row whole i rest last → next ≡ number_in (field_at f rest) → after ≡ after_field f rest → HaveWalked row whole (i + 1) after next
 walked_more row whole rest after i last next f d lt at walked is goes =
     let here : drop i row ≡ f ∷ drop (i + 1) row = drop_more row i d lt ∙ ap (λ x. x ∷ drop (i + 1) row) (sym at) in
@@ -29,6 +22,3 @@ walked_more row whole rest after i last next f d lt at walked is goes =
       laid = subst (AreLaidOut (drop (i + 1) row)) (sym goes) laid.1;
       left = ap (λ n. last_number n (values_of (drop (i + 1) row) after)) is ∙ ap (λ o. last_number (number_in (field_at f rest)) (values_of (drop (i + 1) row) o)) goes ∙ left;
     }
-
-pub walked_all : (row : List Field) (whole rest : List ℕ) (i : ℕ) (last : Option ℕ) → length row ≤ i → HaveWalked row whole i rest last → last ≡ last_number None (values_of row whole)
-walked_all row whole rest i last past walked = subst (λ r. last_number last (values_of r rest) ≡ last_number None (values_of row whole)) (drop_all i row past) walked.left

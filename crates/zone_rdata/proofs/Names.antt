@@ -29,8 +29,3 @@ unfolding labels_of
 name_back labels rest each =
     let fuel : length labels ≤ length (flat_map frame labels ++ 0 ∷ rest) = omega (arith, length-frames labels, length-append (flat_map frame labels) (0 ∷ rest)) in
     rw (append_assoc (flat_map frame labels) (0 ∷ []) rest) (labels_back labels rest (length (flat_map frame labels ++ 0 ∷ rest)) fuel each)
-
-pub name_front : (labels : List (List ℕ)) (rest : List ℕ) → IsName labels → BeginsWithName (wire labels ++ rest)
-name_front labels rest name =
-    let back = name_back labels rest name.each in
-    record { name = subst IsName (sym back) name; front = rw back (take_at (wire labels) rest (length (wire labels)) refl) }

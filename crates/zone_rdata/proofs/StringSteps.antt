@@ -33,9 +33,6 @@ read_more item octets rest after new c read begins room grown = record {
   value = grown ∙ ap (λ t. t ++ c ∷ []) read.value ∙ ap (λ t. written_octets read.before ++ t ∷ []) (sym begins.value) ∙ sym (map_push octet_of read.before begins.unit);
 }
 
-pub unit_shortens : (rest after : List ℕ) (c : ℕ) → BeginsWithUnit no_octet rest c after → length after < length rest
-unit_shortens rest after c begins = omega (arith, ap length begins.parts, length-append (text_of begins.unit) after, text_of-some begins.unit)
-
 pub read_all : (item : RawItem) (octets rest : List ℕ) → HasRead item octets rest → rest ≡ [] → AllByRecursion (λ c. c < 256) octets → SpellsString item octets
 read_all item octets rest read none each = record {
   units = read.before;

@@ -55,7 +55,3 @@ quoted_all whole rest text none so_far = sym (so_far.left ∙ ap (λ t. text ++ 
 
 pub first_of_rest : (whole rest text : List ℕ) → 0 < length rest → HaveQuoted whole rest text → BeginsWithString rest
 first_of_rest whole rest text some so_far = (first_string rest some so_far.held).0
-
--- the rest shrinks
-pub behind_shorter : (rest : List ℕ) → 0 < length rest → length (behind rest) < length rest
-behind_shorter rest some = let l = length-drop (length (frame (string_at rest))) rest in omega (arith, l)

@@ -57,12 +57,6 @@ pub record HaveTaken (row : List Field) (octets : List ℕ) (later : List Field)
   pub leads : (more : List ℕ) → Reads later rest more → Reads row octets (out ++ more)
   pub back : (whole : List ℕ) → Reads row octets whole → (more : List ℕ) × Reads later rest more × (whole ≡ out ++ more)
 
-pub taken_none : (row : List Field) (octets out : List ℕ) → out ≡ [] → HaveTaken row octets row octets out
-taken_none row octets out e = record {
-  leads = λ more h. subst (λ t. Reads row octets (t ++ more)) (sym e) h;
-  back = λ whole h. (whole, h, ap (λ t. t ++ whole) (sym e));
-}
-
 taken_step : (row : List Field) (octets : List ℕ) (f : Field) (later : List Field) (rest after out new : List ℕ) → HaveTaken row octets (f ∷ later) rest out → AppendsValue f rest after out new → HaveTaken row octets later after new
 taken_step row octets f later rest after out new taken grows =
     let v = grows.value in

@@ -37,17 +37,10 @@ spaced_text : (i : ℕ) (text : List ℕ) → spaced i [] ++ text ≡ spaced i t
 spaced_text zero text = refl
 spaced_text (suc i) text = refl
 
-still_none : (i : ℕ) → still i [] ≡ []
-still_none zero = refl
-still_none (suc i) = refl
-
 -- the fields up to a place are printed: the rest is laid out, and its text is what is left of the whole
 pub record HavePrinted (row : List Field) (whole : List ℕ) (i : ℕ) (rest text : List ℕ) : Type 0 where
   pub laid : AreLaidOut (drop i row) rest
   pub left : laid_out_text (Some row) whole ≡ text ++ still i (map field_text (values_of (drop i row) rest))
-
-pub printed_none : (row : List Field) (whole : List ℕ) → AreLaidOut row whole → HavePrinted row whole 0 whole []
-printed_none row whole laid = record { laid = laid; left = refl }
 
 pub printed_more : (row : List Field) (whole rest text after : List ℕ) (i : ℕ) (f d : Field) → i < length row → f ≡ get_or row i d → HavePrinted row whole i rest text → after ≡ after_field f rest → HavePrinted row whole (i + 1) after (text ++ (spaced i [] ++ field_text (field_at f rest)))
 printed_more row whole rest text after i f d lt at so_far is =
@@ -62,12 +55,6 @@ printed_more row whole rest text after i f d lt at so_far is =
       left = left ∙ ap (λ t. text ++ t) (still_more i own others) ∙ sym (append_assoc text (spaced i own) (still (suc i) others))
           ∙ ap (λ t. (text ++ t) ++ still (suc i) others) (sym (spaced_text i own)) ∙ ap (λ n. (text ++ (spaced i [] ++ own)) ++ still n others) suc_is;
     })
-
-pub printed_all : (row : List Field) (whole rest text : List ℕ) (i : ℕ) → length row ≤ i → HavePrinted row whole i rest text → text ≡ laid_out_text (Some row) whole
-printed_all row whole rest text i past so_far =
-    let nothing : drop i row ≡ [] = drop_all i row past in
-    let left : laid_out_text (Some row) whole ≡ text ++ still i [] = subst (λ r. laid_out_text (Some row) whole ≡ text ++ still i (map field_text (values_of r rest))) nothing so_far.left in
-    sym (left ∙ ap (λ t. text ++ t) (still_none i) ∙ append-nil text)
 
 pub generic_whole : (octets : List ℕ) → generic_head octets ++ encode_lower octets ≡ generic_text octets
 unfolding encode_with

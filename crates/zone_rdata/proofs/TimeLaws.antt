@@ -30,11 +30,3 @@ one_time text m n (plain h) (grouped groups some each parts sums) = absurd (mixe
 one_time text m n (grouped groups some each parts sums) (plain h) = absurd (mixed text groups some each parts n h)
 one_time text m n (grouped groups some each parts sums) (grouped other few every pieces total) =
     sums ∙ groups_same groups other each every (sym parts ∙ pieces) ∙ sym total
-
--- a time that is cut off is too great
-pub over_time : (text : List ℕ) (m n number : ℕ) → IsTime text m → number ≡ min 4294967296 m → 4294967295 < number → IsTime text n → n < 4294967296 → ⊥
-over_time text m n number h e over k small = let same = one_time text m n h k in omega arith
-
-pub untimed : (text : List ℕ) (o : Option ℕ) → o ≡ None → IfNone o ((m : ℕ) → IsTime text m → ⊥) → (n : ℕ) → IsTime text n → ⊥
-untimed text None e none n time = none n time
-untimed text (Some m) e none n time = absurd cc

@@ -142,12 +142,6 @@ ends_grouped text p groups closed reads =
     let none : reads.digits ≡ [] = no_digits reads.digits (λ some. cc (sym closed ∙ reads.opened.1 some)) in
     (sum_by group_seconds reads.groups, (grouped reads.groups (reads.grouped.0 groups) reads.each (reads.parts ∙ ap (λ t. flat_map group_text reads.groups ++ t) none ∙ append-nil (flat_map group_text reads.groups)) refl, reads.total))
 
-pub ends_plain : (text : List ℕ) (p : Progress) → p.grouped ≡ false → p.open ≡ true → Reads text p → (m : ℕ) × (IsTime text m × (p.number ≡ min 4294967296 m))
-ends_plain text p groups opens reads =
-    let none : reads.groups ≡ [] = no_groups reads.groups (λ some. cc (sym groups ∙ reads.grouped.1 some)) in
-    let whole : text ≡ reads.digits = reads.parts ∙ ap (λ gs. flat_map group_text gs ++ reads.digits) none in
-    (decimal_value reads.digits, (plain (record { some = rw whole (reads.opened.0 opens); digits = rw whole reads.last; value = rw whole refl }), reads.number))
-
 -- groups with digits behind them are no time
 pub ends_both : (text : List ℕ) (n : ℕ) (p : Progress) → p.grouped ≡ true → p.open ≡ true → Reads text p → IsTime text n → ⊥
 ends_both text n p groups opens reads (plain h) = first_unit reads.groups reads.digits text reads.each (reads.grouped.0 groups) h.digits reads.parts

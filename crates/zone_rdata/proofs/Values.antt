@@ -52,11 +52,6 @@ strings_appended origin field items old new which h =
     subst (λ f. AppendsField origin f items old new) (sym which) (record { value = strings h.value; stated = h.stated; written = h.written })
 
 -- ---- the items of the field at their front
-pub first_appended : (origin : List (List ℕ)) (field : Field) (items : List Item) (item : Item) (old new : List ℕ) → field ≢ fields.Strings → 0 < length items → item ≡ get_or items 0 item → AppendsField origin field (raw item ∷ []) old new → AppendsFirst origin field (map raw items) (map raw (drop 1 items)) old new
-first_appended origin fields.Strings items item old new other some is h = absurd (other refl)
-first_appended origin field [] item old new other some is h = absurd (omega arith)
-first_appended origin field (i ∷ items) item old new other some is h = record { appends = subst (λ x. AppendsField origin field (raw x ∷ []) old new) is h; behind = refl }
-
 pub all_appended : (origin : List (List ℕ)) (field : Field) (items : List Item) (old new : List ℕ) → field ≡ fields.Strings → Appends (SpellsStrings (map raw items)) (flat_map frame) old new → AppendsFirst origin field (map raw items) (map raw (drop (length items) items)) old new
 all_appended origin fields.Strings items old new which h = record {
   appends = strings_appended origin fields.Strings (map raw items) old new refl h;
@@ -70,12 +65,6 @@ all_appended origin field items old new which h = absurd cc
 pub record HaveSpelt (items left : List RawItem) (old now : List ℕ) : Type 0 where
   pub leads : (many : List (List ℕ)) → SpellEachString left many → Appends (SpellEachString items) (flat_map frame) old (now ++ flat_map frame many)
   pub fault : (fault : Fault) → FirstStringFault left fault → FirstStringFault items fault
-
-pub spelt_none : (items left : List RawItem) (old : List ℕ) → left ≡ items → HaveSpelt items left old old
-spelt_none items left old all = record {
-  leads = λ many h. record { value = many; stated = subst (λ is. SpellEachString is many) all h; written = refl };
-  fault = λ fault h. subst (λ is. FirstStringFault is fault) all h;
-}
 
 left_at : (items : List Item) (i : ℕ) (item d : Item) → i < length items → item ≡ get_or items i d → map raw (drop i items) ≡ raw item ∷ map raw (drop (i + 1) items)
 left_at items i item d lt is = ap (map raw) (drop_more items i d lt ∙ ap (λ x. x ∷ drop (i + 1) items) (sym is))

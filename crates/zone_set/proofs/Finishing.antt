@@ -15,10 +15,6 @@ use Rattle.zone_set.specs.Machine.Held.{IsFirstOutside}
 use Rattle.zone_set.specs.Order.{canonical_cmp, Ascends}
 use Rattle.zone_set.specs.Zone.{Has, AreCompatible, IsZone}
 
--- the first owner outside is that of the first record, or of the first of the others
-pub IsFirstOutside-here : (apex : List (List ℕ)) (r : Record) (others : List Record) → (IsWithin r.owner apex → ⊥) → IsFirstOutside (r ∷ others) apex r.owner
-IsFirstOutside-here apex r others out = record { before = []; first = r; others = others; parts = refl; inside = tt; named = refl; outside = out }
-
 pub IsFirstOutside-later : (apex owner : List (List ℕ)) (r : Record) (others : List Record) → IsWithin r.owner apex → IsFirstOutside others apex owner → IsFirstOutside (r ∷ others) apex owner
 IsFirstOutside-later apex owner r others within found = record {
   before = r ∷ found.before;

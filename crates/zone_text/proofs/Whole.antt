@@ -138,9 +138,6 @@ text_of_lines : (lines : List (List Piece)) → flat_map text (map ended lines) 
 text_of_lines [] = refl
 text_of_lines (pieces ∷ lines) = ap (λ t. text (ended pieces) ++ t) (text_of_lines lines) ∙ sym (flat_map-append piece_text (ended pieces) (flat_map ended lines))
 
-pub no_lines : (origin : List (List ℕ)) → LinesState origin [] []
-no_lines origin = record { lines = []; each = tt; whole = refl; keeps = tt; states = (refl, refl) }
-
 -- one line more
 pub line_more : (origin : List (List ℕ)) (front line : List ℕ) (placed : List Placed) (p : Placed) → LinesState origin front placed → LineStates origin line p.rr → p.place ≡ Line (1 + line_feeds front) → LinesState origin (front ++ (line ++ 10 ∷ [])) (placed ++ p ∷ [])
 line_more origin front line placed p before found place =

@@ -4,10 +4,6 @@ use Rattle.std.proofs.lemmas.List.{append-nil}
 use Rattle.std.specs.Prelude.{Option, Some, None, IfSome}
 use Rattle.std.specs.Io.KnownBytes.{Consumes, IsAtEnd, Keeps}
 
-pub keeps_same : (a : Option (List ℕ)) → Keeps a a
-keeps_same None = tt
-keeps_same (Some xs) = refl
-
 -- before the first read nothing was taken
 pub consumes_nothing : (a : Option (List ℕ)) (xs : List ℕ) → xs ≡ [] → Consumes a a xs
 consumes_nothing None xs e = tt
@@ -19,12 +15,6 @@ consumes_both None b c xs given ys h e k = tt
 consumes_both (Some p) None c xs given ys h e k = absurd h
 consumes_both (Some p) (Some q) None xs given ys h e k = absurd k
 consumes_both (Some p) (Some q) (Some r) xs given ys h e k = rw (h, k, e) (sym (append_assoc xs given r))
-
--- nothing is left, so all was taken
-pub consumes_all : (a b : Option (List ℕ)) (xs : List ℕ) → Consumes a b xs → IsAtEnd b → IfSome a (λ all. xs ≡ all)
-consumes_all None b xs h e = tt
-consumes_all (Some p) None xs h e = absurd h
-consumes_all (Some p) (Some q) xs h e = rw (h, e) (sym (append-nil xs))
 
 -- more was taken than the limit, so more was there
 pub consumes_long : (a b : Option (List ℕ)) (xs : List ℕ) (limit : ℕ) → Consumes a b xs → limit < length xs → IfSome a (λ all. limit < length all)
