@@ -2,34 +2,34 @@
 use Rattle.std.proofs.Common.{◌≡◌, ℕ, zero, suc, ◌+◌, ◌-◌, ◌<◌, ◌≤◌, List, [], ◌∷◌, ◌++◌, length, take, drop, refl, sym, ap, ◌∙◌, subst, arith, append_assoc, length-append}
 use Rattle.std.specs.List.{flat_map, AllByRecursion}
 use Rattle.std.proofs.lemmas.List.{take_at, drop_at, append-nil, take-append-drop}
-use Rattle.zone_name.specs.Name.{IsLabel, IsName, frame, wire, labels_by, labels_of, BeginsWithName, HoldsName}
+use Rattle.zone_name.specs.Name.{IsLabel, IsName, with_length, wire, labels_by, labels_of, BeginsWithName, HoldsName}
 
 -- one label cut off the front
 labels_by-cut : (k m : ℕ) (text label more : List ℕ) → text ≡ label ++ more → length label ≡ suc k → labels_by (suc m) (suc k ∷ text) ≡ label ∷ labels_by m more
 labels_by-cut k m text label more e count = rw (e, take_at label more (suc k) count, drop_at label more (suc k) count) refl
 
 -- the labels in frames, and then those in what follows
-pub labels_by-frames : (labels : List (List ℕ)) (rest : List ℕ) (m n : ℕ) → m ≡ length labels + n → AllByRecursion IsLabel labels → labels_by m (flat_map frame labels ++ rest) ≡ labels ++ labels_by n rest
+pub labels_by-frames : (labels : List (List ℕ)) (rest : List ℕ) (m n : ℕ) → m ≡ length labels + n → AllByRecursion IsLabel labels → labels_by m (flat_map with_length labels ++ rest) ≡ labels ++ labels_by n rest
 labels_by-frames [] rest m n fuel each = let e : m ≡ n = omega arith in ap (λ t. labels_by t rest) e
 labels_by-frames ([] ∷ labels) rest m n fuel each = absurd (omega (arith, each.0.some))
 labels_by-frames ((c ∷ label) ∷ labels) rest zero n fuel each = absurd (omega arith)
 labels_by-frames ((c ∷ label) ∷ labels) rest (suc m) n fuel each =
-    let more = flat_map frame labels ++ rest in
+    let more = flat_map with_length labels ++ rest in
     let left : m ≡ length labels + n = omega arith in
-    labels_by-cut (length label) m (c ∷ label ++ flat_map frame labels ++ rest) (c ∷ label) more (ap (λ t. c ∷ t) (append_assoc label (flat_map frame labels) rest)) refl ∙ ap (λ t. (c ∷ label) ∷ t) (labels_by-frames labels rest m n left each.1)
+    labels_by-cut (length label) m (c ∷ label ++ flat_map with_length labels ++ rest) (c ∷ label) more (ap (λ t. c ∷ t) (append_assoc label (flat_map with_length labels) rest)) refl ∙ ap (λ t. (c ∷ label) ∷ t) (labels_by-frames labels rest m n left each.1)
 
 -- frames are no fewer octets than labels
-pub length-frames : (labels : List (List ℕ)) → length labels ≤ length (flat_map frame labels)
+pub length-frames : (labels : List (List ℕ)) → length labels ≤ length (flat_map with_length labels)
 length-frames [] = omega arith
-length-frames (label ∷ labels) = omega (arith, length-append label (flat_map frame labels), length-frames labels)
+length-frames (label ∷ labels) = omega (arith, length-append label (flat_map with_length labels), length-frames labels)
 
 -- the fuel of `labels_of` is enough for the labels in frames
-pub labels_of-frames : (labels : List (List ℕ)) (rest : List ℕ) → AllByRecursion IsLabel labels → (n : ℕ) × (labels_of (flat_map frame labels ++ rest) ≡ labels ++ labels_by n rest)
+pub labels_of-frames : (labels : List (List ℕ)) (rest : List ℕ) → AllByRecursion IsLabel labels → (n : ℕ) × (labels_of (flat_map with_length labels ++ rest) ≡ labels ++ labels_by n rest)
 unfolding labels_of
 labels_of-frames labels rest each =
-    let n = length (flat_map frame labels ++ rest) - length labels in
-    let fuel : length (flat_map frame labels ++ rest) ≡ length labels + n = omega (arith, length-frames labels, length-append (flat_map frame labels) rest) in
-    (n, labels_by-frames labels rest (length (flat_map frame labels ++ rest)) n fuel each)
+    let n = length (flat_map with_length labels ++ rest) - length labels in
+    let fuel : length (flat_map with_length labels ++ rest) ≡ length labels + n = omega (arith, length-frames labels, length-append (flat_map with_length labels) rest) in
+    (n, labels_by-frames labels rest (length (flat_map with_length labels ++ rest)) n fuel each)
 
 -- no label is behind the root
 pub labels_by-root : (n : ℕ) (rest : List ℕ) → labels_by n (0 ∷ rest) ≡ []
@@ -45,7 +45,7 @@ labels_by-nil (suc n) = refl
 pub labels_of-wire_append : (labels : List (List ℕ)) (rest : List ℕ) → AllByRecursion IsLabel labels → labels_of (wire labels ++ rest) ≡ labels
 labels_of-wire_append labels rest each =
     let found = labels_of-frames labels (0 ∷ rest) each in
-    rw (append_assoc (flat_map frame labels) (0 ∷ []) rest, found.1, labels_by-root found.0 rest) (append-nil labels)
+    rw (append_assoc (flat_map with_length labels) (0 ∷ []) rest, found.1, labels_by-root found.0 rest) (append-nil labels)
 
 pub labels_of-wire : (labels : List (List ℕ)) → AllByRecursion IsLabel labels → labels_of (wire labels) ≡ labels
 labels_of-wire labels each =
@@ -53,10 +53,10 @@ labels_of-wire labels each =
     rw (found.1, labels_by-root found.0 []) (append-nil labels)
 
 -- frames with no root behind them
-pub labels_of-open : (labels : List (List ℕ)) → AllByRecursion IsLabel labels → labels_of (flat_map frame labels) ≡ labels
+pub labels_of-open : (labels : List (List ℕ)) → AllByRecursion IsLabel labels → labels_of (flat_map with_length labels) ≡ labels
 labels_of-open labels each =
     let found = labels_of-frames labels [] each in
-    (ap labels_of (sym (append-nil (flat_map frame labels)))) ∙ found.1 ∙ ap (λ t. labels ++ t) (labels_by-nil found.0) ∙ append-nil labels
+    (ap labels_of (sym (append-nil (flat_map with_length labels)))) ∙ found.1 ∙ ap (λ t. labels ++ t) (labels_by-nil found.0) ∙ append-nil labels
 
 -- the octets of a name are a name
 pub HoldsName-wire : (labels : List (List ℕ)) → IsName labels → HoldsName (wire labels)
@@ -81,7 +81,7 @@ pub record NextLabel (n : ℕ) (more : List ℕ) (labels : List (List ℕ)) : Ty
 pub IsName-tail : (label : List ℕ) (labels : List (List ℕ)) → IsName (label ∷ labels) → IsName labels
 IsName-tail label labels name = record {
   each = name.each.1;
-  short = omega (arith, name.short, length-append (label ++ flat_map frame labels) (0 ∷ []), length-append label (flat_map frame labels), length-append (flat_map frame labels) (0 ∷ []));
+  short = omega (arith, name.short, length-append (label ++ flat_map with_length labels) (0 ∷ []), length-append label (flat_map with_length labels), length-append (flat_map with_length labels) (0 ∷ []));
 }
 
 next_in : (labels : List (List ℕ)) (rest : List ℕ) (n : ℕ) (more : List ℕ) → IsName labels → 0 < n → n ∷ more ≡ wire labels ++ rest → NextLabel n more labels
@@ -89,7 +89,7 @@ next_in [] rest n more name positive is = absurd (let e : n ≡ 0 = cc in omega 
 next_in (label ∷ labels) rest n more name positive is =
     let left = wire labels ++ rest in
     let shape : wire (label ∷ labels) ++ rest ≡ length label ∷ (label ++ left) =
-    ap (λ t. length label ∷ t) (ap (λ t. t ++ rest) (append_assoc label (flat_map frame labels) (0 ∷ [])) ∙ append_assoc label (wire labels) rest) in
+    ap (λ t. length label ∷ t) (ap (λ t. t ++ rest) (append_assoc label (flat_map with_length labels) (0 ∷ [])) ∙ append_assoc label (wire labels) rest) in
     let counts : n ≡ length label = cc (is ∙ shape) in
     let text : more ≡ label ++ left = cc (is ∙ shape) in
     let front : take n more ≡ label = rw text (take_at label left n (sym counts)) in
@@ -129,14 +129,14 @@ pub labels_of-front : (octets : List ℕ) (len : ℕ) → BeginsWithName octets 
 labels_of-front octets len begins e = ap labels_of (ap (λ n. take n octets) e ∙ begins.front) ∙ labels_of-wire (labels_of octets) begins.name.each
 
 -- what was counted is the whole once nothing is left
-pub counted : (len whole : ℕ) (left : List (List ℕ)) → len + length (flat_map frame left) ≡ whole → left ≡ [] → len ≡ whole
-counted len whole left e nothing = let h : len + length (flat_map frame []) ≡ whole = subst (λ t. len + length (flat_map frame t) ≡ whole) nothing e in omega arith
+pub counted : (len whole : ℕ) (left : List (List ℕ)) → len + length (flat_map with_length left) ≡ whole → left ≡ [] → len ≡ whole
+counted len whole left e nothing = let h : len + length (flat_map with_length []) ≡ whole = subst (λ t. len + length (flat_map with_length t) ≡ whole) nothing e in omega arith
 
 -- each label takes two octets or more
-length-frames_twice : (labels : List (List ℕ)) → AllByRecursion IsLabel labels → length labels + length labels ≤ length (flat_map frame labels)
+length-frames_twice : (labels : List (List ℕ)) → AllByRecursion IsLabel labels → length labels + length labels ≤ length (flat_map with_length labels)
 length-frames_twice [] each = omega arith
-length-frames_twice (label ∷ labels) each = omega (arith, each.0.some, length-append label (flat_map frame labels), length-frames_twice labels each.1)
+length-frames_twice (label ∷ labels) each = omega (arith, each.0.some, length-append label (flat_map with_length labels), length-frames_twice labels each.1)
 
 -- a name has at most 127 labels
 pub length-labels : (labels : List (List ℕ)) → IsName labels → length labels ≤ 127
-length-labels labels name = omega (arith, name.short, length-frames_twice labels name.each, length-append (flat_map frame labels) (0 ∷ []))
+length-labels labels name = omega (arith, name.short, length-frames_twice labels name.each, length-append (flat_map with_length labels) (0 ∷ []))

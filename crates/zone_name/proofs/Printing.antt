@@ -2,7 +2,7 @@
 use Rattle.std.proofs.Common.{◌≡◌, ◌≢◌, ℕ, ◌+◌, ◌*◌, ◌<◌, ◌≤◌, Bool, true, false, if◌then◌else◌, List, [], ◌∷◌, ◌++◌, length, refl, sym, ap, ◌∙◌, subst, arith, append_assoc, length-append}
 use Rattle.std.specs.List.{flat_map, AllByRecursion}
 use Rattle.std.proofs.lemmas.List.{append-nil}
-use Rattle.zone_name.specs.Name.{IsLabel, IsName, frame}
+use Rattle.zone_name.specs.Name.{IsLabel, IsName, with_length}
 use Rattle.zone_name.specs.Text.{is_special, is_printed, decimal_escape, octet_text, label_text, name_text}
 
 choice_short : (special printed : Bool) (c : ℕ) → length (if special then 92 ∷ c ∷ [] else (if printed then c ∷ [] else decimal_escape c)) ≤ 4
@@ -25,18 +25,18 @@ label_text-short label = omega (arith, length-append (flat_map octet_text label)
 pub record WritesText (text whole : List ℕ) (left : List (List ℕ)) : Type 0 where
   pub spells : text ++ flat_map label_text left ≡ whole
   pub each : AllByRecursion IsLabel left
-  pub room : length text + 4 * length (flat_map frame left) ≤ 1016
+  pub room : length text + 4 * length (flat_map with_length left) ≤ 1016
 
 pub WritesText-start : (text : List ℕ) (labels : List (List ℕ)) → text ≡ [] → IsName labels → WritesText text (flat_map label_text labels) labels
 WritesText-start text labels e name = rw e (record {
   spells = refl;
   each = name.each;
-  room = omega (arith, name.short, length-append (flat_map frame labels) (0 ∷ []));
+  room = omega (arith, name.short, length-append (flat_map with_length labels) (0 ∷ []));
 })
 
 pub WritesText-more : (text text' whole : List ℕ) (left next : List (List ℕ)) (label : List ℕ) → left ≡ label ∷ next → text' ≡ text ++ label_text label → WritesText text whole left → WritesText text' whole next
 WritesText-more text text' whole left next label e is so_far = record {
   spells = ap (λ t. t ++ flat_map label_text next) is ∙ append_assoc text (label_text label) (flat_map label_text next) ∙ ap (λ t. text ++ flat_map label_text t) (sym e) ∙ so_far.spells;
   each = (subst (AllByRecursion IsLabel) e so_far.each).1;
-  room = omega (arith, so_far.room, ap length is, length-append text (label_text label), ap (λ t. length (flat_map frame t)) e, length-append label (flat_map frame next), label_text-short label);
+  room = omega (arith, so_far.room, ap length is, length-append text (label_text label), ap (λ t. length (flat_map with_length t)) e, length-append label (flat_map with_length next), label_text-short label);
 }

@@ -6,7 +6,7 @@ use Rattle.std.proofs.lemmas.List.{length-map, append-nil, take_all}
 use Rattle.std.proofs.lemmas.List.Concat.{flat_map-append}
 use Rattle.std.proofs.lemmas.Bool.{le-leb, lt-leb}
 use Rattle.std.proofs.lemmas.Bool.Decides.{nat_tests}
-use Rattle.zone_name.specs.Name.{IsLabel, IsName, IsFoldedOctet, folded_octet, folded_label, frame, wire, labels_of, HoldsName, HoldsLabels}
+use Rattle.zone_name.specs.Name.{IsLabel, IsName, IsFoldedOctet, folded_octet, folded_label, with_length, wire, labels_of, HoldsName, HoldsLabels}
 use Rattle.zone_name.specs.Machine.Reading.{sized}
 use Rattle.zone_name.specs.declared.fault.NameFault.TheVariants.{NameTooLong}
 use Rattle.zone_name.proofs.Octets.{labels_of-open, labels_of-wire, HoldsName-wire}
@@ -52,14 +52,14 @@ IsLabel-folded label some short each = record {
 }
 
 -- frames, with one more behind them
-frames_push : (labels : List (List ℕ)) (label : List ℕ) → flat_map frame (labels ++ label ∷ []) ≡ flat_map frame labels ++ frame label
-frames_push labels label = flat_map-append frame labels (label ∷ []) ∙ ap (λ t. flat_map frame labels ++ t) (append-nil (frame label))
+frames_push : (labels : List (List ℕ)) (label : List ℕ) → flat_map with_length (labels ++ label ∷ []) ≡ flat_map with_length labels ++ with_length label
+frames_push labels label = flat_map-append with_length labels (label ∷ []) ∙ ap (λ t. flat_map with_length labels ++ t) (append-nil (with_length label))
 
 -- labels with one more behind them, where there is room
-IsName-push : (labels : List (List ℕ)) (label : List ℕ) → IsName labels → IsLabel label → length (flat_map frame labels) + length label + 2 ≤ 255 → IsName (labels ++ label ∷ [])
+IsName-push : (labels : List (List ℕ)) (label : List ℕ) → IsName labels → IsLabel label → length (flat_map with_length labels) + length label + 2 ≤ 255 → IsName (labels ++ label ∷ [])
 IsName-push labels label name is room = record {
   each = AllByRecursion-append IsLabel labels (label ∷ []) name.each (is, tt);
-  short = omega (arith, length-append (flat_map frame (labels ++ label ∷ [])) (0 ∷ []), ap length (frames_push labels label), length-append (flat_map frame labels) (frame label));
+  short = omega (arith, length-append (flat_map with_length (labels ++ label ∷ [])) (0 ∷ []), ap length (frames_push labels label), length-append (flat_map with_length labels) (with_length label));
 }
 
 pub record Pushed (octets label new : List ℕ) : Type 0 where
@@ -67,17 +67,17 @@ pub record Pushed (octets label new : List ℕ) : Type 0 where
   pub gives : labels_of new ≡ labels_of octets ++ label ∷ []
 
 -- the octets of one more label behind those that are held
-pub push_frame : (octets label new : List ℕ) → HoldsLabels octets → IsLabel label → length octets + length label + 2 ≤ 255 → new ≡ octets ++ frame label → Pushed octets label new
+pub push_frame : (octets label new : List ℕ) → HoldsLabels octets → IsLabel label → length octets + length label + 2 ≤ 255 → new ≡ octets ++ with_length label → Pushed octets label new
 push_frame octets label new holds is room e =
     let name = IsName-push (labels_of octets) label holds.name is (rw holds.whole room) in
-    let text : flat_map frame (labels_of octets ++ label ∷ []) ≡ new = frames_push (labels_of octets) label ∙ ap (λ t. t ++ frame label) holds.whole ∙ sym e in
+    let text : flat_map with_length (labels_of octets ++ label ∷ []) ≡ new = frames_push (labels_of octets) label ∙ ap (λ t. t ++ with_length label) holds.whole ∙ sym e in
     let gives : labels_of new ≡ labels_of octets ++ label ∷ [] = ap labels_of (sym text) ∙ labels_of-open (labels_of octets ++ label ∷ []) name.each in
-    record { holds = record { whole = ap (flat_map frame) gives ∙ text; name = subst IsName (sym gives) name }; gives = gives }
+    record { holds = record { whole = ap (flat_map with_length) gives ∙ text; name = subst IsName (sym gives) name }; gives = gives }
 
 -- no labels
 pub HoldsLabels-nil : (octets : List ℕ) → octets ≡ [] → HoldsLabels octets
 HoldsLabels-nil octets e =
-    let none : HoldsLabels [] = record { whole = ap (flat_map frame) (labels_of-open [] tt); name = subst IsName (sym (labels_of-open [] tt)) (record { each = tt; short = omega arith }) } in
+    let none : HoldsLabels [] = record { whole = ap (flat_map with_length) (labels_of-open [] tt); name = subst IsName (sym (labels_of-open [] tt)) (record { each = tt; short = omega arith }) } in
     subst HoldsLabels (sym e) none
 
 pub labels_of-none : (octets : List ℕ) → octets ≡ [] → labels_of octets ≡ []
@@ -93,7 +93,7 @@ labels_of-finish octets new holds e =
     ap labels_of (e ∙ ap (λ t. t ++ 0 ∷ []) (sym holds.whole)) ∙ labels_of-wire (labels_of octets) holds.name.each
 
 -- a length and the octets after it, as they are pushed
-pub pushed_octets : (octets label pushed new : List ℕ) (n : ℕ) → pushed ≡ octets ++ length label ∷ [] → new ≡ pushed ++ map folded_octet (take n label) → length label ≤ n → new ≡ octets ++ frame (folded_label label)
+pub pushed_octets : (octets label pushed new : List ℕ) (n : ℕ) → pushed ≡ octets ++ length label ∷ [] → new ≡ pushed ++ map folded_octet (take n label) → length label ≤ n → new ≡ octets ++ with_length (folded_label label)
 pushed_octets octets label pushed new n first after all =
     after ∙ ap (λ t. t ++ map folded_octet (take n label)) first ∙ ap (λ t. octets ++ length label ∷ [] ++ map folded_octet t) (take_all n label all)
     ∙ append_assoc octets (length label ∷ []) (map folded_octet label) ∙ ap (λ k. octets ++ (k ∷ map folded_octet label)) (sym (length-map label folded_octet))
@@ -106,8 +106,8 @@ pub record Joined (left right : List (List ℕ)) (new : List ℕ) : Type 0 where
 pub joined : (octets others new : List ℕ) (left right : List (List ℕ)) → HoldsLabels octets → labels_of octets ≡ left → IsName right → others ≡ wire right → new ≡ octets ++ others → length octets + length others ≤ 255 → Joined left right new
 joined octets others new left right holds is name text e room =
     let shape : wire (left ++ right) ≡ new =
-    ap (λ t. t ++ 0 ∷ []) (flat_map-append frame left right) ∙ append_assoc (flat_map frame left) (flat_map frame right) (0 ∷ [])
-    ∙ ap (λ t. flat_map frame t ++ wire right) (sym is) ∙ ap (λ t. t ++ wire right) holds.whole ∙ ap (λ t. octets ++ t) (sym text) ∙ sym e in
+    ap (λ t. t ++ 0 ∷ []) (flat_map-append with_length left right) ∙ append_assoc (flat_map with_length left) (flat_map with_length right) (0 ∷ [])
+    ∙ ap (λ t. flat_map with_length t ++ wire right) (sym is) ∙ ap (λ t. t ++ wire right) holds.whole ∙ ap (λ t. octets ++ t) (sym text) ∙ sym e in
     let each : AllByRecursion IsLabel left = subst (AllByRecursion IsLabel) is holds.name.each in
     let both : IsName (left ++ right) = record {
       each = AllByRecursion-append IsLabel left right each name.each;

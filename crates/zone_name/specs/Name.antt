@@ -24,12 +24,12 @@ pub record IsLabel (label : List ℕ) : Type 0 where
   pub each : AllByRecursion IsFoldedOctet label
 
 -- a label as it stands in a message: its length, then its octets (RFC 1035 3.1)
-abbrev pub frame : List ℕ → List ℕ
-frame label = length label ∷ label
+abbrev pub with_length : List ℕ → List ℕ
+with_length label = length label ∷ label
 
 -- the uncompressed octets of a name: each label, then the root's empty label (RFC 1035 3.1)
 abbrev pub wire : List (List ℕ) → List ℕ
-wire labels = flat_map frame labels ++ 0 ∷ []
+wire labels = flat_map with_length labels ++ 0 ∷ []
 
 -- a name: labels in lower case that take at most 255 octets in all (RFC 1035 2.3.4)
 pub record IsName (labels : List (List ℕ)) : Type 0 where
@@ -54,7 +54,7 @@ pub record HoldsName (octets : List ℕ) : Type 0 where
 
 -- the octets of labels, each behind its length, to which the root's octet makes a name
 pub record HoldsLabels (octets : List ℕ) : Type 0 where
-  pub whole : flat_map frame (labels_of octets) ≡ octets
+  pub whole : flat_map with_length (labels_of octets) ≡ octets
   pub name : IsName (labels_of octets)
 
 -- octets that begin with the uncompressed octets of a name

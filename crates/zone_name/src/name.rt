@@ -4,7 +4,7 @@ ghost use Rattle.zone_name.specs.Spelling.{Spells, FirstFault};
 
 use crate::fault::NameFault;
 use crate::labels::Labels;
-use crate::reading::{Form, form_of, named};
+use crate::reading::{NameForm, form_of, named};
 use arrayvec::ArrayVec;
 use std::marker::Model;
 
@@ -39,12 +39,12 @@ impl Name {
     {
         known_origin(origin);
         match form_of(text) {
-            Form::Root => Ok(Name::root()),
-            Form::Origin => match origin {
+            NameForm::Root => Ok(Name::root()),
+            NameForm::Origin => match origin {
                 Some(origin) => Ok(origin.copy()),
                 None => Err(NameFault::RelativeName),
             },
-            Form::Labels => named(text, origin),
+            NameForm::Labels => named(text, origin),
         }
     }
 

@@ -11,7 +11,7 @@ use arrayvec::ArrayVec;
 
 /// How a name's text is read (RFC 1035 5.1).
 #[derive(Drop)]
-pub(crate) enum Form {
+pub(crate) enum NameForm {
     /// A dot alone, which is the root.
     Root,
     /// An `@` alone, which is the origin.
@@ -21,13 +21,13 @@ pub(crate) enum Form {
 }
 
 /// How the text is read.
-pub(crate) fn form_of(text: &[u8]) -> Form
+pub(crate) fn form_of(text: &[u8]) -> NameForm
     ensures { HasForm text.now result }
 {
     match text {
-        b"." => Form::Root,
-        b"@" => Form::Origin,
-        _ => Form::Labels,
+        b"." => NameForm::Root,
+        b"@" => NameForm::Origin,
+        _ => NameForm::Labels,
     }
 }
 

@@ -9,10 +9,10 @@ use Rattle.hex.specs.Hex.{lower_digits, encode_with, encode_lower}
 use Rattle.std.specs.Fmt.{digit_glyph, digits, digits_onto}
 use Rattle.zone_name.specs.Text.{is_special, is_printed, decimal_escape, octet_text, label_text, name_text}
 use Rattle.zone_rdata.specs.declared.field.Field.{Field}
-use Rattle.zone_rdata.specs.Field.{FieldValue, name, long, two_octets, fixed, string, strings, values_of}
+use Rattle.zone_rdata.specs.Field.{FieldValue, name, u32_value, u16_value, fixed, string, strings, values_of}
 use Rattle.zone_rdata.specs.Layout.{layout}
 use Rattle.zone_rdata.specs.Record.{Record, data_of}
-use Rattle.zone_rdata.specs.Address.{four_text, groups_text, parted_groups}
+use Rattle.zone_rdata.specs.Address.{ipv4_text, ipv6_text, parted_groups}
 use Rattle.zone_rdata.specs.Strings.{is_shown, unit_text, inside_text, string_text}
 use Rattle.zone_rdata.specs.Text.{field_text, generic_text, laid_out_text, data_text}
 use Rattle.zone_rdata.specs.Table.{Named, classes, type_names, mnemonic_among}
@@ -123,7 +123,7 @@ none_kind class n = none_word (laid_out_mnemonic (layout class n) n) (codes "TYP
 none_dot : (xs : List ℕ) → HasNoFeed xs → HasNoFeed (xs ++ 46 ∷ [])
 none_dot xs h = none_append xs (46 ∷ []) h (high 46 46 refl (omega arith), tt)
 
-none_four : (octets : List ℕ) → HasNoFeed (four_text octets)
+none_four : (octets : List ℕ) → HasNoFeed (ipv4_text octets)
 none_four octets =
     let a = none_dot (decimal (slice_index octets 0)) (none_decimal (slice_index octets 0)) in
     let b = none_dot _ (none_append _ (decimal (slice_index octets 1)) a (none_decimal (slice_index octets 1))) in
@@ -152,7 +152,7 @@ none_run segments run =
     (λ h. none_append (parted_groups (take run.0 segments) ++ codes "::") (parted_groups (drop (run.0 + run.1) segments)) (none_append (parted_groups (take run.0 segments)) (codes "::") (none_groups (take run.0 segments)) (high 58 58 refl (omega arith), (high 58 58 refl (omega arith), tt))) (none_groups (drop (run.0 + run.1) segments)))
     (λ h. none_groups segments)
 
-none_sixteen : (octets : List ℕ) → HasNoFeed (groups_text octets)
+none_sixteen : (octets : List ℕ) → HasNoFeed (ipv6_text octets)
 none_sixteen octets = none_run (segments_of octets) (longest_zero_run (segments_of octets))
 
 none_unit : (c : ℕ) → HasNoFeed (unit_text c)
@@ -190,9 +190,9 @@ none_generic (c ∷ octets) =
 
 none_field : (v : FieldValue) → HasNoFeed (field_text v)
 none_field (name labels) = none_name labels
-none_field (long n) = none_decimal n
-none_field (two_octets n) = none_decimal n
-none_field (fixed octets) = none_if (length octets == 4) (four_text octets) (groups_text octets) (λ h. none_four octets) (λ h. none_sixteen octets)
+none_field (u32_value n) = none_decimal n
+none_field (u16_value n) = none_decimal n
+none_field (fixed octets) = none_if (length octets == 4) (ipv4_text octets) (ipv6_text octets) (λ h. none_four octets) (λ h. none_sixteen octets)
 none_field (string octets) = none_string octets
 none_field (strings many) = none_strings many
 

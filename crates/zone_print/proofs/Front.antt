@@ -2,7 +2,7 @@
 use Rattle.std.proofs.Common.{◌≡◌, ℕ, List, ◌++◌, sym, ap, ◌∙◌, append_assoc, take, drop, take-append-drop, Option}
 use Rattle.std.specs.Io.KnownBytes.{Appends}
 use Rattle.std.proofs.KnownBytes.{Appends-trans}
-use Rattle.zone_print.specs.Writing.{AppendsFront}
+use Rattle.zone_print.specs.Writing.{AppendsPrefix}
 
 -- the writer took the text but for this rest
 pub record Left (old new : Option (List ℕ)) (text rest : List ℕ) : Type 0 where
@@ -23,7 +23,7 @@ pub left_after : (old mid new : Option (List ℕ)) (text rest : List ℕ) (n : �
 left_after old mid new text rest n left taken = left_less old mid new text rest (take n rest) (drop n rest) left (sym (take-append-drop n rest)) taken
 
 -- a front of a part of the rest is taken
-pub front_more : (old mid new : Option (List ℕ)) (text rest part others : List ℕ) → Left old mid text rest → rest ≡ part ++ others → AppendsFront mid new part → AppendsFront old new text
+pub front_more : (old mid new : Option (List ℕ)) (text rest part others : List ℕ) → Left old mid text rest → rest ≡ part ++ others → AppendsPrefix mid new part → AppendsPrefix old new text
 front_more old mid new text rest part others left e (front, back, split, taken) = (
   left.front ++ front,
   back ++ others,

@@ -12,16 +12,16 @@ pub data StopsPush (limit : ℕ) (text : List ℕ) : Stop → Type 0 where
   memory : StopsPush limit text Memory
 
 -- known bytes of a writer grew by a front of the text
-abbrev pub AppendsFront : Option (List ℕ) → Option (List ℕ) → List ℕ → Type 0
-AppendsFront old new text = (front rest : List ℕ) × (text ≡ front ++ rest) × Appends old new front
+abbrev pub AppendsPrefix : Option (List ℕ) → Option (List ℕ) → List ℕ → Type 0
+AppendsPrefix old new text = (front rest : List ℕ) × (text ≡ front ++ rest) × Appends old new front
 
 -- why a text was not written, and what the writer holds: nothing of a text that is longer than the limit, else a front
 pub data StopsWrite (limit : ℕ) (text : List ℕ) (old new : Option (List ℕ)) : Stop → Type 0 where
   large : limit < length text → Keeps old new → StopsWrite limit text old new (Refused ZoneTooLarge Whole)
-  memory : AppendsFront old new text → StopsWrite limit text old new Memory
-  write : AppendsFront old new text → StopsWrite limit text old new Write
+  memory : AppendsPrefix old new text → StopsWrite limit text old new Memory
+  write : AppendsPrefix old new text → StopsWrite limit text old new Write
 
 -- why a text was written in part: a front of it was
 pub data StopsMidway (text : List ℕ) (old new : Option (List ℕ)) : Stop → Type 0 where
-  memory : AppendsFront old new text → StopsMidway text old new Memory
-  write : AppendsFront old new text → StopsMidway text old new Write
+  memory : AppendsPrefix old new text → StopsMidway text old new Memory
+  write : AppendsPrefix old new text → StopsMidway text old new Write

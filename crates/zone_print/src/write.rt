@@ -1,6 +1,6 @@
 ghost use Rattle.std.specs.Prelude.{◌≡◌, OnOk, OnErr, IfErr};
 ghost use Rattle.std.specs.Io.KnownBytes.{Appends};
-ghost use Rattle.zone_print.specs.Writing.{AppendsFront};
+ghost use Rattle.zone_print.specs.Writing.{AppendsPrefix};
 
 use std::io::Write;
 use zone_rdata::Stop;
@@ -13,7 +13,7 @@ use zone_rdata::Stop;
 pub fn write_octets<W: Write>(writer: &mut W, octets: &[u8]) -> Result<(), Stop>
     ensures written { OnOk result (Appends (W.contents writer.old) (W.contents writer.new) octets.now) }
     ensures stop { IfErr result (λ stop. stop ≡ Stop.Write) }
-    ensures front { OnErr result (AppendsFront (W.contents writer.old) (W.contents writer.new) octets.now) }
+    ensures front { OnErr result (AppendsPrefix (W.contents writer.old) (W.contents writer.new) octets.now) }
 {
     let mut rest = octets;
     while !rest.is_empty() {

@@ -4,10 +4,10 @@ use Rattle.std.proofs.lemmas.Bool.{cases_lt, cases_eq}
 use Rattle.std.proofs.lemmas.List.{append-nil}
 use Rattle.hex.specs.Hex.{decode_sized}
 use Rattle.hex.specs.declared.error.FromHexError.{FromHexError}
-use Rattle.zone_rdata.specs.Address.{IsOctetNumber, AreNumbers, IsFourNumbers, Part, IsGroup, IsLastPart, AreParts, parts_text, parts_octets, ArePartsOf, AreAround, IsGroups, eight}
+use Rattle.zone_rdata.specs.Address.{IsOctetNumber, AreNumbers, IsIpv4Address, AddressPart, IsGroup, IsLastPart, AreParts, parts_text, parts_octets, ArePartsOf, AreAround, IsIpv6Address, eight}
 use Rattle.zone_rdata.specs.Machine.AddressReading.{Lacks, IsCut, HasGapAt}
 use Rattle.zone_rdata.specs.Number.{IsDecimal}
-use Rattle.zone_rdata.specs.Fields.Address.{IsAddress, of_four, of_sixteen}
+use Rattle.zone_rdata.specs.Fields.Address.{IsAddress, of_ipv4, of_ipv6}
 use Rattle.zone_rdata.proofs.Addresses.{numbers_one, numbers_more, numbers_none, number_refused, rest_refused, last_refused, lacks_push}
 use Rattle.zone_rdata.proofs.AddressParts.{AreSomeParts, parts_cut, only_part, text_some, no_parts, parts_unique}
 use Rattle.zone_rdata.proofs.AddressGaps.{IsFirstGap, refused_without_gap, refused_at_gap, found_at_gap}
@@ -60,8 +60,8 @@ numbers_or_not : (count : ℕ) (text : List ℕ) → Choice (AreNumbers (suc cou
 numbers_or_not zero text = one_by text (octet_or_not text)
 numbers_or_not (suc count) text = numbers_by count text (cut_or_lacks 46 text) (λ rest. numbers_or_not count rest)
 
-pub four_or_not : (text : List ℕ) → Choice (IsFourNumbers text)
-four_or_not text = numbers_or_not 3 text
+pub ipv4_or_not : (text : List ℕ) → Choice (IsIpv4Address text)
+ipv4_or_not text = numbers_or_not 3 text
 
 -- ---- parts between colons
 abbrev IsGroupOf : List ℕ → List ℕ → Type 0
@@ -83,34 +83,34 @@ group_or_not text = elim (cases_lt 4 (length text)) [
   ]
 ]
 
-no_last : (ends : Bool) (text : List ℕ) → ((octets : List ℕ) → IsGroupOf text octets → ⊥) → (IsTrue ends → (octets : List ℕ) → IsFourNumbers text octets → ⊥) → (octets : List ℕ) → IsLastOf ends text octets → ⊥
+no_last : (ends : Bool) (text : List ℕ) → ((octets : List ℕ) → IsGroupOf text octets → ⊥) → (IsTrue ends → (octets : List ℕ) → IsIpv4Address text octets → ⊥) → (octets : List ℕ) → IsLastOf ends text octets → ⊥
 no_last ends text none none' octets (inl is) = none octets is
 no_last ends text none none' octets (inr are) = none' are.0 octets are.1
 
-last_by : (ends : Bool) (text : List ℕ) → Choice (IsGroupOf text) → Choice (IsFourNumbers text) → Choice (IsLastOf ends text)
+last_by : (ends : Bool) (text : List ℕ) → Choice (IsGroupOf text) → Choice (IsIpv4Address text) → Choice (IsLastOf ends text)
 last_by ends text (inl found) four = inl (found.0, inl found.1)
 last_by true text (inr none) (inl found) = inl (found.0, inr (refl, found.1))
 last_by true text (inr none) (inr none') = inr (no_last true text none (λ h. none'))
 last_by false text (inr none) four = inr (no_last false text none (λ h octets are. absurd cc))
 
 last_or_not : (ends : Bool) (text : List ℕ) → Choice (IsLastOf ends text)
-last_or_not ends text = last_by ends text (group_or_not text) (four_or_not text)
+last_or_not ends text = last_by ends text (group_or_not text) (ipv4_or_not text)
 
 -- the last of parts
 end_by : (ends : Bool) (text : List ℕ) → Lacks 58 text → Choice (IsLastOf ends text) → Choice (AreSomeParts ends text)
 end_by ends text lacks (inl found) =
-    let p : Part = record { text = text; octets = found.0 } in
+    let p : AddressPart = record { text = text; octets = found.0 } in
     inl (found.0, record { are = record { parts = p ∷ []; each = found.1; parted = refl; value = sym (append-nil found.0) }; some = omega arith })
 end_by ends text lacks (inr none) = inr (λ octets h. none octets (only_part ends text octets h.are.parts lacks h.some h.are.each h.are.parted h.are.value))
 
 -- a group before the others
-parts_behind : (ends : Bool) (p q : Part) (parts : List Part) → IsGroup p → AreParts ends (q ∷ parts) → AreParts ends (p ∷ q ∷ parts)
+parts_behind : (ends : Bool) (p q : AddressPart) (parts : List AddressPart) → IsGroup p → AreParts ends (q ∷ parts) → AreParts ends (p ∷ q ∷ parts)
 parts_behind ends p q parts is are = (is, are)
 
-put_by : (ends : Bool) (group rest added octets : List ℕ) (parts : List Part) → IsGroupOf group added → 0 < length parts → AreParts ends parts → rest ≡ parts_text parts → octets ≡ parts_octets parts → AreSomeParts ends (group ++ 58 ∷ rest) (added ++ octets)
+put_by : (ends : Bool) (group rest added octets : List ℕ) (parts : List AddressPart) → IsGroupOf group added → 0 < length parts → AreParts ends parts → rest ≡ parts_text parts → octets ≡ parts_octets parts → AreSomeParts ends (group ++ 58 ∷ rest) (added ++ octets)
 put_by ends group rest added octets [] is some each parted value = absurd (omega arith)
 put_by ends group rest added octets (q ∷ parts) is some each parted value =
-    let p : Part = record { text = group; octets = added } in
+    let p : AddressPart = record { text = group; octets = added } in
     record {
       are = record { parts = p ∷ q ∷ parts; each = parts_behind ends p q parts is each; parted = ap (λ t. group ++ 58 ∷ t) parted; value = ap (λ o. added ++ o) value };
       some = omega arith;
@@ -180,50 +180,50 @@ around_by front back (inr none) others = inr (λ octets h. none h.before h.front
 around_by front back (inl found) (inr none) = inr (λ octets h. none h.after h.back_parts)
 around_by front back (inl found) (inl others) = room_by front back found.0 others.0 found.1 others.1
 
-gap_by : (text : List ℕ) (at : ℕ) → at + 2 ≤ length text → IsFirstGap text at → Choice (AreAround (take at text) (drop (at + 2) text)) → Choice (IsGroups text)
+gap_by : (text : List ℕ) (at : ℕ) → at + 2 ≤ length text → IsFirstGap text at → Choice (AreAround (take at text) (drop (at + 2) text)) → Choice (IsIpv6Address text)
 gap_by text at inside first (inl found) = inl (found.0, found_at_gap text (drop (at + 2) text) at refl inside first.here found.0 found.1)
 gap_by text at inside first (inr none) = inr (refused_at_gap text (drop (at + 2) text) at refl first none)
 
-eight_by : (text : List ℕ) → ((k : ℕ) → HasGapAt text k → ⊥) → Choice (ArePartsOf true text) → Choice (IsGroups text)
+eight_by : (text : List ℕ) → ((k : ℕ) → HasGapAt text k → ⊥) → Choice (ArePartsOf true text) → Choice (IsIpv6Address text)
 eight_by text no_gap (inr none) = inr (refused_without_gap text no_gap (λ octets are len. none octets are))
 eight_by text no_gap (inl found) = elim (cases_eq (length found.0) 16) [
   | inl count ↦ inl (found.0, eight found.1 count)
   | inr other ↦ inr (refused_without_gap text no_gap (λ octets are len. other (ap length (parts_unique true text found.0 octets found.1 are) ∙ len)))
 ]
 
-groups_by : (text : List ℕ) → Gaps text → Choice (IsGroups text)
+groups_by : (text : List ℕ) → Gaps text → Choice (IsIpv6Address text)
 groups_by text (inl found) = gap_by text found.0 found.1.0 found.1.1 (around_by (take found.0 text) (drop (found.0 + 2) text) (parts_or_not false (take found.0 text)) (parts_or_not true (drop (found.0 + 2) text)))
 groups_by text (inr none) = eight_by text none (parts_or_not true text)
 
-pub sixteen_or_not : (text : List ℕ) → Choice (IsGroups text)
-sixteen_or_not text = groups_by text (gap_or_not text)
+pub ipv6_or_not : (text : List ℕ) → Choice (IsIpv6Address text)
+ipv6_or_not text = groups_by text (gap_or_not text)
 
 -- ---- an address of so many octets
-no_four : (n : ℕ) (text : List ℕ) → n ≡ 4 → ((octets : List ℕ) → IsFourNumbers text octets → ⊥) → (octets : List ℕ) → IsAddress n text octets → ⊥
-no_four n text e none octets (of_four d h) = none octets h
-no_four n text e none octets (of_sixteen d h) = omega arith
+no_ipv4 : (n : ℕ) (text : List ℕ) → n ≡ 4 → ((octets : List ℕ) → IsIpv4Address text octets → ⊥) → (octets : List ℕ) → IsAddress n text octets → ⊥
+no_ipv4 n text e none octets (of_ipv4 d h) = none octets h
+no_ipv4 n text e none octets (of_ipv6 d h) = omega arith
 
-no_sixteen : (n : ℕ) (text : List ℕ) → n ≡ 16 → ((octets : List ℕ) → IsGroups text octets → ⊥) → (octets : List ℕ) → IsAddress n text octets → ⊥
-no_sixteen n text e none octets (of_four d h) = omega arith
-no_sixteen n text e none octets (of_sixteen d h) = none octets h
+no_ipv6 : (n : ℕ) (text : List ℕ) → n ≡ 16 → ((octets : List ℕ) → IsIpv6Address text octets → ⊥) → (octets : List ℕ) → IsAddress n text octets → ⊥
+no_ipv6 n text e none octets (of_ipv4 d h) = omega arith
+no_ipv6 n text e none octets (of_ipv6 d h) = none octets h
 
 no_size : (n : ℕ) (text : List ℕ) → n ≢ 4 → n ≢ 16 → (octets : List ℕ) → IsAddress n text octets → ⊥
-no_size n text not_four not_sixteen octets (of_four e h) = not_four e
-no_size n text not_four not_sixteen octets (of_sixteen e h) = not_sixteen e
+no_size n text not_ipv4 not_ipv6 octets (of_ipv4 e h) = not_ipv4 e
+no_size n text not_ipv4 not_ipv6 octets (of_ipv6 e h) = not_ipv6 e
 
-address_four : (n : ℕ) (text : List ℕ) → n ≡ 4 → Choice (IsFourNumbers text) → Choice (IsAddress n text)
-address_four n text e (inl found) = inl (found.0, of_four e found.1)
-address_four n text e (inr none) = inr (no_four n text e none)
+address_ipv4 : (n : ℕ) (text : List ℕ) → n ≡ 4 → Choice (IsIpv4Address text) → Choice (IsAddress n text)
+address_ipv4 n text e (inl found) = inl (found.0, of_ipv4 e found.1)
+address_ipv4 n text e (inr none) = inr (no_ipv4 n text e none)
 
-address_sixteen : (n : ℕ) (text : List ℕ) → n ≡ 16 → Choice (IsGroups text) → Choice (IsAddress n text)
-address_sixteen n text e (inl found) = inl (found.0, of_sixteen e found.1)
-address_sixteen n text e (inr none) = inr (no_sixteen n text e none)
+address_ipv6 : (n : ℕ) (text : List ℕ) → n ≡ 16 → Choice (IsIpv6Address text) → Choice (IsAddress n text)
+address_ipv6 n text e (inl found) = inl (found.0, of_ipv6 e found.1)
+address_ipv6 n text e (inr none) = inr (no_ipv6 n text e none)
 
 pub address_or_not : (n : ℕ) (text : List ℕ) → Choice (IsAddress n text)
 address_or_not n text = elim (cases_eq n 4) [
-  | inl four ↦ address_four n text four (four_or_not text)
-  | inr not_four ↦ elim (cases_eq n 16) [
-    | inl sixteen ↦ address_sixteen n text sixteen (sixteen_or_not text)
-    | inr not_sixteen ↦ inr (no_size n text not_four not_sixteen)
+  | inl four ↦ address_ipv4 n text four (ipv4_or_not text)
+  | inr not_ipv4 ↦ elim (cases_eq n 16) [
+    | inl sixteen ↦ address_ipv6 n text sixteen (ipv6_or_not text)
+    | inr not_ipv6 ↦ inr (no_size n text not_ipv4 not_ipv6)
   ]
 ]

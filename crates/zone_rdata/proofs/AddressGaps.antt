@@ -3,7 +3,7 @@ use Rattle.std.proofs.Common.{◌≡◌, ℕ, zero, suc, ◌+◌, ◌-◌, ◌<�
 use Rattle.std.specs.Prelude.{IfSome}
 use Rattle.std.proofs.lemmas.List.{take_at, drop_at, drop_more, drop_all, drop-replicate, replicate-append-replicate, length-replicate, append-nil, get_or_at, get_or_append_left, take-append-drop}
 use Rattle.std.proofs.lemmas.Bool.{cases_lt}
-use Rattle.zone_rdata.specs.Address.{Part, IsLastPart, AreParts, parts_text, ArePartsOf, AreAround, IsGroups, eight, fewer}
+use Rattle.zone_rdata.specs.Address.{AddressPart, IsLastPart, AreParts, parts_text, ArePartsOf, AreAround, IsIpv6Address, eight, fewer}
 use Rattle.zone_rdata.specs.Machine.AddressReading.{Lacks, HasGapAt}
 use Rattle.zone_rdata.proofs.Addresses.{group_lacks, last_lacks}
 use Rattle.zone_rdata.proofs.AddressParts.{parts_unique}
@@ -43,23 +43,23 @@ no_gaps_between : (text rest : List ℕ) → 0 < length text → Lacks 58 text �
 no_gaps_between [] rest some lacks none = absurd (omega arith)
 no_gaps_between (c ∷ text) rest some lacks none = (λ e f. lacks.0 f, no_gaps_part (c ∷ text) rest lacks none)
 
-no_gaps_parts : (ends : Bool) (parts : List Part) → AreParts ends parts → NoGaps (58 ∷ parts_text parts)
+no_gaps_parts : (ends : Bool) (parts : List AddressPart) → AreParts ends parts → NoGaps (58 ∷ parts_text parts)
 no_gaps_parts ends [] are = tt
 no_gaps_parts ends (p ∷ []) are = no_gaps_colon p.text (last_lacks ends p are)
 no_gaps_parts ends (p ∷ q ∷ parts) are = no_gaps_between p.text (parts_text (q ∷ parts)) are.0.some (group_lacks 58 p refl are.0) (no_gaps_parts ends (q ∷ parts) are.1)
 
-last_before : (p : Part) → IsLastPart false p → NoGaps (58 ∷ p.text ++ 58 ∷ [])
+last_before : (p : AddressPart) → IsLastPart false p → NoGaps (58 ∷ p.text ++ 58 ∷ [])
 last_before p (inl is) = no_gaps_between p.text [] is.some (group_lacks 58 p refl is) tt
 last_before p (inr are) = absurd cc
 
 -- groups with a colon behind them all
-no_gaps_groups : (p : Part) (parts : List Part) → AreParts false (p ∷ parts) → NoGaps (58 ∷ parts_text (p ∷ parts) ++ 58 ∷ [])
+no_gaps_groups : (p : AddressPart) (parts : List AddressPart) → AreParts false (p ∷ parts) → NoGaps (58 ∷ parts_text (p ∷ parts) ++ 58 ∷ [])
 no_gaps_groups p [] are = last_before p are
 no_gaps_groups p (q ∷ parts) are =
     let regroup : p.text ++ 58 ∷ (parts_text (q ∷ parts) ++ 58 ∷ []) ≡ parts_text (p ∷ q ∷ parts) ++ 58 ∷ [] = sym (append_assoc p.text (58 ∷ parts_text (q ∷ parts)) (58 ∷ [])) in
     subst (λ t. NoGaps (58 ∷ t)) regroup (no_gaps_between p.text (parts_text (q ∷ parts) ++ 58 ∷ []) are.0.some (group_lacks 58 p refl are.0) (no_gaps_groups q parts are.1))
 
-no_gaps_front : (parts : List Part) → AreParts false parts → NoGaps (parts_text parts ++ 58 ∷ [])
+no_gaps_front : (parts : List AddressPart) → AreParts false parts → NoGaps (parts_text parts ++ 58 ∷ [])
 no_gaps_front [] are = tt
 no_gaps_front (p ∷ parts) are = no_gaps_tail 58 (parts_text (p ∷ parts) ++ 58 ∷ []) (no_gaps_groups p parts are)
 
@@ -98,7 +98,7 @@ parts_no_gap ends text octets are k at =
     no_gaps_at text k (subst NoGaps (sym are.parted) (no_gaps_tail 58 (parts_text are.parts) (no_gaps_parts ends are.parts are.each))) at
 
 -- a text without `::` has eight groups or is refused
-pub refused_without_gap : (text : List ℕ) → ((k : ℕ) → HasGapAt text k → ⊥) → ((octets : List ℕ) → ArePartsOf true text octets → length octets ≡ 16 → ⊥) → (octets : List ℕ) → IsGroups text octets → ⊥
+pub refused_without_gap : (text : List ℕ) → ((k : ℕ) → HasGapAt text k → ⊥) → ((octets : List ℕ) → ArePartsOf true text octets → length octets ≡ 16 → ⊥) → (octets : List ℕ) → IsIpv6Address text octets → ⊥
 refused_without_gap text none refused octets (eight are len) = refused octets are len
 refused_without_gap text none refused octets (fewer front back parted around) = none (length front) (front_gap text front back around.before parted around.front_parts).here
 
@@ -111,7 +111,7 @@ around_gap text front back at octets first parted around =
       sym (ap (drop (at + 2)) regroup ∙ drop_at (front ++ 58 ∷ 58 ∷ []) back (at + 2) (omega (arith, length-append front (58 ∷ 58 ∷ [])))),
     )
 
-pub refused_at_gap : (text back : List ℕ) (at : ℕ) → back ≡ drop (at + 2) text → IsFirstGap text at → ((octets : List ℕ) → AreAround (take at text) back octets → ⊥) → (octets : List ℕ) → IsGroups text octets → ⊥
+pub refused_at_gap : (text back : List ℕ) (at : ℕ) → back ≡ drop (at + 2) text → IsFirstGap text at → ((octets : List ℕ) → AreAround (take at text) back octets → ⊥) → (octets : List ℕ) → IsIpv6Address text octets → ⊥
 refused_at_gap text back at e first refused octets (eight are len) = parts_no_gap true text octets are at first.here
 refused_at_gap text back at e first refused octets (fewer front' back' parted around) =
     let same = around_gap text front' back' at octets first parted around in
@@ -125,7 +125,7 @@ gap_parted text at inside gap =
     let second_here = drop_more text (at + 1) 0 (omega arith) in
     sym (take-append-drop at text) ∙ ap (λ t. take at text ++ t) (first_here ∙ ap (λ c. c ∷ drop (at + 1) text) gap.0 ∙ ap (λ t. 58 ∷ t) (second_here ∙ ap (λ c. c ∷ drop (at + 1 + 1) text) (ap (λ k. get_or text k 0) (sym second) ∙ gap.1) ∙ ap (λ k. 58 ∷ drop k text) third))
 
-pub found_at_gap : (text back : List ℕ) (at : ℕ) → back ≡ drop (at + 2) text → at + 2 ≤ length text → HasGapAt text at → (octets : List ℕ) → AreAround (take at text) back octets → IsGroups text octets
+pub found_at_gap : (text back : List ℕ) (at : ℕ) → back ≡ drop (at + 2) text → at + 2 ≤ length text → HasGapAt text at → (octets : List ℕ) → AreAround (take at text) back octets → IsIpv6Address text octets
 found_at_gap text back at e inside gap octets around = fewer (take at text) back (gap_parted text at inside gap ∙ ap (λ t. take at text ++ 58 ∷ 58 ∷ t) (sym e)) around
 
 -- sixteen zeros with octets written over their front and their end
@@ -155,7 +155,7 @@ around_same front back a b x y =
     let afters : x.after ≡ y.after = parts_unique true back x.after y.after x.back_parts y.back_parts in
     x.value ∙ ap (λ o. o ++ (replicate (16 - length o - length x.after) 0 ++ x.after)) befores ∙ ap (λ o. y.before ++ (replicate (16 - length y.before - length o) 0 ++ o)) afters ∙ sym y.value
 
-pub groups_unique : (text a b : List ℕ) → IsGroups text a → IsGroups text b → a ≡ b
+pub groups_unique : (text a b : List ℕ) → IsIpv6Address text a → IsIpv6Address text b → a ≡ b
 groups_unique text a b (eight x len) (eight y len') = parts_unique true text a b x y
 groups_unique text a b (eight x len) (fewer front back parted around) = absurd (parts_no_gap true text a x (length front) (front_gap text front back around.before parted around.front_parts).here)
 groups_unique text a b (fewer front back parted around) (eight y len) = absurd (parts_no_gap true text b y (length front) (front_gap text front back around.before parted around.front_parts).here)

@@ -16,7 +16,7 @@ use Rattle.hex.specs.Hex.{decode_sized}
 use Rattle.hex.proofs.HexLemmas.{decode_sized-encode_lower}
 use Rattle.zone_name.specs.Spelling.{is_digit}
 use Rattle.zone_rdata.specs.Number.{decimal_value}
-use Rattle.zone_rdata.specs.Address.{IsOctetNumber, IsFourNumbers, Part, IsGroup, AreParts, parts_text, parts_octets, ArePartsOf, IsGroups, eight, fewer, four_text, groups_text, parted_groups, shortened_groups, IsZeroRun, IsShortenedRun, IsAddressOctet}
+use Rattle.zone_rdata.specs.Address.{IsOctetNumber, IsIpv4Address, AddressPart, IsGroup, AreParts, parts_text, parts_octets, ArePartsOf, IsIpv6Address, eight, fewer, ipv4_text, ipv6_text, parted_groups, shortened_groups, IsZeroRun, IsShortenedRun, IsAddressOctet}
 use Rattle.zone_rdata.proofs.AddressTexts.{four_digits, four_encoded}
 
 -- ---- four octets
@@ -39,13 +39,13 @@ number_printed n fits = record {
   short = omega arith;
 }
 
-pub four_printed : (octets : List ℕ) → length octets ≡ 4 → AllByRecursion (λ c. c < 256) octets → IsFourNumbers (four_text octets) octets
-four_printed [] len each = absurd (omega arith)
-four_printed (a ∷ []) len each = absurd (omega arith)
-four_printed (a ∷ b ∷ []) len each = absurd (omega arith)
-four_printed (a ∷ b ∷ c ∷ []) len each = absurd (omega arith)
-four_printed (a ∷ b ∷ c ∷ d ∷ e ∷ octets) len each = absurd (omega arith)
-four_printed (a ∷ b ∷ c ∷ d ∷ []) len each = record {
+pub ipv4_printed : (octets : List ℕ) → length octets ≡ 4 → AllByRecursion (λ c. c < 256) octets → IsIpv4Address (ipv4_text octets) octets
+ipv4_printed [] len each = absurd (omega arith)
+ipv4_printed (a ∷ []) len each = absurd (omega arith)
+ipv4_printed (a ∷ b ∷ []) len each = absurd (omega arith)
+ipv4_printed (a ∷ b ∷ c ∷ []) len each = absurd (omega arith)
+ipv4_printed (a ∷ b ∷ c ∷ d ∷ e ∷ octets) len each = absurd (omega arith)
+ipv4_printed (a ∷ b ∷ c ∷ d ∷ []) len each = record {
   numbers = decimal a ∷ decimal b ∷ decimal c ∷ decimal d ∷ [];
   counted = refl;
   parted = simp append_assoc;
@@ -80,7 +80,7 @@ hex_filled n fits = elim (cases_lt n 0x1000) [
 abbrev pair : ℕ → List ℕ
 pair n = n / 256 ∷ n % 256 ∷ []
 
-abbrev part : ℕ → Part
+abbrev part : ℕ → AddressPart
 part n = record { text = hex n; octets = pair n }
 
 pair_bytes : (a b : ℕ) → a < 256 → b < 256 → (i : ℕ) → slice_index (a ∷ b ∷ []) i < 256
@@ -165,7 +165,7 @@ segments_back (suc count) (a ∷ b ∷ octets) len each =
     ap (λ c. c ∷ (a * 256 + b) % 256 ∷ pairs (segments_of octets)) high_is ∙ ap (λ c. a ∷ c ∷ pairs (segments_of octets)) low_is ∙ ap (λ o. a ∷ b ∷ o) (segments_back count octets (omega arith) each.1.1)
 
 -- groups around a run of zeros
-around_printed : (groups octets : List ℕ) (start len : ℕ) → length groups ≡ 8 → AllGroups groups → pairs groups ≡ octets → IsZeroRun groups start len → 1 < len → IsGroups (shortened_groups groups start len) octets
+around_printed : (groups octets : List ℕ) (start len : ℕ) → length groups ≡ 8 → AllGroups groups → pairs groups ≡ octets → IsZeroRun groups start len → 1 < len → IsIpv6Address (shortened_groups groups start len) octets
 around_printed groups octets start len count each value run long =
     let front = take start groups in
     let back = drop (start + len) groups in
@@ -184,8 +184,8 @@ around_printed groups octets start len count each value run long =
       value = sym value ∙ ap pairs whole ∙ pairs-append front (replicate len 0 ++ back) ∙ ap (λ o. pairs front ++ o) zeros;
     })
 
-pub sixteen_printed : (octets : List ℕ) → length octets ≡ 16 → AllByRecursion (λ c. c < 256) octets → IsGroups (groups_text octets) octets
-sixteen_printed octets len each =
+pub ipv6_printed : (octets : List ℕ) → length octets ≡ 16 → AllByRecursion (λ c. c < 256) octets → IsIpv6Address (ipv6_text octets) octets
+ipv6_printed octets len each =
     let groups = segments_of octets in
     let start = (longest_zero_run groups).0 in
     let zeros = (longest_zero_run groups).1 in
@@ -217,14 +217,14 @@ longest_is groups long = record {
   first = λ s run. (longest_zero_run_first groups s (longest_zero_run groups).1 run).1 refl;
 }
 
-pub run_shortened : (octets : List ℕ) (start len : ℕ) → IsShortenedRun (segments_of octets) start len → groups_text octets ≡ shortened_groups (segments_of octets) start len
+pub run_shortened : (octets : List ℕ) (start len : ℕ) → IsShortenedRun (segments_of octets) start len → ipv6_text octets ≡ shortened_groups (segments_of octets) start len
 run_shortened octets start len run =
     let groups = segments_of octets in
     let same = run_is groups start len run in
     let long : 1 < (longest_zero_run groups).1 = omega (arith, same.1, run.two) in
     rw (lt-ltb 1 (longest_zero_run groups).1 long) (ap (λ s. shortened_groups groups s (longest_zero_run groups).1) same.0 ∙ ap (λ l. shortened_groups groups start l) same.1)
 
-pub none_shortened : (octets : List ℕ) → ((start len : ℕ) → IsShortenedRun (segments_of octets) start len → ⊥) → groups_text octets ≡ parted_groups (segments_of octets)
+pub none_shortened : (octets : List ℕ) → ((start len : ℕ) → IsShortenedRun (segments_of octets) start len → ⊥) → ipv6_text octets ≡ parted_groups (segments_of octets)
 none_shortened octets none =
     let groups = segments_of octets in
     elim (cases_lt 1 (longest_zero_run groups).1) [
@@ -264,9 +264,9 @@ hex_or_colon c (inl range) = elim (cases_lt c 58) [
 ]
 hex_or_colon c (inr range) = inr (inl (range.0, range.1))
 
-pub four_plain : (octets : List ℕ) → length octets ≡ 4 → AllByRecursion (λ c. c < 256) octets → AllByRecursion IsAddressOctet (four_text octets)
-four_plain octets len each = recursion_from_All IsAddressOctet (four_text octets) (All-weaker IsDigitOrDot IsAddressOctet digit_or_dot (four_text octets) (All-ipv4_text octets (bytes_at octets each)))
+pub ipv4_plain : (octets : List ℕ) → length octets ≡ 4 → AllByRecursion (λ c. c < 256) octets → AllByRecursion IsAddressOctet (ipv4_text octets)
+ipv4_plain octets len each = recursion_from_All IsAddressOctet (ipv4_text octets) (All-weaker IsDigitOrDot IsAddressOctet digit_or_dot (ipv4_text octets) (All-ipv4_text octets (bytes_at octets each)))
 
-pub sixteen_plain : (octets : List ℕ) → length octets ≡ 16 → AllByRecursion (λ c. c < 256) octets → AllByRecursion IsAddressOctet (groups_text octets)
+pub ipv6_plain : (octets : List ℕ) → length octets ≡ 16 → AllByRecursion (λ c. c < 256) octets → AllByRecursion IsAddressOctet (ipv6_text octets)
 unfolding hex_groups_text
-sixteen_plain octets len each = recursion_from_All IsAddressOctet (groups_text octets) (All-weaker IsHexOrColon IsAddressOctet hex_or_colon (groups_text octets) (All-hex_groups_text (segments_of octets) (groups_at (segments_of octets) (segments_each octets each))))
+ipv6_plain octets len each = recursion_from_All IsAddressOctet (ipv6_text octets) (All-weaker IsHexOrColon IsAddressOctet hex_or_colon (ipv6_text octets) (All-hex_groups_text (segments_of octets) (groups_at (segments_of octets) (segments_each octets each))))

@@ -3,7 +3,7 @@ use Rattle.std.proofs.Common.{◌≡◌, ℕ, zero, suc, ◌-◌, ◌<◌, Bool,
 use Rattle.std.specs.List.{AllByRecursion, AllZip}
 use Rattle.std.proofs.lemmas.List.{length-replicate}
 use Rattle.hex.proofs.HexLemmas.{decode_of-ok, decode_sized-ok, decode_sized-twice}
-use Rattle.zone_rdata.specs.Address.{IsOctetNumber, IsFourNumbers, Part, IsGroup, IsLastPart, AreParts, parts_octets, ArePartsOf, IsGroups, eight, fewer}
+use Rattle.zone_rdata.specs.Address.{IsOctetNumber, IsIpv4Address, AddressPart, IsGroup, IsLastPart, AreParts, parts_octets, ArePartsOf, IsIpv6Address, eight, fewer}
 use Rattle.zone_rdata.proofs.Bytes.{bytes_each}
 
 abbrev AreBytes : List ℕ → Type 0
@@ -25,24 +25,24 @@ numbers_bytes (a ∷ numbers) (n ∷ octets) each =
     let rest = numbers_bytes numbers octets each.1 in
     (ap suc rest.0, (omega (arith, each.0.short), rest.1))
 
-pub four_count : (text octets : List ℕ) → IsFourNumbers text octets → length octets ≡ 4
-four_count text octets are = (numbers_bytes are.numbers octets are.each).0 ∙ are.counted
+pub ipv4_count : (text octets : List ℕ) → IsIpv4Address text octets → length octets ≡ 4
+ipv4_count text octets are = (numbers_bytes are.numbers octets are.each).0 ∙ are.counted
 
-pub four_bytes : (text octets : List ℕ) → IsFourNumbers text octets → AreBytes octets
-four_bytes text octets are = (numbers_bytes are.numbers octets are.each).1
+pub ipv4_bytes : (text octets : List ℕ) → IsIpv4Address text octets → AreBytes octets
+ipv4_bytes text octets are = (numbers_bytes are.numbers octets are.each).1
 
-group_bytes : (p : Part) → IsGroup p → AreBytes p.octets
+group_bytes : (p : AddressPart) → IsGroup p → AreBytes p.octets
 group_bytes p is =
     let digits : List ℕ = replicate (4 - length p.text) 48 ++ p.text in
     let len = decode_sized-ok digits 2 p.octets is.value in
     let read = decode_of-ok digits p.octets (sym (decode_sized-twice digits 2 len) ∙ is.value) in
     bytes_each p.octets read.3
 
-last_bytes : (ends : Bool) (p : Part) → IsLastPart ends p → AreBytes p.octets
+last_bytes : (ends : Bool) (p : AddressPart) → IsLastPart ends p → AreBytes p.octets
 last_bytes ends p (inl is) = group_bytes p is
-last_bytes ends p (inr are) = four_bytes p.text p.octets are.1
+last_bytes ends p (inr are) = ipv4_bytes p.text p.octets are.1
 
-parts_bytes : (ends : Bool) (parts : List Part) → AreParts ends parts → AreBytes (parts_octets parts)
+parts_bytes : (ends : Bool) (parts : List AddressPart) → AreParts ends parts → AreBytes (parts_octets parts)
 parts_bytes ends [] each = tt
 parts_bytes ends (p ∷ []) each = bytes_append p.octets [] (last_bytes ends p each) tt
 parts_bytes ends (p ∷ q ∷ parts) each = bytes_append p.octets (parts_octets (q ∷ parts)) (group_bytes p each.0) (parts_bytes ends (q ∷ parts) each.1)
@@ -50,14 +50,14 @@ parts_bytes ends (p ∷ q ∷ parts) each = bytes_append p.octets (parts_octets 
 parted_bytes : (ends : Bool) (text octets : List ℕ) → ArePartsOf ends text octets → AreBytes octets
 parted_bytes ends text octets are = subst AreBytes (sym are.value) (parts_bytes ends are.parts are.each)
 
-pub sixteen_count : (text octets : List ℕ) → IsGroups text octets → length octets ≡ 16
-sixteen_count text octets (eight are len) = len
-sixteen_count text octets (fewer front back parted around) =
+pub ipv6_count : (text octets : List ℕ) → IsIpv6Address text octets → length octets ≡ 16
+ipv6_count text octets (eight are len) = len
+ipv6_count text octets (fewer front back parted around) =
     let zeros : List ℕ = replicate (16 - length around.before - length around.after) 0 in
     omega (arith, around.room, ap length around.value, length-append around.before (zeros ++ around.after), length-append zeros around.after, length-replicate {A = ℕ} (16 - length around.before - length around.after) 0)
 
-pub sixteen_bytes : (text octets : List ℕ) → IsGroups text octets → AreBytes octets
-sixteen_bytes text octets (eight are len) = parted_bytes true text octets are
-sixteen_bytes text octets (fewer front back parted around) =
+pub ipv6_bytes : (text octets : List ℕ) → IsIpv6Address text octets → AreBytes octets
+ipv6_bytes text octets (eight are len) = parted_bytes true text octets are
+ipv6_bytes text octets (fewer front back parted around) =
     let zeros : List ℕ = replicate (16 - length around.before - length around.after) 0 in
     subst AreBytes (sym around.value) (bytes_append around.before (zeros ++ around.after) (parted_bytes false front around.before around.front_parts) (bytes_append zeros around.after (zeros_bytes (16 - length around.before - length around.after)) (parted_bytes true back around.after around.back_parts)))

@@ -4,7 +4,7 @@ use Rattle.std.specs.Prelude.{IfNone}
 use Rattle.std.specs.List.{AllByRecursion, join_with_byte}
 use Rattle.std.proofs.lemmas.List.{append-nil}
 use Rattle.std.proofs.lemmas.List.Concat.{flat_map-append}
-use Rattle.zone_rdata.specs.Address.{IsFourNumbers, Part, IsGroup, IsLastPart, AreParts, parts_text, parts_octets, ArePartsOf}
+use Rattle.zone_rdata.specs.Address.{IsIpv4Address, AddressPart, IsGroup, IsLastPart, AreParts, parts_text, parts_octets, ArePartsOf}
 use Rattle.zone_rdata.specs.Machine.AddressReading.{Lacks, IsCut}
 use Rattle.zone_rdata.proofs.Addresses.{cut_same, not_cut, group_lacks, group_same, last_lacks, last_same}
 
@@ -13,17 +13,17 @@ some_numbers text [] counted parted = absurd (omega arith)
 some_numbers text (a ∷ []) counted parted = absurd (omega arith)
 some_numbers text (a ∷ b ∷ numbers) counted parted = omega (arith, ap length parted, length-append a (46 ∷ join_with_byte 46 (b ∷ numbers)))
 
-last_some : (ends : Bool) (p : Part) → IsLastPart ends p → 0 < length p.text
+last_some : (ends : Bool) (p : AddressPart) → IsLastPart ends p → 0 < length p.text
 last_some ends p (inl is) = is.some
 last_some ends p (inr are) = some_numbers p.text are.1.numbers are.1.counted are.1.parted
 
-parts_some : (ends : Bool) (p : Part) (parts : List Part) → AreParts ends (p ∷ parts) → 0 < length (parts_text (p ∷ parts))
+parts_some : (ends : Bool) (p : AddressPart) (parts : List AddressPart) → AreParts ends (p ∷ parts) → 0 < length (parts_text (p ∷ parts))
 parts_some ends p [] is = last_some ends p is
 parts_some ends p (q ∷ parts) are = omega (arith, are.0.some, length-append p.text (58 ∷ parts_text (q ∷ parts)))
 
 -- ---- a text's parts are its own
 
-parts_same : (ends : Bool) (ps qs : List Part) → AreParts ends ps → AreParts ends qs → parts_text ps ≡ parts_text qs → parts_octets ps ≡ parts_octets qs
+parts_same : (ends : Bool) (ps qs : List AddressPart) → AreParts ends ps → AreParts ends qs → parts_text ps ≡ parts_text qs → parts_octets ps ≡ parts_octets qs
 parts_same ends [] [] x y e = refl
 parts_same ends [] (q ∷ qs) x y e = absurd (omega (arith, parts_some ends q qs y, ap length e))
 parts_same ends (p ∷ ps) [] x y e = absurd (omega (arith, parts_some ends p ps x, ap length e))
@@ -45,7 +45,7 @@ pub record AreSomeParts (ends : Bool) (text octets : List ℕ) : Type 0 where
   pub are : ArePartsOf ends text octets
   pub some : 0 < length are.parts
 
-pub text_some : (ends : Bool) (text octets : List ℕ) (parts : List Part) → 0 < length text → AreParts ends parts → text ≡ parts_text parts → octets ≡ parts_octets parts → AreSomeParts ends text octets
+pub text_some : (ends : Bool) (text octets : List ℕ) (parts : List AddressPart) → 0 < length text → AreParts ends parts → text ≡ parts_text parts → octets ≡ parts_octets parts → AreSomeParts ends text octets
 text_some ends text octets [] some each parted value = absurd (omega (arith, ap length parted))
 text_some ends text octets (p ∷ parts) some each parted value = record { are = record { parts = p ∷ parts; each = each; parted = parted; value = value }; some = omega arith }
 
@@ -57,7 +57,7 @@ pub record PartsCut (ends : Bool) (group rest octets : List ℕ) : Type 0 where
   pub are : AreSomeParts ends rest more
   pub value : octets ≡ added ++ more
 
-cut_parts : (ends : Bool) (text group rest octets : List ℕ) (parts : List Part) → IsCut 58 text group rest → 0 < length parts → AreParts ends parts → text ≡ parts_text parts → octets ≡ parts_octets parts → PartsCut ends group rest octets
+cut_parts : (ends : Bool) (text group rest octets : List ℕ) (parts : List AddressPart) → IsCut 58 text group rest → 0 < length parts → AreParts ends parts → text ≡ parts_text parts → octets ≡ parts_octets parts → PartsCut ends group rest octets
 cut_parts ends text group rest octets [] cut some each parted value = absurd (omega arith)
 cut_parts ends text group rest octets (p ∷ []) cut some each parted value = absurd (not_cut 58 p.text group rest (last_lacks ends p each) (sym parted ∙ cut.parted))
 cut_parts ends text group rest octets (p ∷ q ∷ parts) cut some each parted value =
@@ -73,7 +73,7 @@ cut_parts ends text group rest octets (p ∷ q ∷ parts) cut some each parted v
 pub parts_cut : (ends : Bool) (text group rest octets : List ℕ) → IsCut 58 text group rest → AreSomeParts ends text octets → PartsCut ends group rest octets
 parts_cut ends text group rest octets cut h = cut_parts ends text group rest octets h.are.parts cut h.some h.are.each h.are.parted h.are.value
 
-pub only_part : (ends : Bool) (text octets : List ℕ) (parts : List Part) → Lacks 58 text → 0 < length parts → AreParts ends parts → text ≡ parts_text parts → octets ≡ parts_octets parts → IsLastPart ends (record { text = text; octets = octets })
+pub only_part : (ends : Bool) (text octets : List ℕ) (parts : List AddressPart) → Lacks 58 text → 0 < length parts → AreParts ends parts → text ≡ parts_text parts → octets ≡ parts_octets parts → IsLastPart ends (record { text = text; octets = octets })
 only_part ends text octets [] lacks some each parted value = absurd (omega arith)
 only_part ends text octets (p ∷ []) lacks some each parted value =
     let own : octets ≡ p.octets = value ∙ append-nil p.octets in
@@ -81,36 +81,36 @@ only_part ends text octets (p ∷ []) lacks some each parted value =
 only_part ends text octets (p ∷ q ∷ parts) lacks some each parted value = absurd (not_cut 58 text p.text (parts_text (q ∷ parts)) lacks parted)
 
 -- groups, each with its colon, and what stands behind them
-pub behind : List Part → List ℕ → List ℕ
+pub behind : List AddressPart → List ℕ → List ℕ
 behind [] rest = rest
 behind (p ∷ parts) rest = p.text ++ 58 ∷ behind parts rest
 
-behind_push : (parts : List Part) (p : Part) (rest : List ℕ) → behind (parts ++ p ∷ []) rest ≡ behind parts (p.text ++ 58 ∷ rest)
+behind_push : (parts : List AddressPart) (p : AddressPart) (rest : List ℕ) → behind (parts ++ p ∷ []) rest ≡ behind parts (p.text ++ 58 ∷ rest)
 unfolding behind
 behind_push [] p rest = refl
 behind_push (q ∷ parts) p rest = ap (λ t. q.text ++ 58 ∷ t) (behind_push parts p rest)
 
-groups_push : (parts : List Part) (p : Part) → AllByRecursion IsGroup parts → IsGroup p → AllByRecursion IsGroup (parts ++ p ∷ [])
+groups_push : (parts : List AddressPart) (p : AddressPart) → AllByRecursion IsGroup parts → IsGroup p → AllByRecursion IsGroup (parts ++ p ∷ [])
 groups_push [] p each is = (is, tt)
 groups_push (q ∷ parts) p each is = (each.0, groups_push parts p each.1 is)
 
-parts_end : (ends : Bool) (parts : List Part) (p : Part) → AllByRecursion IsGroup parts → IsLastPart ends p → AreParts ends (parts ++ p ∷ [])
+parts_end : (ends : Bool) (parts : List AddressPart) (p : AddressPart) → AllByRecursion IsGroup parts → IsLastPart ends p → AreParts ends (parts ++ p ∷ [])
 parts_end ends [] p each is = is
 parts_end ends (q ∷ []) p each is = (each.0, is)
 parts_end ends (q ∷ r ∷ parts) p each is = (each.0, parts_end ends (r ∷ parts) p each.1 is)
 
-text_end : (parts : List Part) (p : Part) → parts_text (parts ++ p ∷ []) ≡ behind parts p.text
+text_end : (parts : List AddressPart) (p : AddressPart) → parts_text (parts ++ p ∷ []) ≡ behind parts p.text
 unfolding behind
 text_end [] p = refl
 text_end (q ∷ []) p = refl
 text_end (q ∷ r ∷ parts) p = ap (λ t. q.text ++ 58 ∷ t) (text_end (r ∷ parts) p)
 
-octets_push : (parts : List Part) (p : Part) → parts_octets (parts ++ p ∷ []) ≡ parts_octets parts ++ p.octets
-octets_push parts p = flat_map-append (λ (p : Part). p.octets) parts (p ∷ []) ∙ ap (λ o. parts_octets parts ++ o) (append-nil p.octets)
+octets_push : (parts : List AddressPart) (p : AddressPart) → parts_octets (parts ++ p ∷ []) ≡ parts_octets parts ++ p.octets
+octets_push parts p = flat_map-append (λ (p : AddressPart). p.octets) parts (p ∷ []) ∙ ap (λ o. parts_octets parts ++ o) (append-nil p.octets)
 
 -- groups are read up to a place: whatever the text stands for, the rest stands for what is missing
 pub record HaveReadParts (ends : Bool) (text rest octets : List ℕ) : Type 0 where
-  pub front : List Part
+  pub front : List AddressPart
   pub groups : AllByRecursion IsGroup front
   pub parted : text ≡ behind front rest
   pub value : octets ≡ parts_octets front
@@ -128,7 +128,7 @@ parts_started ends text some = record {
 
 pub parts_more : (ends : Bool) (text rest group after octets added : List ℕ) → IsCut 58 rest group after → IsGroup (record { text = group; octets = added }) → HaveReadParts ends text rest octets → HaveReadParts ends text after (octets ++ added)
 parts_more ends text rest group after octets added cut is reads =
-    let p : Part = record { text = group; octets = added } in
+    let p : AddressPart = record { text = group; octets = added } in
     record {
       front = reads.front ++ p ∷ [];
       groups = groups_push reads.front p reads.groups is;
@@ -151,7 +151,7 @@ parts_stop ends text rest group after octets cut reads stops others are short =
 
 pub parts_ended : (ends : Bool) (text rest octets added : List ℕ) → HaveReadParts ends text rest octets → IsLastPart ends (record { text = rest; octets = added }) → ArePartsOf ends text (octets ++ added)
 parts_ended ends text rest octets added reads is =
-    let p : Part = record { text = rest; octets = added } in
+    let p : AddressPart = record { text = rest; octets = added } in
     record {
       parts = reads.front ++ p ∷ [];
       each = parts_end ends reads.front p reads.groups is;
@@ -175,12 +175,12 @@ group_full ends text own len is long added last =
     let same = last_same ends (record { text = text; octets = added }) (record { text = text; octets = own }) last (inl is) refl in
     omega (arith, ap length same)
 
-pub numbers_full : (ends : Bool) (text own : List ℕ) (len : ℕ) → IsTrue ends → IsFourNumbers text own → 16 < len + length own → (added : List ℕ) → IsLastPart ends (record { text = text; octets = added }) → 16 < len + length added
+pub numbers_full : (ends : Bool) (text own : List ℕ) (len : ℕ) → IsTrue ends → IsIpv4Address text own → 16 < len + length own → (added : List ℕ) → IsLastPart ends (record { text = text; octets = added }) → 16 < len + length added
 numbers_full ends text own len may are long added last =
     let same = last_same ends (record { text = text; octets = added }) (record { text = text; octets = own }) last (inr (may, are)) refl in
     omega (arith, ap length same)
 
-pub part_refused : (ends : Bool) (text : List ℕ) (len : ℕ) → ((octets : List ℕ) → IsGroup (record { text = text; octets = octets }) → ⊥) → ((octets : List ℕ) → IsFourNumbers text octets → ⊥) → (added : List ℕ) → IsLastPart ends (record { text = text; octets = added }) → 16 < len + length added
+pub part_refused : (ends : Bool) (text : List ℕ) (len : ℕ) → ((octets : List ℕ) → IsGroup (record { text = text; octets = octets }) → ⊥) → ((octets : List ℕ) → IsIpv4Address text octets → ⊥) → (added : List ℕ) → IsLastPart ends (record { text = text; octets = added }) → 16 < len + length added
 part_refused ends text len none none' added (inl is) = absurd (none added is)
 part_refused ends text len none none' added (inr are) = absurd (none' added are.1)
 

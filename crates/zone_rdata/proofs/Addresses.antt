@@ -6,7 +6,7 @@ use Rattle.std.proofs.lemmas.List.Elements.{All-drop, recursion_from_All}
 use Rattle.hex.specs.Hex.{decode_sized, is_hex_digit}
 use Rattle.hex.proofs.HexLemmas.{IsOk-decode_sized}
 use Rattle.zone_name.specs.Spelling.{is_digit}
-use Rattle.zone_rdata.specs.Address.{IsOctetNumber, AreNumbers, IsFourNumbers, Part, IsGroup, IsLastPart}
+use Rattle.zone_rdata.specs.Address.{IsOctetNumber, AreNumbers, IsIpv4Address, AddressPart, IsGroup, IsLastPart}
 use Rattle.zone_rdata.specs.Machine.AddressReading.{Lacks, IsCut}
 
 -- ---- cutting
@@ -179,7 +179,7 @@ hex_lacks : (c : ℕ) (text : List ℕ) → is_hex_digit c ≡ false → AllByRe
 hex_lacks c [] miss each = tt
 hex_lacks c (d ∷ text) miss each = (λ e. cc (sym each.0 ∙ ap is_hex_digit e ∙ miss), hex_lacks c text miss each.1)
 
-pub group_lacks : (c : ℕ) (p : Part) → is_hex_digit c ≡ false → IsGroup p → Lacks c p.text
+pub group_lacks : (c : ℕ) (p : AddressPart) → is_hex_digit c ≡ false → IsGroup p → Lacks c p.text
 group_lacks c p miss is =
     let zeros : List ℕ = replicate (4 - length p.text) 48 in
     let passes = ((IsOk-decode_sized (zeros ++ p.text) 2).0 (rw is.value refl)).1 in
@@ -192,13 +192,13 @@ ok_same a b r x y = cc
 pub group_same : (text a b : List ℕ) → IsGroup (record { text = text; octets = a }) → IsGroup (record { text = text; octets = b }) → a ≡ b
 group_same text a b x y = ok_same a b (decode_sized (replicate (4 - length text) 48 ++ text) 2) x.value y.value
 
-pub last_lacks : (ends : Bool) (p : Part) → IsLastPart ends p → Lacks 58 p.text
+pub last_lacks : (ends : Bool) (p : AddressPart) → IsLastPart ends p → Lacks 58 p.text
 last_lacks ends p (inl is) = group_lacks 58 p refl is
 last_lacks ends p (inr are) = numbers_lack 4 58 p.text p.octets refl (λ e. omega arith) are.1
 
 -- a group is no four numbers
-pub last_same : (ends : Bool) (p q : Part) → IsLastPart ends p → IsLastPart ends q → p.text ≡ q.text → p.octets ≡ q.octets
+pub last_same : (ends : Bool) (p q : AddressPart) → IsLastPart ends p → IsLastPart ends q → p.text ≡ q.text → p.octets ≡ q.octets
 last_same ends p q (inl x) (inl y) e = group_same p.text p.octets q.octets x (subst (λ t. IsGroup (record { text = t; octets = q.octets })) (sym e) y)
 last_same ends p q (inl x) (inr y) e = absurd (numbers_none q.text (subst (Lacks 46) e (group_lacks 46 p refl x)) 2 q.octets y.1)
 last_same ends p q (inr x) (inl y) e = absurd (numbers_none p.text (subst (Lacks 46) (sym e) (group_lacks 46 q refl y)) 2 p.octets x.1)
-last_same ends p q (inr x) (inr y) e = numbers_unique 3 p.text p.octets q.octets x.1 (subst (λ t. IsFourNumbers t q.octets) (sym e) y.1)
+last_same ends p q (inr x) (inr y) e = numbers_unique 3 p.text p.octets q.octets x.1 (subst (λ t. IsIpv4Address t q.octets) (sym e) y.1)

@@ -3,13 +3,13 @@ use Rattle.std.proofs.Common.{◌≡◌, ◌≢◌, ℕ, zero, suc, ◌+◌, ◌
 use Rattle.std.specs.List.{flat_map, AllByRecursion}
 use Rattle.std.proofs.lemmas.List.{append-nil}
 use Rattle.std.proofs.lemmas.List.Concat.{flat_map-append}
-use Rattle.zone_name.specs.Name.{frame}
+use Rattle.zone_name.specs.Name.{with_length}
 use Rattle.zone_rdata.specs.declared.fault.Fault.{Fault}
 use Rattle.zone_rdata.specs.declared.fault.Fault.TheVariants.{BadRdata}
 use Rattle.zone_rdata.specs.declared.field.Field.{Field}
 use Rattle.zone_rdata.specs.declared.field.Field.TheVariants as fields
 use Rattle.zone_rdata.specs.Builder.{Built, IsOpaque, IsNext, FitsString, Pushes, IsPushFault, misplaced, long_string, too_long, IsWhole, part_field, more_fields, part_fields, parts_of, ArePushedParts, IsBuilt, IsReal, IsOver, over_string, over_data, Grows, least_of, ends_with_strings, part_at}
-use Rattle.zone_rdata.specs.Field.{Suits, is_strings, FieldValue, name, long, two_octets, fixed, string, strings, field_octets, octets_of, Holds, HoldEach, values_of}
+use Rattle.zone_rdata.specs.Field.{Suits, is_strings, FieldValue, name, u32_value, u16_value, fixed, string, strings, field_octets, octets_of, Holds, HoldEach, values_of}
 use Rattle.zone_rdata.specs.Layout.{AreLaidOut, StringsLast, layout}
 use Rattle.zone_rdata.specs.Strings.{IsString}
 use Rattle.zone_rdata.specs.Record.{Data, IsRdata}
@@ -90,19 +90,19 @@ hold_push (g ∷ row) (w ∷ values) f v each h = (each.0, hold_push row values 
 
 holds_part : (f : Field) (v : FieldValue) → Suits (Some f) v → FitsString v → IsReal v → Holds (part_field f) v
 holds_part fields.Name (name labels) s t r = r
-holds_part fields.Serial (long n) s t r = r
-holds_part fields.Time (long n) s t r = r
-holds_part fields.U16 (two_octets n) s t r = r
+holds_part fields.Serial (u32_value n) s t r = r
+holds_part fields.Time (u32_value n) s t r = r
+holds_part fields.U16 (u16_value n) s t r = r
 holds_part (fields.Octets n) (fixed octets) s t r = record { size = s.0; each = r }
 holds_part fields.OneString (string octets) s t r = record { short = t; each = r }
 holds_part fields.Strings (string octets) s t r = record { short = t; each = r }
 holds_part f v s t r = absurd s
 
 some_octets : (f : Field) (v : FieldValue) → Suits (Some f) v → 0 < length (field_octets v)
-some_octets fields.Name (name labels) s = omega (arith, length-append (flat_map frame labels) (0 ∷ []))
-some_octets fields.Serial (long n) s = omega arith
-some_octets fields.Time (long n) s = omega arith
-some_octets fields.U16 (two_octets n) s = omega arith
+some_octets fields.Name (name labels) s = omega (arith, length-append (flat_map with_length labels) (0 ∷ []))
+some_octets fields.Serial (u32_value n) s = omega arith
+some_octets fields.Time (u32_value n) s = omega arith
+some_octets fields.U16 (u16_value n) s = omega arith
 some_octets (fields.Octets n) (fixed octets) s = omega (arith, s.0, s.1)
 some_octets fields.OneString (string octets) s = omega arith
 some_octets fields.Strings (string octets) s = omega arith
@@ -151,7 +151,7 @@ pub record WholeParts (row : List Field) (octets : List ℕ) : Type 0 where
 record ManyParts (values : List FieldValue) : Type 0 where
   many : List (List ℕ)
   each : AllByRecursion IsString many
-  same : flat_map frame many ≡ octets_of values
+  same : flat_map with_length many ≡ octets_of values
 
 join_parts : (n : ℕ) (values : List FieldValue) → HoldEach (more_fields fields.Strings n) values → ManyParts values
 join_parts zero [] h = record { many = []; each = tt; same = refl }
@@ -159,14 +159,14 @@ join_parts zero (v ∷ values) h = absurd h
 join_parts (suc n) [] h = absurd h
 join_parts (suc n) (string s ∷ values) h =
     let rest = join_parts n values h.1 in
-    record { many = s ∷ rest.many; each = (h.0, rest.each); same = ap (λ o. frame s ++ o) rest.same }
+    record { many = s ∷ rest.many; each = (h.0, rest.each); same = ap (λ o. with_length s ++ o) rest.same }
 join_parts (suc n) (v ∷ values) h = absurd h.0
 
 last_whole : (f : Field) (n : ℕ) (values : List FieldValue) → HoldEach (part_fields (f ∷ []) (suc n)) values → WholeParts (f ∷ []) (octets_of values)
 last_whole fields.Strings n [] h = absurd h
 last_whole fields.Strings n (string s ∷ values) h =
     let rest = join_parts n values h.1 in
-    record { own = strings (s ∷ rest.many) ∷ []; each = (record { some = omega arith; each = (h.0, rest.each) }, tt); same = append-nil (frame s ++ flat_map frame rest.many) ∙ ap (λ o. frame s ++ o) rest.same }
+    record { own = strings (s ∷ rest.many) ∷ []; each = (record { some = omega arith; each = (h.0, rest.each) }, tt); same = append-nil (with_length s ++ flat_map with_length rest.many) ∙ ap (λ o. with_length s ++ o) rest.same }
 last_whole fields.Strings n (v ∷ values) h = absurd h.0
 last_whole f n [] h = absurd h
 last_whole f n (v ∷ []) h = record { own = v ∷ []; each = (h.0, tt); same = refl }

@@ -5,10 +5,10 @@ use Rattle.std.specs.Int.{w16, w32, to_be_bytes, from_be_bytes}
 use Rattle.std.specs.List.{flat_map, AllByRecursion}
 use Rattle.std.proofs.lemmas.List.{take_at, drop_at, append-nil}
 use Rattle.std.proofs.lemmas.Nat.{from_be_bytes-to_be_bytes_2, from_be_bytes-to_be_bytes_4}
-use Rattle.zone_name.specs.Name.{frame}
+use Rattle.zone_name.specs.Name.{with_length}
 use Rattle.zone_rdata.specs.declared.field.Field.{Field}
 use Rattle.zone_rdata.specs.declared.field.Field.TheVariants as fields
-use Rattle.zone_rdata.specs.Field.{FieldValue, name, long, two_octets, fixed, string, strings, field_octets, octets_of, Holds, HoldEach, field_at, values_of, SpellsField, own_items, items_behind}
+use Rattle.zone_rdata.specs.Field.{FieldValue, name, u32_value, u16_value, fixed, string, strings, field_octets, octets_of, Holds, HoldEach, field_at, values_of, SpellsField, own_items, items_behind}
 use Rattle.zone_rdata.specs.Fields.Strings.{strings_of, SpellEachString}
 use Rattle.zone_rdata.specs.Layout.{AreLaidOut, IsData, IsLayout, StringsLast, layout}
 use Rattle.zone_rdata.specs.Reading.{AreSpelt}
@@ -33,12 +33,12 @@ two_octets_back n rest short = ap (from_be_bytes w16) (take_at (to_be_bytes w16 
 -- the field at the front of its octets is the value that was written
 pub field_back : (f : Field) (v : FieldValue) (rest : List ℕ) → Holds f v → (f ≡ fields.Strings → rest ≡ []) → field_at f (field_octets v ++ rest) ≡ v
 field_back fields.Name (name labels) rest h last = ap name (name_back labels rest h.each)
-field_back fields.Serial (long n) rest h last = ap long (number_back n rest h)
-field_back fields.Time (long n) rest h last = ap long (number_back n rest h)
-field_back fields.U16 (two_octets n) rest h last = ap two_octets (two_octets_back n rest h)
+field_back fields.Serial (u32_value n) rest h last = ap u32_value (number_back n rest h)
+field_back fields.Time (u32_value n) rest h last = ap u32_value (number_back n rest h)
+field_back fields.U16 (u16_value n) rest h last = ap u16_value (two_octets_back n rest h)
 field_back (fields.Octets n) (fixed octets) rest h last = ap fixed (take_at octets rest n h.size)
 field_back fields.OneString (string octets) rest h last = ap string (take_at octets rest (length octets) refl)
-field_back fields.Strings (strings many) rest h last = ap (λ (r : List ℕ). strings (strings_of (flat_map frame many ++ r))) (last refl) ∙ ap (λ (o : List ℕ). strings (strings_of o)) (append-nil (flat_map frame many)) ∙ ap strings (strings_back many)
+field_back fields.Strings (strings many) rest h last = ap (λ (r : List ℕ). strings (strings_of (flat_map with_length many ++ r))) (last refl) ∙ ap (λ (o : List ℕ). strings (strings_of o)) (append-nil (flat_map with_length many)) ∙ ap strings (strings_back many)
 field_back f v rest h last = absurd h
 
 -- the first field of octets, and the fields behind it
@@ -69,9 +69,9 @@ strings_spelt (item ∷ items) (octets ∷ many) h = let rest = strings_spelt it
 -- what items spell for a field, the field can hold
 spelt_holds : (origin : List (List ℕ)) (f : Field) (items : List RawItem) (v : FieldValue) → SpellsField origin f items v → Holds f v
 spelt_holds origin fields.Name (bare text ∷ []) (name labels) h = h.name
-spelt_holds origin fields.Serial (bare text ∷ []) (long n) h = h.1
-spelt_holds origin fields.Time (bare text ∷ []) (long n) h = h.1
-spelt_holds origin fields.U16 (bare text ∷ []) (two_octets n) h = h.1
+spelt_holds origin fields.Serial (bare text ∷ []) (u32_value n) h = h.1
+spelt_holds origin fields.Time (bare text ∷ []) (u32_value n) h = h.1
+spelt_holds origin fields.U16 (bare text ∷ []) (u16_value n) h = h.1
 spelt_holds origin (fields.Octets n) (bare text ∷ []) (fixed octets) h = address_fixed n text octets h
 spelt_holds origin fields.OneString (item ∷ []) (string octets) h = h.string
 spelt_holds origin fields.Strings items (strings many) h =

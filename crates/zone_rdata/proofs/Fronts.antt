@@ -4,14 +4,14 @@ use Rattle.std.specs.Int.{w16, w32, to_be_bytes, from_be_bytes}
 use Rattle.std.specs.List.{flat_map, AllByRecursion}
 use Rattle.std.proofs.lemmas.List.{append-nil, append_cancel_left, take_all, drop_all, take-append-drop, length-take}
 use Rattle.std.proofs.lemmas.Nat.{be_bytes_2, be_bytes_4}
-use Rattle.zone_name.specs.Name.{frame, wire}
+use Rattle.zone_name.specs.Name.{with_length, wire}
 use Rattle.zone_rdata.specs.declared.field.Field.{Field}
 use Rattle.zone_rdata.specs.declared.field.Field.TheVariants as fields
-use Rattle.zone_rdata.specs.Field.{FieldValue, name, long, two_octets, fixed, string, strings, field_octets, Holds, field_at, IsSent}
+use Rattle.zone_rdata.specs.Field.{FieldValue, name, u32_value, u16_value, fixed, string, strings, field_octets, Holds, field_at, IsSent}
 use Rattle.zone_rdata.specs.Strings.{IsString}
 use Rattle.zone_rdata.specs.Fields.Name.{BeginsWithSent}
-use Rattle.zone_rdata.specs.Fields.Strings.{AreFramed}
-use Rattle.zone_rdata.specs.Uncompressed.{BeginsWithValue, BeginsWithNone, AppendsValue, AppendsFront}
+use Rattle.zone_rdata.specs.Fields.Strings.{AreWithLengths}
+use Rattle.zone_rdata.specs.Uncompressed.{BeginsWithValue, BeginsWithNone, AppendsValue, AppendsPrefix}
 use Rattle.zone_rdata.proofs.Fields.{field_back}
 use Rattle.zone_rdata.proofs.Sent.{frame_same, frame_at, frames_push, sent_once}
 use Rattle.zone_rdata.proofs.StringSteps.{AllByRecursion-append}
@@ -42,7 +42,7 @@ below_16 : (octets : List ℕ) → ((i : ℕ) → get_or octets i 0 < 256) → f
 below_16 octets low = omega (arith, low 0, low 1)
 
 -- ---- what the code appended
-appends_plain : (f : Field) (octets rest old new : List ℕ) (count : ℕ) (v : FieldValue) → Holds f v → IsSent v (take count octets) → take count octets ≡ field_octets v → (f ≡ fields.Strings → rest ≡ []) → AppendsFront count octets rest old new → AppendsValue f octets rest old new
+appends_plain : (f : Field) (octets rest old new : List ℕ) (count : ℕ) (v : FieldValue) → Holds f v → IsSent v (take count octets) → take count octets ≡ field_octets v → (f ≡ fields.Strings → rest ≡ []) → AppendsPrefix count octets rest old new → AppendsValue f octets rest old new
 appends_plain f octets rest old new count v held sent is last grows = record {
   value = v;
   begins = record {
@@ -61,40 +61,40 @@ four_octets octets low fits = sym (be_bytes_4 (take 4 octets) (from_be_bytes w32
 two_octets_at : (octets : List ℕ) → AreLow octets → 2 ≤ length octets → take 2 octets ≡ to_be_bytes w16 (from_be_bytes w16 (take 2 octets))
 two_octets_at octets low fits = sym (be_bytes_2 (take 2 octets) (from_be_bytes w16 (take 2 octets)) (omega (arith, length-take 2 octets)) (low_at (take 2 octets) (low_take 2 octets low)) refl)
 
-pub appends_serial : (octets rest old new : List ℕ) → AreLow octets → AppendsFront 4 octets rest old new → AppendsValue fields.Serial octets rest old new
+pub appends_serial : (octets rest old new : List ℕ) → AreLow octets → AppendsPrefix 4 octets rest old new → AppendsValue fields.Serial octets rest old new
 appends_serial octets rest old new low grows =
     let is = four_octets octets low grows.fits in
-    appends_plain fields.Serial octets rest old new 4 (long (from_be_bytes w32 (take 4 octets))) (below_32 (take 4 octets) (low_at (take 4 octets) (low_take 4 octets low))) is is (λ e. absurd cc) grows
+    appends_plain fields.Serial octets rest old new 4 (u32_value (from_be_bytes w32 (take 4 octets))) (below_32 (take 4 octets) (low_at (take 4 octets) (low_take 4 octets low))) is is (λ e. absurd cc) grows
 
-pub appends_time : (octets rest old new : List ℕ) → AreLow octets → AppendsFront 4 octets rest old new → AppendsValue fields.Time octets rest old new
+pub appends_time : (octets rest old new : List ℕ) → AreLow octets → AppendsPrefix 4 octets rest old new → AppendsValue fields.Time octets rest old new
 appends_time octets rest old new low grows =
     let is = four_octets octets low grows.fits in
-    appends_plain fields.Time octets rest old new 4 (long (from_be_bytes w32 (take 4 octets))) (below_32 (take 4 octets) (low_at (take 4 octets) (low_take 4 octets low))) is is (λ e. absurd cc) grows
+    appends_plain fields.Time octets rest old new 4 (u32_value (from_be_bytes w32 (take 4 octets))) (below_32 (take 4 octets) (low_at (take 4 octets) (low_take 4 octets low))) is is (λ e. absurd cc) grows
 
-pub appends_two : (octets rest old new : List ℕ) → AreLow octets → AppendsFront 2 octets rest old new → AppendsValue fields.U16 octets rest old new
+pub appends_two : (octets rest old new : List ℕ) → AreLow octets → AppendsPrefix 2 octets rest old new → AppendsValue fields.U16 octets rest old new
 appends_two octets rest old new low grows =
     let is = two_octets_at octets low grows.fits in
-    appends_plain fields.U16 octets rest old new 2 (two_octets (from_be_bytes w16 (take 2 octets))) (below_16 (take 2 octets) (low_at (take 2 octets) (low_take 2 octets low))) is is (λ e. absurd cc) grows
+    appends_plain fields.U16 octets rest old new 2 (u16_value (from_be_bytes w16 (take 2 octets))) (below_16 (take 2 octets) (low_at (take 2 octets) (low_take 2 octets low))) is is (λ e. absurd cc) grows
 
-pub appends_fixed : (count : ℕ) (octets rest old new : List ℕ) → AreLow octets → AppendsFront count octets rest old new → AppendsValue (fields.Octets count) octets rest old new
+pub appends_fixed : (count : ℕ) (octets rest old new : List ℕ) → AreLow octets → AppendsPrefix count octets rest old new → AppendsValue (fields.Octets count) octets rest old new
 appends_fixed count octets rest old new low grows =
     appends_plain (fields.Octets count) octets rest old new count (fixed (take count octets)) (record { size = omega (arith, length-take count octets, grows.fits); each = low_take count octets low }) refl refl (λ e. absurd cc) grows
 
 low_string : (c : ℕ) (behind : List ℕ) → AreLow (c ∷ behind) → c ≤ length behind → IsString (take c behind)
 low_string c behind low fits = record { short = omega (arith, length-take c behind, low.0); each = low_take c behind low.1 }
 
-front_frame : (c : ℕ) (behind : List ℕ) → c ≤ length behind → take (c + 1) (c ∷ behind) ≡ frame (take c behind)
+front_frame : (c : ℕ) (behind : List ℕ) → c ≤ length behind → take (c + 1) (c ∷ behind) ≡ with_length (take c behind)
 front_frame c behind fits = rw add-one (ap (λ n. n ∷ take c behind) (let count : c ≡ length (take c behind) = omega (arith, length-take c behind) in count))
 
-pub appends_string : (octets rest old new : List ℕ) (c count : ℕ) (behind : List ℕ) → AreLow octets → octets ≡ c ∷ behind → count ≡ c + 1 → AppendsFront count octets rest old new → AppendsValue fields.OneString octets rest old new
+pub appends_string : (octets rest old new : List ℕ) (c count : ℕ) (behind : List ℕ) → AreLow octets → octets ≡ c ∷ behind → count ≡ c + 1 → AppendsPrefix count octets rest old new → AppendsValue fields.OneString octets rest old new
 appends_string octets rest old new c count behind low e same grows =
     let fits : c ≤ length behind = omega (arith, grows.fits, ap length e) in
-    let is : take count octets ≡ frame (take c behind) = ap (λ n. take n octets) same ∙ ap (take (c + 1)) e ∙ front_frame c behind fits in
+    let is : take count octets ≡ with_length (take c behind) = ap (λ n. take n octets) same ∙ ap (take (c + 1)) e ∙ front_frame c behind fits in
     appends_plain fields.OneString octets rest old new count (string (take c behind)) (low_string c behind (subst AreLow e low) fits) is is (λ h. absurd cc) grows
 
-pub appends_strings : (octets rest old new : List ℕ) → AreFramed octets → AppendsFront (length octets) octets rest old new → AppendsValue fields.Strings octets rest old new
+pub appends_strings : (octets rest old new : List ℕ) → AreWithLengths octets → AppendsPrefix (length octets) octets rest old new → AppendsValue fields.Strings octets rest old new
 appends_strings octets rest old new framed grows =
-    let is : take (length octets) octets ≡ flat_map frame framed.0 = take_all (length octets) octets (omega arith) ∙ framed.2 in
+    let is : take (length octets) octets ≡ flat_map with_length framed.0 = take_all (length octets) octets (omega arith) ∙ framed.2 in
     appends_plain fields.Strings octets rest old new (length octets) (strings framed.0) framed.1 is is (λ e. grows.behind ∙ drop_all (length octets) octets (omega arith)) grows
 
 pub appends_name : (octets rest old new : List ℕ) (labels : List (List ℕ)) → BeginsWithSent octets labels rest → new ≡ old ++ wire labels → AppendsValue fields.Name octets rest old new
@@ -113,15 +113,15 @@ pub none_name : (octets : List ℕ) → ((labels : List (List ℕ)) (rest : List
 none_name octets none v rest b = let s = as_sent octets v rest b in none s.0 rest s.2
 
 size_serial : (v : FieldValue) (front : List ℕ) → Holds fields.Serial v → IsSent v front → length front ≡ 4
-size_serial (long n) front h s = ap length s
+size_serial (u32_value n) front h s = ap length s
 size_serial v front h s = absurd h
 
 size_time : (v : FieldValue) (front : List ℕ) → Holds fields.Time v → IsSent v front → length front ≡ 4
-size_time (long n) front h s = ap length s
+size_time (u32_value n) front h s = ap length s
 size_time v front h s = absurd h
 
 size_two : (v : FieldValue) (front : List ℕ) → Holds fields.U16 v → IsSent v front → length front ≡ 2
-size_two (two_octets n) front h s = ap length s
+size_two (u16_value n) front h s = ap length s
 size_two v front h s = absurd h
 
 size_fixed : (count : ℕ) (v : FieldValue) (front : List ℕ) → Holds (fields.Octets count) v → IsSent v front → length front ≡ count
@@ -143,7 +143,7 @@ none_two octets few = none_sized fields.U16 2 octets size_two few
 pub none_fixed : (count : ℕ) (octets : List ℕ) → length octets < count → BeginsWithNone (fields.Octets count) octets
 none_fixed count octets few = none_sized (fields.Octets count) count octets (size_fixed count) few
 
-as_string : (octets : List ℕ) (v : FieldValue) (rest : List ℕ) → BeginsWithValue fields.OneString octets v rest → (text : List ℕ) × (octets ≡ frame text ++ rest)
+as_string : (octets : List ℕ) (v : FieldValue) (rest : List ℕ) → BeginsWithValue fields.OneString octets v rest → (text : List ℕ) × (octets ≡ with_length text ++ rest)
 as_string octets (string text) rest b = (text, b.parts ∙ ap (λ t. t ++ rest) b.sent)
 as_string octets v rest b = absurd b.held
 
@@ -157,18 +157,18 @@ none_string octets c count behind e same few v rest b =
 pub none_nil : (octets : List ℕ) → length octets ≡ 0 → BeginsWithNone fields.OneString octets
 none_nil octets none v rest b = let s = as_string octets v rest b in omega (arith, ap length s.1)
 
-as_strings : (octets : List ℕ) (v : FieldValue) (rest : List ℕ) → BeginsWithValue fields.Strings octets v rest → AreFramed octets
+as_strings : (octets : List ℕ) (v : FieldValue) (rest : List ℕ) → BeginsWithValue fields.Strings octets v rest → AreWithLengths octets
 as_strings octets (strings many) rest b = (many, b.held, b.parts ∙ ap (λ r. b.front ++ r) (b.last refl) ∙ append-nil b.front ∙ b.sent)
 as_strings octets v rest b = absurd b.held
 
-pub none_strings : (octets : List ℕ) → (AreFramed octets → ⊥) → BeginsWithNone fields.Strings octets
+pub none_strings : (octets : List ℕ) → (AreWithLengths octets → ⊥) → BeginsWithNone fields.Strings octets
 none_strings octets none v rest b = none (as_strings octets v rest b)
 
 -- ---- strings up to the end
 pub record Framed (octets rest : List ℕ) : Type 0 where
   pub many : List (List ℕ)
   pub each : AllByRecursion IsString many
-  pub parts : octets ≡ flat_map frame many ++ rest
+  pub parts : octets ≡ flat_map with_length many ++ rest
   pub low : AreLow rest
 
 pub framed_none : (octets : List ℕ) → AreLow octets → Framed octets octets
@@ -182,51 +182,51 @@ framed_more octets rest c count behind after so_far e same fits is =
     record {
       many = so_far.many ++ text ∷ [];
       each = AllByRecursion-append IsString so_far.many (text ∷ []) so_far.each (low_string count behind low fits, tt);
-      parts = so_far.parts ∙ ap (λ t. flat_map frame so_far.many ++ t) (here ∙ frame_at count behind fits ∙ ap (λ t. frame text ++ t) (sym is)) ∙ frames_push so_far.many text after;
+      parts = so_far.parts ∙ ap (λ t. flat_map with_length so_far.many ++ t) (here ∙ frame_at count behind fits ∙ ap (λ t. with_length text ++ t) (sym is)) ∙ frames_push so_far.many text after;
       low = subst AreLow (sym is) (low_drop count behind low.1);
     }
 
-some_frames : (many : List (List ℕ)) → 0 < length (flat_map frame many) → 0 < length many
+some_frames : (many : List (List ℕ)) → 0 < length (flat_map with_length many) → 0 < length many
 some_frames [] h = absurd (omega arith)
 some_frames (x ∷ many) h = omega arith
 
-frames_some : (many : List (List ℕ)) → 0 < length many → 0 < length (flat_map frame many)
+frames_some : (many : List (List ℕ)) → 0 < length many → 0 < length (flat_map with_length many)
 frames_some [] h = absurd (omega arith)
 frames_some (x ∷ many) h = omega arith
 
-pub framed_all : (octets rest : List ℕ) → 0 < length octets → Framed octets rest → length rest ≡ 0 → AreFramed octets
+pub framed_all : (octets rest : List ℕ) → 0 < length octets → Framed octets rest → length rest ≡ 0 → AreWithLengths octets
 framed_all octets rest some so_far none =
-    (so_far.many, record { some = some_frames so_far.many (omega (arith, ap length so_far.parts, length-append (flat_map frame so_far.many) rest)); each = so_far.each }, so_far.parts ∙ (nothing so_far.many rest none))
+    (so_far.many, record { some = some_frames so_far.many (omega (arith, ap length so_far.parts, length-append (flat_map with_length so_far.many) rest)); each = so_far.each }, so_far.parts ∙ (nothing so_far.many rest none))
   where
-    nothing : (many : List (List ℕ)) (rest : List ℕ) → length rest ≡ 0 → flat_map frame many ++ rest ≡ flat_map frame many
-    nothing many [] e = append-nil (flat_map frame many)
+    nothing : (many : List (List ℕ)) (rest : List ℕ) → length rest ≡ 0 → flat_map with_length many ++ rest ≡ flat_map with_length many
+    nothing many [] e = append-nil (flat_map with_length many)
     nothing many (c ∷ rest) e = absurd (omega arith)
 
-pub framed_empty : (octets : List ℕ) → length octets ≡ 0 → AreFramed octets → ⊥
+pub framed_empty : (octets : List ℕ) → length octets ≡ 0 → AreWithLengths octets → ⊥
 framed_empty octets none framed = omega (arith, ap length framed.2, frames_some framed.0 framed.1.some)
 
-strings_first : (many whole : List (List ℕ)) (rest : List ℕ) → flat_map frame many ++ rest ≡ flat_map frame whole → (more : List (List ℕ)) × (rest ≡ flat_map frame more)
+strings_first : (many whole : List (List ℕ)) (rest : List ℕ) → flat_map with_length many ++ rest ≡ flat_map with_length whole → (more : List (List ℕ)) × (rest ≡ flat_map with_length more)
 strings_first [] whole rest e = (whole, e)
 strings_first (x ∷ many) [] rest e = absurd (omega (arith, ap length e))
 strings_first (x ∷ many) (y ∷ whole) rest e =
-    let cut = frame_same x y (flat_map frame many ++ rest) (flat_map frame whole) (sym (append_assoc (frame x) (flat_map frame many) rest) ∙ e) in
+    let cut = frame_same x y (flat_map with_length many ++ rest) (flat_map with_length whole) (sym (append_assoc (with_length x) (flat_map with_length many) rest) ∙ e) in
     strings_first many whole rest cut.1
 
-short_by : (more : List (List ℕ)) (c : ℕ) (behind : List ℕ) → c ∷ behind ≡ flat_map frame more → length behind < c → ⊥
+short_by : (more : List (List ℕ)) (c : ℕ) (behind : List ℕ) → c ∷ behind ≡ flat_map with_length more → length behind < c → ⊥
 short_by [] c behind e few = absurd (omega (arith, ap length e))
 short_by (x ∷ more) c behind e few =
     let first : c ≡ length x = cc in
-    omega (arith, ap length e, length-append x (flat_map frame more))
+    omega (arith, ap length e, length-append x (flat_map with_length more))
 
-pub framed_short : (octets rest : List ℕ) (c count : ℕ) (behind : List ℕ) → Framed octets rest → rest ≡ c ∷ behind → count ≡ c → length behind < count → AreFramed octets → ⊥
+pub framed_short : (octets rest : List ℕ) (c count : ℕ) (behind : List ℕ) → Framed octets rest → rest ≡ c ∷ behind → count ≡ c → length behind < count → AreWithLengths octets → ⊥
 framed_short octets rest c count behind so_far e same few framed =
     let next = strings_first so_far.many framed.0 rest (sym so_far.parts ∙ framed.2) in
     short_by next.0 c behind (sym e ∙ next.1) (omega arith)
 
 -- ---- one value, and one rest
 plain_front : (f : Field) (v : FieldValue) (front : List ℕ) → f ≢ fields.Name → Holds f v → IsSent v front → front ≡ field_octets v
-plain_front f (long n) front other h s = s
-plain_front f (two_octets n) front other h s = s
+plain_front f (u32_value n) front other h s = s
+plain_front f (u16_value n) front other h s = s
 plain_front f (fixed octets) front other h s = s
 plain_front f (string octets) front other h s = s
 plain_front f (strings many) front other h s = s
@@ -257,7 +257,7 @@ value_once fields.Name octets v w r s x y = name_once octets v w r s x y
 value_once f octets v w r s x y = plain_once f octets v w r s (λ e. cc) x y
 
 -- ---- a field that is known by a match
-pub appends_long : (f : Field) (octets rest old new : List ℕ) → (f ≡ fields.Serial) ⊎ (f ≡ fields.Time) → AreLow octets → AppendsFront 4 octets rest old new → AppendsValue f octets rest old new
+pub appends_long : (f : Field) (octets rest old new : List ℕ) → (f ≡ fields.Serial) ⊎ (f ≡ fields.Time) → AreLow octets → AppendsPrefix 4 octets rest old new → AppendsValue f octets rest old new
 appends_long f octets rest old new (inl e) low grows = subst (λ g. AppendsValue g octets rest old new) (sym e) (appends_serial octets rest old new low grows)
 appends_long f octets rest old new (inr e) low grows = subst (λ g. AppendsValue g octets rest old new) (sym e) (appends_time octets rest old new low grows)
 

@@ -13,7 +13,7 @@ use Rattle.zone_rdata.specs.declared.field.Field.{Field}
 use Rattle.zone_rdata.specs.declared.field.Field.TheVariants.{Name, Serial, Time, U16, Octets, OneString, Strings}
 use Rattle.zone_rdata.specs.DataFault as faults
 use Rattle.zone_rdata.specs.DataFault.{FirstFieldFault, IsFormFault, IsFaultFor, IsDataFault, unspelt, too_long, malformed, no_value, in_form, opaque_words}
-use Rattle.zone_rdata.specs.Field.{IsFieldFault, FieldValue, name, long, two_octets, fixed, string, strings, octets_of, SpellsField, own_items, items_behind}
+use Rattle.zone_rdata.specs.Field.{IsFieldFault, FieldValue, name, u32_value, u16_value, fixed, string, strings, octets_of, SpellsField, own_items, items_behind}
 use Rattle.zone_rdata.specs.Fault.{fault_of}
 use Rattle.zone_rdata.specs.Fields.Strings.{SpellEachString, FirstStringFault}
 use Rattle.zone_rdata.specs.Generic.{JoinTo, StatesGeneric, GenericFault}
@@ -50,21 +50,21 @@ name_field origin text (inr bad) = inr (fault_of bad.0, (bad.0, bad.1, refl))
 serial_field : (origin : List (List ℕ)) (text : List ℕ) → ((n : ℕ) × IsDecimal text n) ⊎ ((n : ℕ) → IsDecimal text n → ⊥) → FieldChoice origin Serial (bare text ∷ [])
 serial_field origin text (inr none) = inr (BadNumber, (refl, λ n h. none n h.0))
 serial_field origin text (inl found) = elim (cases_lt found.0 4294967296) [
-  | inl short ↦ inl (long found.0, (found.1, short))
+  | inl short ↦ inl (u32_value found.0, (found.1, short))
   | inr over ↦ inr (BadNumber, (refl, λ n h. omega (arith, h.1, h.0.value, found.1.value)))
 ]
 
 time_field : (origin : List (List ℕ)) (text : List ℕ) → ((n : ℕ) × IsTime text n) ⊎ ((n : ℕ) → IsTime text n → ⊥) → FieldChoice origin Time (bare text ∷ [])
 time_field origin text (inr none) = inr (BadNumber, (refl, λ n h. none n h.0))
 time_field origin text (inl found) = elim (cases_lt found.0 4294967296) [
-  | inl short ↦ inl (long found.0, (found.1, short))
+  | inl short ↦ inl (u32_value found.0, (found.1, short))
   | inr over ↦ inr (BadNumber, (refl, λ n h. omega (arith, h.1, one_time text n found.0 h.0 found.1)))
 ]
 
 two_field : (origin : List (List ℕ)) (text : List ℕ) → ((n : ℕ) × IsDecimal text n) ⊎ ((n : ℕ) → IsDecimal text n → ⊥) → FieldChoice origin U16 (bare text ∷ [])
 two_field origin text (inr none) = inr (BadNumber, (refl, λ n h. none n h.0))
 two_field origin text (inl found) = elim (cases_lt found.0 65536) [
-  | inl short ↦ inl (two_octets found.0, (found.1, short))
+  | inl short ↦ inl (u16_value found.0, (found.1, short))
   | inr over ↦ inr (BadNumber, (refl, λ n h. omega (arith, h.1, h.0.value, found.1.value)))
 ]
 

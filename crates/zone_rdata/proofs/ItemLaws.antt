@@ -7,13 +7,13 @@ use Rattle.zone_rdata.specs.declared.field.Field.{Field}
 use Rattle.zone_rdata.specs.declared.field.Field.TheVariants.{Name, Serial, Time, U16, Octets, OneString, Strings}
 use Rattle.zone_rdata.specs.DataFault as faults
 use Rattle.zone_rdata.specs.DataFault.{FirstFieldFault, IsWordsFault, IsFormFault, IsFaultFor, IsDataFault, unspelt, too_long, malformed, no_value, in_form, opaque_words}
-use Rattle.zone_rdata.specs.Field.{IsFieldFault, FieldValue, name, long, two_octets, fixed, string, strings, octets_of, SpellsField, own_items, items_behind}
+use Rattle.zone_rdata.specs.Field.{IsFieldFault, FieldValue, name, u32_value, u16_value, fixed, string, strings, octets_of, SpellsField, own_items, items_behind}
 use Rattle.zone_rdata.specs.Fault.{fault_of}
 use Rattle.zone_rdata.specs.Fields.Strings.{SpellEachString, FirstStringFault}
 use Rattle.zone_rdata.specs.Generic.{StatesGeneric}
 use Rattle.zone_rdata.specs.Item.{RawItem, bare, quoted}
 use Rattle.zone_rdata.specs.Layout.{layout}
-use Rattle.zone_rdata.specs.Fields.Address.{IsAddress, of_four, of_sixteen}
+use Rattle.zone_rdata.specs.Fields.Address.{IsAddress, of_ipv4, of_ipv6}
 use Rattle.zone_rdata.specs.Spelling.{IsCanonicalOf, SpellEach, States, StatesFor, in_words, in_octets}
 use Rattle.zone_rdata.specs.Uncompressed.{IsUncompressed}
 use Rattle.zone_rdata.proofs.Addresses.{numbers_unique}
@@ -36,10 +36,10 @@ abbrev pub NameFaultOnce : Type 0
 NameFaultOnce = (origin : Option (List (List ℕ))) (text : List ℕ) (f g : NameFault) → FirstFault origin text f → FirstFault origin text g → f ≡ g
 
 address_once : (n : ℕ) (text a b : List ℕ) → IsAddress n text a → IsAddress n text b → a ≡ b
-address_once n text a b (of_four e h) (of_four d k) = numbers_unique 3 text a b h k
-address_once n text a b (of_four e h) (of_sixteen d k) = absurd (omega arith)
-address_once n text a b (of_sixteen e h) (of_four d k) = absurd (omega arith)
-address_once n text a b (of_sixteen e h) (of_sixteen d k) = groups_unique text a b h k
+address_once n text a b (of_ipv4 e h) (of_ipv4 d k) = numbers_unique 3 text a b h k
+address_once n text a b (of_ipv4 e h) (of_ipv6 d k) = absurd (omega arith)
+address_once n text a b (of_ipv6 e h) (of_ipv4 d k) = absurd (omega arith)
+address_once n text a b (of_ipv6 e h) (of_ipv6 d k) = groups_unique text a b h k
 
 -- ---- one field
 
@@ -55,14 +55,14 @@ field_once : NamesOnce → (origin : List (List ℕ)) (f : Field) (items : List 
 field_once names origin Name (bare text ∷ []) (name a) (name b) h k = ap name (names (Some origin) text a b h k)
 field_once names origin Name (bare text ∷ []) (name a) w h k = absurd k
 field_once names origin Name items v w h k = absurd h
-field_once names origin Serial (bare text ∷ []) (long a) (long b) h k = ap long (h.0.value ∙ sym k.0.value)
-field_once names origin Serial (bare text ∷ []) (long a) w h k = absurd k
+field_once names origin Serial (bare text ∷ []) (u32_value a) (u32_value b) h k = ap u32_value (h.0.value ∙ sym k.0.value)
+field_once names origin Serial (bare text ∷ []) (u32_value a) w h k = absurd k
 field_once names origin Serial items v w h k = absurd h
-field_once names origin Time (bare text ∷ []) (long a) (long b) h k = ap long (one_time text a b h.0 k.0)
-field_once names origin Time (bare text ∷ []) (long a) w h k = absurd k
+field_once names origin Time (bare text ∷ []) (u32_value a) (u32_value b) h k = ap u32_value (one_time text a b h.0 k.0)
+field_once names origin Time (bare text ∷ []) (u32_value a) w h k = absurd k
 field_once names origin Time items v w h k = absurd h
-field_once names origin U16 (bare text ∷ []) (two_octets a) (two_octets b) h k = ap two_octets (h.0.value ∙ sym k.0.value)
-field_once names origin U16 (bare text ∷ []) (two_octets a) w h k = absurd k
+field_once names origin U16 (bare text ∷ []) (u16_value a) (u16_value b) h k = ap u16_value (h.0.value ∙ sym k.0.value)
+field_once names origin U16 (bare text ∷ []) (u16_value a) w h k = absurd k
 field_once names origin U16 items v w h k = absurd h
 field_once names origin (Octets n) (bare text ∷ []) (fixed a) (fixed b) h k = ap fixed (address_once n text a b h k)
 field_once names origin (Octets n) (bare text ∷ []) (fixed a) w h k = absurd k
@@ -83,11 +83,11 @@ strings_never (item ∷ items) (octets ∷ many) fault h (inr more) = strings_ne
 field_never : NamesNever → (origin : List (List ℕ)) (f : Field) (items : List RawItem) (v : FieldValue) (fault : Fault) → SpellsField origin f items v → IsFieldFault origin f items fault → ⊥
 field_never names origin Name (bare text ∷ []) (name a) fault h bad = names (Some origin) text a bad.0 h bad.1
 field_never names origin Name items v fault h bad = absurd h
-field_never names origin Serial (bare text ∷ []) (long n) fault h bad = bad.1 n h
+field_never names origin Serial (bare text ∷ []) (u32_value n) fault h bad = bad.1 n h
 field_never names origin Serial items v fault h bad = absurd h
-field_never names origin Time (bare text ∷ []) (long n) fault h bad = bad.1 n h
+field_never names origin Time (bare text ∷ []) (u32_value n) fault h bad = bad.1 n h
 field_never names origin Time items v fault h bad = absurd h
-field_never names origin U16 (bare text ∷ []) (two_octets n) fault h bad = bad.1 n h
+field_never names origin U16 (bare text ∷ []) (u16_value n) fault h bad = bad.1 n h
 field_never names origin U16 items v fault h bad = absurd h
 field_never names origin (Octets n) (bare text ∷ []) (fixed octets) fault h bad = bad.1 octets h
 field_never names origin (Octets n) items v fault h bad = absurd h

@@ -4,7 +4,7 @@ use Rattle.std.specs.Prelude.{◌↔◌}
 use Rattle.std.specs.List.{flat_map, AllByRecursion}
 use Rattle.std.proofs.lemmas.List.{append-nil, take-append-drop, length-map, length-take, map-append}
 use Rattle.std.proofs.lemmas.List.Concat.{flat_map-append}
-use Rattle.zone_name.specs.Name.{IsLabel, IsName, folded_octet, folded_label, folded, frame, wire}
+use Rattle.zone_name.specs.Name.{IsLabel, IsName, folded_octet, folded_label, folded, with_length, wire}
 use Rattle.zone_name.specs.Spelling.{IsLabelFault}
 use Rattle.zone_name.specs.declared.fault.NameFault.{NameFault}
 use Rattle.zone_name.specs.declared.fault.NameFault.TheVariants.{EmptyLabel, LabelTooLong, NameTooLong, BadEscape, RelativeName}
@@ -23,30 +23,30 @@ append_same (c ∷ x) (d ∷ y) a b count e =
     (ap (λ h. h ∷ x) heads ∙ ap (λ t. d ∷ t) rest.0, rest.1)
 
 -- what stands behind its length is cut off alike
-pub frame_same : (x y a b : List ℕ) → frame x ++ a ≡ frame y ++ b → (x ≡ y) × (a ≡ b)
+pub frame_same : (x y a b : List ℕ) → with_length x ++ a ≡ with_length y ++ b → (x ≡ y) × (a ≡ b)
 frame_same x y a b e =
     let counts : length x ≡ length y = cc in
     let tails : x ++ a ≡ y ++ b = cc in
     append_same x y a b counts tails
 
-pub frames_same : (many more : List (List ℕ)) → flat_map frame many ≡ flat_map frame more → many ≡ more
+pub frames_same : (many more : List (List ℕ)) → flat_map with_length many ≡ flat_map with_length more → many ≡ more
 frames_same [] [] e = refl
 frames_same [] (y ∷ more) e = absurd (omega (arith, ap length e))
 frames_same (x ∷ many) [] e = absurd (omega (arith, ap length e))
 frames_same (x ∷ many) (y ∷ more) e =
-    let cut = frame_same x y (flat_map frame many) (flat_map frame more) e in
+    let cut = frame_same x y (flat_map with_length many) (flat_map with_length more) e in
     ap (λ h. h ∷ many) cut.0 ∙ ap (λ t. y ∷ t) (frames_same many more cut.1)
 
--- octets up to a place, where the number there and so many octets are one frame
-pub frame_at : (c : ℕ) (behind : List ℕ) → c ≤ length behind → c ∷ behind ≡ frame (take c behind) ++ drop c behind
+-- octets up to a place, where the number there and so many octets are one with_length
+pub frame_at : (c : ℕ) (behind : List ℕ) → c ≤ length behind → c ∷ behind ≡ with_length (take c behind) ++ drop c behind
 frame_at c behind fits =
     let count : length (take c behind) ≡ c = omega (arith, length-take c behind) in
     ap (λ t. c ∷ t) (sym (take-append-drop c behind)) ∙ ap (λ n. n ∷ (take c behind ++ drop c behind)) (sym count)
 
-pub frames_push : (many : List (List ℕ)) (x a : List ℕ) → flat_map frame many ++ (frame x ++ a) ≡ flat_map frame (many ++ x ∷ []) ++ a
+pub frames_push : (many : List (List ℕ)) (x a : List ℕ) → flat_map with_length many ++ (with_length x ++ a) ≡ flat_map with_length (many ++ x ∷ []) ++ a
 frames_push many x a =
-    sym (append_assoc (flat_map frame many) (frame x) a)
-    ∙ ap (λ t. t ++ a) (ap (λ t. flat_map frame many ++ t) (sym (append-nil (frame x))) ∙ sym (flat_map-append frame many (x ∷ [])))
+    sym (append_assoc (flat_map with_length many) (with_length x) a)
+    ∙ ap (λ t. t ++ a) (ap (λ t. flat_map with_length many ++ t) (sym (append-nil (with_length x))) ∙ sym (flat_map-append with_length many (x ∷ [])))
 
 -- ---- names
 abbrev pub AreSome : List (List ℕ) → Type 0
@@ -57,14 +57,14 @@ folded_some [] each = tt
 folded_some (label ∷ sent) each = (omega (arith, each.0.some, length-map label folded_octet), folded_some sent each.1)
 
 -- labels that were cut off stand first in every name there
-pub labels_first : (sent whole : List (List ℕ)) (rest tail : List ℕ) → AreSome sent → flat_map frame sent ++ rest ≡ wire whole ++ tail → (more : List (List ℕ)) × (whole ≡ sent ++ more) × (rest ≡ wire more ++ tail)
+pub labels_first : (sent whole : List (List ℕ)) (rest tail : List ℕ) → AreSome sent → flat_map with_length sent ++ rest ≡ wire whole ++ tail → (more : List (List ℕ)) × (whole ≡ sent ++ more) × (rest ≡ wire more ++ tail)
 labels_first [] whole rest tail some e = (whole, refl, e)
 labels_first ([] ∷ sent) whole rest tail some e = absurd (omega (arith, some.0))
 labels_first ((c ∷ label) ∷ sent) [] rest tail some e = absurd (let bad : suc (length label) ≡ 0 = cc in omega arith)
 labels_first ((c ∷ label) ∷ sent) (l ∷ whole) rest tail some e =
-    let shape : frame (c ∷ label) ++ (flat_map frame sent ++ rest) ≡ frame l ++ (wire whole ++ tail) =
-    sym (append_assoc (frame (c ∷ label)) (flat_map frame sent) rest) ∙ e ∙ ap (λ t. t ++ tail) (append_assoc (frame l) (flat_map frame whole) (0 ∷ [])) ∙ append_assoc (frame l) (wire whole) tail in
-    let cut = frame_same (c ∷ label) l (flat_map frame sent ++ rest) (wire whole ++ tail) shape in
+    let shape : with_length (c ∷ label) ++ (flat_map with_length sent ++ rest) ≡ with_length l ++ (wire whole ++ tail) =
+    sym (append_assoc (with_length (c ∷ label)) (flat_map with_length sent) rest) ∙ e ∙ ap (λ t. t ++ tail) (append_assoc (with_length l) (flat_map with_length whole) (0 ∷ [])) ∙ append_assoc (with_length l) (wire whole) tail in
+    let cut = frame_same (c ∷ label) l (flat_map with_length sent ++ rest) (wire whole ++ tail) shape in
     let next = labels_first sent whole rest tail some.1 cut.1 in
     (next.0, ap (λ h. h ∷ whole) (sym cut.0) ∙ ap (λ t. (c ∷ label) ∷ t) next.1, next.2)
 
@@ -73,7 +73,7 @@ pub record HasCut (octets : List ℕ) (labels : List (List ℕ)) (rest : List �
   pub sent : List (List ℕ)
   pub folds : folded sent ≡ labels
   pub some : AreSome sent
-  pub parts : octets ≡ flat_map frame sent ++ rest
+  pub parts : octets ≡ flat_map with_length sent ++ rest
 
 pub cut_none : (octets : List ℕ) (labels : List (List ℕ)) → labels ≡ [] → HasCut octets labels octets
 cut_none octets labels e = record { sent = []; folds = sym e; some = tt; parts = refl }
@@ -89,7 +89,7 @@ cut_more octets rest labels new c behind label after cut e some fits front back 
       sent = cut.sent ++ label ∷ [];
       folds = map-append folded_label cut.sent (label ∷ []) ∙ ap (λ t. t ++ folded_label label ∷ []) cut.folds ∙ sym grown;
       some = some_push cut.sent label cut.some (omega arith);
-      parts = cut.parts ∙ ap (λ t. flat_map frame cut.sent ++ t) (e ∙ frame_at c behind fits ∙ ap (λ l. frame l ++ drop c behind) (sym front) ∙ ap (λ t. frame label ++ t) (sym back)) ∙ frames_push cut.sent label after;
+      parts = cut.parts ∙ ap (λ t. flat_map with_length cut.sent ++ t) (e ∙ frame_at c behind fits ∙ ap (λ l. with_length l ++ drop c behind) (sym front) ∙ ap (λ t. with_length label ++ t) (sym back)) ∙ frames_push cut.sent label after;
     }
 
 pub cut_name : (octets rest : List ℕ) (labels name : List (List ℕ)) (c : ℕ) (behind : List ℕ) → HasCut octets labels rest → rest ≡ c ∷ behind → c ≡ 0 → name ≡ labels → IsName name → BeginsWithSent octets name behind
@@ -97,7 +97,7 @@ cut_name octets rest labels name c behind cut e nothing same is = record {
   is_name = is;
   sent = cut.sent;
   folds = cut.folds ∙ sym same;
-  parts = cut.parts ∙ ap (λ t. flat_map frame cut.sent ++ t) (e ∙ ap (λ n. n ∷ behind) nothing) ∙ sym (append_assoc (flat_map frame cut.sent) (0 ∷ []) behind);
+  parts = cut.parts ∙ ap (λ t. flat_map with_length cut.sent ++ t) (e ∙ ap (λ n. n ∷ behind) nothing) ∙ sym (append_assoc (flat_map with_length cut.sent) (0 ∷ []) behind);
 }
 
 -- a name there goes on from what was cut off
@@ -107,13 +107,13 @@ goes_on octets rest tail labels name cut b = labels_first cut.sent b.sent rest t
 pub no_first : (octets rest : List ℕ) (labels : List (List ℕ)) → HasCut octets labels rest → length rest ≡ 0 → (name : List (List ℕ)) (tail : List ℕ) → BeginsWithSent octets name tail → ⊥
 no_first octets rest labels cut none name tail b =
     let next = goes_on octets rest tail labels name cut b in
-    omega (arith, ap length next.2, length-append (wire next.0) tail, length-append (flat_map frame next.0) (0 ∷ []))
+    omega (arith, ap length next.2, length-append (wire next.0) tail, length-append (flat_map with_length next.0) (0 ∷ []))
 
 -- a label there, where the number isn't 0
 next_label : (more : List (List ℕ)) (tail behind : List ℕ) (c : ℕ) → 0 < c → c ∷ behind ≡ wire more ++ tail → (label : List ℕ) × (others : List (List ℕ)) × (more ≡ label ∷ others) × (length label ≡ c) × (behind ≡ label ++ (wire others ++ tail))
 next_label [] tail behind c some e = absurd (let bad : c ≡ 0 = cc in omega arith)
 next_label (l ∷ others) tail behind c some e =
-    let shape : c ∷ behind ≡ length l ∷ (l ++ (wire others ++ tail)) = e ∙ ap (λ t. t ++ tail) (append_assoc (frame l) (flat_map frame others) (0 ∷ [])) ∙ append_assoc (frame l) (wire others) tail in
+    let shape : c ∷ behind ≡ length l ∷ (l ++ (wire others ++ tail)) = e ∙ ap (λ t. t ++ tail) (append_assoc (with_length l) (flat_map with_length others) (0 ∷ [])) ∙ append_assoc (with_length l) (wire others) tail in
     (l, others, refl, (cc), (cc))
 
 pub no_room : (octets rest : List ℕ) (labels : List (List ℕ)) (c : ℕ) (behind : List ℕ) → HasCut octets labels rest → rest ≡ c ∷ behind → 0 < c → length behind < c → (name : List (List ℕ)) (tail : List ℕ) → BeginsWithSent octets name tail → ⊥
@@ -136,11 +136,11 @@ fits_by before label others name =
     let whole : folded (before ++ label ∷ others) ≡ folded before ++ folded_label label ∷ folded others = map-append folded_label before (label ∷ others) in
     let each = each_label (folded before) (folded_label label) (folded others) (subst (AllByRecursion IsLabel) whole name.each) in
     let count = length-map label folded_octet in
-    let frames = flat_map-append frame (folded before) (folded_label label ∷ folded others) in
-    let mine = flat_map-append frame (folded before) (label ∷ []) in
+    let frames = flat_map-append with_length (folded before) (folded_label label ∷ folded others) in
+    let mine = flat_map-append with_length (folded before) (label ∷ []) in
     record {
       short = omega (arith, each.short, count);
-      room = omega (arith, name.short, ap (λ t. length (wire t)) whole, length-append (flat_map frame (folded before ++ folded_label label ∷ folded others)) (0 ∷ []), ap length frames, length-append (flat_map frame (folded before)) (flat_map frame (folded_label label ∷ folded others)), length-append (frame (folded_label label)) (flat_map frame (folded others)), count, length-append (flat_map frame (folded before ++ label ∷ [])) (0 ∷ []), ap length mine, length-append (flat_map frame (folded before)) (flat_map frame (label ∷ [])), length-append (frame label) []);
+      room = omega (arith, name.short, ap (λ t. length (wire t)) whole, length-append (flat_map with_length (folded before ++ folded_label label ∷ folded others)) (0 ∷ []), ap length frames, length-append (flat_map with_length (folded before)) (flat_map with_length (folded_label label ∷ folded others)), length-append (with_length (folded_label label)) (flat_map with_length (folded others)), count, length-append (flat_map with_length (folded before ++ label ∷ [])) (0 ∷ []), ap length mine, length-append (flat_map with_length (folded before)) (flat_map with_length (label ∷ [])), length-append (with_length label) []);
     }
 
 next_fits : (octets rest : List ℕ) (labels : List (List ℕ)) (c : ℕ) (behind : List ℕ) → HasCut octets labels rest → rest ≡ c ∷ behind → 0 < c → c ≤ length behind → (name : List (List ℕ)) (tail : List ℕ) → BeginsWithSent octets name tail → Fits labels (take c behind)
@@ -177,7 +177,7 @@ some_behind (l ∷ before) more some = some_behind before more some.1
 
 pub sent_once : (octets rest tail : List ℕ) (a b : List (List ℕ)) → BeginsWithSent octets a rest → BeginsWithSent octets b tail → (a ≡ b) × (rest ≡ tail)
 sent_once octets rest tail a b x y =
-    let open_x : octets ≡ flat_map frame x.sent ++ 0 ∷ rest = x.parts ∙ append_assoc (flat_map frame x.sent) (0 ∷ []) rest in
+    let open_x : octets ≡ flat_map with_length x.sent ++ 0 ∷ rest = x.parts ∙ append_assoc (flat_map with_length x.sent) (0 ∷ []) rest in
     let some_x = folded_some x.sent (subst (AllByRecursion IsLabel) (sym x.folds) x.is_name.each) in
     let some_y = folded_some y.sent (subst (AllByRecursion IsLabel) (sym y.folds) y.is_name.each) in
     let next = labels_first x.sent y.sent (0 ∷ rest) tail some_x (sym open_x ∙ y.parts) in

@@ -2,19 +2,19 @@
 use Rattle.std.proofs.Common.{◌≡◌, ℕ, List, [], ◌∷◌, length, refl, sym, ap, ◌∙◌, arith, length-append}
 use Rattle.std.specs.List.{flat_map}
 use Rattle.std.proofs.lemmas.List.{length-map}
-use Rattle.zone_name.specs.Name.{folded_octet, folded_label, folded, frame}
+use Rattle.zone_name.specs.Name.{folded_octet, folded_label, folded, with_length}
 use Rattle.zone_rdata.specs.declared.field.Field.{Field}
-use Rattle.zone_rdata.specs.Field.{FieldValue, name, long, two_octets, fixed, string, strings, field_octets, octets_of, IsSent}
+use Rattle.zone_rdata.specs.Field.{FieldValue, name, u32_value, u16_value, fixed, string, strings, field_octets, octets_of, IsSent}
 use Rattle.zone_rdata.specs.Uncompressed.{AreSent, IsUncompressed}
 
-length_frames_folded : (sent : List (List ℕ)) → length (flat_map frame (folded sent)) ≡ length (flat_map frame sent)
+length_frames_folded : (sent : List (List ℕ)) → length (flat_map with_length (folded sent)) ≡ length (flat_map with_length sent)
 length_frames_folded [] = refl
-length_frames_folded (label ∷ sent) = omega (arith, length-append (folded_label label) (flat_map frame (folded sent)), length-append label (flat_map frame sent), length-map label folded_octet, length_frames_folded sent)
+length_frames_folded (label ∷ sent) = omega (arith, length-append (folded_label label) (flat_map with_length (folded sent)), length-append label (flat_map with_length sent), length-map label folded_octet, length_frames_folded sent)
 
 sent_length : (v : FieldValue) (front : List ℕ) → IsSent v front → length (field_octets v) ≡ length front
-sent_length (name labels) front s = omega (arith, ap length s.2, ap (λ ls. length (flat_map frame ls)) s.1, length_frames_folded s.0, length-append (flat_map frame s.0) (0 ∷ []), length-append (flat_map frame labels) (0 ∷ []))
-sent_length (long n) front s = ap length (sym s)
-sent_length (two_octets n) front s = ap length (sym s)
+sent_length (name labels) front s = omega (arith, ap length s.2, ap (λ ls. length (flat_map with_length ls)) s.1, length_frames_folded s.0, length-append (flat_map with_length s.0) (0 ∷ []), length-append (flat_map with_length labels) (0 ∷ []))
+sent_length (u32_value n) front s = ap length (sym s)
+sent_length (u16_value n) front s = ap length (sym s)
 sent_length (fixed octets) front s = ap length (sym s)
 sent_length (string octets) front s = ap length (sym s)
 sent_length (strings many) front s = ap length (sym s)

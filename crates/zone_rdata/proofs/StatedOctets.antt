@@ -2,10 +2,10 @@
 use Rattle.std.proofs.Common.{ℕ, ◌<◌, ◌^◌, List, [], ◌∷◌, Option, Some, None, refl, sym, subst, arith}
 use Rattle.std.specs.Int.{w16, w32, to_be_bytes}
 use Rattle.std.specs.List.{flat_map, AllByRecursion}
-use Rattle.zone_name.specs.Name.{IsFoldedOctet, IsLabel, frame}
+use Rattle.zone_name.specs.Name.{IsFoldedOctet, IsLabel, with_length}
 use Rattle.zone_rdata.specs.declared.field.Field.{Field}
 use Rattle.zone_rdata.specs.declared.field.Field.TheVariants.{Name, Serial, Time, U16, Octets, OneString, Strings}
-use Rattle.zone_rdata.specs.Field.{FieldValue, name, long, two_octets, fixed, string, strings, field_octets, Holds, HoldEach, octets_of}
+use Rattle.zone_rdata.specs.Field.{FieldValue, name, u32_value, u16_value, fixed, string, strings, field_octets, Holds, HoldEach, octets_of}
 use Rattle.zone_rdata.specs.Item.{RawItem}
 use Rattle.zone_rdata.specs.Layout.{layout, IsData}
 use Rattle.zone_rdata.specs.Spelling.{IsCanonicalOf, States, StatesFor, in_words, in_octets}
@@ -19,13 +19,13 @@ low_octets : (label : List ℕ) → AllByRecursion IsFoldedOctet label → AreLo
 low_octets [] each = tt
 low_octets (c ∷ label) each = (each.0.octet, low_octets label each.1)
 
-low_labels : (labels : List (List ℕ)) → AllByRecursion IsLabel labels → AreLow (flat_map frame labels)
+low_labels : (labels : List (List ℕ)) → AllByRecursion IsLabel labels → AreLow (flat_map with_length labels)
 low_labels [] each = tt
-low_labels (label ∷ labels) each = AllByRecursion-append (λ c. c < 256) (frame label) (flat_map frame labels) (omega (arith, each.0.short), low_octets label each.0.each) (low_labels labels each.1)
+low_labels (label ∷ labels) each = AllByRecursion-append (λ c. c < 256) (with_length label) (flat_map with_length labels) (omega (arith, each.0.short), low_octets label each.0.each) (low_labels labels each.1)
 
-low_strings : (many : List (List ℕ)) → AllByRecursion IsString many → AreLow (flat_map frame many)
+low_strings : (many : List (List ℕ)) → AllByRecursion IsString many → AreLow (flat_map with_length many)
 low_strings [] each = tt
-low_strings (text ∷ many) each = AllByRecursion-append (λ c. c < 256) (frame text) (flat_map frame many) (omega (arith, each.0.short), each.0.each) (low_strings many each.1)
+low_strings (text ∷ many) each = AllByRecursion-append (λ c. c < 256) (with_length text) (flat_map with_length many) (omega (arith, each.0.short), each.0.each) (low_strings many each.1)
 
 low_long : (n : ℕ) → n < 2 ^ 32 → AreLow (to_be_bytes w32 n)
 low_long n short = (omega arith, (omega arith, (omega arith, (omega arith, tt))))
@@ -34,13 +34,13 @@ low_two : (n : ℕ) → n < 2 ^ 16 → AreLow (to_be_bytes w16 n)
 low_two n short = (omega arith, (omega arith, tt))
 
 low_value : (f : Field) (v : FieldValue) → Holds f v → AreLow (field_octets v)
-low_value Name (name labels) held = AllByRecursion-append (λ c. c < 256) (flat_map frame labels) (0 ∷ []) (low_labels labels held.each) (omega arith, tt)
+low_value Name (name labels) held = AllByRecursion-append (λ c. c < 256) (flat_map with_length labels) (0 ∷ []) (low_labels labels held.each) (omega arith, tt)
 low_value Name v held = absurd held
-low_value Serial (long n) held = low_long n held
+low_value Serial (u32_value n) held = low_long n held
 low_value Serial v held = absurd held
-low_value Time (long n) held = low_long n held
+low_value Time (u32_value n) held = low_long n held
 low_value Time v held = absurd held
-low_value U16 (two_octets n) held = low_two n held
+low_value U16 (u16_value n) held = low_two n held
 low_value U16 v held = absurd held
 low_value (Octets n) (fixed octets) held = held.each
 low_value (Octets n) v held = absurd held

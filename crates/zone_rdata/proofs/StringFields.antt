@@ -2,7 +2,7 @@
 use Rattle.std.proofs.Common.{◌≡◌, ℕ, zero, suc, ◌+◌, ◌<◌, ◌≤◌, List, [], ◌∷◌, ◌++◌, length, take, drop, refl, sym, ap, ◌∙◌, subst, arith, length-append}
 use Rattle.std.specs.List.{flat_map, AllByRecursion}
 use Rattle.std.proofs.lemmas.List.{take_at, drop_at, take_all, drop_all, take-append-drop}
-use Rattle.zone_name.specs.Name.{frame}
+use Rattle.zone_name.specs.Name.{with_length}
 use Rattle.zone_rdata.specs.Fields.OneString.{BeginsWithString, string_at}
 use Rattle.zone_rdata.specs.Fields.Strings.{HoldsStrings, AreStrings, strings_by, strings_of}
 use Rattle.zone_rdata.specs.Strings.{IsString}
@@ -12,30 +12,30 @@ use Rattle.zone_rdata.specs.declared.field.Field.TheVariants as fields
 use Rattle.zone_rdata.proofs.Names.{length-frames}
 
 -- one string cut off the front
-string_cut : (text more : List ℕ) (m : ℕ) → strings_by (suc m) (frame text ++ more) ≡ text ∷ strings_by m more
+string_cut : (text more : List ℕ) (m : ℕ) → strings_by (suc m) (with_length text ++ more) ≡ text ∷ strings_by m more
 string_cut text more m = rw (take_at text more (length text) refl, drop_at text more (length text) refl) refl
 
-strings_by_back : (many : List (List ℕ)) (m : ℕ) → length many ≤ m → strings_by m (flat_map frame many) ≡ many
+strings_by_back : (many : List (List ℕ)) (m : ℕ) → length many ≤ m → strings_by m (flat_map with_length many) ≡ many
 strings_by_back [] zero fuel = refl
 strings_by_back [] (suc m) fuel = refl
 strings_by_back (text ∷ many) zero fuel = absurd (omega arith)
-strings_by_back (text ∷ many) (suc m) fuel = string_cut text (flat_map frame many) m ∙ ap (λ t. text ∷ t) (strings_by_back many m (omega arith))
+strings_by_back (text ∷ many) (suc m) fuel = string_cut text (flat_map with_length many) m ∙ ap (λ t. text ∷ t) (strings_by_back many m (omega arith))
 
 -- joined strings hold those strings
-pub strings_back : (many : List (List ℕ)) → strings_of (flat_map frame many) ≡ many
+pub strings_back : (many : List (List ℕ)) → strings_of (flat_map with_length many) ≡ many
 unfolding strings_of
-strings_back many = strings_by_back many (length (flat_map frame many)) (length-frames many)
+strings_back many = strings_by_back many (length (flat_map with_length many)) (length-frames many)
 
 -- nothing is left behind the strings
-strings_by_len : (m : ℕ) (octets : List ℕ) → length octets ≤ m → length (flat_map frame (strings_by m octets)) ≡ length octets
+strings_by_len : (m : ℕ) (octets : List ℕ) → length octets ≤ m → length (flat_map with_length (strings_by m octets)) ≡ length octets
 strings_by_len zero [] fuel = refl
 strings_by_len zero (c ∷ octets) fuel = absurd (omega arith)
 strings_by_len (suc m) [] fuel = refl
 strings_by_len (suc m) (c ∷ octets) fuel =
     let parts : length (take c octets) + length (drop c octets) ≡ length octets = sym (length-append (take c octets) (drop c octets)) ∙ ap length (take-append-drop c octets) in
-    omega (arith, parts, length-append (take c octets) (flat_map frame (strings_by m (drop c octets))), strings_by_len m (drop c octets) (omega (arith, parts)))
+    omega (arith, parts, length-append (take c octets) (flat_map with_length (strings_by m (drop c octets))), strings_by_len m (drop c octets) (omega (arith, parts)))
 
-pub strings_len : (octets : List ℕ) → length (flat_map frame (strings_of octets)) ≡ length octets
+pub strings_len : (octets : List ℕ) → length (flat_map with_length (strings_of octets)) ≡ length octets
 unfolding strings_of
 strings_len octets = strings_by_len (length octets) octets (omega arith)
 
@@ -58,17 +58,17 @@ strings_next c octets =
     ap (λ t. take c octets ∷ t) (fuel_same (length octets) (length (drop c octets)) (drop c octets) (omega (arith, parts)) (omega arith))
 
 -- strings begin with a string, and what is behind it is strings
-pub first_string : (octets : List ℕ) → 0 < length octets → HoldsStrings octets → BeginsWithString octets × HoldsStrings (drop (length (frame (string_at octets))) octets) × (strings_of octets ≡ string_at octets ∷ strings_of (drop (length (frame (string_at octets))) octets))
+pub first_string : (octets : List ℕ) → 0 < length octets → HoldsStrings octets → BeginsWithString octets × HoldsStrings (drop (length (with_length (string_at octets))) octets) × (strings_of octets ≡ string_at octets ∷ strings_of (drop (length (with_length (string_at octets))) octets))
 first_string [] some held = absurd (omega arith)
 first_string (c ∷ octets) some held =
     let text = take c octets in
     let next : strings_of (c ∷ octets) ≡ text ∷ strings_of (drop c octets) = strings_next c octets in
-    let whole : length text ∷ (text ++ flat_map frame (strings_of (drop c octets))) ≡ c ∷ octets = sym (ap (flat_map frame) next) ∙ held.whole in
+    let whole : length text ∷ (text ++ flat_map with_length (strings_of (drop c octets))) ≡ c ∷ octets = sym (ap (flat_map with_length) next) ∙ held.whole in
     let count : length text ≡ c = cc whole in
-    let tail : text ++ flat_map frame (strings_of (drop c octets)) ≡ octets = cc whole in
+    let tail : text ++ flat_map with_length (strings_of (drop c octets)) ≡ octets = cc whole in
     let each : AllByRecursion IsString (text ∷ strings_of (drop c octets)) = subst (AllByRecursion IsString) next held.each in
-    let behind : drop (length (frame text)) (c ∷ octets) ≡ drop c octets = ap (λ n. drop n octets) count in
-    let rest : flat_map frame (strings_of (drop c octets)) ≡ drop c octets = sym (drop_at text (flat_map frame (strings_of (drop c octets))) c count) ∙ ap (drop c) tail in (
+    let behind : drop (length (with_length text)) (c ∷ octets) ≡ drop c octets = ap (λ n. drop n octets) count in
+    let rest : flat_map with_length (strings_of (drop c octets)) ≡ drop c octets = sym (drop_at text (flat_map with_length (strings_of (drop c octets))) c count) ∙ ap (drop c) tail in (
       record {
         some = some;
         held = each.0;
@@ -83,17 +83,17 @@ unfolding strings_of
 no_strings = refl
 
 -- a field of strings at the front of octets is all of them
-pub all_strings : (octets : List ℕ) → AreStrings (strings_of octets) → take (length (flat_map frame (strings_of octets))) octets ≡ flat_map frame (strings_of octets) → HoldsStrings octets
+pub all_strings : (octets : List ℕ) → AreStrings (strings_of octets) → take (length (flat_map with_length (strings_of octets))) octets ≡ flat_map with_length (strings_of octets) → HoldsStrings octets
 all_strings octets are front =
     let len = strings_len octets in
-    record { each = are.each; whole = sym front ∙ take_all (length (flat_map frame (strings_of octets))) octets (omega (arith, len)) }
+    record { each = are.each; whole = sym front ∙ take_all (length (flat_map with_length (strings_of octets))) octets (omega (arith, len)) }
 
 pub some_strings : (octets : List ℕ) → AreStrings (strings_of octets) → 0 < length octets
 some_strings [] are = let h : 0 < length (strings_of []) = are.some in let e : length (strings_of []) ≡ 0 = ap length no_strings in omega (arith, e)
 some_strings (c ∷ octets) are = omega arith
 
-pub nothing_behind : (octets : List ℕ) → drop (length (flat_map frame (strings_of octets))) octets ≡ []
-nothing_behind octets = drop_all (length (flat_map frame (strings_of octets))) octets (let len = strings_len octets in omega (arith, len))
+pub nothing_behind : (octets : List ℕ) → drop (length (flat_map with_length (strings_of octets))) octets ≡ []
+nothing_behind octets = drop_all (length (flat_map with_length (strings_of octets))) octets (let len = strings_len octets in omega (arith, len))
 
 pub nothing_after : (field : Field) (octets rest : List ℕ) → field ≡ fields.Strings → rest ≡ drop (length octets) octets → rest ≡ after_field field octets
 nothing_after field octets rest is e = e ∙ drop_all (length octets) octets (omega arith) ∙ sym (ap (λ f. after_field f octets) is ∙ nothing_behind octets)

@@ -2,7 +2,7 @@
 use Rattle.std.proofs.Common.{◌≡◌, ℕ, ◌<◌, ◌≤◌, List, [], ◌∷◌, ◌++◌, length, drop, map, sym, ap, ◌∙◌, subst, arith, append_assoc}
 use Rattle.std.specs.List.{flat_map, join_with_byte}
 use Rattle.std.proofs.lemmas.List.{append-nil, length-drop}
-use Rattle.zone_name.specs.Name.{frame}
+use Rattle.zone_name.specs.Name.{with_length}
 use Rattle.zone_rdata.specs.Fields.OneString.{BeginsWithString, string_at}
 use Rattle.zone_rdata.specs.Fields.Strings.{HoldsStrings, strings_of}
 use Rattle.zone_rdata.specs.Strings.{string_text}
@@ -11,7 +11,7 @@ use Rattle.zone_rdata.proofs.Texts.{joined_more}
 
 -- the octets behind the first string
 abbrev pub behind : List ℕ → List ℕ
-behind octets = drop (length (frame (string_at octets))) octets
+behind octets = drop (length (with_length (string_at octets))) octets
 
 abbrev pub strings_text : List ℕ → List ℕ
 strings_text octets = join_with_byte 32 (map string_text (strings_of octets))

@@ -10,9 +10,9 @@ use Rattle.zone_name.specs.Spelling.{Spells, is_digit}
 use Rattle.zone_name.specs.Text.{name_text, label_text, octet_text}
 use Rattle.zone_rdata.specs.declared.field.Field.{Field}
 use Rattle.zone_rdata.specs.declared.field.Field.TheVariants as fields
-use Rattle.zone_rdata.specs.Address.{IsAddressOctet, IsFourNumbers, IsGroups, four_text, groups_text}
-use Rattle.zone_rdata.specs.Field.{FieldValue, name, long, two_octets, fixed, string, strings, Holds, HoldEach, values_of, SpellsField}
-use Rattle.zone_rdata.specs.Fields.Address.{AreFixed, IsAddress, of_four, of_sixteen}
+use Rattle.zone_rdata.specs.Address.{IsAddressOctet, IsIpv4Address, IsIpv6Address, ipv4_text, ipv6_text}
+use Rattle.zone_rdata.specs.Field.{FieldValue, name, u32_value, u16_value, fixed, string, strings, Holds, HoldEach, values_of, SpellsField}
+use Rattle.zone_rdata.specs.Fields.Address.{AreFixed, IsAddress, of_ipv4, of_ipv6}
 use Rattle.zone_rdata.specs.Fields.Strings.{AreStrings, SpellEachString}
 use Rattle.zone_rdata.specs.Generic.{digit_items, generic_items}
 use Rattle.zone_rdata.specs.Item.{RawItem, bare, generic_mark, IsGeneric}
@@ -23,7 +23,7 @@ use Rattle.zone_rdata.specs.Spelling.{SpellEach, States, StatesFor, in_words, in
 use Rattle.zone_rdata.specs.Strings.{IsString, string_text}
 use Rattle.zone_rdata.specs.Text.{data_text, field_text, generic_text, laid_out_text}
 use Rattle.zone_rdata.specs.TextItems.{data_items, field_items, laid_out_items, string_item, written_item}
-use Rattle.zone_rdata.proofs.AddressLaws.{four_plain, four_printed, sixteen_plain, sixteen_printed}
+use Rattle.zone_rdata.proofs.AddressLaws.{ipv4_plain, ipv4_printed, ipv6_plain, ipv6_printed}
 use Rattle.zone_rdata.proofs.Fields.{AreFor}
 use Rattle.zone_rdata.proofs.Tables.{table_row}
 use Rattle.zone_rdata.proofs.GenericLaws.{decimal-is, printed-stated, printed-text}
@@ -89,21 +89,21 @@ record OneItem (origin : List (List ℕ)) (f : Field) (v : FieldValue) : Type 0 
   pub items : field_items v ≡ item ∷ []
   pub spelt : SpellsField origin f (item ∷ []) v
 
-text_of_four : (octets : List ℕ) → length octets ≡ 4 → field_text (fixed octets) ≡ four_text octets
-text_of_four octets e = ap (λ (n : ℕ). if n == 4 then four_text octets else groups_text octets) e
+text_of_ipv4 : (octets : List ℕ) → length octets ≡ 4 → field_text (fixed octets) ≡ ipv4_text octets
+text_of_ipv4 octets e = ap (λ (n : ℕ). if n == 4 then ipv4_text octets else ipv6_text octets) e
 
-text_of_sixteen : (octets : List ℕ) → length octets ≡ 16 → field_text (fixed octets) ≡ groups_text octets
-text_of_sixteen octets e = ap (λ (n : ℕ). if n == 4 then four_text octets else groups_text octets) e
+text_of_ipv6 : (octets : List ℕ) → length octets ≡ 16 → field_text (fixed octets) ≡ ipv6_text octets
+text_of_ipv6 octets e = ap (λ (n : ℕ). if n == 4 then ipv4_text octets else ipv6_text octets) e
 
 address_spelt : (n : ℕ) (octets : List ℕ) → (n ≡ 4) ⊎ (n ≡ 16) → AreFixed n octets → IsAddress n (field_text (fixed octets)) octets
-address_spelt n octets (inl e) h = of_four e (subst (λ t. IsFourNumbers t octets) (sym (text_of_four octets (h.size ∙ e))) (four_printed octets (h.size ∙ e) h.each))
-address_spelt n octets (inr e) h = of_sixteen e (subst (λ t. IsGroups t octets) (sym (text_of_sixteen octets (h.size ∙ e))) (sixteen_printed octets (h.size ∙ e) h.each))
+address_spelt n octets (inl e) h = of_ipv4 e (subst (λ t. IsIpv4Address t octets) (sym (text_of_ipv4 octets (h.size ∙ e))) (ipv4_printed octets (h.size ∙ e) h.each))
+address_spelt n octets (inr e) h = of_ipv6 e (subst (λ t. IsIpv6Address t octets) (sym (text_of_ipv6 octets (h.size ∙ e))) (ipv6_printed octets (h.size ∙ e) h.each))
 
 one_item : NamesPrinted → (origin : List (List ℕ)) (f : Field) (v : FieldValue) → f ≢ fields.Strings → IsSized f → Holds f v → OneItem origin f v
 one_item names origin fields.Name (name labels) other sized h = record { item = bare (name_text labels); items = refl; spelt = names (Some origin) labels h }
-one_item names origin fields.Serial (long n) other sized h = record { item = bare (decimal n); items = refl; spelt = (decimal-is n (omega arith), h) }
-one_item names origin fields.Time (long n) other sized h = record { item = bare (decimal n); items = refl; spelt = (plain (decimal-is n (omega arith)), h) }
-one_item names origin fields.U16 (two_octets n) other sized h = record { item = bare (decimal n); items = refl; spelt = (decimal-is n (omega arith), h) }
+one_item names origin fields.Serial (u32_value n) other sized h = record { item = bare (decimal n); items = refl; spelt = (decimal-is n (omega arith), h) }
+one_item names origin fields.Time (u32_value n) other sized h = record { item = bare (decimal n); items = refl; spelt = (plain (decimal-is n (omega arith)), h) }
+one_item names origin fields.U16 (u16_value n) other sized h = record { item = bare (decimal n); items = refl; spelt = (decimal-is n (omega arith), h) }
 one_item names origin (fields.Octets n) (fixed octets) other sized h = record { item = bare (field_text (fixed octets)); items = refl; spelt = address_spelt n octets sized h }
 one_item names origin fields.OneString (string octets) other sized h = record { item = string_item octets; items = refl; spelt = printed-spells octets h }
 one_item names origin fields.Strings (strings many) other sized h = absurd (other refl)
@@ -167,14 +167,14 @@ no_backslash (inr (inr (inl h))) = omega (arith, h)
 no_backslash (inr (inr (inr h))) = omega (arith, h)
 
 address_unmarked : (n : ℕ) (octets : List ℕ) → (n ≡ 4) ⊎ (n ≡ 16) → AreFixed n octets → field_text (fixed octets) ≡ 92 ∷ 35 ∷ [] → ⊥
-address_unmarked n octets (inl is) h e = no_backslash (subst (AllByRecursion IsAddressOctet) (sym (text_of_four octets (h.size ∙ is)) ∙ e) (four_plain octets (h.size ∙ is) h.each)).0
-address_unmarked n octets (inr is) h e = no_backslash (subst (AllByRecursion IsAddressOctet) (sym (text_of_sixteen octets (h.size ∙ is)) ∙ e) (sixteen_plain octets (h.size ∙ is) h.each)).0
+address_unmarked n octets (inl is) h e = no_backslash (subst (AllByRecursion IsAddressOctet) (sym (text_of_ipv4 octets (h.size ∙ is)) ∙ e) (ipv4_plain octets (h.size ∙ is) h.each)).0
+address_unmarked n octets (inr is) h e = no_backslash (subst (AllByRecursion IsAddressOctet) (sym (text_of_ipv6 octets (h.size ∙ is)) ∙ e) (ipv6_plain octets (h.size ∙ is) h.each)).0
 
 field_unmarked : (f : Field) (v : FieldValue) (items : List RawItem) → IsSized f → Holds f v → IsGeneric (field_items v ++ items) → ⊥
 field_unmarked fields.Name (name labels) items sized h g = name_unmarked labels (mark_text (name_text labels) items g.0 g.1)
-field_unmarked fields.Serial (long n) items sized h g = number_unmarked n (omega arith) (mark_text (decimal n) items g.0 g.1)
-field_unmarked fields.Time (long n) items sized h g = number_unmarked n (omega arith) (mark_text (decimal n) items g.0 g.1)
-field_unmarked fields.U16 (two_octets n) items sized h g = number_unmarked n (omega arith) (mark_text (decimal n) items g.0 g.1)
+field_unmarked fields.Serial (u32_value n) items sized h g = number_unmarked n (omega arith) (mark_text (decimal n) items g.0 g.1)
+field_unmarked fields.Time (u32_value n) items sized h g = number_unmarked n (omega arith) (mark_text (decimal n) items g.0 g.1)
+field_unmarked fields.U16 (u16_value n) items sized h g = number_unmarked n (omega arith) (mark_text (decimal n) items g.0 g.1)
 field_unmarked (fields.Octets n) (fixed octets) items sized h g = address_unmarked n octets sized h (mark_text (field_text (fixed octets)) items g.0 g.1)
 field_unmarked fields.OneString (string octets) items sized h g = cc g.1
 field_unmarked fields.Strings (strings []) items sized h g = omega (arith, h.some)

@@ -9,8 +9,8 @@ use Rattle.zone_rdata.specs.declared.field.Field.TheVariants as fields
 use Rattle.zone_rdata.specs.Field.{FieldValue, field_octets}
 use Rattle.zone_rdata.specs.Layout.{StringsLast, layout}
 use Rattle.zone_rdata.specs.Fields.Name.{BeginsWithSent}
-use Rattle.zone_rdata.specs.Fields.Strings.{AreFramed}
-use Rattle.zone_rdata.specs.Uncompressed.{IsUncompressed, BeginsWithValue, BeginsWithNone, AppendsValue, AppendsFront}
+use Rattle.zone_rdata.specs.Fields.Strings.{AreWithLengths}
+use Rattle.zone_rdata.specs.Uncompressed.{IsUncompressed, BeginsWithValue, BeginsWithNone, AppendsValue, AppendsPrefix}
 use Rattle.zone_rdata.proofs.AddressChoice.{Choice}
 use Rattle.zone_rdata.proofs.Tables.{table_row}
 use Rattle.zone_rdata.proofs.Fronts.{AreLow, Framed, framed_none, framed_more, framed_all, framed_empty, framed_short, appends_serial, appends_time, appends_two, appends_fixed, appends_string, appends_strings, appends_name, none_serial, none_time, none_two, none_fixed, none_string, none_nil, none_strings, none_name, value_once}
@@ -92,7 +92,7 @@ sent_or_not : (octets : List ℕ) → SentChoice octets
 sent_or_not octets = sent_by octets octets [] (length octets) (omega arith) (cut_none octets [] refl)
 
 -- ---- octets are strings or not
-framed_by : (octets rest : List ℕ) (fuel : ℕ) → 0 < length octets → length rest ≤ fuel → Framed octets rest → AreFramed octets ⊎ (AreFramed octets → ⊥)
+framed_by : (octets rest : List ℕ) (fuel : ℕ) → 0 < length octets → length rest ≤ fuel → Framed octets rest → AreWithLengths octets ⊎ (AreWithLengths octets → ⊥)
 framed_by octets [] fuel some enough framed = inl (framed_all octets [] some framed refl)
 framed_by octets (c ∷ behind) zero some enough framed = absurd (omega arith)
 framed_by octets (c ∷ behind) (suc fuel) some enough framed = elim (cases_lt (length behind) c) [
@@ -100,7 +100,7 @@ framed_by octets (c ∷ behind) (suc fuel) some enough framed = elim (cases_lt (
   | inr fits ↦ framed_by octets (drop c behind) fuel some (omega (arith, length-drop c behind)) (framed_more octets (c ∷ behind) c c behind (drop c behind) framed refl refl fits refl)
 ]
 
-framed_or_not : (octets : List ℕ) → AreLow octets → AreFramed octets ⊎ (AreFramed octets → ⊥)
+framed_or_not : (octets : List ℕ) → AreLow octets → AreWithLengths octets ⊎ (AreWithLengths octets → ⊥)
 framed_or_not [] low = inr (framed_empty [] refl)
 framed_or_not (c ∷ octets) low = framed_by (c ∷ octets) (c ∷ octets) (length (c ∷ octets)) (omega arith) (omega arith) (framed_none (c ∷ octets) low)
 
@@ -111,7 +111,7 @@ ValueChoice f octets = ((value : FieldValue) × ((rest : List ℕ) × BeginsWith
 found_value : (f : Field) (octets rest new : List ℕ) → AppendsValue f octets rest [] new → ValueChoice f octets
 found_value f octets rest new grows = inl (grows.value, (rest, grows.begins))
 
-front_of : (count : ℕ) (octets : List ℕ) → count ≤ length octets → AppendsFront count octets (drop count octets) [] (take count octets)
+front_of : (count : ℕ) (octets : List ℕ) → count ≤ length octets → AppendsPrefix count octets (drop count octets) [] (take count octets)
 front_of count octets fits = record { fits = fits; behind = refl; written = refl }
 
 name_value : (octets : List ℕ) → SentChoice octets → ValueChoice fields.Name octets
@@ -149,7 +149,7 @@ string_value (c ∷ behind) low = elim (cases_lt (length (c ∷ behind)) (c + 1)
   | inr fits ↦ found_value fields.OneString (c ∷ behind) (drop (c + 1) (c ∷ behind)) (take (c + 1) (c ∷ behind)) (appends_string (c ∷ behind) (drop (c + 1) (c ∷ behind)) [] (take (c + 1) (c ∷ behind)) c (c + 1) behind low refl refl (front_of (c + 1) (c ∷ behind) fits))
 ]
 
-strings_value : (octets : List ℕ) → AreFramed octets ⊎ (AreFramed octets → ⊥) → ValueChoice fields.Strings octets
+strings_value : (octets : List ℕ) → AreWithLengths octets ⊎ (AreWithLengths octets → ⊥) → ValueChoice fields.Strings octets
 strings_value octets (inl framed) = found_value fields.Strings octets (drop (length octets) octets) (take (length octets) octets) (appends_strings octets (drop (length octets) octets) [] (take (length octets) octets) framed (front_of (length octets) octets (omega arith)))
 strings_value octets (inr none) = inr (none_strings octets none)
 

@@ -3,7 +3,7 @@ use Rattle.std.proofs.Common.{◌≡◌, ◌≢◌, ℕ, ◌*◌, ◌≤◌, Lis
 use Rattle.std.specs.List.{AllByRecursion}
 use Rattle.zone_rdata.specs.declared.field.Field.{Field}
 use Rattle.zone_rdata.specs.declared.field.Field.TheVariants.{Name, Serial, Time, U16, Octets, OneString, Strings}
-use Rattle.zone_rdata.specs.Field.{FieldValue, name, long, two_octets, fixed, string, field_octets, octets_of, values_of, Holds, HoldEach}
+use Rattle.zone_rdata.specs.Field.{FieldValue, name, u32_value, u16_value, fixed, string, field_octets, octets_of, values_of, Holds, HoldEach}
 use Rattle.zone_rdata.specs.Layout.{IsData, IsSized, layout}
 use Rattle.zone_rdata.proofs.Fields.{AreFor, laid_out, values_back}
 use Rattle.zone_rdata.proofs.Tables.{table_row}
@@ -19,9 +19,9 @@ held_data class kind row values e held short = record {
 -- a field that is no strings takes at most 256 octets: a name at most 255, a string its length and at most 255
 short_value : (f : Field) (v : FieldValue) → f ≢ Strings → IsSized f → Holds f v → length (field_octets v) ≤ 256
 short_value Name (name labels) other sized held = omega (arith, held.short)
-short_value Serial (long n) other sized held = omega arith
-short_value Time (long n) other sized held = omega arith
-short_value U16 (two_octets n) other sized held = omega arith
+short_value Serial (u32_value n) other sized held = omega arith
+short_value Time (u32_value n) other sized held = omega arith
+short_value U16 (u16_value n) other sized held = omega arith
 short_value (Octets n) (fixed octets) other (inl four) held = omega (arith, held.size)
 short_value (Octets n) (fixed octets) other (inr sixteen) held = omega (arith, held.size)
 short_value OneString (string octets) other sized held = omega (arith, held.short)

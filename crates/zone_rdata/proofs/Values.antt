@@ -5,14 +5,14 @@ use Rattle.std.specs.Int.{w16, w32, to_be_bytes}
 use Rattle.std.specs.List.{flat_map}
 use Rattle.std.proofs.lemmas.List.{append-nil, drop_more, drop_all}
 use Rattle.std.proofs.lemmas.Result.{on_ok_weaker}
-use Rattle.zone_name.specs.Name.{frame, wire}
+use Rattle.zone_name.specs.Name.{with_length, wire}
 use Rattle.zone_name.specs.Spelling.{Spells}
 use Rattle.zone_rdata.specs.declared.fault.Failing.{Failing}
 use Rattle.zone_rdata.specs.declared.fault.Fault.{Fault}
 use Rattle.zone_rdata.specs.declared.item.Item.{Item}
 use Rattle.zone_rdata.specs.declared.field.Field.{Field}
 use Rattle.zone_rdata.specs.declared.field.Field.TheVariants as fields
-use Rattle.zone_rdata.specs.Field.{name, long, two_octets, fixed, string, strings}
+use Rattle.zone_rdata.specs.Field.{name, u32_value, u16_value, fixed, string, strings}
 use Rattle.zone_rdata.specs.Fields.Address.{IsAddress}
 use Rattle.zone_rdata.specs.Fields.Serial.{SpellsSerial}
 use Rattle.zone_rdata.specs.Fields.Strings.{SpellEachString, SpellsStrings, FirstStringFault, StringsFault}
@@ -32,13 +32,13 @@ pub on_name : (origin : List (List ℕ)) (field : Field) (item : RawItem) (text 
 on_name origin field item text old new r is which done = on_appended origin field fields.Name item text old new r is which (on_ok_weaker r (λ h. record { value = name h.value; stated = h.stated; written = h.written }) done)
 
 pub on_serial : (origin : List (List ℕ)) (field : Field) (item : RawItem) (text old new : List ℕ) (r : Result (Unit {0}) Failing) → item ≡ bare text → field ≡ fields.Serial → OnOk r (Appends (SpellsSerial text) (to_be_bytes w32) old new) → OnOk r (AppendsField origin field (item ∷ []) old new)
-on_serial origin field item text old new r is which done = on_appended origin field fields.Serial item text old new r is which (on_ok_weaker r (λ h. record { value = long h.value; stated = h.stated; written = h.written }) done)
+on_serial origin field item text old new r is which done = on_appended origin field fields.Serial item text old new r is which (on_ok_weaker r (λ h. record { value = u32_value h.value; stated = h.stated; written = h.written }) done)
 
 pub on_time : (origin : List (List ℕ)) (field : Field) (item : RawItem) (text old new : List ℕ) (r : Result (Unit {0}) Failing) → item ≡ bare text → field ≡ fields.Time → OnOk r (Appends (SpellsTime text) (to_be_bytes w32) old new) → OnOk r (AppendsField origin field (item ∷ []) old new)
-on_time origin field item text old new r is which done = on_appended origin field fields.Time item text old new r is which (on_ok_weaker r (λ h. record { value = long h.value; stated = h.stated; written = h.written }) done)
+on_time origin field item text old new r is which done = on_appended origin field fields.Time item text old new r is which (on_ok_weaker r (λ h. record { value = u32_value h.value; stated = h.stated; written = h.written }) done)
 
 pub on_two_octets : (origin : List (List ℕ)) (field : Field) (item : RawItem) (text old new : List ℕ) (r : Result (Unit {0}) Failing) → item ≡ bare text → field ≡ fields.U16 → OnOk r (Appends (SpellsU16 text) (to_be_bytes w16) old new) → OnOk r (AppendsField origin field (item ∷ []) old new)
-on_two_octets origin field item text old new r is which done = on_appended origin field fields.U16 item text old new r is which (on_ok_weaker r (λ h. record { value = two_octets h.value; stated = h.stated; written = h.written }) done)
+on_two_octets origin field item text old new r is which done = on_appended origin field fields.U16 item text old new r is which (on_ok_weaker r (λ h. record { value = u16_value h.value; stated = h.stated; written = h.written }) done)
 
 pub on_address : (origin : List (List ℕ)) (field : Field) (n : ℕ) (item : RawItem) (text old new : List ℕ) (r : Result (Unit {0}) Failing) → item ≡ bare text → field ≡ fields.Octets n → OnOk r (Appends (IsAddress n text) (λ octets. octets) old new) → OnOk r (AppendsField origin field (item ∷ []) old new)
 on_address origin field n item text old new r is which done = on_appended origin field (fields.Octets n) item text old new r is which (on_ok_weaker r (λ h. record { value = fixed h.value; stated = h.stated; written = h.written }) done)
@@ -47,12 +47,12 @@ pub on_string : (origin : List (List ℕ)) (field : Field) (item : RawItem) (old
 on_string origin field item old new r which done =
     on_ok_weaker r (λ h. subst (λ f. AppendsField origin f (item ∷ []) old new) (sym which) (record { value = string h.octets; stated = h.spelt; written = h.written })) done
 
-pub strings_appended : (origin : List (List ℕ)) (field : Field) (items : List RawItem) (old new : List ℕ) → field ≡ fields.Strings → Appends (SpellsStrings items) (flat_map frame) old new → AppendsField origin field items old new
+pub strings_appended : (origin : List (List ℕ)) (field : Field) (items : List RawItem) (old new : List ℕ) → field ≡ fields.Strings → Appends (SpellsStrings items) (flat_map with_length) old new → AppendsField origin field items old new
 strings_appended origin field items old new which h =
     subst (λ f. AppendsField origin f items old new) (sym which) (record { value = strings h.value; stated = h.stated; written = h.written })
 
 -- ---- the items of the field at their front
-pub all_appended : (origin : List (List ℕ)) (field : Field) (items : List Item) (old new : List ℕ) → field ≡ fields.Strings → Appends (SpellsStrings (map raw items)) (flat_map frame) old new → AppendsFirst origin field (map raw items) (map raw (drop (length items) items)) old new
+pub all_appended : (origin : List (List ℕ)) (field : Field) (items : List Item) (old new : List ℕ) → field ≡ fields.Strings → Appends (SpellsStrings (map raw items)) (flat_map with_length) old new → AppendsFirst origin field (map raw items) (map raw (drop (length items) items)) old new
 all_appended origin fields.Strings items old new which h = record {
   appends = strings_appended origin fields.Strings (map raw items) old new refl h;
   behind = ap (map raw) (drop_all (length items) items (omega arith));
@@ -63,7 +63,7 @@ all_appended origin field items old new which h = absurd cc
 
 -- some items were read, and what the others are, all are
 pub record HaveSpelt (items left : List RawItem) (old now : List ℕ) : Type 0 where
-  pub leads : (many : List (List ℕ)) → SpellEachString left many → Appends (SpellEachString items) (flat_map frame) old (now ++ flat_map frame many)
+  pub leads : (many : List (List ℕ)) → SpellEachString left many → Appends (SpellEachString items) (flat_map with_length) old (now ++ flat_map with_length many)
   pub fault : (fault : Fault) → FirstStringFault left fault → FirstStringFault items fault
 
 left_at : (items : List Item) (i : ℕ) (item d : Item) → i < length items → item ≡ get_or items i d → map raw (drop i items) ≡ raw item ∷ map raw (drop (i + 1) items)
@@ -74,7 +74,7 @@ spelt_more all items i item d old now new lt is read h =
     let left = map raw (drop (i + 1) items) in
     let here : HaveSpelt (map raw all) (raw item ∷ left) old now = subst (λ x. HaveSpelt (map raw all) x old now) (left_at items i item d lt is) read in
     record {
-      leads = λ many each. subst (Appends (SpellEachString (map raw all)) (flat_map frame) old) (sym (ap (λ o. o ++ flat_map frame many) h.written ∙ append_assoc now (frame h.octets) (flat_map frame many))) (here.leads (h.octets ∷ many) (h.spelt, each));
+      leads = λ many each. subst (Appends (SpellEachString (map raw all)) (flat_map with_length) old) (sym (ap (λ o. o ++ flat_map with_length many) h.written ∙ append_assoc now (with_length h.octets) (flat_map with_length many))) (here.leads (h.octets ∷ many) (h.spelt, each));
       fault = λ fault bad. here.fault fault (inr (h.octets, h.spelt, bad));
     }
 
@@ -88,7 +88,7 @@ spelt_bad all items i item d old now fault lt is read bad =
     let here : HaveSpelt (map raw all) (raw item ∷ map raw (drop (i + 1) items)) old now = subst (λ x. HaveSpelt (map raw all) x old now) (left_at items i item d lt is) read in
     some_first (map raw all) fault (here.fault fault (inl bad))
 
-pub spelt_all : (all items : List Item) (i : ℕ) (old now : List ℕ) → 0 < length all → length items ≤ i → HaveSpelt (map raw all) (map raw (drop i items)) old now → Appends (SpellsStrings (map raw all)) (flat_map frame) old now
+pub spelt_all : (all items : List Item) (i : ℕ) (old now : List ℕ) → 0 < length all → length items ≤ i → HaveSpelt (map raw all) (map raw (drop i items)) old now → Appends (SpellsStrings (map raw all)) (flat_map with_length) old now
 spelt_all [] items i old now some past read = absurd (omega arith)
 spelt_all (first ∷ all) items i old now some past read =
     let done : HaveSpelt (map raw (first ∷ all)) [] old now = subst (λ x. HaveSpelt (map raw (first ∷ all)) (map raw x) old now) (drop_all i items past) read in

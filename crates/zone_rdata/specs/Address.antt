@@ -19,39 +19,39 @@ pub record AreNumbers (count : ℕ) (text octets : List ℕ) : Type 0 where
   pub each : AllZip IsOctetNumber numbers octets
 
 -- an address of four octets: four decimal numbers parted by dots (RFC 1035 3.4.1)
-abbrev pub IsFourNumbers : List ℕ → List ℕ → Type 0
-IsFourNumbers text octets = AreNumbers 4 text octets
+abbrev pub IsIpv4Address : List ℕ → List ℕ → Type 0
+IsIpv4Address text octets = AreNumbers 4 text octets
 
 -- what stands between the colons of an address, and the octets that it stands for
-pub record Part : Type 0 where
+pub record AddressPart : Type 0 where
   pub text : List ℕ
   pub octets : List ℕ
 
 -- a group, one to four hexadecimal digits in any case: with zeros before them to make four, the digits of two
 -- octets, the higher first
-pub record IsGroup (p : Part) : Type 0 where
+pub record IsGroup (p : AddressPart) : Type 0 where
   pub some : 0 < length p.text
   pub few : length p.text ≤ 4
   pub value : decode_sized (replicate (4 - length p.text) 48 ++ p.text) 2 ≡ Ok p.octets
 
 -- a group, or at an address's end four decimal numbers in place of two groups
-abbrev pub IsLastPart : Bool → Part → Type 0
-IsLastPart ends p = IsGroup p ⊎ (IsTrue ends × IsFourNumbers p.text p.octets)
+abbrev pub IsLastPart : Bool → AddressPart → Type 0
+IsLastPart ends p = IsGroup p ⊎ (IsTrue ends × IsIpv4Address p.text p.octets)
 
-abbrev pub AreParts : Bool → List Part → Type 0
+abbrev pub AreParts : Bool → List AddressPart → Type 0
 AreParts ends [] = Unit {0}
 AreParts ends (p ∷ []) = IsLastPart ends p
 AreParts ends (p ∷ q ∷ parts) = IsGroup p × AreParts ends (q ∷ parts)
 
-abbrev pub parts_text : List Part → List ℕ
-parts_text parts = join_with_byte 58 (map (λ (p : Part). p.text) parts)
+abbrev pub parts_text : List AddressPart → List ℕ
+parts_text parts = join_with_byte 58 (map (λ (p : AddressPart). p.text) parts)
 
-abbrev pub parts_octets : List Part → List ℕ
-parts_octets parts = flat_map (λ (p : Part). p.octets) parts
+abbrev pub parts_octets : List AddressPart → List ℕ
+parts_octets parts = flat_map (λ (p : AddressPart). p.octets) parts
 
 -- parts with colons between them, none at all too, and their octets; at an address's end or before it
 pub record ArePartsOf (ends : Bool) (text octets : List ℕ) : Type 0 where
-  pub parts : List Part
+  pub parts : List AddressPart
   pub each : AreParts ends parts
   pub parted : text ≡ parts_text parts
   pub value : octets ≡ parts_octets parts
@@ -66,13 +66,13 @@ pub record AreAround (front back octets : List ℕ) : Type 0 where
   pub value : octets ≡ before ++ (replicate (16 - length before - length after) 0 ++ after)
 
 -- an address of sixteen octets: eight groups, or fewer with `::` in one place (RFC 4291 2.2)
-pub data IsGroups (text octets : List ℕ) : Type 0 where
-  eight : ArePartsOf true text octets → length octets ≡ 16 → IsGroups text octets
-  fewer : (front back : List ℕ) → text ≡ front ++ (codes "::" ++ back) → AreAround front back octets → IsGroups text octets
+pub data IsIpv6Address (text octets : List ℕ) : Type 0 where
+  eight : ArePartsOf true text octets → length octets ≡ 16 → IsIpv6Address text octets
+  fewer : (front back : List ℕ) → text ≡ front ++ (codes "::" ++ back) → AreAround front back octets → IsIpv6Address text octets
 
 -- the canonical text of four octets: decimal numbers without leading zeros
-abbrev pub four_text : List ℕ → List ℕ
-four_text octets = std_text.ipv4_text octets
+abbrev pub ipv4_text : List ℕ → List ℕ
+ipv4_text octets = std_text.ipv4_text octets
 
 -- groups of 16 bits in lower case without leading zeros, parted by colons (RFC 5952 4.1, 4.3)
 abbrev pub parted_groups : List ℕ → List ℕ
@@ -84,8 +84,8 @@ shortened_groups groups start len = parted_groups (take start groups) ++ codes "
 
 -- The canonical text of sixteen octets (RFC 5952 4): `::` stands for the longest run of zero groups, the first of
 -- equal ones, if it has two groups or more.
-abbrev pub groups_text : List ℕ → List ℕ
-groups_text octets = let groups = segments_of octets in std_text.compressed_text groups (std_text.longest_zero_run groups)
+abbrev pub ipv6_text : List ℕ → List ℕ
+ipv6_text octets = let groups = segments_of octets in std_text.compressed_text groups (std_text.longest_zero_run groups)
 
 -- so many zero groups in a row
 abbrev pub IsZeroRun : List ℕ → ℕ → ℕ → Type 0

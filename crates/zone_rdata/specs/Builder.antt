@@ -7,7 +7,7 @@ use Rattle.zone_rdata.specs.declared.fault.Fault.{Fault}
 use Rattle.zone_rdata.specs.declared.fault.Fault.TheVariants.{BadRdata, StringTooLong, RdataTooLong}
 use Rattle.zone_rdata.specs.declared.field.Field.{Field}
 use Rattle.zone_rdata.specs.declared.field.Field.TheVariants.{OneString, Strings}
-use Rattle.zone_rdata.specs.Field.{FieldValue, name, long, two_octets, fixed, string, Suits, field_octets, is_strings, octets_of, values_of}
+use Rattle.zone_rdata.specs.Field.{FieldValue, name, u32_value, u16_value, fixed, string, Suits, field_octets, is_strings, octets_of, values_of}
 use Rattle.zone_rdata.specs.Layout.{AreLaidOut, layout}
 use Rattle.zone_rdata.specs.Words.{IsClass, IsKind}
 
@@ -101,8 +101,8 @@ pub record IsBuilt (class kind count : ℕ) (octets : List ℕ) : Type 0 where
 -- a value that a part can be
 abbrev pub IsReal : FieldValue → Type 0
 IsReal (name labels) = IsName labels
-IsReal (long n) = n < 2 ^ 32
-IsReal (two_octets n) = n < 2 ^ 16
+IsReal (u32_value n) = n < 2 ^ 32
+IsReal (u16_value n) = n < 2 ^ 16
 IsReal (fixed octets) = AllByRecursion (λ c. c < 256) octets
 IsReal (string octets) = AllByRecursion (λ c. c < 256) octets
 IsReal part = ⊤

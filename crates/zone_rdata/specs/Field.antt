@@ -2,7 +2,7 @@
 -- spell them and the fault of items that don't. What is said of a kind stands in `Fields`, a file each.
 use Rattle.std.specs.Prelude.{◌≡◌, ℕ, ◌<◌, List, [], ◌∷◌, length, take, drop, Bool, true, false, ⊤, Option, Some}
 use Rattle.std.specs.List.{flat_map}
-use Rattle.zone_name.specs.Name.{frame, wire, labels_of, IsName}
+use Rattle.zone_name.specs.Name.{with_length, wire, labels_of, IsName}
 use Rattle.zone_name.specs.Spelling.{Spells}
 use Rattle.zone_rdata.specs.declared.fault.Fault.{Fault}
 use Rattle.zone_rdata.specs.declared.fault.Fault.TheVariants.{BadRdata, BadNumber}
@@ -22,8 +22,8 @@ use Rattle.zone_rdata.specs.Strings.{IsString, SpellsString, StringFault}
 -- the value of one field: a name, a number of 32 or of 16 bits, octets of a fixed number, a string, or strings
 pub data FieldValue : Type 0 where
   name : List (List ℕ) → FieldValue
-  long : ℕ → FieldValue
-  two_octets : ℕ → FieldValue
+  u32_value : ℕ → FieldValue
+  u16_value : ℕ → FieldValue
   fixed : List ℕ → FieldValue
   string : List ℕ → FieldValue
   strings : List (List ℕ) → FieldValue
@@ -31,11 +31,11 @@ pub data FieldValue : Type 0 where
 -- its octets: a name uncompressed, a number with the highest octet first, a string behind its length
 abbrev pub field_octets : FieldValue → List ℕ
 field_octets (name labels) = wire labels
-field_octets (long n) = serial_octets n
-field_octets (two_octets n) = u16_octets n
+field_octets (u32_value n) = serial_octets n
+field_octets (u16_value n) = u16_octets n
 field_octets (fixed octets) = octets
-field_octets (string octets) = frame octets
-field_octets (strings many) = flat_map frame many
+field_octets (string octets) = with_length octets
+field_octets (strings many) = flat_map with_length many
 
 abbrev pub octets_of : List FieldValue → List ℕ
 octets_of values = flat_map field_octets values
@@ -43,9 +43,9 @@ octets_of values = flat_map field_octets values
 -- the value is one that the field can hold
 abbrev pub Holds : Field → FieldValue → Type 0
 Holds Name (name labels) = IsName labels
-Holds Serial (long n) = IsSerial n
-Holds Time (long n) = IsSerial n
-Holds U16 (two_octets n) = IsU16 n
+Holds Serial (u32_value n) = IsSerial n
+Holds Time (u32_value n) = IsSerial n
+Holds U16 (u16_value n) = IsU16 n
 Holds (Octets n) (fixed octets) = AreFixed n octets
 Holds OneString (string octets) = IsString octets
 Holds Strings (strings many) = AreStrings many
@@ -61,9 +61,9 @@ HoldEach (f ∷ fields) (v ∷ values) = Holds f v × HoldEach fields values
 -- the value of a field at the front of octets; strings are all that is left
 abbrev pub field_at : Field → List ℕ → FieldValue
 field_at Name octets = name (labels_of octets)
-field_at Serial octets = long (serial_at octets)
-field_at Time octets = long (serial_at octets)
-field_at U16 octets = two_octets (u16_at octets)
+field_at Serial octets = u32_value (serial_at octets)
+field_at Time octets = u32_value (serial_at octets)
+field_at U16 octets = u16_value (u16_at octets)
 field_at (Octets n) octets = fixed (take n octets)
 field_at OneString octets = string (string_at octets)
 field_at Strings octets = strings (strings_of octets)
@@ -82,9 +82,9 @@ IsSent value octets = octets ≡ field_octets value
 -- one item, bare or quoted, a string; one or more items strings, one each
 abbrev pub SpellsField : List (List ℕ) → Field → List RawItem → FieldValue → Type 0
 SpellsField origin Name (bare text ∷ []) (name labels) = Spells (Some origin) text labels
-SpellsField origin Serial (bare text ∷ []) (long n) = SpellsSerial text n
-SpellsField origin Time (bare text ∷ []) (long n) = SpellsTime text n
-SpellsField origin U16 (bare text ∷ []) (two_octets n) = SpellsU16 text n
+SpellsField origin Serial (bare text ∷ []) (u32_value n) = SpellsSerial text n
+SpellsField origin Time (bare text ∷ []) (u32_value n) = SpellsTime text n
+SpellsField origin U16 (bare text ∷ []) (u16_value n) = SpellsU16 text n
 SpellsField origin (Octets n) (bare text ∷ []) (fixed octets) = IsAddress n text octets
 SpellsField origin OneString (item ∷ []) (string octets) = SpellsString item octets
 SpellsField origin Strings items (strings many) = SpellsStrings items many
@@ -120,9 +120,9 @@ is_strings field = false
 -- the part is one for the field, however many octets a string has; a field of octets has some
 abbrev pub Suits : Option Field → FieldValue → Type 0
 Suits (Some Name) (name labels) = ⊤
-Suits (Some Serial) (long n) = ⊤
-Suits (Some Time) (long n) = ⊤
-Suits (Some U16) (two_octets n) = ⊤
+Suits (Some Serial) (u32_value n) = ⊤
+Suits (Some Time) (u32_value n) = ⊤
+Suits (Some U16) (u16_value n) = ⊤
 Suits (Some (Octets n)) (fixed octets) = (length octets ≡ n) × (0 < n)
 Suits (Some OneString) (string octets) = ⊤
 Suits (Some Strings) (string octets) = ⊤

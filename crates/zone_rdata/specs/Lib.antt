@@ -23,4 +23,3 @@ pub mod TextItems
 pub mod Source
 pub mod Machine
 pub mod Builder
-pub mod BuilderPart

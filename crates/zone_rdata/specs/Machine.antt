@@ -1,2 +1,3 @@
 -- What private functions and proofs cite, and no public clause.
 pub mod AddressReading
+pub mod Pushed

@@ -1,13 +1,13 @@
 -- The MINIMUM of an SOA's data (RFC 1035 3.3.13): its last field.
 use Rattle.std.specs.Prelude.{ℕ, List, ◌==◌, if◌then◌else◌, fold, Option, Some, None}
 use Rattle.zone_rdata.specs.declared.field.Field.{Field}
-use Rattle.zone_rdata.specs.Field.{FieldValue, long, values_of}
+use Rattle.zone_rdata.specs.Field.{FieldValue, u32_value, values_of}
 use Rattle.zone_rdata.specs.Layout.{layout}
 use Rattle.zone_rdata.specs.Record.{Data}
 
 -- the value, if it is a number of 32 bits
 abbrev pub number_in : FieldValue → Option ℕ
-number_in (long n) = Some n
+number_in (u32_value n) = Some n
 number_in value = None
 
 -- the last value, if it is a number of 32 bits

@@ -4,8 +4,8 @@ use Rattle.std.specs.List.{join_with_byte}
 use Rattle.hex.specs.Hex.{encode_lower}
 use Rattle.zone_name.specs.Text.{name_text}
 use Rattle.zone_rdata.specs.declared.field.Field.{Field}
-use Rattle.zone_rdata.specs.Field.{FieldValue, name, long, two_octets, fixed, string, strings, Holds, field_octets, field_at, values_of}
-use Rattle.zone_rdata.specs.Address.{four_text, groups_text}
+use Rattle.zone_rdata.specs.Field.{FieldValue, name, u32_value, u16_value, fixed, string, strings, Holds, field_octets, field_at, values_of}
+use Rattle.zone_rdata.specs.Address.{ipv4_text, ipv6_text}
 use Rattle.zone_rdata.specs.Layout.{layout}
 use Rattle.zone_rdata.specs.Strings.{string_text}
 use Rattle.zone_rdata.specs.Record.{Data}
@@ -14,9 +14,9 @@ use Rattle.zone_rdata.specs.Record.{Data}
 -- parted by single spaces
 abbrev pub field_text : FieldValue → List ℕ
 field_text (name labels) = name_text labels
-field_text (long n) = decimal n
-field_text (two_octets n) = decimal n
-field_text (fixed octets) = if length octets == 4 then four_text octets else groups_text octets
+field_text (u32_value n) = decimal n
+field_text (u16_value n) = decimal n
+field_text (fixed octets) = if length octets == 4 then ipv4_text octets else ipv6_text octets
 field_text (string octets) = string_text octets
 field_text (strings many) = join_with_byte 32 (map string_text many)
 

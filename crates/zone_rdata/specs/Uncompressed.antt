@@ -35,7 +35,7 @@ abbrev pub BeginsWithNone : Field → List ℕ → Type 0
 BeginsWithNone field octets = (value : FieldValue) (rest : List ℕ) → BeginsWithValue field octets value rest → ⊥
 
 -- the front of octets is appended, and the rest is behind it
-pub record AppendsFront (count : ℕ) (octets rest old new : List ℕ) : Type 0 where
+pub record AppendsPrefix (count : ℕ) (octets rest old new : List ℕ) : Type 0 where
   pub fits : count ≤ length octets
   pub behind : rest ≡ drop count octets
   pub written : new ≡ old ++ take count octets

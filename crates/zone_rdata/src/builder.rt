@@ -1,19 +1,19 @@
 ghost use Rattle.std.specs.Prelude.{◌≡◌, ◌↔◌, [], ◌≤◌, length, IsTrue, IfOk, IfErr, OnOk, OnErr};
 ghost use Rattle.zone_rdata.specs.Builder.{Built, Grows, IsNext, IsOver, IsPushFault, IsReal, IsWhole, Pushes, least_of};
-ghost use Rattle.zone_rdata.specs.BuilderPart.{value_of};
+ghost use Rattle.zone_rdata.specs.Machine.Pushed.{value_of};
 ghost use Rattle.zone_rdata.specs.Fault.{IfFault};
-ghost use Rattle.zone_rdata.specs.Field.{fixed, long, name, octets_of, string, two_octets};
+ghost use Rattle.zone_rdata.specs.Field.{fixed, u32_value, name, octets_of, string, u16_value};
 ghost use Rattle.zone_rdata.specs.Layout.{layout};
 
 use crate::class::Class;
 use crate::fault::{Failing, Fault};
 use crate::kind::Kind;
 use crate::layout::layout_of;
-use crate::number::{long_octets, short_octets};
+use crate::number::{u16_octets_of, u32_octets};
 use crate::rdata::Rdata;
 use crate::reading::are_octets;
 use crate::record::LONGEST_DATA;
-use crate::string::push_framed;
+use crate::string::push_with_length;
 use std::alloc::Global;
 use std::marker::Model;
 use zone_name::Name;
@@ -41,7 +41,7 @@ impl Model for RdataBuilder {
 
 /// What a push hands in.
 #[derive(Clone, Copy)]
-pub(crate) enum Part<'p> {
+pub(crate) enum Pushed<'p> {
     Octets(&'p [u8]),
     U16(u16),
     U32(u32),
@@ -75,7 +75,7 @@ impl RdataBuilder {
         ensures fault { IfErr result (IfFault (IsPushFault self.old (fixed octets.now))) }
         ensures err { OnErr result (self.new ≡ self.old) }
     {
-        self.push(Part::Octets(octets))
+        self.push(Pushed::Octets(octets))
     }
 
     /// Pushes a number of 16 bits. Refused, the builder has what it had.
@@ -85,11 +85,11 @@ impl RdataBuilder {
     /// `BadRdata` where that isn't the next part, `RdataTooLong` where the data would have more than 65,535 octets,
     /// and want of memory.
     pub fn push_u16(&mut self, number: u16) -> Result<(), Failing>
-        ensures ok { OnOk result (Pushes self.old (two_octets number) self.new) }
-        ensures fault { IfErr result (IfFault (IsPushFault self.old (two_octets number))) }
+        ensures ok { OnOk result (Pushes self.old (u16_value number) self.new) }
+        ensures fault { IfErr result (IfFault (IsPushFault self.old (u16_value number))) }
         ensures err { OnErr result (self.new ≡ self.old) }
     {
-        self.push(Part::U16(number))
+        self.push(Pushed::U16(number))
     }
 
     /// Pushes a number of 32 bits, a serial or a time in seconds. Refused, the builder has what it had.
@@ -98,11 +98,11 @@ impl RdataBuilder {
     ///
     /// As `push_u16` has.
     pub fn push_u32(&mut self, number: u32) -> Result<(), Failing>
-        ensures ok { OnOk result (Pushes self.old (long number) self.new) }
-        ensures fault { IfErr result (IfFault (IsPushFault self.old (long number))) }
+        ensures ok { OnOk result (Pushes self.old (u32_value number) self.new) }
+        ensures fault { IfErr result (IfFault (IsPushFault self.old (u32_value number))) }
         ensures err { OnErr result (self.new ≡ self.old) }
     {
-        self.push(Part::U32(number))
+        self.push(Pushed::U32(number))
     }
 
     /// Pushes a name. Refused, the builder has what it had.
@@ -115,7 +115,7 @@ impl RdataBuilder {
         ensures fault { IfErr result (IfFault (IsPushFault self.old (name target.now))) }
         ensures err { OnErr result (self.new ≡ self.old) }
     {
-        self.push(Part::Name(target))
+        self.push(Pushed::Name(target))
     }
 
     /// Pushes a string, the next field or one more of several. Refused, the builder has what it had.
@@ -129,11 +129,11 @@ impl RdataBuilder {
         ensures fault { IfErr result (IfFault (IsPushFault self.old (string octets.now))) }
         ensures err { OnErr result (self.new ≡ self.old) }
     {
-        self.push(Part::String(octets))
+        self.push(Pushed::String(octets))
     }
 
     /// Pushes a part.
-    fn push(&mut self, part: Part) -> Result<(), Failing>
+    fn push(&mut self, part: Pushed) -> Result<(), Failing>
         ensures ok { OnOk result (Pushes self.old (value_of part.entry) self.new) }
         ensures fault { IfErr result (IfFault (IsPushFault self.old (value_of part.entry))) }
         ensures err { OnErr result (self.new ≡ self.old) }
@@ -175,11 +175,11 @@ fn least_parts(class: Class, kind: Kind) -> usize
 }
 
 /// Whether the part is the next behind so many.
-fn is_next(class: Class, kind: Kind, count: usize, part: Part) -> bool
+fn is_next(class: Class, kind: Kind, count: usize, part: Pushed) -> bool
     ensures { IsTrue result ↔ IsNext (layout class kind) count (value_of part.entry) }
 {
     let Some(layout) = layout_of(class, kind) else {
-        return count == 0 && matches!(part, Part::Octets(_));
+        return count == 0 && matches!(part, Pushed::Octets(_));
     };
     match layout.part_at(count) {
         Some(field) => field.suits(part),
@@ -188,29 +188,29 @@ fn is_next(class: Class, kind: Kind, count: usize, part: Part) -> bool
 }
 
 /// What holds of every part.
-fn known(part: Part)
+fn known(part: Pushed)
     ensures { IsReal (value_of part.entry) }
 {
     match part {
-        Part::Octets(octets) | Part::String(octets) => are_octets(octets),
-        Part::Name(name) => name.known(),
-        Part::U16(_) | Part::U32(_) => {}
+        Pushed::Octets(octets) | Pushed::String(octets) => are_octets(octets),
+        Pushed::Name(name) => name.known(),
+        Pushed::U16(_) | Pushed::U32(_) => {}
     }
 }
 
 /// Appends the octets of a part. Refused, `out` holds what it held.
-fn append(part: Part, out: &mut Vec<u8>) -> Result<(), Failing>
+fn append(part: Pushed, out: &mut Vec<u8>) -> Result<(), Failing>
     requires { length out.old.items ≤ LONGEST_DATA }
     ensures ok { OnOk result (Grows out.old.items (value_of part.entry) out.new.items) }
     ensures fault { IfErr result (IfFault (IsOver out.old.items (value_of part.entry))) }
     ensures err { OnErr result (out.new.items ≡ out.old.items) }
 {
     match part {
-        Part::Octets(octets) => append_octets(octets, out),
-        Part::U16(number) => append_octets(&short_octets(number), out),
-        Part::U32(number) => append_octets(&long_octets(number), out),
-        Part::Name(name) => append_octets(name.wire(), out),
-        Part::String(octets) => append_string(octets, out),
+        Pushed::Octets(octets) => append_octets(octets, out),
+        Pushed::U16(number) => append_octets(&u16_octets_of(number), out),
+        Pushed::U32(number) => append_octets(&u32_octets(number), out),
+        Pushed::Name(name) => append_octets(name.wire(), out),
+        Pushed::String(octets) => append_string(octets, out),
     }
 }
 
@@ -241,6 +241,6 @@ fn append_string(octets: &[u8], out: &mut Vec<u8>) -> Result<(), Failing>
     if octets.len() + 1 > LONGEST_DATA - out.len() {
         return Err(Failing::Fault(Fault::RdataTooLong));
     }
-    push_framed(octets, out)?;
+    push_with_length(octets, out)?;
     Ok(())
 }

@@ -1,6 +1,6 @@
 ghost use Rattle.std.specs.Prelude.{◌≡◌, ◌↔◌, ◌≤◌, ◌∷◌, [], Some, drop, length, map, IsTrue, IfOk, IfErr, OnOk};
 ghost use Rattle.zone_rdata.specs.Field.{Suits, is_strings, IsFieldFault, field_at, own_items};
-ghost use Rattle.zone_rdata.specs.BuilderPart.{value_of};
+ghost use Rattle.zone_rdata.specs.Machine.Pushed.{value_of};
 ghost use Rattle.zone_rdata.specs.Fault.{IfFault};
 ghost use Rattle.zone_rdata.specs.Item.{raw};
 ghost use Rattle.zone_rdata.specs.Minimum.{number_in};
@@ -17,7 +17,7 @@ mod strings;
 mod time;
 mod u16;
 
-use crate::builder::Part;
+use crate::builder::Pushed;
 use crate::fault::{Failing, Fault};
 use crate::item::Item;
 use crate::string::push_string;
@@ -26,13 +26,13 @@ use front::push_front;
 pub(crate) use name::split_name;
 use name::{push_name, push_sent_name};
 use serial::push_serial;
-pub(crate) use serial::split_long;
+pub(crate) use serial::split_u32;
 use string::push_sent_string;
 pub(crate) use string::split_string;
 use strings::{push_sent_strings, push_strings};
 use time::push_time;
-use u16::push_short;
-pub(crate) use u16::split_short;
+use u16::push_u16_text;
+pub(crate) use u16::split_u16;
 use zone_name::Name;
 
 /// A field of record data (RFC 1035 3.3).
@@ -74,7 +74,7 @@ impl Field {
             (Field::Name, Item::Bare(text)) => push_name(text, origin, octets),
             (Field::Serial, Item::Bare(text)) => push_serial(text, octets),
             (Field::Time, Item::Bare(text)) => push_time(text, octets),
-            (Field::U16, Item::Bare(text)) => push_short(text, octets),
+            (Field::U16, Item::Bare(text)) => push_u16_text(text, octets),
             (Field::Octets(count), Item::Bare(text)) => push_address(count, text, octets),
         }
     }
@@ -127,8 +127,8 @@ impl Field {
     {
         match self {
             Field::Name => split_name(octets).1,
-            Field::Serial | Field::Time => split_long(octets).1,
-            Field::U16 => split_short(octets).1,
+            Field::Serial | Field::Time => split_u32(octets).1,
+            Field::U16 => split_u16(octets).1,
             Field::Octets(count) => octets.split_at(count).1,
             Field::OneString => split_string(octets).1,
             Field::Strings => octets.split_at(octets.len()).1,
@@ -141,21 +141,21 @@ impl Field {
         ensures { result ≡ number_in (field_at self octets.now) }
     {
         match self {
-            Field::Serial | Field::Time => Some(split_long(octets).0),
+            Field::Serial | Field::Time => Some(split_u32(octets).0),
             _ => None,
         }
     }
 
     /// Whether the part is one for the field.
-    pub(crate) fn suits(self, part: Part) -> bool
+    pub(crate) fn suits(self, part: Pushed) -> bool
         ensures { IsTrue result ↔ Suits (Some self) (value_of part.entry) }
     {
         match (self, part) {
-            (Field::Octets(count), Part::Octets(octets)) => octets.len() == count && count > 0,
-            (Field::U16, Part::U16(_)) => true,
-            (Field::Serial | Field::Time, Part::U32(_)) => true,
-            (Field::Name, Part::Name(_)) => true,
-            (Field::OneString | Field::Strings, Part::String(_)) => true,
+            (Field::Octets(count), Pushed::Octets(octets)) => octets.len() == count && count > 0,
+            (Field::U16, Pushed::U16(_)) => true,
+            (Field::Serial | Field::Time, Pushed::U32(_)) => true,
+            (Field::Name, Pushed::Name(_)) => true,
+            (Field::OneString | Field::Strings, Pushed::String(_)) => true,
             _ => false,
         }
     }

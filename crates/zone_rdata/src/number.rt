@@ -38,7 +38,7 @@ pub(crate) fn at_most(most: u32, number: Option<u64>) -> Result<u32, Fault>
 }
 
 /// The octets of a number of 16 bits, the highest first.
-pub(crate) fn short_octets(number: u16) -> [u8; 2]
+pub(crate) fn u16_octets_of(number: u16) -> [u8; 2]
     ensures { result ≡ to_be_bytes w16 number }
 {
     let mut octets = [0; 2];
@@ -47,7 +47,7 @@ pub(crate) fn short_octets(number: u16) -> [u8; 2]
 }
 
 /// The octets of a number of 32 bits, the highest first.
-pub(crate) fn long_octets(number: u32) -> [u8; 4]
+pub(crate) fn u32_octets(number: u32) -> [u8; 4]
     ensures { result ≡ to_be_bytes w32 number }
 {
     let mut octets = [0; 4];

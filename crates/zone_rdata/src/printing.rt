@@ -8,8 +8,8 @@ ghost use Rattle.zone_rdata.specs.Strings.{string_text};
 ghost use Rattle.zone_rdata.specs.Text.{BeginsWithField, after_field, field_text, generic_head, generic_text, laid_out_text, spaced};
 ghost use Rattle.hex.specs.Hex.{encode_lower};
 
-use crate::address::{push_four, push_sixteen};
-use crate::field::{Field, split_long, split_name, split_short, split_string};
+use crate::address::{push_ipv4, push_ipv6};
+use crate::field::{Field, split_name, split_string, split_u16, split_u32};
 use crate::layout::Layout;
 use crate::string::push_string_text;
 use arrayvec::ArrayVec;
@@ -33,9 +33,9 @@ fn push_address<S: Sink>(octets: &[u8], out: &mut S) -> Result<(), S::Error>
     ensures err { OnErr result (S.takes out.old [] out.new) }
 {
     if octets.len() == 4 {
-        push_four(octets, out)
+        push_ipv4(octets, out)
     } else {
-        push_sixteen(octets, out)
+        push_ipv6(octets, out)
     }
 }
 
@@ -76,12 +76,12 @@ fn push_field<'o, S: Sink>(
             Ok(rest)
         }
         Field::Serial | Field::Time => {
-            let (number, rest) = split_long(octets);
+            let (number, rest) = split_u32(octets);
             push_decimal(number, out)?;
             Ok(rest)
         }
         Field::U16 => {
-            let (number, rest) = split_short(octets);
+            let (number, rest) = split_u16(octets);
             push_decimal(u32::from(number), out)?;
             Ok(rest)
         }

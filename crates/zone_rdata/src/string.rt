@@ -1,5 +1,5 @@
 ghost use Rattle.std.specs.Prelude.{◌≡◌, ◌++◌, ◌≤◌, [], length, IfOk, IfErr, OnOk, OnErr, Err};
-ghost use Rattle.zone_name.specs.Name.{frame};
+ghost use Rattle.zone_name.specs.Name.{with_length};
 ghost use Rattle.zone_name.specs.Sink.{TakesSome};
 ghost use Rattle.zone_rdata.specs.Item.{raw};
 ghost use Rattle.zone_rdata.specs.Strings.{AppendsString, SpellsString, StringFault, item_text, string_text, unit_text};
@@ -23,14 +23,14 @@ pub(crate) fn push_string(item: Item, out: &mut Vec<u8>) -> Result<(), Failing>
     ensures err { OnErr result (out.new.items ≡ out.old.items) }
 {
     let octets = string_of(item)?;
-    push_framed(octets.as_slice(), out)?;
+    push_with_length(octets.as_slice(), out)?;
     Ok(())
 }
 
 /// Appends a string's octets behind their number. Where memory is refused, `out` holds what it held.
-pub(crate) fn push_framed(octets: &[u8], out: &mut Vec<u8>) -> Result<(), AllocError>
+pub(crate) fn push_with_length(octets: &[u8], out: &mut Vec<u8>) -> Result<(), AllocError>
     requires { length octets.now ≤ 255 }
-    ensures ok { OnOk result (out.new.items ≡ out.old.items ++ frame octets.now) }
+    ensures ok { OnOk result (out.new.items ≡ out.old.items ++ with_length octets.now) }
     ensures err { OnErr result (out.new.items ≡ out.old.items) }
 {
     let before = out.len();

@@ -4,7 +4,7 @@ use Rattle.zone_rdata.specs.Record.{Record}
 use Rattle.zone_rdata.specs.Spelling.{bare, quoted}
 use Rattle.zone_rdata.specs.declared.fault.Fault.{Fault}
 use Rattle.zone_text.specs.Entries.{Entry}
-use Rattle.zone_text.specs.Forms.{Form, no_items, sets_origin, sets_ttl, includes, unknown, owned, unowned, form_of, Parts, parts_of, parts_in, parts_behind}
+use Rattle.zone_text.specs.Forms.{EntryForm, no_items, sets_origin, sets_ttl, includes, unknown, owned, unowned, form_of, Parts, parts_of, parts_in, parts_behind}
 use Rattle.zone_text.specs.Inherited.{one_bare}
 use Rattle.zone_text.specs.Records.{StatesRecord, StatesNothing}
 use Rattle.zone_text.specs.EntryFault.{OriginFault, DefaultTtlFault, DirectiveFault, OwnerFault, EntryFault, of_directive, of_owner, of_words, of_kind, of_rdata, of_ttl}
@@ -23,7 +23,7 @@ pub record FaultySteps (origin : List (List ℕ)) (before : List Entry) (entry :
   pub split : parts_of entry ≡ Some parts
   pub steps : FromOwner origin before entry parts (Err fault)
 
-owner_fault_parts : (origin : List (List ℕ)) (before : List Entry) (form : Form) (fault : Fault) → OwnerFault origin before form fault → (parts : Parts) × (parts_in form ≡ Some parts)
+owner_fault_parts : (origin : List (List ℕ)) (before : List Entry) (form : EntryForm) (fault : Fault) → OwnerFault origin before form fault → (parts : Parts) × (parts_in form ≡ Some parts)
 owner_fault_parts origin before (owned owner items) fault h = (parts_behind [] items, refl)
 owner_fault_parts origin before (unowned items) fault h = (parts_behind [] items, refl)
 owner_fault_parts origin before no_items fault h = absurd h
@@ -56,7 +56,7 @@ default_fault_once : (o : Option (List ℕ)) → Once Fault (DefaultTtlFault o)
 default_fault_once None f g x y = x ∙ sym y
 default_fault_once (Some text) f g x y = x.0 ∙ sym y.0
 
-directive_fault_once : Lower → (origin : List (List ℕ)) (before : List Entry) (form : Form) → Once Fault (DirectiveFault origin before form)
+directive_fault_once : Lower → (origin : List (List ℕ)) (before : List Entry) (form : EntryForm) → Once Fault (DirectiveFault origin before form)
 directive_fault_once lower origin before includes f g x y = x ∙ sym y
 directive_fault_once lower origin before unknown f g x y = x ∙ sym y
 directive_fault_once lower origin before (sets_origin items) f g x y = item_fault_once lower origin before (one_bare items) f g x y
@@ -66,7 +66,7 @@ directive_fault_once lower origin before (owned owner items) f g x y = absurd x
 directive_fault_once lower origin before (unowned items) f g x y = absurd x
 
 -- a directive has no parts of a record
-directive_or_record : (origin : List (List ℕ)) (before : List Entry) (form : Form) (fault : Fault) (parts : Parts) → DirectiveFault origin before form fault → parts_in form ≡ Some parts → ⊥
+directive_or_record : (origin : List (List ℕ)) (before : List Entry) (form : EntryForm) (fault : Fault) (parts : Parts) → DirectiveFault origin before form fault → parts_in form ≡ Some parts → ⊥
 directive_or_record origin before includes fault parts x split = cc
 directive_or_record origin before unknown fault parts x split = cc
 directive_or_record origin before (sets_origin items) fault parts x split = cc
@@ -75,7 +75,7 @@ directive_or_record origin before no_items fault parts x split = x
 directive_or_record origin before (owned owner items) fault parts x split = x
 directive_or_record origin before (unowned items) fault parts x split = x
 
-pub nothing_or_parts : (origin : List (List ℕ)) (before : List Entry) (form : Form) (parts : Parts) → StatesNothing origin before form → parts_in form ≡ Some parts → ⊥
+pub nothing_or_parts : (origin : List (List ℕ)) (before : List Entry) (form : EntryForm) (parts : Parts) → StatesNothing origin before form → parts_in form ≡ Some parts → ⊥
 nothing_or_parts origin before no_items parts x split = cc
 nothing_or_parts origin before (sets_origin items) parts x split = cc
 nothing_or_parts origin before (sets_ttl items) parts x split = cc
@@ -84,7 +84,7 @@ nothing_or_parts origin before unknown parts x split = cc
 nothing_or_parts origin before (owned owner items) parts x split = x
 nothing_or_parts origin before (unowned items) parts x split = x
 
-nothing_or_directive : Lower → (origin : List (List ℕ)) (before : List Entry) (form : Form) (fault : Fault) → StatesNothing origin before form → DirectiveFault origin before form fault → ⊥
+nothing_or_directive : Lower → (origin : List (List ℕ)) (before : List Entry) (form : EntryForm) (fault : Fault) → StatesNothing origin before form → DirectiveFault origin before form fault → ⊥
 nothing_or_directive lower origin before (sets_origin (bare text ∷ [])) fault x y = name_or_fault lower origin before text x.0 fault x.1 y
 nothing_or_directive lower origin before (sets_ttl (bare text ∷ [])) fault x y = y.1 x.0 x.1
 nothing_or_directive lower origin before (sets_origin []) fault x y = x

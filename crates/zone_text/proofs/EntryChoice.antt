@@ -14,10 +14,10 @@ use Rattle.zone_rdata.specs.declared.fault.Fault.{Fault}
 use Rattle.zone_rdata.specs.declared.fault.Fault.TheVariants.{BadTtl, BadClass}
 use Rattle.zone_text.specs.Entries.{Entry}
 use Rattle.zone_text.specs.EntryFault.{IsNameFaultBehind, WordFault, WordsFault}
-use Rattle.zone_text.specs.Forms.{Form, no_items, sets_origin, sets_ttl, includes, unknown, owned, unowned, form_of, Word, ttl, class, Parts, parts_of, parts_in, parts_behind, class_among, word_behind, begins_with_digit, is_class_word, ttl_among, unless_stated}
+use Rattle.zone_text.specs.Forms.{EntryForm, no_items, sets_origin, sets_ttl, includes, unknown, owned, unowned, form_of, Word, ttl, class, Parts, parts_of, parts_in, parts_behind, class_among, word_behind, begins_with_digit, is_class_word, ttl_among, unless_stated}
 use Rattle.zone_text.specs.Inherited.{IsOrigin, SpellsBehind, IsLastOwner, IsOwner, HasClass, IsTtl, or_else, latest, origin_in, owner_in, owner_text, class_in, class_word}
 use Rattle.zone_text.specs.Machine.Lower.{Lower, Choices}
-use Rattle.zone_text.specs.Outcome.{AllState, AreLowItems}
+use Rattle.zone_text.specs.Outcome.{AllState, AreOctetItems}
 use Rattle.zone_text.specs.Records.{HasValue, StatesRecord, StatesNothing}
 use Rattle.zone_text.proofs.ClassWords.{class_word_of}
 use Rattle.zone_text.proofs.Entered.{nothing_or_parts}
@@ -27,7 +27,7 @@ use Rattle.zone_text.proofs.Entered.{nothing_or_parts}
 abbrev OriginFact : List (List ℕ) → List Entry → Option (List ℕ) → Type 0
 OriginFact origin before o = (name : List (List ℕ)) × (MatchOption o (IsOrigin origin before name) (λ text. SpellsBehind origin before text name) × IsName name)
 
-origin_nothing : (origin : List (List ℕ)) (before : List Entry) (form : Form) → StatesNothing origin before form → ((name : List (List ℕ)) × (IsOrigin origin before name × IsName name)) → OriginFact origin before (origin_in form)
+origin_nothing : (origin : List (List ℕ)) (before : List Entry) (form : EntryForm) → StatesNothing origin before form → ((name : List (List ℕ)) × (IsOrigin origin before name × IsName name)) → OriginFact origin before (origin_in form)
 origin_nothing origin before no_items h above = above
 origin_nothing origin before (sets_origin []) h above = above
 origin_nothing origin before (sets_origin (quoted text ∷ items)) h above = above
@@ -39,7 +39,7 @@ origin_nothing origin before unknown h above = above
 origin_nothing origin before (owned owner items) h above = above
 origin_nothing origin before (unowned items) h above = above
 
-origin_record : (origin : List (List ℕ)) (before : List Entry) (form : Form) (parts : Parts) → parts_in form ≡ Some parts → ((name : List (List ℕ)) × (IsOrigin origin before name × IsName name)) → OriginFact origin before (origin_in form)
+origin_record : (origin : List (List ℕ)) (before : List Entry) (form : EntryForm) (parts : Parts) → parts_in form ≡ Some parts → ((name : List (List ℕ)) × (IsOrigin origin before name × IsName name)) → OriginFact origin before (origin_in form)
 origin_record origin before no_items parts e above = above
 origin_record origin before (sets_origin items) parts e above = absurd cc
 origin_record origin before (sets_ttl items) parts e above = above
@@ -61,7 +61,7 @@ origin_is origin (entry ∷ before) is states = origin_by origin before entry st
 abbrev pub OwnerChoice : List (List ℕ) → List Entry → Option (List ℕ) → Type 0
 OwnerChoice origin before o = ((name : List (List ℕ)) × (MatchOption o (IsLastOwner origin before name) (λ text. SpellsBehind origin before text name) × IsName name)) ⊎ ((name : List (List ℕ)) → MatchOption o (IsLastOwner origin before name) (λ text. SpellsBehind origin before text name) → ⊥)
 
-owner_nothing : (origin : List (List ℕ)) (before : List Entry) (form : Form) → StatesNothing origin before form → OwnerChoice origin before None → OwnerChoice origin before (owner_in form)
+owner_nothing : (origin : List (List ℕ)) (before : List Entry) (form : EntryForm) → StatesNothing origin before form → OwnerChoice origin before None → OwnerChoice origin before (owner_in form)
 owner_nothing origin before no_items h last = last
 owner_nothing origin before (sets_origin items) h last = last
 owner_nothing origin before (sets_ttl items) h last = last
@@ -70,7 +70,7 @@ owner_nothing origin before unknown h last = last
 owner_nothing origin before (owned owner items) h last = absurd h
 owner_nothing origin before (unowned items) h last = last
 
-owner_record : (origin : List (List ℕ)) (before : List Entry) (form : Form) (name : List (List ℕ)) → IsOwner origin before form name → OwnerChoice origin before None → OwnerChoice origin before (owner_in form)
+owner_record : (origin : List (List ℕ)) (before : List Entry) (form : EntryForm) (name : List (List ℕ)) → IsOwner origin before form name → OwnerChoice origin before None → OwnerChoice origin before (owner_in form)
 owner_record origin before no_items name h last = last
 owner_record origin before (sets_origin items) name h last = last
 owner_record origin before (sets_ttl items) name h last = last
@@ -158,13 +158,13 @@ parts_by words item items (Some word) = parts_behind (words ++ word ∷ []) item
 
 pub record AreGood (parts : Parts) : Type 0 where
   pub known : AllByRecursion IsKnown parts.words
-  pub low : AreLowItems parts.rest
+  pub low : AreOctetItems parts.rest
 
-good_by : (words : List Word) (item : RawItem) (items : List RawItem) (o : Option Word) → word_behind words item ≡ o → AllByRecursion IsKnown words → AreLowItems (item ∷ items) → ((word : Word) → AllByRecursion IsKnown (words ++ word ∷ []) → AreGood (parts_behind (words ++ word ∷ []) items)) → AreGood (parts_by words item items o)
+good_by : (words : List Word) (item : RawItem) (items : List RawItem) (o : Option Word) → word_behind words item ≡ o → AllByRecursion IsKnown words → AreOctetItems (item ∷ items) → ((word : Word) → AllByRecursion IsKnown (words ++ word ∷ []) → AreGood (parts_behind (words ++ word ∷ []) items)) → AreGood (parts_by words item items o)
 good_by words item items None e known low goes = record { known = known; low = low }
 good_by words item items (Some word) e known low goes = goes word (known_push words word known (behind_known words item word e))
 
-pub parts_good : (items : List RawItem) (words : List Word) → AllByRecursion IsKnown words → AreLowItems items → AreGood (parts_behind words items)
+pub parts_good : (items : List RawItem) (words : List Word) → AllByRecursion IsKnown words → AreOctetItems items → AreGood (parts_behind words items)
 parts_good [] words known low = record { known = known; low = tt }
 parts_good (item ∷ items) words known low = good_by words item items (word_behind words item) refl known low (λ word more. parts_good items (words ++ word ∷ []) more low.1)
 

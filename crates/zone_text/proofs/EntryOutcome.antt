@@ -13,10 +13,10 @@ use Rattle.zone_rdata.specs.declared.fault.Fault.{Fault}
 use Rattle.zone_rdata.specs.declared.fault.Fault.TheVariants.{IncludeDirective, UnknownDirective, BadDirective, NoOwner, NoTtl, BadTtl, UnknownType}
 use Rattle.zone_text.specs.Entries.{Entry}
 use Rattle.zone_text.specs.EntryFault.{DirectiveFault, OwnerFault, WordsFault, KindFault, none, long, EntryFault, of_directive, of_owner, of_words, of_kind, of_rdata, of_ttl}
-use Rattle.zone_text.specs.Forms.{Form, no_items, sets_origin, sets_ttl, includes, unknown, owned, unowned, form_of, form_by, directive, Parts, parts_of, parts_in, parts_behind}
+use Rattle.zone_text.specs.Forms.{EntryForm, no_items, sets_origin, sets_ttl, includes, unknown, owned, unowned, form_of, form_by, directive, Parts, parts_of, parts_in, parts_behind}
 use Rattle.zone_text.specs.Inherited.{IsOrigin, IsOwner, stated_ttl, IsTtl}
 use Rattle.zone_text.specs.Machine.Lower.{Lower, Choices}
-use Rattle.zone_text.specs.Outcome.{AllState, AreLowItems}
+use Rattle.zone_text.specs.Outcome.{AllState, AreOctetItems}
 use Rattle.zone_text.specs.Records.{HasValue, Head, HasHead, head_of, StatesData, StatesMinimum, IsLastMinimum, HasTtl, StatesRecord, StatesNothing}
 use Rattle.zone_text.specs.Pieces.{is_blank}
 use Rattle.zone_text.proofs.Entered.{nothing_or_parts}
@@ -95,13 +95,13 @@ from_rdata lower choices origin before entry head above states name class has un
     from_ttl choices origin before entry head found.0 name class has rdata (ttl_or_not lower choices origin before entry head found.0 states has rdata)
 
 abbrev KindChoice : List RawItem → Type 0
-KindChoice rest = ((word : List ℕ) × ((items : List RawItem) × ((n : ℕ) × ((rest ≡ bare word ∷ items) × (AreLowItems items × (IsKindWord word n × IsKind n)))))) ⊎ ((fault : Fault) × KindFault rest fault)
+KindChoice rest = ((word : List ℕ) × ((items : List RawItem) × ((n : ℕ) × ((rest ≡ bare word ∷ items) × (AreOctetItems items × (IsKindWord word n × IsKind n)))))) ⊎ ((fault : Fault) × KindFault rest fault)
 
-kind_by : (text : List ℕ) (items : List RawItem) → AreLowItems items → ((n : ℕ) × (IsKindWord text n × IsKind n)) ⊎ ((fault : Fault) × IsWordFault text fault) → KindChoice (bare text ∷ items)
+kind_by : (text : List ℕ) (items : List RawItem) → AreOctetItems items → ((n : ℕ) × (IsKindWord text n × IsKind n)) ⊎ ((fault : Fault) × IsWordFault text fault) → KindChoice (bare text ∷ items)
 kind_by text items low (inl found) = inl (text, (items, (found.0, (refl, (low, found.1)))))
 kind_by text items low (inr bad) = inr bad
 
-kind_or_fault : Choices → (rest : List RawItem) → AreLowItems rest → KindChoice rest
+kind_or_fault : Choices → (rest : List RawItem) → AreOctetItems rest → KindChoice rest
 kind_or_fault choices [] low = inr (UnknownType, refl)
 kind_or_fault choices (quoted text ∷ items) low = inr (UnknownType, refl)
 kind_or_fault choices (bare text ∷ items) low = kind_by text items low.1 (choices.kind text)
@@ -119,11 +119,11 @@ from_kind lower choices origin before entry parts owner is states split owns nam
     let has : HasHead origin before entry head = record { parts = parts; word = word; split = split; owner = owns; words = words; class = number.1.0; rest = facts.0; named = facts.1.1.0; kind = facts.1.1.1 } in
     from_rdata lower choices origin before entry head above.0 states name number.1.1 has above.1.0 (choices.rdata above.0 number.0 kind items above.1.1 facts.1.0)
 
-from_words : Lower → Choices → (origin : List (List ℕ)) (before : List Entry) (entry : Entry) (parts : Parts) (owner : List (List ℕ)) → IsName origin → AllState origin before → parts_of entry ≡ Some parts → AreLowItems parts.rest → IsOwner origin before (form_of entry) owner → IsName owner → AllByRecursion HasValue parts.words ⊎ ((fault : Fault) × WordsFault parts.words fault) → Outcome origin before entry
+from_words : Lower → Choices → (origin : List (List ℕ)) (before : List Entry) (entry : Entry) (parts : Parts) (owner : List (List ℕ)) → IsName origin → AllState origin before → parts_of entry ≡ Some parts → AreOctetItems parts.rest → IsOwner origin before (form_of entry) owner → IsName owner → AllByRecursion HasValue parts.words ⊎ ((fault : Fault) × WordsFault parts.words fault) → Outcome origin before entry
 from_words lower choices origin before entry parts owner is states split low owns name (inr bad) = inr (inr (bad.0, of_words owner parts owns split bad.1))
 from_words lower choices origin before entry parts owner is states split low owns name (inl words) = from_kind lower choices origin before entry parts owner is states split owns name words (kind_or_fault choices parts.rest low)
 
-abbrev OwnerOutcome : List (List ℕ) → List Entry → Form → Type 0
+abbrev OwnerOutcome : List (List ℕ) → List Entry → EntryForm → Type 0
 OwnerOutcome origin before form = ((owner : List (List ℕ)) × (IsOwner origin before form owner × IsName owner)) ⊎ ((fault : Fault) × OwnerFault origin before form fault)
 
 from_owner : Lower → Choices → (origin : List (List ℕ)) (before : List Entry) (entry : Entry) (parts : Parts) → IsName origin → AllState origin before → parts_of entry ≡ Some parts → AreGood parts → OwnerOutcome origin before (form_of entry) → Outcome origin before entry
@@ -140,20 +140,20 @@ name_outcome : (origin : List (List ℕ)) (before : List Entry) (text : List ℕ
 name_outcome origin before text items (inl found) = inl found
 name_outcome origin before text items (inr bad) = inr bad
 
-owned_outcome : Choices → (origin : List (List ℕ)) (before : List Entry) (owner : RawItem) (items : List RawItem) → IsName origin → AllState origin before → AreLowItems (owner ∷ items) → OwnerOutcome origin before (owned owner items)
+owned_outcome : Choices → (origin : List (List ℕ)) (before : List Entry) (owner : RawItem) (items : List RawItem) → IsName origin → AllState origin before → AreOctetItems (owner ∷ items) → OwnerOutcome origin before (owned owner items)
 owned_outcome choices origin before (bare text) items is states low = name_outcome origin before text items (name_or_fault choices origin before text is states low.0)
 owned_outcome choices origin before (quoted text) items is states low = inr (NoOwner, refl)
 
 -- ---- directives
 
-abbrev DirectiveChoice : List (List ℕ) → List Entry → Form → Type 0
+abbrev DirectiveChoice : List (List ℕ) → List Entry → EntryForm → Type 0
 DirectiveChoice origin before form = StatesNothing origin before form ⊎ ((fault : Fault) × DirectiveFault origin before form fault)
 
 origin_text_by : (origin : List (List ℕ)) (before : List Entry) (text : List ℕ) → NameChoice origin before text → DirectiveChoice origin before (sets_origin (bare text ∷ []))
 origin_text_by origin before text (inl found) = inl (found.0, found.1.0)
 origin_text_by origin before text (inr bad) = inr bad
 
-origin_or_fault : Choices → (origin : List (List ℕ)) (before : List Entry) (items : List RawItem) → IsName origin → AllState origin before → AreLowItems items → DirectiveChoice origin before (sets_origin items)
+origin_or_fault : Choices → (origin : List (List ℕ)) (before : List Entry) (items : List RawItem) → IsName origin → AllState origin before → AreOctetItems items → DirectiveChoice origin before (sets_origin items)
 origin_or_fault choices origin before [] is states low = inr (BadDirective, refl)
 origin_or_fault choices origin before (quoted text ∷ items) is states low = inr (BadDirective, refl)
 origin_or_fault choices origin before (bare text ∷ []) is states low = origin_text_by origin before text (name_or_fault choices origin before text is states low.0)
@@ -176,16 +176,16 @@ directive_outcome origin before entry (inr bad) = inr (inr (bad.0, of_directive 
 -- ---- the form
 
 -- the items of a form
-abbrev LowForm : Form → Type 0
+abbrev LowForm : EntryForm → Type 0
 LowForm no_items = Unit {0}
-LowForm (sets_origin items) = AreLowItems items
-LowForm (sets_ttl items) = AreLowItems items
+LowForm (sets_origin items) = AreOctetItems items
+LowForm (sets_ttl items) = AreOctetItems items
 LowForm includes = Unit {0}
 LowForm unknown = Unit {0}
-LowForm (owned owner items) = AreLowItems (owner ∷ items)
-LowForm (unowned items) = AreLowItems items
+LowForm (owned owner items) = AreOctetItems (owner ∷ items)
+LowForm (unowned items) = AreOctetItems items
 
-outcome_by : Lower → Choices → (origin : List (List ℕ)) (before : List Entry) (entry : Entry) (form : Form) → form_of entry ≡ form → IsName origin → AllState origin before → LowForm form → Outcome origin before entry
+outcome_by : Lower → Choices → (origin : List (List ℕ)) (before : List Entry) (entry : Entry) (form : EntryForm) → form_of entry ≡ form → IsName origin → AllState origin before → LowForm form → Outcome origin before entry
 outcome_by lower choices origin before entry no_items e is states low = directive_outcome origin before entry (subst (DirectiveChoice origin before) (sym e) (inl tt))
 outcome_by lower choices origin before entry (sets_origin items) e is states low = directive_outcome origin before entry (subst (DirectiveChoice origin before) (sym e) (origin_or_fault choices origin before items is states low))
 outcome_by lower choices origin before entry (sets_ttl items) e is states low = directive_outcome origin before entry (subst (DirectiveChoice origin before) (sym e) (default_or_fault lower choices origin before items))
@@ -196,25 +196,25 @@ outcome_by lower choices origin before entry (owned owner items) e is states low
 outcome_by lower choices origin before entry (unowned items) e is states low =
     from_owner lower choices origin before entry (parts_behind [] items) is states (ap parts_in e) (parts_good items [] tt low) (subst (OwnerOutcome origin before) (sym e) (last_outcome origin before items (last_owner origin before states)))
 
-low_directive : (item : RawItem) (items : List RawItem) → AreLowItems items → LowForm (directive item items)
+low_directive : (item : RawItem) (items : List RawItem) → AreOctetItems items → LowForm (directive item items)
 low_directive (quoted text) items low = tt
 low_directive (bare text) items low = low_by _ _ _ items low
   where
-    low_by : (a b c : Bool) (items : List RawItem) → AreLowItems items → LowForm (if a then sets_origin items else if b then sets_ttl items else if c then includes else unknown)
+    low_by : (a b c : Bool) (items : List RawItem) → AreOctetItems items → LowForm (if a then sets_origin items else if b then sets_ttl items else if c then includes else unknown)
     low_by true b c items low = low
     low_by false true c items low = low
     low_by false false true items low = tt
     low_by false false false items low = tt
 
-low_first : (a b : Bool) (item : RawItem) (items : List RawItem) → AreLowItems (item ∷ items) → LowForm (if a then directive item items else if b then unowned (item ∷ items) else owned item items)
+low_first : (a b : Bool) (item : RawItem) (items : List RawItem) → AreOctetItems (item ∷ items) → LowForm (if a then directive item items else if b then unowned (item ∷ items) else owned item items)
 low_first true b item items low = low_directive item items low.1
 low_first false true item items low = low
 low_first false false item items low = low
 
-low_form : (first : Option ℕ) (items : List RawItem) → AreLowItems items → LowForm (form_by first items)
+low_form : (first : Option ℕ) (items : List RawItem) → AreOctetItems items → LowForm (form_by first items)
 low_form first [] low = tt
 low_form None (item ∷ items) low = low
 low_form (Some c) (item ∷ items) low = low_first (c == 36) (is_blank c) item items low
 
-pub entry_outcome : Lower → Choices → (origin : List (List ℕ)) (before : List Entry) (entry : Entry) → IsName origin → AllState origin before → AreLowItems entry.items → Outcome origin before entry
+pub entry_outcome : Lower → Choices → (origin : List (List ℕ)) (before : List Entry) (entry : Entry) → IsName origin → AllState origin before → AreOctetItems entry.items → Outcome origin before entry
 entry_outcome lower choices origin before entry is states low = outcome_by lower choices origin before entry (form_of entry) refl is states (low_form entry.first entry.items low)

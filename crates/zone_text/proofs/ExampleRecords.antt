@@ -5,11 +5,11 @@ use Rattle.zone_name.specs.Name.{IsName, labels_of}
 use Rattle.zone_name.specs.Spelling.{Spells, is_digit}
 use Rattle.zone_rdata.specs.declared.field.Field.TheVariants.{Name, Serial, Time, Octets}
 use Rattle.zone_rdata.specs.Address.{IsOctetNumber}
-use Rattle.zone_rdata.specs.Field.{FieldValue, name, long, fixed, octets_of}
+use Rattle.zone_rdata.specs.Field.{FieldValue, name, u32_value, fixed, octets_of}
 use Rattle.zone_rdata.specs.Minimum.{minimum}
 use Rattle.zone_rdata.specs.Number.{IsTime, IsDecimal, decimal_value, plain}
 use Rattle.zone_rdata.specs.Record.{IsRecord}
-use Rattle.zone_rdata.specs.Fields.Address.{of_four}
+use Rattle.zone_rdata.specs.Fields.Address.{of_ipv4}
 use Rattle.zone_rdata.specs.Spelling.{RawItem, bare, States, in_words}
 use Rattle.zone_rdata.specs.Words.{IsKind, IsKindWord, by_mnemonic}
 use Rattle.zone_text.specs.Entries.{Entry}
@@ -45,7 +45,7 @@ abbrev pub soa_items : List ℕ → List RawItem
 soa_items text = bare (codes "n") ∷ bare (codes "h") ∷ bare (codes "1") ∷ bare (codes "2") ∷ bare (codes "3") ∷ bare (codes "4") ∷ bare text ∷ []
 
 abbrev pub soa_values : ℕ → List FieldValue
-soa_values last = name (under 110 x) ∷ name (under 104 x) ∷ long 1 ∷ long 2 ∷ long 3 ∷ long 4 ∷ long last ∷ []
+soa_values last = name (under 110 x) ∷ name (under 104 x) ∷ u32_value 1 ∷ u32_value 2 ∷ u32_value 3 ∷ u32_value 4 ∷ u32_value last ∷ []
 
 pub soa_states : (text : List ℕ) (last : ℕ) → IsTime text last → last < 2 ^ 32 → States x 1 6 (soa_items text) (octets_of (soa_values last))
 soa_states text last time short = record {
@@ -126,7 +126,7 @@ one_digit c n is value short = record { number = digit c n is value; short = sho
 address_states : States x 1 1 (bare (codes "10.0.0.1") ∷ []) (10 ∷ 0 ∷ 0 ∷ 1 ∷ [])
 address_states = record {
   stated = in_words (Octets 4 ∷ []) (fixed (10 ∷ 0 ∷ 0 ∷ 1 ∷ []) ∷ []) refl (λ is. let e = is.1 in absurd (let t : ⊥ = cc in t)) (
-    of_four refl (record {
+    of_ipv4 refl (record {
       numbers = codes "10" ∷ codes "0" ∷ codes "0" ∷ codes "1" ∷ [];
       counted = refl;
       parted = refl;

@@ -15,7 +15,7 @@ use Rattle.zone_text.specs.FileReads.{ReadEach, FileReads, whole, broken}
 use Rattle.zone_text.specs.Given.{Ending, gives_none, gives_one, refused}
 use Rattle.zone_text.specs.Lasting.{StaysBroken, BreaksAtEnd}
 use Rattle.zone_text.specs.Machine.Lower.{Lower, Choices}
-use Rattle.zone_text.specs.Outcome.{AllState, AreLowItems}
+use Rattle.zone_text.specs.Outcome.{AllState, AreOctetItems}
 use Rattle.zone_text.specs.Pieces.{Piece, blank, opening, closing, line_feed, comment, bare, quoted, piece_text, text, Cuts}
 use Rattle.zone_text.proofs.Cuttings.{cut_not_broken, cut_or_broken}
 use Rattle.zone_text.proofs.Ending.{entries_text}
@@ -36,7 +36,7 @@ low_behind : (front rest : List ℕ) → AreLow (front ++ rest) → AreLow rest
 low_behind [] rest low = low
 low_behind (c ∷ front) rest low = low_behind front rest low.1
 
-low_item : (p : Piece) (items : List RawItem) → AreLow (piece_text p) → AreLowItems items → AreLowItems (item_of p ++ items)
+low_item : (p : Piece) (items : List RawItem) → AreLow (piece_text p) → AreOctetItems items → AreOctetItems (item_of p ++ items)
 low_item (blank c) items low others = others
 low_item opening items low others = others
 low_item closing items low others = others
@@ -45,12 +45,12 @@ low_item (comment octets) items low others = others
 low_item (bare units) items low others = (low, others)
 low_item (quoted units) items low others = (low_front (written_text units) (34 ∷ []) low.1, others)
 
-low_items : (pieces : List Piece) → AreLow (text pieces) → AreLowItems (flat_map item_of pieces)
+low_items : (pieces : List Piece) → AreLow (text pieces) → AreOctetItems (flat_map item_of pieces)
 low_items [] low = tt
 low_items (p ∷ pieces) low = low_item p (flat_map item_of pieces) (low_front (piece_text p) (text pieces) low) (low_items pieces (low_behind (piece_text p) (text pieces) low))
 
 abbrev AreLowEntries : List Entry → Type 0
-AreLowEntries entries = AllByRecursion (λ (entry : Entry). AreLowItems entry.items) entries
+AreLowEntries entries = AllByRecursion (λ (entry : Entry). AreOctetItems entry.items) entries
 
 low_entries : (line : ℕ) (entries : List (List Piece)) → AreLow (flat_map text entries) → AreLowEntries (numbered line entries)
 low_entries line [] low = tt

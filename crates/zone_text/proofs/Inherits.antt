@@ -6,7 +6,7 @@ use Rattle.zone_rdata.specs.Number.{IsTime}
 use Rattle.zone_rdata.specs.Spelling.{bare, quoted, States}
 use Rattle.zone_rdata.specs.Words.{IsClassWord}
 use Rattle.zone_text.specs.Entries.{Entry}
-use Rattle.zone_text.specs.Forms.{Form, no_items, sets_origin, sets_ttl, includes, unknown, owned, unowned, form_of}
+use Rattle.zone_text.specs.Forms.{EntryForm, no_items, sets_origin, sets_ttl, includes, unknown, owned, unowned, form_of}
 use Rattle.zone_text.specs.Inherited.{IsOrigin, SpellsBehind, IsLastOwner, IsOwner, HasClass, stated_ttl, latest, origin_text, owner_text, class_word}
 use Rattle.zone_text.specs.Records.{Head, HasHead, StatesData, StatesMinimum, IsLastMinimum, HasTtl}
 use Rattle.zone_text.proofs.Once.{match_once}
@@ -30,7 +30,7 @@ last_owner_once lower origin [] a b x y = absurd x
 last_owner_once lower origin (entry ∷ before) a b x y =
     match_once (List ℕ) (List (List ℕ)) (owner_text entry) (IsLastOwner origin before) (SpellsBehind origin before) (last_owner_once lower origin before) (spells_behind_once lower origin before) a b x y
 
-pub owner_once : Lower → (origin : List (List ℕ)) (before : List Entry) (form : Form) → Once (List (List ℕ)) (IsOwner origin before form)
+pub owner_once : Lower → (origin : List (List ℕ)) (before : List Entry) (form : EntryForm) → Once (List (List ℕ)) (IsOwner origin before form)
 owner_once lower origin before (owned (bare text) items) a b x y = spells_behind_once lower origin before text a b x y
 owner_once lower origin before (owned (quoted text) items) a b x y = absurd x
 owner_once lower origin before (unowned items) a b x y = last_owner_once lower origin before a b x y

@@ -10,7 +10,7 @@ use Rattle.zone_rdata.specs.Words.{IsClass, IsKind, IsKindWord}
 use Rattle.zone_rdata.specs.declared.fault.Fault.{Fault}
 use Rattle.zone_rdata.specs.declared.fault.Fault.TheVariants.{NoTtl, BadTtl}
 use Rattle.zone_text.specs.Entries.{Entry}
-use Rattle.zone_text.specs.Forms.{Form, no_items, sets_origin, sets_ttl, includes, unknown, owned, unowned, form_of, Word, ttl, class, Parts}
+use Rattle.zone_text.specs.Forms.{EntryForm, no_items, sets_origin, sets_ttl, includes, unknown, owned, unowned, form_of, Word, ttl, class, Parts}
 use Rattle.zone_text.specs.Inherited.{IsOrigin, SpellsBehind, IsOwner, HasClass}
 use Rattle.zone_text.specs.Records.{HasValue, HasTtl}
 use Rattle.zone_text.specs.EntryFault.{IsNameFaultBehind, OwnerFault, WordFault, WordsFault, KindFault, TtlFault, none, long}
@@ -47,7 +47,7 @@ name_or_fault lower origin before text name fault x y =
 
 -- the owner
 
-owner_fault_once : Lower → (origin : List (List ℕ)) (before : List Entry) (form : Form) → Once Fault (OwnerFault origin before form)
+owner_fault_once : Lower → (origin : List (List ℕ)) (before : List Entry) (form : EntryForm) → Once Fault (OwnerFault origin before form)
 owner_fault_once lower origin before (owned (quoted text) items) f g x y = x ∙ sym y
 owner_fault_once lower origin before (owned (bare text) items) f g x y = name_fault_once lower origin before text f g x y
 owner_fault_once lower origin before (unowned items) f g x y = x.0 ∙ sym y.0
@@ -57,7 +57,7 @@ owner_fault_once lower origin before (sets_ttl items) f g x y = absurd x
 owner_fault_once lower origin before includes f g x y = absurd x
 owner_fault_once lower origin before unknown f g x y = absurd x
 
-owner_or_fault : Lower → (origin : List (List ℕ)) (before : List Entry) (form : Form) (name : List (List ℕ)) (fault : Fault) → IsOwner origin before form name → OwnerFault origin before form fault → ⊥
+owner_or_fault : Lower → (origin : List (List ℕ)) (before : List Entry) (form : EntryForm) (name : List (List ℕ)) (fault : Fault) → IsOwner origin before form name → OwnerFault origin before form fault → ⊥
 owner_or_fault lower origin before (owned (quoted text) items) name f x y = x
 owner_or_fault lower origin before (owned (bare text) items) name f x y = name_or_fault lower origin before text name f x y
 owner_or_fault lower origin before (unowned items) name f x y = y.1 name x

@@ -14,12 +14,12 @@ pub found_some : {A : Type 0} (P : A → Type 0) (o : Option A) (x : A) → IfSo
 found_some P o x found e = rw e at found
 
 -- four bare items and the rest
-pub four_bare : (items : List Item) (d0 d1 d2 d3 : Item) (owner ttl class kind : List ℕ) → 4 ≤ length items → raw (get_or items 0 d0) ≡ bare owner → raw (get_or items 1 d1) ≡ bare ttl → raw (get_or items 2 d2) ≡ bare class → raw (get_or items 3 d3) ≡ bare kind → map raw items ≡ bare owner ∷ bare ttl ∷ bare class ∷ bare kind ∷ map raw (take (length items - 4) (drop 4 items))
-four_bare [] d0 d1 d2 d3 owner ttl class kind some a b c d = absurd (omega arith)
-four_bare (x ∷ []) d0 d1 d2 d3 owner ttl class kind some a b c d = absurd (omega arith)
-four_bare (x ∷ y ∷ []) d0 d1 d2 d3 owner ttl class kind some a b c d = absurd (omega arith)
-four_bare (x ∷ y ∷ z ∷ []) d0 d1 d2 d3 owner ttl class kind some a b c d = absurd (omega arith)
-four_bare (x ∷ y ∷ z ∷ w ∷ items) d0 d1 d2 d3 owner ttl class kind some a b c d =
+pub ipv4_bare : (items : List Item) (d0 d1 d2 d3 : Item) (owner ttl class kind : List ℕ) → 4 ≤ length items → raw (get_or items 0 d0) ≡ bare owner → raw (get_or items 1 d1) ≡ bare ttl → raw (get_or items 2 d2) ≡ bare class → raw (get_or items 3 d3) ≡ bare kind → map raw items ≡ bare owner ∷ bare ttl ∷ bare class ∷ bare kind ∷ map raw (take (length items - 4) (drop 4 items))
+ipv4_bare [] d0 d1 d2 d3 owner ttl class kind some a b c d = absurd (omega arith)
+ipv4_bare (x ∷ []) d0 d1 d2 d3 owner ttl class kind some a b c d = absurd (omega arith)
+ipv4_bare (x ∷ y ∷ []) d0 d1 d2 d3 owner ttl class kind some a b c d = absurd (omega arith)
+ipv4_bare (x ∷ y ∷ z ∷ []) d0 d1 d2 d3 owner ttl class kind some a b c d = absurd (omega arith)
+ipv4_bare (x ∷ y ∷ z ∷ w ∷ items) d0 d1 d2 d3 owner ttl class kind some a b c d =
     let n : suc (suc (suc (suc (length items)))) - 4 ≡ length items = omega arith in
     rw (a, b, c, d, n, take-length) refl
 

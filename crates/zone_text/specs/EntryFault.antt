@@ -9,7 +9,7 @@ use Rattle.zone_rdata.specs.Words.{IsClass, IsClassWord, IsWordFault}
 use Rattle.zone_rdata.specs.declared.fault.Fault.{Fault}
 use Rattle.zone_rdata.specs.declared.fault.Fault.TheVariants.{IncludeDirective, UnknownDirective, BadDirective, NoOwner, NoTtl, BadTtl, BadClass, UnknownType}
 use Rattle.zone_text.specs.Entries.{Entry}
-use Rattle.zone_text.specs.Forms.{Form, sets_origin, sets_ttl, includes, unknown, owned, unowned, form_of, Word, ttl, class, Parts, parts_of}
+use Rattle.zone_text.specs.Forms.{EntryForm, sets_origin, sets_ttl, includes, unknown, owned, unowned, form_of, Word, ttl, class, Parts, parts_of}
 use Rattle.zone_text.specs.Inherited.{IsOrigin, IsLastOwner, IsOwner, IsTtl, one_bare}
 use Rattle.zone_text.specs.Records.{HasValue, Head, HasHead, StatesData, HasTtl}
 
@@ -28,7 +28,7 @@ DefaultTtlFault None fault = fault ≡ BadDirective
 DefaultTtlFault (Some text) fault = (fault ≡ BadTtl) × ((seconds : ℕ) → IsTtl text seconds → ⊥)
 
 -- a directive that isn't read, that has not exactly one bare item, or whose item has no value
-abbrev pub DirectiveFault : List (List ℕ) → List Entry → Form → Fault → Type 0
+abbrev pub DirectiveFault : List (List ℕ) → List Entry → EntryForm → Fault → Type 0
 DirectiveFault origin before includes fault = fault ≡ IncludeDirective
 DirectiveFault origin before unknown fault = fault ≡ UnknownDirective
 DirectiveFault origin before (sets_origin items) fault = OriginFault origin before (one_bare items) fault
@@ -36,7 +36,7 @@ DirectiveFault origin before (sets_ttl items) fault = DefaultTtlFault (one_bare 
 DirectiveFault origin before form fault = ⊥
 
 -- a quoted owner, an owner that is no name, or no owner stated so far
-abbrev pub OwnerFault : List (List ℕ) → List Entry → Form → Fault → Type 0
+abbrev pub OwnerFault : List (List ℕ) → List Entry → EntryForm → Fault → Type 0
 OwnerFault origin before (owned (quoted text) items) fault = fault ≡ NoOwner
 OwnerFault origin before (owned (bare text) items) fault = IsNameFaultBehind origin before text fault
 OwnerFault origin before (unowned items) fault = (fault ≡ NoOwner) × ((name : List (List ℕ)) → IsLastOwner origin before name → ⊥)

@@ -8,17 +8,17 @@ use Rattle.zone_text.specs.Pieces.{is_blank}
 use Rattle.zone_text.specs.Entries.{Entry}
 
 -- no items; a directive with what follows its word; or a record with what follows its owner, stated or omitted
-pub data Form : Type 0 where
-  no_items : Form
-  sets_origin : List RawItem → Form
-  sets_ttl : List RawItem → Form
-  includes : Form
-  unknown : Form
-  owned : RawItem → List RawItem → Form
-  unowned : List RawItem → Form
+pub data EntryForm : Type 0 where
+  no_items : EntryForm
+  sets_origin : List RawItem → EntryForm
+  sets_ttl : List RawItem → EntryForm
+  includes : EntryForm
+  unknown : EntryForm
+  owned : RawItem → List RawItem → EntryForm
+  unowned : List RawItem → EntryForm
 
 -- a directive's word, in any case
-abbrev pub directive : RawItem → List RawItem → Form
+abbrev pub directive : RawItem → List RawItem → EntryForm
 directive (quoted text) items = unknown
 directive (bare text) items =
     if bytes_eq (folded_label text) (codes "$origin") then sets_origin items
@@ -27,7 +27,7 @@ directive (bare text) items =
     else unknown
 
 -- `$` as the first octet begins a directive, and a blank omits the owner
-abbrev pub form_by : Option ℕ → List RawItem → Form
+abbrev pub form_by : Option ℕ → List RawItem → EntryForm
 form_by first [] = no_items
 form_by None (item ∷ items) = owned item items
 form_by (Some c) (item ∷ items) =
@@ -35,7 +35,7 @@ form_by (Some c) (item ∷ items) =
     else if is_blank c then unowned (item ∷ items)
     else owned item items
 
-abbrev pub form_of : Entry → Form
+abbrev pub form_of : Entry → EntryForm
 form_of entry = form_by entry.first entry.items
 
 abbrev pub begins_with_digit : List ℕ → Bool
@@ -90,7 +90,7 @@ abbrev pub parts_behind : List Word → List RawItem → Parts
 parts_behind words [] = record { words = words; rest = [] }
 parts_behind words (item ∷ items) = elim (word_behind words item) [ None ↦ record { words = words; rest = item ∷ items } | Some word ↦ parts_behind (words ++ word ∷ []) items ]
 
-abbrev pub parts_in : Form → Option Parts
+abbrev pub parts_in : EntryForm → Option Parts
 parts_in (owned owner items) = Some (parts_behind [] items)
 parts_in (unowned items) = Some (parts_behind [] items)
 parts_in form = None

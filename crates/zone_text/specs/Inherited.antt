@@ -5,7 +5,7 @@ use Rattle.zone_rdata.specs.Number.{IsTime}
 use Rattle.zone_rdata.specs.Spelling.{RawItem, bare}
 use Rattle.zone_rdata.specs.Words.{IsClassWord}
 use Rattle.zone_text.specs.Entries.{Entry}
-use Rattle.zone_text.specs.Forms.{Form, sets_origin, sets_ttl, owned, unowned, form_of, Parts, parts_of, ttl_among, class_among}
+use Rattle.zone_text.specs.Forms.{EntryForm, sets_origin, sets_ttl, owned, unowned, form_of, Parts, parts_of, ttl_among, class_among}
 
 abbrev pub or_else : Option (List ℕ) → Option (List ℕ) → Option (List ℕ)
 or_else None other = other
@@ -20,15 +20,15 @@ abbrev pub one_bare : List RawItem → Option (List ℕ)
 one_bare (bare text ∷ []) = Some text
 one_bare items = None
 
-abbrev pub origin_in : Form → Option (List ℕ)
+abbrev pub origin_in : EntryForm → Option (List ℕ)
 origin_in (sets_origin items) = one_bare items
 origin_in form = None
 
-abbrev pub default_ttl_in : Form → Option (List ℕ)
+abbrev pub default_ttl_in : EntryForm → Option (List ℕ)
 default_ttl_in (sets_ttl items) = one_bare items
 default_ttl_in form = None
 
-abbrev pub owner_in : Form → Option (List ℕ)
+abbrev pub owner_in : EntryForm → Option (List ℕ)
 owner_in (owned (bare text) items) = Some text
 owner_in form = None
 
@@ -72,7 +72,7 @@ IsLastOwner origin [] name = ⊥
 IsLastOwner origin (entry ∷ before) name = MatchOption (owner_text entry) (IsLastOwner origin before name) (λ text. SpellsBehind origin before text name)
 
 -- the owner of a record entry: its own, or the last one stated where it begins with a blank
-abbrev pub IsOwner : List (List ℕ) → List Entry → Form → List (List ℕ) → Type 0
+abbrev pub IsOwner : List (List ℕ) → List Entry → EntryForm → List (List ℕ) → Type 0
 IsOwner origin before (owned (bare text) items) name = SpellsBehind origin before text name
 IsOwner origin before (unowned items) name = IsLastOwner origin before name
 IsOwner origin before form name = ⊥

@@ -14,5 +14,5 @@ AllState origin [] = ⊤
 AllState origin (entry ∷ before) = (StatesNothing origin before (form_of entry) ⊎ ((r : Record) × StatesRecord origin before entry r)) × AllState origin before
 
 -- items of octets
-abbrev pub AreLowItems : List RawItem → Type 0
-AreLowItems items = AllByRecursion (λ item. AllByRecursion (λ c. c < 256) (item_text item)) items
+abbrev pub AreOctetItems : List RawItem → Type 0
+AreOctetItems items = AllByRecursion (λ item. AllByRecursion (λ c. c < 256) (item_text item)) items

@@ -7,7 +7,7 @@ use Rattle.zone_rdata.specs.Record.{Record, IsRecord}
 use Rattle.zone_rdata.specs.Spelling.{RawItem, bare, States}
 use Rattle.zone_rdata.specs.Words.{IsClass, IsClassWord, IsKind, IsKindWord}
 use Rattle.zone_text.specs.Entries.{Entry}
-use Rattle.zone_text.specs.Forms.{Form, no_items, sets_origin, sets_ttl, form_of, Word, ttl, class, Parts, parts_of}
+use Rattle.zone_text.specs.Forms.{EntryForm, no_items, sets_origin, sets_ttl, form_of, Word, ttl, class, Parts, parts_of}
 use Rattle.zone_text.specs.Inherited.{IsOrigin, SpellsBehind, IsOwner, HasClass, stated_ttl, IsTtl}
 
 -- a word before the type that has a value: a TTL of 31 bits, a class that can hold zone data
@@ -72,7 +72,7 @@ pub record StatesRecord (origin : List (List ℕ)) (before : List Entry) (entry 
   pub fits : IsRecord r
 
 -- a blank entry, `$ORIGIN` with a name, or `$TTL` with a time
-abbrev pub StatesNothing : List (List ℕ) → List Entry → Form → Type 0
+abbrev pub StatesNothing : List (List ℕ) → List Entry → EntryForm → Type 0
 StatesNothing origin before no_items = ⊤
 StatesNothing origin before (sets_origin (bare text ∷ [])) = (name : List (List ℕ)) × SpellsBehind origin before text name
 StatesNothing origin before (sets_ttl (bare text ∷ [])) = (seconds : ℕ) × IsTtl text seconds

@@ -14,7 +14,7 @@ use Rattle.zone_wire.specs.Answers.{zone_of, agrees, same_record, Answered, answ
 use Rattle.zone_wire.specs.Message.{QuestionAt, Sections, IsMessage}
 use Rattle.zone_wire.specs.Sections.{sections_of}
 use Rattle.zone_wire.specs.Stream.{questions_of, has_first_id, ask_for_zone, message_of, unless_refused, followed_by, records_of, handed_on, is_closed, ending_of, StreamReads}
-use Rattle.zone_wire.specs.Transfer.{Part, AreParts, AsksFor, frame, StreamStates}
+use Rattle.zone_wire.specs.Transfer.{StatedMessage, AreStatedMessages, AsksFor, frame, StreamStates}
 use Rattle.zone_wire.proofs.Answering.{OpensWith, zone_agrees, is_soa, InOrder, all_read, answers_are_read, differ, records_same}
 use Rattle.zone_wire.proofs.Sectioning.{and_then_ok, sections_read}
 
@@ -51,16 +51,16 @@ opens_more zone [] [] opens order = tt
 opens_more zone [] (p ∷ here) opens order = order.0.0
 opens_more zone (opening ∷ before) here opens order = opens
 
-abbrev pub octets_of_parts : List Part → List (List ℕ)
+abbrev pub octets_of_parts : List StatedMessage → List (List ℕ)
 octets_of_parts parts = map (λ p. p.octets) parts
 
-abbrev pub placed_of_parts : List Part → List Placed
+abbrev pub placed_of_parts : List StatedMessage → List Placed
 placed_of_parts parts = flat_map (λ p. p.placed) parts
 
 read_here : (number : ℕ) (here rest : List Placed) (answered : Answered (Fault × ℕ)) (next : List Placed → Answered (Fault × Place)) → answered ≡ all_read here → next here ≡ all_read rest → followed_by number answered next ≡ all_read (here ++ rest)
 read_here number here rest answered next e k = ap (λ a. followed_by number a next) e ∙ ap (λ (x : Answered (Fault × Place)). record x { placed = here ++ x.placed }) k
 
-parts_are_read : (id : ℕ) (zone : Record) (parts : List Part) (before : List Sections) (placed : List Placed) (number : ℕ) → number ≡ length before + 1 → AreParts id zone number parts → AllByRecursion (λ (t : Sections). t.id ≡ id) before → AllByRecursion (AsksFor zone) (questions_of before) → OpensWith zone placed → InOrder zone placed (placed_of_parts parts) → records_of before placed (octets_of_parts parts) ≡ all_read (placed_of_parts parts)
+parts_are_read : (id : ℕ) (zone : Record) (parts : List StatedMessage) (before : List Sections) (placed : List Placed) (number : ℕ) → number ≡ length before + 1 → AreStatedMessages id zone number parts → AllByRecursion (λ (t : Sections). t.id ≡ id) before → AllByRecursion (AsksFor zone) (questions_of before) → OpensWith zone placed → InOrder zone placed (placed_of_parts parts) → records_of before placed (octets_of_parts parts) ≡ all_read (placed_of_parts parts)
 unfolding records_of
 parts_are_read id zone [] before placed number count are ids asked opens order = refl
 parts_are_read id zone (p ∷ parts) before placed number count are ids asked opens order =
@@ -97,11 +97,11 @@ others_kept : (others : List Placed) → AllByRecursion (λ (p : Placed). p.rr.k
 others_kept [] each = refl
 others_kept (p ∷ others) each = cond-true (not (p.rr.kind == 6)) _ _ (ap not (differ p.rr.kind 6 each.0)) ∙ ap (λ x. p ∷ x) (others_kept others each.1)
 
-pub framed_parts : (parts : List Part) → flat_map (λ p. frame p.octets) parts ≡ flat_map frame (octets_of_parts parts)
+pub framed_parts : (parts : List StatedMessage) → flat_map (λ p. frame p.octets) parts ≡ flat_map frame (octets_of_parts parts)
 framed_parts [] = refl
 framed_parts (p ∷ parts) = ap (λ x. frame p.octets ++ x) (framed_parts parts)
 
-short_parts : (id : ℕ) (zone : Record) (number : ℕ) (parts : List Part) → AreParts id zone number parts → AllByRecursion (λ octets. length octets ≤ 65535) (octets_of_parts parts)
+short_parts : (id : ℕ) (zone : Record) (number : ℕ) (parts : List StatedMessage) → AreStatedMessages id zone number parts → AllByRecursion (λ octets. length octets ≤ 65535) (octets_of_parts parts)
 short_parts id zone number [] are = tt
 short_parts id zone number (p ∷ parts) are = (are.0.short, short_parts id zone (number + 1) parts are.1)
 

@@ -5,7 +5,7 @@ use Rattle.std.specs.Option.{unwrap_or}
 use Rattle.std.specs.List.{flat_map}
 use Rattle.std.proofs.lemmas.List.{append-nil, length-take-le, length-drop}
 use Rattle.std.proofs.lemmas.List.Concat.{flat_map-append}
-use Rattle.zone_name.specs.Name.{frame, wire}
+use Rattle.zone_name.specs.Name.{with_length, wire}
 use Rattle.zone_name.specs.Spelling.{IsLabelFault}
 use Rattle.zone_name.specs.declared.fault.NameFault.{NameFault}
 use Rattle.zone_name.specs.declared.fault.NameFault.TheVariants.{EmptyLabel, LabelTooLong, NameTooLong, BadEscape, RelativeName}
@@ -41,7 +41,7 @@ unfolding walk outcome_by
 carries_start message offset = record { few = omega arith; pointers = omega arith; short = omega arith; octets = refl; left = 256; enough = refl; whole = sym (carried-none (outcome message (walk message offset))) }
 
 octets_of-push : (labels : List (List ℕ)) (l : List ℕ) → octets_of (labels ++ l ∷ []) ≡ octets_of labels + 1 + length l
-octets_of-push labels l = ap length (flat_map-append frame labels (l ∷ [])) ∙ length-append (flat_map frame labels) (flat_map frame (l ∷ [])) ∙ omega (arith, octets_of-more l [])
+octets_of-push labels l = ap length (flat_map-append with_length labels (l ∷ [])) ∙ length-append (flat_map with_length labels) (flat_map with_length (l ∷ [])) ∙ omega (arith, octets_of-more l [])
 
 carried-label : (labels : List (List ℕ)) (end : Option ℕ) (steps pointers : ℕ) (l : List ℕ) (o : Outcome) → carried labels end steps pointers (behind_label l o) ≡ carried (labels ++ l ∷ []) end (steps + 1) pointers o
 carried-label labels end steps pointers l (named found) =

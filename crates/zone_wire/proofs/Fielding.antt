@@ -7,8 +7,8 @@ use Rattle.std.specs.List.{flat_map}
 use Rattle.std.proofs.lemmas.Bool.{cond-true, le-leb, lt-ltb, eq-eqb, and_from}
 use Rattle.std.proofs.lemmas.List.{take_all, take_at, drop_at, length-take-le, length-drop}
 use Rattle.std.proofs.lemmas.Nat.{from_be_bytes-to_be_bytes_2, from_be_bytes-to_be_bytes_4}
-use Rattle.zone_name.specs.Name.{frame}
-use Rattle.zone_rdata.specs.Field.{FieldValue, name, long, two_octets, fixed, string, strings, field_octets, octets_of, Holds, HoldEach, field_at}
+use Rattle.zone_name.specs.Name.{with_length}
+use Rattle.zone_rdata.specs.Field.{FieldValue, name, u32_value, u16_value, fixed, string, strings, field_octets, octets_of, Holds, HoldEach, field_at}
 use Rattle.zone_rdata.specs.Fields.Strings.{AreStrings, strings_by, strings_of}
 use Rattle.zone_rdata.specs.Layout.{layout, StringsLast}
 use Rattle.zone_rdata.specs.declared.fault.Fault.{Fault}
@@ -20,37 +20,37 @@ use Rattle.zone_wire.specs.Message.{RecordAt}
 use Rattle.zone_wire.specs.Name.{Found}
 use Rattle.zone_wire.specs.Reading.{Outcome, named, outcome}
 use Rattle.zone_wire.specs.Sections.{and_then}
-use Rattle.zone_wire.specs.Transfer.{part, StandsAt, StandEach, AreFieldsAt, IsDataAt}
+use Rattle.zone_wire.specs.Transfer.{octets_between, StandsAt, StandEach, AreFieldsAt, IsDataAt}
 use Rattle.zone_wire.specs.Walk.{walk}
 use Rattle.zone_wire.proofs.Sectioning.{and_then_ok}
 use Rattle.zone_wire.proofs.Walking.{name_walks}
 
 -- a part of octets that is a text
-pub part_text : (octets : List ℕ) (start end : ℕ) (text : List ℕ) → start ≤ end → end ≤ length octets → part octets start end ≡ text → end ≡ start + length text
+pub part_text : (octets : List ℕ) (start end : ℕ) (text : List ℕ) → start ≤ end → end ≤ length octets → octets_between octets start end ≡ text → end ≡ start + length text
 part_text octets start end text order inside e =
-    let len : length (part octets start end) ≡ end - start = length-take-le (end - start) (drop start octets) (omega (arith, length-drop start octets)) in
-    let same : length (part octets start end) ≡ length text = ap length e in
+    let len : length (octets_between octets start end) ≡ end - start = length-take-le (end - start) (drop start octets) (omega (arith, length-drop start octets)) in
+    let same : length (octets_between octets start end) ≡ length text = ap length e in
     omega arith
 
 name_reads : (end : ℕ) (found : Found) (o : Outcome) → o ≡ named found → found.end ≤ end → name_before end o ≡ Ok (name found.labels, found.end)
 name_reads end found o e h = ap (name_before end) e ∙ cond-true _ _ _ (le-leb _ _ h)
 
 -- a value of this many octets
-sized_reads : (octets : List ℕ) (end start next : ℕ) (field : Field) (v : FieldValue) (size : ℕ) → length (field_octets v) ≡ size → field_at field (field_octets v) ≡ v → next ≤ end → end ≤ length octets → (start ≤ next) × (part octets start next ≡ field_octets v) → sized_before octets end start field size ≡ Ok (v, next)
+sized_reads : (octets : List ℕ) (end start next : ℕ) (field : Field) (v : FieldValue) (size : ℕ) → length (field_octets v) ≡ size → field_at field (field_octets v) ≡ v → next ≤ end → end ≤ length octets → (start ≤ next) × (octets_between octets start next ≡ field_octets v) → sized_before octets end start field size ≡ Ok (v, next)
 sized_reads octets end start next field v size len back before within stands =
     let past : start + size ≡ next = omega (arith, part_text octets start next (field_octets v) stands.0 (omega arith) stands.1) in
-    let value : field_at field (part octets start (start + size)) ≡ v = ap (λ n. field_at field (part octets start n)) past ∙ ap (field_at field) stands.1 ∙ back in
+    let value : field_at field (octets_between octets start (start + size)) ≡ v = ap (λ n. field_at field (octets_between octets start n)) past ∙ ap (field_at field) stands.1 ∙ back in
     let fits : start + size ≤ end = omega arith in
     cond-true _ _ _ (le-leb (start + size) end fits) ∙ ap (λ (x : FieldValue). Ok (x, start + size)) value ∙ ap (λ n. Ok (v, n)) past
 
-long_back : (n : ℕ) → n < 2 ^ 32 → long (from_be_bytes w32 (take 4 (to_be_bytes w32 n))) ≡ long n
-long_back n h = ap long (from_be_bytes-to_be_bytes_4 n h)
+long_back : (n : ℕ) → n < 2 ^ 32 → u32_value (from_be_bytes w32 (take 4 (to_be_bytes w32 n))) ≡ u32_value n
+long_back n h = ap u32_value (from_be_bytes-to_be_bytes_4 n h)
 
-two_back : (n : ℕ) → n < 2 ^ 16 → two_octets (from_be_bytes w16 (take 2 (to_be_bytes w16 n))) ≡ two_octets n
-two_back n h = ap two_octets (from_be_bytes-to_be_bytes_2 n h)
+two_back : (n : ℕ) → n < 2 ^ 16 → u16_value (from_be_bytes w16 (take 2 (to_be_bytes w16 n))) ≡ u16_value n
+two_back n h = ap u16_value (from_be_bytes-to_be_bytes_2 n h)
 
 -- the first octet of a part
-pub part_first : (octets : List ℕ) (start past : ℕ) → start < past → get_or (part octets start past) 0 0 ≡ slice_index octets start
+pub part_first : (octets : List ℕ) (start past : ℕ) → start < past → get_or (octets_between octets start past) 0 0 ≡ slice_index octets start
 part_first octets start past h = first (past - start) (drop start octets) (omega arith) ∙ get_or-drop start octets 0 0 ∙ ap (slice_index octets) (omega arith)
   where
     first : (n : ℕ) (xs : List ℕ) → 0 < n → get_or (take n xs) 0 0 ≡ get_or xs 0 0
@@ -59,34 +59,34 @@ part_first octets start past h = first (past - start) (drop start octets) (omega
     first (suc n) (x ∷ xs) some = refl
 
 -- strings that are joined are cut again
-strings_back_by : (many : List (List ℕ)) (n : ℕ) → length many ≤ n → strings_by n (flat_map frame many) ≡ many
+strings_back_by : (many : List (List ℕ)) (n : ℕ) → length many ≤ n → strings_by n (flat_map with_length many) ≡ many
 strings_back_by [] zero few = refl
 strings_back_by [] (suc n) few = refl
 strings_back_by (text ∷ many) zero few = absurd (omega arith)
 strings_back_by (text ∷ many) (suc n) few =
-    let rest = flat_map frame many in
+    let rest = flat_map with_length many in
     ap (λ t. t ∷ strings_by n (drop (length text) (text ++ rest))) (take_at text rest (length text) refl) ∙ ap (λ o. text ∷ strings_by n o) (drop_at text rest (length text) refl) ∙ ap (λ m. text ∷ m) (strings_back_by many n (omega arith))
 
-frames_long : (many : List (List ℕ)) → length many ≤ length (flat_map frame many)
+frames_long : (many : List (List ℕ)) → length many ≤ length (flat_map with_length many)
 frames_long [] = omega arith
-frames_long (text ∷ many) = omega (arith, frames_long many, length-append (frame text) (flat_map frame many))
+frames_long (text ∷ many) = omega (arith, frames_long many, length-append (with_length text) (flat_map with_length many))
 
-strings_back : (many : List (List ℕ)) → strings_of (flat_map frame many) ≡ many
+strings_back : (many : List (List ℕ)) → strings_of (flat_map with_length many) ≡ many
 unfolding strings_of
-strings_back many = strings_back_by many (length (flat_map frame many)) (frames_long many)
+strings_back many = strings_back_by many (length (flat_map with_length many)) (frames_long many)
 
-strings_read : (octets : List ℕ) (end : ℕ) (many : List (List ℕ)) → AreStrings many → octets ≡ flat_map frame many → strings_before end octets ≡ Ok (strings many, end)
+strings_read : (octets : List ℕ) (end : ℕ) (many : List (List ℕ)) → AreStrings many → octets ≡ flat_map with_length many → strings_before end octets ≡ Ok (strings many, end)
 strings_read octets end many are is =
     let cut : strings_of octets ≡ many = ap strings_of is ∙ strings_back many in
     let some : 0 < length octets = omega (arith, are.some, frames_long many, ap length is) in
-    let whole : flat_map frame (strings_of octets) ≡ octets = ap (flat_map frame) cut ∙ sym is in
-    cond-true _ _ _ (and_from (nat_lt 0 (length octets)) (pointwise nat_eq (flat_map frame (strings_of octets)) octets) (lt-ltb 0 (length octets) some) ((bytes_decides (flat_map frame (strings_of octets)) octets).1 whole))
+    let whole : flat_map with_length (strings_of octets) ≡ octets = ap (flat_map with_length) cut ∙ sym is in
+    cond-true _ _ _ (and_from (nat_lt 0 (length octets)) (pointwise nat_eq (flat_map with_length (strings_of octets)) octets) (lt-ltb 0 (length octets) some) ((bytes_decides (flat_map with_length (strings_of octets)) octets).1 whole))
     ∙ ap (λ (m : List (List ℕ)). Ok (strings m, end)) cut
 
-string_size : (octets : List ℕ) (start next : ℕ) (text : List ℕ) → next ≤ length octets → (start ≤ next) × (part octets start next ≡ frame text) → suc (length text) ≡ 1 + slice_index octets start
+string_size : (octets : List ℕ) (start next : ℕ) (text : List ℕ) → next ≤ length octets → (start ≤ next) × (octets_between octets start next ≡ with_length text) → suc (length text) ≡ 1 + slice_index octets start
 string_size octets start next text within stands =
-    let first : get_or (part octets start next) 0 0 ≡ length text = ap (λ x. get_or x 0 0) stands.1 in
-    let past : next ≡ start + length (frame text) = part_text octets start next (frame text) stands.0 within stands.1 in
+    let first : get_or (octets_between octets start next) 0 0 ≡ length text = ap (λ x. get_or x 0 0) stands.1 in
+    let past : next ≡ start + length (with_length text) = part_text octets start next (with_length text) stands.0 within stands.1 in
     let same : slice_index octets start ≡ length text = sym (part_first octets start next (omega (arith, past))) ∙ first in
     omega (arith, same)
 
@@ -96,12 +96,12 @@ unfolding value_at
 value_reads octets end start next Name (name labels) last h before within s =
     name_reads end s.0 (outcome octets (walk octets start)) (name_walks octets start s.0 s.1) (omega (arith, s.3))
     ∙ ap (λ (l : List (List ℕ)). Ok (name l, s.0.end)) s.2 ∙ ap (λ n. Ok (name labels, n)) s.3
-value_reads octets end start next Serial (long n) last h before within s = sized_reads octets end start next Serial (long n) 4 refl (long_back n h) before within s
-value_reads octets end start next Time (long n) last h before within s = sized_reads octets end start next Time (long n) 4 refl (long_back n h) before within s
-value_reads octets end start next U16 (two_octets n) last h before within s = sized_reads octets end start next U16 (two_octets n) 2 refl (two_back n h) before within s
+value_reads octets end start next Serial (u32_value n) last h before within s = sized_reads octets end start next Serial (u32_value n) 4 refl (long_back n h) before within s
+value_reads octets end start next Time (u32_value n) last h before within s = sized_reads octets end start next Time (u32_value n) 4 refl (long_back n h) before within s
+value_reads octets end start next U16 (u16_value n) last h before within s = sized_reads octets end start next U16 (u16_value n) 2 refl (two_back n h) before within s
 value_reads octets end start next (Octets n) (fixed text) last h before within s = sized_reads octets end start next (Octets n) (fixed text) n h.size (ap fixed (take_all n text (omega (arith, h.size)))) before within s
 value_reads octets end start next OneString (string text) last h before within s = sized_reads octets end start next OneString (string text) (1 + slice_index octets start) (string_size octets start next text (omega arith) s) (ap string (take_all (length text) text (omega arith))) before within s
-value_reads octets end start next Strings (strings many) last h before within s = let e : next ≡ end = last refl in strings_read (part octets start end) end many h (ap (part octets start) (sym e) ∙ s.1) ∙ ap (λ n. Ok (strings many, n)) (sym e)
+value_reads octets end start next Strings (strings many) last h before within s = let e : next ≡ end = last refl in strings_read (octets_between octets start end) end many h (ap (octets_between octets start) (sym e) ∙ s.1) ∙ ap (λ n. Ok (strings many, n)) (sym e)
 value_reads octets end start next field v last h before within s = absurd h
 
 values_read : (octets : List ℕ) (end : ℕ) → end ≤ length octets → (fields : List Field) (values : List FieldValue) (start : ℕ) → StringsLast fields → HoldEach fields values → StandEach octets start end values → values_at octets end start fields ≡ Ok values
@@ -116,7 +116,7 @@ values_read octets end within (f ∷ g ∷ fields) (v ∷ values) start last h s
     and_then_ok (value_at octets end start f) (v, s.0) _ (value_reads octets end start s.0 f v (λ e. absurd (last.0 e)) h.0 s.1 within s.2)
     ∙ and_then_ok (values_at octets end s.0 (g ∷ fields)) values _ (values_read octets end within (g ∷ fields) values s.0 last.1 h.1 s.3)
 
-layout_reads : (octets : List ℕ) (start end : ℕ) (canonical : List ℕ) (o : Option (List Field)) → ((fields : List Field) → o ≡ Some fields → StringsLast fields) → end ≤ length octets → MatchOption o (canonical ≡ part octets start end) (λ fields. AreFieldsAt octets start end fields canonical) → (let r : Result (List ℕ) Fault = elim o [ None ↦ Ok (part octets start end) | Some fields ↦ and_then (values_at octets end start fields) (λ values. Ok (octets_of values)) ] in r) ≡ Ok canonical
+layout_reads : (octets : List ℕ) (start end : ℕ) (canonical : List ℕ) (o : Option (List Field)) → ((fields : List Field) → o ≡ Some fields → StringsLast fields) → end ≤ length octets → MatchOption o (canonical ≡ octets_between octets start end) (λ fields. AreFieldsAt octets start end fields canonical) → (let r : Result (List ℕ) Fault = elim o [ None ↦ Ok (octets_between octets start end) | Some fields ↦ and_then (values_at octets end start fields) (λ values. Ok (octets_of values)) ] in r) ≡ Ok canonical
 layout_reads octets start end canonical None last within is = ap Ok (sym is)
 layout_reads octets start end canonical (Some fields) last within is = and_then_ok (values_at octets end start fields) is.values _ (values_read octets end within fields is.values start (last fields refl) is.held is.stand) ∙ ap Ok (sym is.whole)
 

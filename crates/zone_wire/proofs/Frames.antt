@@ -4,18 +4,18 @@ use Rattle.std.specs.Prelude.{get_or, take, drop}
 use Rattle.std.specs.List.{flat_map}
 use Rattle.std.proofs.lemmas.Bool.{ltb-true, ltb-false}
 use Rattle.std.proofs.lemmas.List.{length-take-le, length-drop, take-append-drop}
-use Rattle.zone_wire.specs.Message.{word_at}
+use Rattle.zone_wire.specs.Message.{u16_at}
 use Rattle.zone_wire.specs.Stream.{IsFramed}
 use Rattle.zone_wire.specs.Transfer.{frame}
 use Rattle.zone_wire.proofs.Transfers.{frame_unique}
 
 -- octets that begin with a whole frame aren't cut off in one
-pub whole_frame : (octets more rest : List ℕ) → rest ≡ frame octets ++ more → length rest < 2 + word_at rest 0 → ⊥
+pub whole_frame : (octets more rest : List ℕ) → rest ≡ frame octets ++ more → length rest < 2 + u16_at rest 0 → ⊥
 whole_frame octets more rest e cut =
-    let count : word_at rest 0 ≡ length octets / 256 * 256 + length octets % 256 = ap (λ x. word_at x 0) e in
+    let count : u16_at rest 0 ≡ length octets / 256 * 256 + length octets % 256 = ap (λ x. u16_at x 0) e in
     omega (arith, ap length e, length-append octets more, count)
 
-pub frames_unique : (ms ns : List (List ℕ)) (r s : List ℕ) → length r < 2 + word_at r 0 → length s < 2 + word_at s 0 → flat_map frame ms ++ r ≡ flat_map frame ns ++ s → (ms ≡ ns) × (r ≡ s)
+pub frames_unique : (ms ns : List (List ℕ)) (r s : List ℕ) → length r < 2 + u16_at r 0 → length s < 2 + u16_at s 0 → flat_map frame ms ++ r ≡ flat_map frame ns ++ s → (ms ≡ ns) × (r ≡ s)
 frames_unique [] [] r s cut end e = (refl, e)
 frames_unique [] (n ∷ ns) r s cut end e = absurd (whole_frame n (flat_map frame ns ++ s) r (e ∙ append_assoc (frame n) (flat_map frame ns) s) cut)
 frames_unique (m ∷ ms) [] r s cut end e = absurd (whole_frame m (flat_map frame ms ++ r) s (sym e ∙ append_assoc (frame m) (flat_map frame ms) r) end)
@@ -28,7 +28,7 @@ pub framed_unique : (stream : List ℕ) (ms ns : List (List ℕ)) (r s : List �
 framed_unique stream ms ns r s is too = frames_unique ms ns r s is.cut too.cut (sym is.whole ∙ too.whole)
 
 -- the frames of a longer stream begin with those of a stream
-pub frames_extend : (ms ns : List (List ℕ)) (r s more : List ℕ) → length s < 2 + word_at s 0 → flat_map frame ms ++ (r ++ more) ≡ flat_map frame ns ++ s → (after : List (List ℕ)) × (ns ≡ ms ++ after)
+pub frames_extend : (ms ns : List (List ℕ)) (r s more : List ℕ) → length s < 2 + u16_at s 0 → flat_map frame ms ++ (r ++ more) ≡ flat_map frame ns ++ s → (after : List (List ℕ)) × (ns ≡ ms ++ after)
 frames_extend [] ns r s more cut e = (ns, refl)
 frames_extend (m ∷ ms) [] r s more cut e = absurd (whole_frame m (flat_map frame ms ++ (r ++ more)) s (sym e ∙ append_assoc (frame m) (flat_map frame ms) (r ++ more)) cut)
 frames_extend (m ∷ ms) (n ∷ ns) r s more cut e =
@@ -61,7 +61,7 @@ framed_behind high low more h l fits next =
       framed = record { whole = ap (λ x. x ∷ low ∷ more) high_is ∙ ap (λ x. (length octets / 256) ∷ x ∷ more) low_is ∙ ap (λ x. (length octets / 256) ∷ (length octets % 256) ∷ x) body; short = (omega arith, next.framed.short); cut = next.framed.cut };
     }
 
-cut_off : (stream : List ℕ) → length stream < 2 + word_at stream 0 → Framing stream
+cut_off : (stream : List ℕ) → length stream < 2 + u16_at stream 0 → Framing stream
 cut_off stream h = record { messages = []; rest = stream; framed = record { whole = refl; short = tt; cut = h } }
 
 below_or_not : {X : Type 0} (a b : ℕ) (test : Bool) → nat_lt a b ≡ test → (a < b → X) → (b ≤ a → X) → X

@@ -7,7 +7,7 @@ use Rattle.std.specs.List.{flat_map, AllByRecursion}
 use Rattle.std.proofs.lemmas.Bool.{and_parts, leb-true, ltb-true, eqb-true}
 use Rattle.std.proofs.lemmas.List.{take_all, length-take, length-take-le, length-drop}
 use Rattle.std.proofs.lemmas.Nat.{be_bytes_2, be_bytes_4}
-use Rattle.zone_name.specs.Name.{frame}
+use Rattle.zone_name.specs.Name.{with_length}
 use Rattle.zone_rdata.specs.Field.{FieldValue, octets_of, Holds, HoldEach, field_at}
 use Rattle.zone_rdata.specs.Fields.OneString.{string_at}
 use Rattle.zone_rdata.specs.Fields.Strings.{strings_by, strings_of}
@@ -20,7 +20,7 @@ use Rattle.zone_wire.specs.Data.{name_before, sized_before, strings_before, valu
 use Rattle.zone_wire.specs.Message.{RecordAt}
 use Rattle.zone_wire.specs.Reading.{Outcome, named, refused, outcome}
 use Rattle.zone_wire.specs.Sections.{and_then}
-use Rattle.zone_wire.specs.Transfer.{part, StandsAt, StandEach, AreFieldsAt, IsDataAt}
+use Rattle.zone_wire.specs.Transfer.{octets_between, StandsAt, StandEach, AreFieldsAt, IsDataAt}
 use Rattle.zone_wire.specs.Walk.{walk}
 use Rattle.zone_wire.proofs.Fielding.{part_first}
 use Rattle.zone_wire.proofs.ReadSections.{ok_same, leads, passes}
@@ -44,7 +44,7 @@ strings_each : (octets : List ℕ) → ((k : ℕ) → get_or octets k 0 < 256) �
 unfolding strings_of
 strings_each octets small = strings_each_by (length octets) octets small
 
-some_strings : (many : List (List ℕ)) → 0 < length (flat_map frame many) → 0 < length many
+some_strings : (many : List (List ℕ)) → 0 < length (flat_map with_length many) → 0 < length many
 some_strings [] h = absurd (omega arith)
 some_strings (text ∷ many) h = omega arith
 
@@ -56,15 +56,15 @@ module _ (octets : List ℕ) (each : (k : ℕ) → get_or octets k 0 < 256) (end
       subst (Shown octets end start Name) p.1 (at.name, leb-true _ _ p.0, (found, at, refl, refl))
   name_shows start (refused fault steps) v is e = cc
 
-  sized_shows : (start size : ℕ) (field : Field) (v : FieldValue × ℕ) → (start + size ≤ end → Shown octets end start field (field_at field (part octets start (start + size)), start + size)) → sized_before octets end start field size ≡ Ok v → Shown octets end start field v
+  sized_shows : (start size : ℕ) (field : Field) (v : FieldValue × ℕ) → (start + size ≤ end → Shown octets end start field (field_at field (octets_between octets start (start + size)), start + size)) → sized_before octets end start field size ≡ Ok v → Shown octets end start field v
   sized_shows start size field v shows e =
       let p = passes (nat_le (start + size) end) _ v _ e in
       subst (Shown octets end start field) p.1 (shows (leb-true _ _ p.0))
 
-  part_bytes : (start past : ℕ) (k : ℕ) → get_or (part octets start past) k 0 < 256
+  part_bytes : (start past : ℕ) (k : ℕ) → get_or (octets_between octets start past) k 0 < 256
   part_bytes start past = take_each (past - start) (drop start octets) (drop_each start octets each)
 
-  part_size : (start size : ℕ) → start + size ≤ end → length (part octets start (start + size)) ≡ size
+  part_size : (start size : ℕ) → start + size ≤ end → length (octets_between octets start (start + size)) ≡ size
   part_size start size fits =
       let n : start + size - start ≡ size = omega arith in
       ap (λ k. length (take k (drop start octets))) n ∙ length-take-le size (drop start octets) (omega (arith, within, length-drop start octets))
@@ -75,35 +75,35 @@ module _ (octets : List ℕ) (each : (k : ℕ) → get_or octets k 0 < 256) (end
   two_short : (bs : List ℕ) → ((k : ℕ) → get_or bs k 0 < 256) → from_be_bytes w16 bs < 2 ^ 16
   two_short bs small = omega (arith, small 0, small 1)
 
-  long_stands : (start : ℕ) → start + 4 ≤ end → (start ≤ start + 4) × (part octets start (start + 4) ≡ to_be_bytes w32 (from_be_bytes w32 (take 4 (part octets start (start + 4)))))
+  long_stands : (start : ℕ) → start + 4 ≤ end → (start ≤ start + 4) × (octets_between octets start (start + 4) ≡ to_be_bytes w32 (from_be_bytes w32 (take 4 (octets_between octets start (start + 4)))))
   long_stands start fits =
-      let bs = part octets start (start + 4) in
+      let bs = octets_between octets start (start + 4) in
       let len : length bs ≡ 4 = part_size start 4 fits in
       (omega arith, sym (be_bytes_4 bs (from_be_bytes w32 (take 4 bs)) len (part_bytes start (start + 4)) (ap (from_be_bytes w32) (take_all 4 bs (omega (arith, len))))))
 
-  two_stands : (start : ℕ) → start + 2 ≤ end → (start ≤ start + 2) × (part octets start (start + 2) ≡ to_be_bytes w16 (from_be_bytes w16 (take 2 (part octets start (start + 2)))))
+  two_stands : (start : ℕ) → start + 2 ≤ end → (start ≤ start + 2) × (octets_between octets start (start + 2) ≡ to_be_bytes w16 (from_be_bytes w16 (take 2 (octets_between octets start (start + 2)))))
   two_stands start fits =
-      let bs = part octets start (start + 2) in
+      let bs = octets_between octets start (start + 2) in
       let len : length bs ≡ 2 = part_size start 2 fits in
       (omega arith, sym (be_bytes_2 bs (from_be_bytes w16 (take 2 bs)) len (part_bytes start (start + 2)) (ap (from_be_bytes w16) (take_all 2 bs (omega (arith, len))))))
 
   -- octets of a fixed number
-  fixed_shows : (start n : ℕ) → start + n ≤ end → Shown octets end start (Octets n) (field_at (Octets n) (part octets start (start + n)), start + n)
+  fixed_shows : (start n : ℕ) → start + n ≤ end → Shown octets end start (Octets n) (field_at (Octets n) (octets_between octets start (start + n)), start + n)
   fixed_shows start n fits =
-      let bs = part octets start (start + n) in
+      let bs = octets_between octets start (start + n) in
       let len : length bs ≡ n = part_size start n fits in
       let whole : take n bs ≡ bs = take_all n bs (omega (arith, len)) in
       (record { size = ap length whole ∙ len; each = bytes_each (take n bs) (take_each n bs (part_bytes start (start + n))) }, fits, (omega arith, sym whole))
 
   -- a string behind its length
-  string_shows : (start : ℕ) → start + (1 + slice_index octets start) ≤ end → Shown octets end start OneString (field_at OneString (part octets start (start + (1 + slice_index octets start))), start + (1 + slice_index octets start))
+  string_shows : (start : ℕ) → start + (1 + slice_index octets start) ≤ end → Shown octets end start OneString (field_at OneString (octets_between octets start (start + (1 + slice_index octets start))), start + (1 + slice_index octets start))
   string_shows start fits =
       let past = start + (1 + slice_index octets start) in
-      let bs = part octets start past in
+      let bs = octets_between octets start past in
       let h = framed bs (slice_index octets start) (part_bytes start past) (part_size start (1 + slice_index octets start) fits) (part_first octets start past (omega arith)) in
       (h.0, fits, (omega arith, h.1))
     where
-      framed : (bs : List ℕ) (size : ℕ) → ((k : ℕ) → get_or bs k 0 < 256) → length bs ≡ 1 + size → get_or bs 0 0 ≡ size → IsString (string_at bs) × (bs ≡ frame (string_at bs))
+      framed : (bs : List ℕ) (size : ℕ) → ((k : ℕ) → get_or bs k 0 < 256) → length bs ≡ 1 + size → get_or bs 0 0 ≡ size → IsString (string_at bs) × (bs ≡ with_length (string_at bs))
       framed [] size small len first = absurd (omega (arith, len))
       framed (c ∷ rest) size small len first =
           let same : length rest ≡ c = omega (arith, len, first) in
@@ -112,13 +112,13 @@ module _ (octets : List ℕ) (each : (k : ℕ) → get_or octets k 0 < 256) (end
           (record { short = omega (arith, text, small 0); each = bytes_each (take c rest) (take_each c rest (λ k. small (suc k))) }, ap (λ x. x ∷ rest) (sym text) ∙ ap (λ x. length (take c rest) ∷ x) (sym whole))
 
   -- strings up to the end
-  strings_show : (start : ℕ) (v : FieldValue × ℕ) → strings_before end (part octets start end) ≡ Ok v → Shown octets end start Strings v
+  strings_show : (start : ℕ) (v : FieldValue × ℕ) → strings_before end (octets_between octets start end) ≡ Ok v → Shown octets end start Strings v
   strings_show start v e =
-      let bs = part octets start end in
-      let p = passes (nat_lt 0 (length bs) && pointwise nat_eq (flat_map frame (strings_of bs)) bs) _ v _ e in
-      let b = and_parts (nat_lt 0 (length bs)) (pointwise nat_eq (flat_map frame (strings_of bs)) bs) p.0 in
+      let bs = octets_between octets start end in
+      let p = passes (nat_lt 0 (length bs) && pointwise nat_eq (flat_map with_length (strings_of bs)) bs) _ v _ e in
+      let b = and_parts (nat_lt 0 (length bs)) (pointwise nat_eq (flat_map with_length (strings_of bs)) bs) p.0 in
       let some : 0 < length bs = ltb-true 0 (length bs) b.0 in
-      let whole : flat_map frame (strings_of bs) ≡ bs = (bytes_decides (flat_map frame (strings_of bs)) bs).0 b.1 in
+      let whole : flat_map with_length (strings_of bs) ≡ bs = (bytes_decides (flat_map with_length (strings_of bs)) bs).0 b.1 in
       let order : start ≤ end = omega (arith, some, length-take (end - start) (drop start octets)) in
       subst (Shown octets end start Strings) p.1 (record { some = some_strings (strings_of bs) (omega (arith, some, ap length whole)); each = strings_each bs (part_bytes start end) }, omega arith, (order, sym whole))
 
@@ -144,7 +144,7 @@ module _ (octets : List ℕ) (each : (k : ℕ) → get_or octets k 0 < 256) (end
       let others = values_show fields one.first.1 rest.first rest.is in
       subst (λ (vs : List FieldValue). HoldEach (f ∷ fields) vs × StandEach octets start end vs) (ok_same _ _ rest.goes_on) ((here.0, others.0), (one.first.1, here.1, here.2, others.1))
 
-  layout_shows : (start : ℕ) (canonical : List ℕ) (o : Option (List Field)) → (let r : Result (List ℕ) Fault = elim o [ None ↦ Ok (part octets start end) | Some fields ↦ and_then (values_at octets end start fields) (λ values. Ok (octets_of values)) ] in r) ≡ Ok canonical → MatchOption o (canonical ≡ part octets start end) (λ fields. AreFieldsAt octets start end fields canonical)
+  layout_shows : (start : ℕ) (canonical : List ℕ) (o : Option (List Field)) → (let r : Result (List ℕ) Fault = elim o [ None ↦ Ok (octets_between octets start end) | Some fields ↦ and_then (values_at octets end start fields) (λ values. Ok (octets_of values)) ] in r) ≡ Ok canonical → MatchOption o (canonical ≡ octets_between octets start end) (λ fields. AreFieldsAt octets start end fields canonical)
   layout_shows start canonical None e = sym (ok_same _ _ e)
   layout_shows start canonical (Some fields) e =
       let l = leads (values_at octets end start fields) _ canonical e in

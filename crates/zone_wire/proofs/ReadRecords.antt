@@ -19,10 +19,10 @@ use Rattle.zone_rdata.specs.declared.record.Placed.{Placed}
 use Rattle.zone_rdata.proofs.Tables.{each_layout}
 use Rattle.zone_wire.specs.Answers.{is_no_class, record_of, Answered, before_others, answer_of, answers_of}
 use Rattle.zone_wire.specs.Data.{data_at}
-use Rattle.zone_wire.specs.Message.{word_at, QuestionAt, RecordAt, IsRecordAt, AreRecordsAt, Sections, IsMessage}
+use Rattle.zone_wire.specs.Message.{u16_at, QuestionAt, RecordAt, IsRecordAt, AreRecordsAt, Sections, IsMessage}
 use Rattle.zone_wire.specs.Sections.{sections_of}
 use Rattle.zone_wire.specs.Stream.{questions_of, has_first_id, message_of, unless_refused, followed_by, records_of, handed_on, StreamReads}
-use Rattle.zone_wire.specs.Transfer.{part, StandsAt, StandEach, AreFieldsAt, ttl_of, compressible, frame}
+use Rattle.zone_wire.specs.Transfer.{octets_between, StandsAt, StandEach, AreFieldsAt, ttl_of, compressible, frame}
 use Rattle.zone_wire.proofs.Accepting.{all_append}
 use Rattle.zone_wire.proofs.ReadAnswers.{unequal, answer_shown}
 use Rattle.zone_wire.proofs.ReadFields.{bytes_each, data_shown}
@@ -65,7 +65,7 @@ row_by (Some fields) each = row_of fields (each fields refl)
 each_row : (class kind : ℕ) → IsRow (layout class kind)
 each_row class kind = row_by (layout class kind) (each_layout (λ fields. unstrung fields || strings_alone fields) refl class kind)
 
-part_short : (octets : List ℕ) (start end : ℕ) → length (part octets start end) ≤ length octets
+part_short : (octets : List ℕ) (start end : ℕ) → length (octets_between octets start end) ≤ length octets
 part_short octets start end = omega (arith, length-take (end - start) (drop start octets), length-drop start octets)
 
 -- strings take as many octets as in the message
@@ -145,17 +145,17 @@ module _ (are_data : HeldAreData) (are_short : UnstrungAreShort) where
     values_short class kind start end fields values row held stand (inl none) = are_short class kind fields values row none held
     values_short class kind start end fields values row held stand (inr alone) = omega (arith, short, strings_short octets start end values (subst (λ fs. HoldEach fs values) alone held) stand)
 
-    data_by : (class kind start end : ℕ) (canonical : List ℕ) (row : Option (List Field)) → layout class kind ≡ row → MatchOption row (canonical ≡ part octets start end) (λ fields. AreFieldsAt octets start end fields canonical) → IsData class kind canonical
+    data_by : (class kind start end : ℕ) (canonical : List ℕ) (row : Option (List Field)) → layout class kind ≡ row → MatchOption row (canonical ≡ octets_between octets start end) (λ fields. AreFieldsAt octets start end fields canonical) → IsData class kind canonical
     data_by class kind start end canonical None row is = record {
       short = omega (arith, short, part_short octets start end, ap length is);
-      each = subst (AllByRecursion (λ c. c < 256)) (sym is) (bytes_each (part octets start end) (take_each _ (drop start octets) (drop_each start octets each)));
+      each = subst (AllByRecursion (λ c. c < 256)) (sym is) (bytes_each (octets_between octets start end) (take_each _ (drop start octets) (drop_each start octets each)));
       value = subst (λ o. MatchOption o (Unit {0}) (λ fields. AreLaidOut fields canonical)) (sym row) tt;
     }
     data_by class kind start end canonical (Some fields) row is =
         subst (IsData class kind) (sym is.whole)
         (are_data class kind fields is.values row is.held (values_short class kind start end fields is.values row is.held is.stand (subst IsRow row (each_row class kind))))
 
-    word_short : (offset : ℕ) → word_at octets offset < 65536
+    word_short : (offset : ℕ) → u16_at octets offset < 65536
     word_short offset = omega (arith, each offset, each (offset + 1))
 
     -- the record of an answer

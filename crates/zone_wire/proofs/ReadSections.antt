@@ -3,7 +3,7 @@ use Rattle.std.proofs.Common.{◌≡◌, ℕ, zero, suc, ◌<◌, ◌≤◌, Lis
 use Rattle.std.specs.Prelude.{get_or, ◌==◌, Option, Some, None, Result, Ok, Err, if◌then◌else◌}
 use Rattle.std.proofs.lemmas.Bool.{and_parts, leb-true, ltb-false, eqb-true, not-false}
 use Rattle.zone_rdata.specs.declared.fault.Fault.{Fault}
-use Rattle.zone_wire.specs.Message.{word_at, HasHeader, QuestionAt, question_by, IsQuestionAt, RecordAt, record_by, IsRecordAt, AreAt, Sections, IsMessage}
+use Rattle.zone_wire.specs.Message.{u16_at, HasHeader, QuestionAt, question_by, IsQuestionAt, RecordAt, record_by, IsRecordAt, AreAt, Sections, IsMessage}
 use Rattle.zone_wire.specs.Name.{Found}
 use Rattle.zone_wire.specs.Reading.{Outcome, named, refused, outcome}
 use Rattle.zone_wire.specs.Sections.{and_then, at_offset, header_fault, inside, question_at, record_at, each_from, questions_from, records_from, behind_header, sections_of}
@@ -43,7 +43,7 @@ header_shows octets e =
     let b = no_fault _ _ _ a.1 in
     let c = no_fault _ _ _ b.1 in
     let d = no_fault _ _ _ c.1 in
-    let counts = and_parts (nat_le (word_at octets 4) 1) (word_at octets 8 == 0) (not-false _ (no_fault _ _ _ d.1).0) in
+    let counts = and_parts (nat_le (u16_at octets 4) 1) (u16_at octets 8 == 0) (not-false _ (no_fault _ _ _ d.1).0) in
     record {
       twelve = ltb-false _ _ a.0;
       response = eqb-true _ _ (not-false _ b.0);
@@ -97,12 +97,12 @@ opened octets s (Some f) e = cc
 
 behind_shows : (octets : List ℕ) (s : Sections) → ((k : ℕ) → get_or octets k 0 < 256) → HasHeader octets → behind_header octets ≡ Ok s → IsMessage octets s
 behind_shows octets s each header e =
-    let q = leads (questions_from octets (word_at octets 4) 12) _ s e in
-    let a = leads (records_from octets (word_at octets 6) q.first.1) _ s q.goes_on in
-    let d = leads (records_from octets (word_at octets 10) a.first.1) _ s a.goes_on in
-    let questions = each_shows (question_at octets) (λ (x : QuestionAt). x.end) (IsQuestionAt octets) (question_shows octets each) (word_at octets 4) 12 q.first q.is in
-    let answers = each_shows (record_at octets) (λ (x : RecordAt). x.end) (IsRecordAt octets) (record_shows octets each) (word_at octets 6) q.first.1 a.first a.is in
-    let additional = each_shows (record_at octets) (λ (x : RecordAt). x.end) (IsRecordAt octets) (record_shows octets each) (word_at octets 10) a.first.1 d.first d.is in
+    let q = leads (questions_from octets (u16_at octets 4) 12) _ s e in
+    let a = leads (records_from octets (u16_at octets 6) q.first.1) _ s q.goes_on in
+    let d = leads (records_from octets (u16_at octets 10) a.first.1) _ s a.goes_on in
+    let questions = each_shows (question_at octets) (λ (x : QuestionAt). x.end) (IsQuestionAt octets) (question_shows octets each) (u16_at octets 4) 12 q.first q.is in
+    let answers = each_shows (record_at octets) (λ (x : RecordAt). x.end) (IsRecordAt octets) (record_shows octets each) (u16_at octets 6) q.first.1 a.first a.is in
+    let additional = each_shows (record_at octets) (λ (x : RecordAt). x.end) (IsRecordAt octets) (record_shows octets each) (u16_at octets 10) a.first.1 d.first d.is in
     let last = passes (d.first.1 == length octets) _ s _ d.goes_on in
     let end : d.first.1 ≡ length octets = eqb-true _ _ last.0 in
     subst (IsMessage octets) last.1 (record {

@@ -15,7 +15,7 @@ use Rattle.zone_wire.specs.Answers.{Zone, zone_of, agrees, Answered, answers_of}
 use Rattle.zone_wire.specs.Message.{QuestionAt, Sections, IsMessage}
 use Rattle.zone_wire.specs.Sections.{sections_of}
 use Rattle.zone_wire.specs.Stream.{questions_of, has_first_id, ask_for_zone, message_of, unless_refused, followed_by, records_of, handed_on, is_closed, ending_of, StreamReads}
-use Rattle.zone_wire.specs.Transfer.{Part, AreParts, AsksFor, StateEach, frame, StreamStates}
+use Rattle.zone_wire.specs.Transfer.{StatedMessage, AreStatedMessages, AsksFor, StateEach, frame, StreamStates}
 use Rattle.zone_wire.proofs.Accepting.{all_append, octets_of_parts, placed_of_parts, any_append, framed_parts, handed_transfer}
 use Rattle.zone_wire.proofs.Answering.{is_soa}
 use Rattle.zone_wire.proofs.ReadAnswers.{Behind, stands_behind, opening_agrees, agree_parts, Kept, answers_shown}
@@ -129,21 +129,21 @@ message_shown before placed octets s each ids zone e =
     }
 
 -- a part of a stream, whatever the zone
-record IsLoose (number : ℕ) (p : Part) : Type 0 where
+record IsLoose (number : ℕ) (p : StatedMessage) : Type 0 where
   short : length p.octets ≤ 65535
   message : IsMessage p.octets p.sections
   answers : AllByRecursion (λ x. IsRecord x.rr) p.placed → StateEach number p.octets p.sections.answers p.placed
 
-abbrev AreLoose : ℕ → List Part → Type 0
+abbrev AreLoose : ℕ → List StatedMessage → Type 0
 AreLoose number [] = ⊤
 AreLoose number (p ∷ parts) = IsLoose number p × AreLoose (number + 1) parts
 
-abbrev sections_of_parts : List Part → List Sections
+abbrev sections_of_parts : List StatedMessage → List Sections
 sections_of_parts parts = map (λ p. p.sections) parts
 
 -- messages that are read without a fault
 record AreAccepted (before : List Sections) (placed : List Placed) (messages : List (List ℕ)) (answered : Answered (Fault × Place)) : Type 0 where
-  parts : List Part
+  parts : List StatedMessage
   octets : octets_of_parts parts ≡ messages
   stated : placed_of_parts parts ≡ answered.placed
   loose : AreLoose (length before + 1) parts
@@ -282,7 +282,7 @@ all_front : {X : Type 0} (P : X → Type 0) (xs ys : List X) → AllByRecursion 
 all_front P [] ys each = (tt, each)
 all_front P (x ∷ xs) ys each = let rest = all_front P xs ys each.1 in ((each.0, rest.0), rest.1)
 
-parts_from : (id : ℕ) (zone : Record) (number : ℕ) (parts : List Part) → AreLoose number parts → AllByRecursion (λ (s : Sections). s.id ≡ id) (sections_of_parts parts) → AllByRecursion (AsksFor zone) (questions_of (sections_of_parts parts)) → AllByRecursion (λ (p : Placed). IsRecord p.rr) (placed_of_parts parts) → AreParts id zone number parts
+parts_from : (id : ℕ) (zone : Record) (number : ℕ) (parts : List StatedMessage) → AreLoose number parts → AllByRecursion (λ (s : Sections). s.id ≡ id) (sections_of_parts parts) → AllByRecursion (AsksFor zone) (questions_of (sections_of_parts parts)) → AllByRecursion (λ (p : Placed). IsRecord p.rr) (placed_of_parts parts) → AreStatedMessages id zone number parts
 parts_from id zone number [] loose ids ask fits = tt
 parts_from id zone number (p ∷ parts) loose ids ask fits =
     let asks = all_front (AsksFor zone) p.sections.questions (questions_of (sections_of_parts parts)) ask in

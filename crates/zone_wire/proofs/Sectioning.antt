@@ -3,7 +3,7 @@ use Rattle.std.proofs.Common.{◌≡◌, ℕ, ◌≤◌, List, [], ◌∷◌, le
 use Rattle.std.specs.Prelude.{◌==◌, not, Option, Some, None, Result, Ok, Err}
 use Rattle.std.proofs.lemmas.Bool.{cond-true, cond-false, le-leb, le-ltb, eq-eqb, and_from}
 use Rattle.zone_rdata.specs.declared.fault.Fault.{Fault}
-use Rattle.zone_wire.specs.Message.{word_at, HasHeader, QuestionAt, question_by, IsQuestionAt, RecordAt, record_by, IsRecordAt, AreAt, Sections, IsMessage}
+use Rattle.zone_wire.specs.Message.{u16_at, HasHeader, QuestionAt, question_by, IsQuestionAt, RecordAt, record_by, IsRecordAt, AreAt, Sections, IsMessage}
 use Rattle.zone_wire.specs.Name.{Found}
 use Rattle.zone_wire.specs.Reading.{Outcome, named, outcome}
 use Rattle.zone_wire.specs.Sections.{and_then, at_offset, header_fault, inside, question_at, record_at, each_from, behind_header, sections_of}
@@ -20,7 +20,7 @@ header_reads : (octets : List ℕ) → HasHeader octets → header_fault octets 
 unfolding header_fault
 header_reads octets is =
     cond-false _ _ _ (le-ltb _ _ is.twelve) ∙ cond-false _ _ _ (not_other _ _ is.response) ∙ cond-false _ _ _ (not_other _ _ is.whole)
-    ∙ cond-false _ _ _ (not_other _ _ is.no_error) ∙ cond-false _ _ _ (ap not (and_from (nat_le (word_at octets 4) 1) (word_at octets 8 == 0) (le-leb _ _ is.questions) (eq-eqb _ _ is.no_authority)))
+    ∙ cond-false _ _ _ (not_other _ _ is.no_error) ∙ cond-false _ _ _ (ap not (and_from (nat_le (u16_at octets 4) 1) (u16_at octets 8 == 0) (le-leb _ _ is.questions) (eq-eqb _ _ is.no_authority)))
 
 inside_reads : {X : Type 0} (octets : List ℕ) (by : Found → X) (end : X → ℕ) (found : Found) (o : Outcome) → o ≡ named found → end (by found) ≤ length octets → inside octets by end o ≡ Ok (by found)
 inside_reads octets by end found o e h = ap (inside octets by end) e ∙ cond-true _ _ _ (le-leb _ _ h)
@@ -53,8 +53,8 @@ pub sections_read : (octets : List ℕ) (s : Sections) → IsMessage octets s �
 unfolding sections_of
 sections_read octets s is =
     opens octets (header_fault octets) (header_reads octets is.header)
-    ∙ and_then_ok _ (s.questions, is.past_questions) _ (each_reads (question_at octets) (λ q. q.end) (IsQuestionAt octets) (question_reads octets) s.questions (word_at octets 4) 12 is.past_questions is.question_count is.questions)
-    ∙ and_then_ok _ (s.answers, is.past_answers) _ (each_reads (record_at octets) (λ r. r.end) (IsRecordAt octets) (record_reads octets) s.answers (word_at octets 6) is.past_questions is.past_answers is.answer_count is.answers)
-    ∙ and_then_ok _ (s.additional, length octets) _ (each_reads (record_at octets) (λ r. r.end) (IsRecordAt octets) (record_reads octets) s.additional (word_at octets 10) is.past_answers (length octets) is.additional_count is.additional)
+    ∙ and_then_ok _ (s.questions, is.past_questions) _ (each_reads (question_at octets) (λ q. q.end) (IsQuestionAt octets) (question_reads octets) s.questions (u16_at octets 4) 12 is.past_questions is.question_count is.questions)
+    ∙ and_then_ok _ (s.answers, is.past_answers) _ (each_reads (record_at octets) (λ r. r.end) (IsRecordAt octets) (record_reads octets) s.answers (u16_at octets 6) is.past_questions is.past_answers is.answer_count is.answers)
+    ∙ and_then_ok _ (s.additional, length octets) _ (each_reads (record_at octets) (λ r. r.end) (IsRecordAt octets) (record_reads octets) s.additional (u16_at octets 10) is.past_answers (length octets) is.additional_count is.additional)
     ∙ cond-true _ _ _ (eq-eqb (length octets) (length octets) refl)
     ∙ ap (λ n. Ok (record s { id = n })) (sym is.id)

@@ -4,7 +4,7 @@ use Rattle.std.specs.List.{flat_map}
 use Rattle.zone_rdata.specs.Record.{Record}
 use Rattle.zone_rdata.specs.declared.record.Placed.{Placed}
 use Rattle.zone_wire.specs.Message.{RecordAt, Sections, AreRecordsAt, IsMessage}
-use Rattle.zone_wire.specs.Transfer.{IsDataAt, StatesRecord, StateEach, Part, IsPart, AreParts, frame, StreamStates}
+use Rattle.zone_wire.specs.Transfer.{IsDataAt, StatesRecord, StateEach, StatedMessage, IsStatedMessage, AreStatedMessages, frame, StreamStates}
 use Rattle.zone_wire.proofs.Fielding.{data_reads}
 use Rattle.zone_wire.proofs.Messages.{one_message}
 
@@ -62,20 +62,20 @@ placed_unique number octets offset end (a ∷ answers) (p ∷ ps) (q ∷ qs) are
     let one : p ≡ q = placed_same p q (record_unique octets a p.rr q.rr are.0.inside s.0 t.0) (s.1 ∙ sym t.1) in
     ap (λ x. x ∷ ps) one ∙ ap (λ xs. q ∷ xs) (placed_unique number octets a.end end answers ps qs are.1 s.2 t.2)
 
-part_unique : (id ie : ℕ) (zone other : Record) (number : ℕ) (p q : Part) → IsPart id zone number p → IsPart ie other number q → p.octets ≡ q.octets → p.placed ≡ q.placed
+part_unique : (id ie : ℕ) (zone other : Record) (number : ℕ) (p q : StatedMessage) → IsStatedMessage id zone number p → IsStatedMessage ie other number q → p.octets ≡ q.octets → p.placed ≡ q.placed
 part_unique id ie zone other number p q is too e =
     let sections : p.sections ≡ q.sections = one_message p.octets p.sections q.sections is.message (subst (λ (x : List ℕ). IsMessage x q.sections) (sym e) too.message) in
     let moved : StateEach number p.octets q.sections.answers q.placed = subst (λ (x : List ℕ). StateEach number x q.sections.answers q.placed) (sym e) too.answers in
     let states : StateEach number p.octets p.sections.answers q.placed = subst (λ (x : Sections). StateEach number p.octets x.answers q.placed) (sym sections) moved in
     placed_unique number p.octets is.message.past_questions is.message.past_answers p.sections.answers p.placed q.placed is.message.answers is.answers states
 
-abbrev stream_of : List Part → List ℕ
+abbrev stream_of : List StatedMessage → List ℕ
 stream_of parts = flat_map (λ p. frame p.octets) parts
 
-abbrev all_placed : List Part → List Placed
+abbrev all_placed : List StatedMessage → List Placed
 all_placed parts = flat_map (λ p. p.placed) parts
 
-parts_unique : (id ie : ℕ) (zone other : Record) (number : ℕ) (ps qs : List Part) → AreParts id zone number ps → AreParts ie other number qs → stream_of ps ≡ stream_of qs → all_placed ps ≡ all_placed qs
+parts_unique : (id ie : ℕ) (zone other : Record) (number : ℕ) (ps qs : List StatedMessage) → AreStatedMessages id zone number ps → AreStatedMessages ie other number qs → stream_of ps ≡ stream_of qs → all_placed ps ≡ all_placed qs
 parts_unique id ie zone other number [] [] are too e = refl
 parts_unique id ie zone other number [] (q ∷ qs) are too e = cc
 parts_unique id ie zone other number (p ∷ ps) [] are too e = cc

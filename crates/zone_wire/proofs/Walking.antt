@@ -4,7 +4,7 @@ use Rattle.std.specs.Prelude.{take, drop, map, get_or, Option, Some, None}
 use Rattle.std.specs.List.{flat_map, AllByRecursion}
 use Rattle.std.proofs.lemmas.List.{length-map, length-take-le, length-drop}
 use Rattle.std.proofs.lemmas.Bool.Decides.{nat_tests}
-use Rattle.zone_name.specs.Name.{IsLabel, IsFoldedOctet, folded_octet, frame, wire}
+use Rattle.zone_name.specs.Name.{IsLabel, IsFoldedOctet, folded_octet, with_length, wire}
 use Rattle.zone_wire.specs.Name.{At, root, label, pointer, Found, IsNameAt, label_at}
 use Rattle.zone_wire.specs.Walk.{Spot, Standing, at_root, at_label, at_pointer, at_fault, Visit, visit, walk_on, walk_by, walk, ending, outset, past_label, past_pointer, place_of}
 use Rattle.zone_wire.specs.Reading.{Outcome, named, refused, outcome, behind_label, behind_pointer}
@@ -38,13 +38,13 @@ outcome_step message n spot standing e = rw e (outcome_on message n spot standin
 
 -- the octets of labels, each behind its length
 abbrev pub octets_of : List (List ℕ) → ℕ
-octets_of labels = length (flat_map frame labels)
+octets_of labels = length (flat_map with_length labels)
 
 pub octets_of-label : (message : List ℕ) (offset size : ℕ) → offset + size < length message → length (label_at message offset size) ≡ size
 octets_of-label message offset size h = length-map (take size (drop (offset + 1) message)) folded_octet ∙ length-take-le size (drop (offset + 1) message) (omega (arith, length-drop (offset + 1) message))
 
 pub octets_of-more : (l : List ℕ) (labels : List (List ℕ)) → octets_of (l ∷ labels) ≡ length l + 1 + octets_of labels
-octets_of-more l labels = omega (arith, length-append (frame l) (flat_map frame labels))
+octets_of-more l labels = omega (arith, length-append (with_length l) (flat_map with_length labels))
 
 -- a name of the relation is what its walk finds
 pub at_walks : {message : List ℕ} {offset bound : ℕ} {labels : List (List ℕ)} {end steps pointers : ℕ} → At message offset bound labels end steps pointers → (n before octets : ℕ) → steps ≤ n → before + pointers ≤ 128 → octets + octets_of labels + 1 ≤ 255 → outcome_by n message (record { offset = offset; bound = bound; pointers = before; octets = octets }) ≡ named (record { labels = labels; end = end; steps = steps; pointers = pointers })
@@ -84,7 +84,7 @@ at_ends (label offset bound size labels end steps pointers first some short insi
 at_ends (pointer offset bound target labels end steps pointers inside first leads past_header below rest) = (omega arith, omega arith)
 
 pub wire-octets : (labels : List (List ℕ)) → length (wire labels) ≡ octets_of labels + 1
-wire-octets labels = length-append (flat_map frame labels) (0 ∷ [])
+wire-octets labels = length-append (flat_map with_length labels) (0 ∷ [])
 
 pub record IsBounded (message : List ℕ) (offset : ℕ) (found : Found) : Type 0 where
   pub labels : length found.labels ≤ 127

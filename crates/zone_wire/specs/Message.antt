@@ -3,11 +3,11 @@ use Rattle.std.specs.Prelude.{◌≡◌, ℕ, ◌+◌, ◌*◌, ◌/◌, ◌%◌
 use Rattle.zone_wire.specs.Name.{Found, IsNameAt}
 
 -- numbers of 16 and 32 bits at an offset, the highest octet first (RFC 1035 2.3.2)
-abbrev pub word_at : List ℕ → ℕ → ℕ
-word_at octets offset = slice_index octets offset * 256 + slice_index octets (offset + 1)
+abbrev pub u16_at : List ℕ → ℕ → ℕ
+u16_at octets offset = slice_index octets offset * 256 + slice_index octets (offset + 1)
 
-abbrev pub long_at : List ℕ → ℕ → ℕ
-long_at octets offset = word_at octets offset * 65536 + word_at octets (offset + 2)
+abbrev pub u32_at : List ℕ → ℕ → ℕ
+u32_at octets offset = u16_at octets offset * 65536 + u16_at octets (offset + 2)
 
 -- The header of a response to a query, whole and without an error, with at most one question and no authority
 -- (RFC 1035 4.1.1, RFC 5936 2.2.1).
@@ -16,8 +16,8 @@ pub record HasHeader (octets : List ℕ) : Type 0 where
   pub response : slice_index octets 2 / 8 ≡ 16
   pub whole : slice_index octets 2 / 2 % 2 ≡ 0
   pub no_error : slice_index octets 3 % 16 ≡ 0
-  pub questions : word_at octets 4 ≤ 1
-  pub no_authority : word_at octets 8 ≡ 0
+  pub questions : u16_at octets 4 ≤ 1
+  pub no_authority : u16_at octets 8 ≡ 0
 
 -- a question, and the offset after it (RFC 1035 4.1.2)
 pub record QuestionAt : Type 0 where
@@ -27,7 +27,7 @@ pub record QuestionAt : Type 0 where
   pub end : ℕ
 
 abbrev pub question_by : List ℕ → Found → QuestionAt
-question_by octets found = record { name = found.labels; kind = word_at octets found.end; class = word_at octets (found.end + 2); end = found.end + 4 }
+question_by octets found = record { name = found.labels; kind = u16_at octets found.end; class = u16_at octets (found.end + 2); end = found.end + 4 }
 
 pub record IsQuestionAt (octets : List ℕ) (offset : ℕ) (q : QuestionAt) : Type 0 where
   pub found : Found
@@ -49,11 +49,11 @@ abbrev pub record_by : List ℕ → ℕ → Found → RecordAt
 record_by octets offset found = record {
   offset = offset;
   owner = found.labels;
-  kind = word_at octets found.end;
-  class = word_at octets (found.end + 2);
-  ttl = long_at octets (found.end + 4);
+  kind = u16_at octets found.end;
+  class = u16_at octets (found.end + 2);
+  ttl = u32_at octets (found.end + 4);
   start = found.end + 10;
-  end = found.end + 10 + word_at octets (found.end + 8);
+  end = found.end + 10 + u16_at octets (found.end + 8);
 }
 
 pub record IsRecordAt (octets : List ℕ) (offset : ℕ) (r : RecordAt) : Type 0 where
@@ -83,10 +83,10 @@ pub record Sections : Type 0 where
 -- the octets are a message of a transfer: as many questions and records as the header counts, and nothing after them
 pub record IsMessage (octets : List ℕ) (s : Sections) : Type 0 where
   pub header : HasHeader octets
-  pub id : s.id ≡ word_at octets 0
-  pub question_count : length s.questions ≡ word_at octets 4
-  pub answer_count : length s.answers ≡ word_at octets 6
-  pub additional_count : length s.additional ≡ word_at octets 10
+  pub id : s.id ≡ u16_at octets 0
+  pub question_count : length s.questions ≡ u16_at octets 4
+  pub answer_count : length s.answers ≡ u16_at octets 6
+  pub additional_count : length s.additional ≡ u16_at octets 10
   pub past_questions : ℕ
   pub past_answers : ℕ
   pub questions : AreQuestionsAt octets 12 s.questions past_questions

@@ -2,7 +2,7 @@
 use Rattle.std.specs.Prelude.{ℕ, zero, suc, ◌/◌, ◌%◌, List, [], ◌∷◌, length, slice_index, ◌==◌, nat_le, nat_lt, ◌&&◌, not, if◌then◌else◌, Option, Some, None, Result, Ok, Err}
 use Rattle.zone_rdata.specs.declared.fault.Fault.{Fault}
 use Rattle.zone_rdata.specs.declared.fault.Fault.TheVariants.{ShortMessage, NotAResponse, Truncated, ErrorCode, BadCounts, TrailingOctets}
-use Rattle.zone_wire.specs.Message.{word_at, QuestionAt, question_by, RecordAt, record_by, Sections}
+use Rattle.zone_wire.specs.Message.{u16_at, QuestionAt, question_by, RecordAt, record_by, Sections}
 use Rattle.zone_wire.specs.Name.{Found}
 use Rattle.zone_wire.specs.Reading.{Outcome, named, refused, outcome}
 use Rattle.zone_wire.specs.Walk.{walk}
@@ -20,7 +20,7 @@ header_fault octets =
     else if not (slice_index octets 2 / 8 == 16) then Some NotAResponse
     else if not (slice_index octets 2 / 2 % 2 == 0) then Some Truncated
     else if not (slice_index octets 3 % 16 == 0) then Some (ErrorCode (slice_index octets 3 % 16))
-    else if not (nat_le (word_at octets 4) 1 && word_at octets 8 == 0) then Some BadCounts
+    else if not (nat_le (u16_at octets 4) 1 && u16_at octets 8 == 0) then Some BadCounts
     else None
 
 -- What begins with a name: the fault at which the name's walk ends, or what stands there, where it ends inside the message.
@@ -60,10 +60,10 @@ to_the_end octets end sections = if end == length octets then Ok sections else E
 -- as many questions, answers and additional records as the header counts, in this order, and nothing after them
 abbrev pub behind_header : List ℕ → Result Sections (Fault × ℕ)
 behind_header octets =
-    and_then (questions_from octets (word_at octets 4) 12) (λ questions.
-    and_then (records_from octets (word_at octets 6) questions.1) (λ answers.
-    and_then (records_from octets (word_at octets 10) answers.1) (λ additional.
-    to_the_end octets additional.1 (record { id = word_at octets 0; questions = questions.0; answers = answers.0; additional = additional.0 }))))
+    and_then (questions_from octets (u16_at octets 4) 12) (λ questions.
+    and_then (records_from octets (u16_at octets 6) questions.1) (λ answers.
+    and_then (records_from octets (u16_at octets 10) answers.1) (λ additional.
+    to_the_end octets additional.1 (record { id = u16_at octets 0; questions = questions.0; answers = answers.0; additional = additional.0 }))))
 
 unfoldable pub sections_of : List ℕ → Result Sections (Fault × ℕ)
 sections_of octets = elim (header_fault octets) [ Some fault ↦ Err (fault, 0) | None ↦ behind_header octets ]

@@ -8,7 +8,7 @@ use Rattle.zone_rdata.specs.declared.fault.Place.{Place}
 use Rattle.zone_rdata.specs.declared.fault.Place.TheVariants.{Message}
 use Rattle.zone_rdata.specs.declared.record.Placed.{Placed}
 use Rattle.zone_wire.specs.Answers.{zone_of, agrees, Answered, answers_of}
-use Rattle.zone_wire.specs.Message.{word_at, QuestionAt, Sections}
+use Rattle.zone_wire.specs.Message.{u16_at, QuestionAt, Sections}
 use Rattle.zone_wire.specs.Sections.{and_then, sections_of}
 use Rattle.zone_wire.specs.Transfer.{frame}
 
@@ -16,7 +16,7 @@ use Rattle.zone_wire.specs.Transfer.{frame}
 pub record IsFramed (stream : List ℕ) (messages : List (List ℕ)) (rest : List ℕ) : Type 0 where
   pub whole : stream ≡ flat_map frame messages ++ rest
   pub short : AllByRecursion (λ octets. length octets ≤ 65535) messages
-  pub cut : length rest < 2 + word_at rest 0
+  pub cut : length rest < 2 + u16_at rest 0
 
 -- the questions of messages
 abbrev pub questions_of : List Sections → List QuestionAt

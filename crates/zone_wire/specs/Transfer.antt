@@ -10,14 +10,14 @@ use Rattle.zone_rdata.specs.declared.record.Placed.{Placed}
 use Rattle.zone_wire.specs.Message.{QuestionAt, RecordAt, Sections, IsMessage}
 use Rattle.zone_wire.specs.Name.{Found, IsNameAt}
 
-abbrev pub part : List ℕ → ℕ → ℕ → List ℕ
-part octets start end = take (end - start) (drop start octets)
+abbrev pub octets_between : List ℕ → ℕ → ℕ → List ℕ
+octets_between octets start end = take (end - start) (drop start octets)
 
 -- The value of a field stands from one offset to another: a name as names stand in messages, every other value by its
 -- octets (RFC 1035 3.3).
 abbrev pub StandsAt : List ℕ → ℕ → ℕ → FieldValue → Type 0
 StandsAt octets start end (name labels) = (found : Found) × IsNameAt octets start found × (found.labels ≡ labels) × (found.end ≡ end)
-StandsAt octets start end value = (start ≤ end) × (part octets start end ≡ field_octets value)
+StandsAt octets start end value = (start ≤ end) × (octets_between octets start end ≡ field_octets value)
 
 -- values stand one after another from one offset to another
 abbrev pub StandEach : List ℕ → ℕ → ℕ → List FieldValue → Type 0
@@ -34,7 +34,7 @@ pub record AreFieldsAt (octets : List ℕ) (start end : ℕ) (fields : List Fiel
 -- the canonical octets of a record's data: of the values of its layout, or the octets as they are where there is none
 -- (RFC 3597 3, 4)
 abbrev pub IsDataAt : List ℕ → RecordAt → List ℕ → Type 0
-IsDataAt octets a canonical = MatchOption (layout a.class a.kind) (canonical ≡ part octets a.start a.end) (λ fields. AreFieldsAt octets a.start a.end fields canonical)
+IsDataAt octets a canonical = MatchOption (layout a.class a.kind) (canonical ≡ octets_between octets a.start a.end) (λ fields. AreFieldsAt octets a.start a.end fields canonical)
 
 -- a TTL with its top bit set counts as 0 (RFC 2181 8)
 abbrev pub ttl_of : ℕ → ℕ
@@ -62,7 +62,7 @@ StateEach number octets (a ∷ answers) (p ∷ placed) = StatesRecord octets a p
 StateEach number octets answers placed = ⊥
 
 -- a message of a stream, what stands in it, and the records that its answers state
-pub record Part : Type 0 where
+pub record StatedMessage : Type 0 where
   pub octets : List ℕ
   pub sections : Sections
   pub placed : List Placed
@@ -75,16 +75,16 @@ pub record AsksFor (zone : Record) (q : QuestionAt) : Type 0 where
   pub class : q.class ≡ zone.class
 
 -- a message of the transfer, by its number in the stream
-pub record IsPart (id : ℕ) (zone : Record) (number : ℕ) (p : Part) : Type 0 where
+pub record IsStatedMessage (id : ℕ) (zone : Record) (number : ℕ) (p : StatedMessage) : Type 0 where
   pub short : length p.octets ≤ 65535
   pub message : IsMessage p.octets p.sections
   pub same_id : p.sections.id ≡ id
   pub questions : AllByRecursion (AsksFor zone) p.sections.questions
   pub answers : StateEach number p.octets p.sections.answers p.placed
 
-abbrev pub AreParts : ℕ → Record → ℕ → List Part → Type 0
-AreParts id zone number [] = ⊤
-AreParts id zone number (p ∷ parts) = IsPart id zone number p × AreParts id zone (number + 1) parts
+abbrev pub AreStatedMessages : ℕ → Record → ℕ → List StatedMessage → Type 0
+AreStatedMessages id zone number [] = ⊤
+AreStatedMessages id zone number (p ∷ parts) = IsStatedMessage id zone number p × AreStatedMessages id zone (number + 1) parts
 
 -- a message as it stands in a stream, behind its length in two octets
 abbrev pub frame : List ℕ → List ℕ
@@ -93,13 +93,13 @@ frame octets = (length octets / 256) ∷ (length octets % 256) ∷ octets
 -- The stream states the records: messages with one ID, whose answers are an SOA, records that are none, and that SOA again.
 -- The closing SOA isn't handed on.
 pub record StreamStates (stream : List ℕ) (placed : List Placed) : Type 0 where
-  pub parts : List Part
+  pub parts : List StatedMessage
   pub framed : stream ≡ flat_map (λ p. frame p.octets) parts
   pub id : ℕ
   pub opening : Placed
   pub others : List Placed
   pub closing : Placed
-  pub each : AreParts id opening.rr 1 parts
+  pub each : AreStatedMessages id opening.rr 1 parts
   pub answers : flat_map (λ p. p.placed) parts ≡ opening ∷ (others ++ closing ∷ [])
   pub soa : opening.rr.kind ≡ 6
   pub no_soa : AllByRecursion (λ p. p.rr.kind ≢ 6) others

@@ -9,7 +9,7 @@ use Rattle.zone_set.specs.Refusal.{records_of}
 use Rattle.zone_set.specs.Zone.{Zone, IsZone, SameRecords}
 use Rattle.zone_print.specs.Canonical.{canon}
 use Rattle.zone_print.specs.Denotes.{Denotes}
-use Rattle.zone_print.specs.Writing.{AppendsFront}
+use Rattle.zone_print.specs.Writing.{AppendsPrefix}
 
 -- The octets denote a zone under the origin, its canonical text and nothing else was written, and the answer is the
 -- number of its records.
@@ -47,6 +47,6 @@ pub record StatesZone (origin : List (List ℕ)) (octets : List ℕ) (z : Zone) 
   pub zone : IsZone z
 
 -- nothing was written, or a front of the canonical text of the zone that the octets state
-abbrev pub WritesFront : List (List ℕ) → List ℕ → Option (List ℕ) → Option (List ℕ) → Type 0
-WritesFront origin octets old new =
-    Keeps old new ⊎ ((z : Zone) × StatesZone origin octets z × AppendsFront old new (canon z))
+abbrev pub WritesPrefix : List (List ℕ) → List ℕ → Option (List ℕ) → Option (List ℕ) → Type 0
+WritesPrefix origin octets old new =
+    Keeps old new ⊎ ((z : Zone) × StatesZone origin octets z × AppendsPrefix old new (canon z))

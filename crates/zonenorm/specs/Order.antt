@@ -7,7 +7,7 @@ use Rattle.zone_rdata.specs.declared.fault.Fault.{Fault}
 use Rattle.zone_rdata.specs.declared.fault.Place.{Place}
 use Rattle.zone_rdata.specs.declared.fault.Stop.{Stop}
 use Rattle.zone_rdata.specs.declared.fault.Stop.TheVariants.{Refused, Read, Write, Memory}
-use Rattle.zonenorm.specs.Normalise.{Normalises, WritesFront}
+use Rattle.zonenorm.specs.Normalise.{Normalises, WritesPrefix}
 use Rattle.zonenorm.specs.Refusal.{RefusesOctets}
 use Rattle.zonenorm.specs.declared.order.Order.{Order}
 use Rattle.zonenorm.specs.declared.order.Order.TheVariants.{Normalise}
@@ -92,4 +92,4 @@ pub record Runs (origin : List (List ℕ)) (input old new errors errors' : Optio
   pub silent : answer ≡ 0 → Keeps errors errors'
   pub refused : answer ≡ 3 → Keeps old new
   pub fault : answer ≡ 3 → IfSome input (λ octets. (fault : Fault) × (place : Place) × RefusesOctets origin octets fault place)
-  pub front : answer ≢ 0 → IfSome input (λ octets. WritesFront origin octets old new)
+  pub front : answer ≢ 0 → IfSome input (λ octets. WritesPrefix origin octets old new)

@@ -2,7 +2,7 @@ ghost use Rattle.std.specs.Prelude.{IfOk, IfErr, IfSome, IfNone};
 ghost use Rattle.zone_text.specs.File.{FileStates};
 ghost use Rattle.zone_text.specs.Lines.{ReadsFront};
 ghost use Rattle.zonenorm.specs.Form.{origin_of};
-ghost use Rattle.zonenorm.specs.Normalise.{Normalises, NormalisesTo, StatesZone, WritesNothing, WritesFront, IsOfBytes};
+ghost use Rattle.zonenorm.specs.Normalise.{Normalises, NormalisesTo, StatesZone, WritesNothing, WritesPrefix, IsOfBytes};
 ghost use Rattle.zonenorm.specs.Refusal.{IfRefused, RefusesOctets, RefusesRead};
 
 use crate::form::Form;
@@ -31,7 +31,7 @@ pub fn normalise<R: Read, W: Write>(
         Normalises (origin_of form.entry) octets (W.contents writer.old) (W.contents writer.new) count)) }
     ensures refused { IfErr result (λ stop. WritesNothing stop (W.contents writer.old) (W.contents writer.new)) }
     ensures front { IfErr result (λ _. IfSome (R.remaining reader.old) (λ octets.
-        WritesFront (origin_of form.entry) octets (W.contents writer.old) (W.contents writer.new))) }
+        WritesPrefix (origin_of form.entry) octets (W.contents writer.old) (W.contents writer.new))) }
     ensures fault { IfErr result (λ stop. IfSome (R.remaining reader.old) (λ octets.
         IfRefused stop (RefusesOctets (origin_of form.entry) octets))) }
 {

@@ -4,12 +4,12 @@ use Rattle.zone_name.specs.Name.{folded_label}
 use Rattle.zone_name.specs.Machine.Reading.{Collects}
 use Rattle.zone_name.specs.declared.fault.NameFault.{NameFault}
 use Rattle.zone_name.specs.declared.fault.NameFault.TheVariants.{EmptyLabel}
-use Rattle.zone_name.specs.declared.reading.Form.{Form}
-use Rattle.zone_name.specs.declared.reading.Form.TheVariants.{Root, Origin, Labels}
+use Rattle.zone_name.specs.declared.reading.NameForm.{NameForm}
+use Rattle.zone_name.specs.declared.reading.NameForm.TheVariants.{Root, Origin, Labels}
 use Rattle.zone_name.specs.declared.reading.Spelled.{Spelled}
 
 -- a dot alone, an `@` alone, or another text
-abbrev pub HasForm : List ℕ → Form → Type 0
+abbrev pub HasForm : List ℕ → NameForm → Type 0
 HasForm text Root = text ≡ codes "."
 HasForm text Origin = text ≡ codes "@"
 HasForm text Labels = (text ≢ codes ".") × (text ≢ codes "@")

@@ -1,7 +1,7 @@
 -- A field that is an address of a fixed number of octets (RFC 1035 3.4.1; RFC 3596 2.2).
 use Rattle.std.specs.Prelude.{◌≡◌, ℕ, ◌<◌, List, length}
 use Rattle.std.specs.List.{AllByRecursion}
-use Rattle.zone_rdata.specs.Address.{IsFourNumbers, IsGroups}
+use Rattle.zone_rdata.specs.Address.{IsIpv4Address, IsIpv6Address}
 
 -- octets of a fixed number
 pub record AreFixed (n : ℕ) (octets : List ℕ) : Type 0 where
@@ -10,5 +10,5 @@ pub record AreFixed (n : ℕ) (octets : List ℕ) : Type 0 where
 
 -- the text of an address of n octets
 pub data IsAddress (n : ℕ) (text octets : List ℕ) : Type 0 where
-  of_four : n ≡ 4 → IsFourNumbers text octets → IsAddress n text octets
-  of_sixteen : n ≡ 16 → IsGroups text octets → IsAddress n text octets
+  of_ipv4 : n ≡ 4 → IsIpv4Address text octets → IsAddress n text octets
+  of_ipv6 : n ≡ 16 → IsIpv6Address text octets → IsAddress n text octets

@@ -1,6 +1,6 @@
 -- A field that is one character-string, behind its length (RFC 1035 3.3). An item spells it by `SpellsString`.
 use Rattle.std.specs.Prelude.{◌≡◌, ℕ, ◌<◌, List, [], ◌∷◌, length, take}
-use Rattle.zone_name.specs.Name.{frame}
+use Rattle.zone_name.specs.Name.{with_length}
 use Rattle.zone_rdata.specs.Strings.{IsString}
 
 -- the string at the front of octets, by the length before it
@@ -12,4 +12,4 @@ string_at (n ∷ octets) = take n octets
 pub record BeginsWithString (octets : List ℕ) : Type 0 where
   pub some : 0 < length octets
   pub held : IsString (string_at octets)
-  pub front : take (length (frame (string_at octets))) octets ≡ frame (string_at octets)
+  pub front : take (length (with_length (string_at octets))) octets ≡ with_length (string_at octets)

@@ -1,7 +1,7 @@
 ghost use Rattle.std.specs.Prelude.{◌≡◌, ◌+◌, ◌<◌, ◌≤◌, ◌++◌, ℕ, List, length, IfSome, IfNone, OnSome};
 ghost use Rattle.zone_rdata.specs.Address.{ArePartsOf, IsGroup, IsLastPart};
 
-use super::four::{cut_at, four_octets_of};
+use super::ipv4::{cut_at, ipv4_octets_of};
 use arrayvec::ArrayVec;
 use hex::decode_to_slice;
 
@@ -52,7 +52,7 @@ fn push_last(octets: &mut ArrayVec<u8, LENGTH>, text: &[u8], ends: bool) -> Opti
     if !ends {
         return None;
     }
-    let numbers = four_octets_of(text)?;
+    let numbers = ipv4_octets_of(text)?;
     push_octets(octets, &numbers)
 }
 

@@ -2,9 +2,9 @@ ghost use Rattle.std.specs.Prelude.{◌≡◌, ◌+◌, ◌-◌, ◌*◌, ◌<�
 ghost use Rattle.std.specs.Net.Addr.{segments_of};
 ghost use Rattle.std.specs.Net.Text as std_text;
 ghost use Rattle.arrayvec.specs.ArrayVec.{array_vec_len};
-ghost use Rattle.zone_rdata.specs.Address.{four_text, groups_text, parted_groups};
+ghost use Rattle.zone_rdata.specs.Address.{ipv4_text, ipv6_text, parted_groups};
 
-use crate::number::short_octets;
+use crate::number::u16_octets_of;
 use arrayvec::ArrayVec;
 use byteorder::{BigEndian, ByteOrder};
 use hex::encode_to_slice;
@@ -33,9 +33,9 @@ fn push_number(text: &mut ArrayVec<u8, ROOM>, octet: u8)
 }
 
 /// The text of four octets (RFC 1035 3.4.1).
-fn text_of_four(octets: &[u8]) -> ArrayVec<u8, ROOM>
+fn text_of_ipv4(octets: &[u8]) -> ArrayVec<u8, ROOM>
     requires { length octets.now ≡ 4 }
-    ensures written { result.items ≡ four_text octets.now }
+    ensures written { result.items ≡ ipv4_text octets.now }
     ensures short { array_vec_len result ≤ 15 }
 {
     let mut text = ArrayVec::new();
@@ -69,7 +69,7 @@ fn push_group(text: &mut ArrayVec<u8, ROOM>, group: u16)
     ensures short { array_vec_len text.new ≤ array_vec_len text.old + 4 }
 {
     let mut digits = [0; 4];
-    let _ = encode_to_slice(short_octets(group), &mut digits);
+    let _ = encode_to_slice(u16_octets_of(group), &mut digits);
     push_octets(text, &digits[leading_zeros(group)..]);
 }
 
@@ -140,9 +140,9 @@ fn groups_of(octets: &[u8]) -> [u16; 8]
 }
 
 /// The text of sixteen octets (RFC 5952 4).
-fn text_of_sixteen(octets: &[u8]) -> ArrayVec<u8, ROOM>
+fn text_of_ipv6(octets: &[u8]) -> ArrayVec<u8, ROOM>
     requires { length octets.now ≡ 16 }
-    ensures written { result.items ≡ groups_text octets.now }
+    ensures written { result.items ≡ ipv6_text octets.now }
     ensures short { array_vec_len result ≤ 39 }
 {
     let groups = groups_of(octets);
@@ -163,12 +163,12 @@ fn text_of_sixteen(octets: &[u8]) -> ArrayVec<u8, ROOM>
 /// # Errors
 ///
 /// `out` refuses the octets, and holds what it held.
-pub(crate) fn push_four<S: Sink>(octets: &[u8], out: &mut S) -> Result<(), S::Error>
+pub(crate) fn push_ipv4<S: Sink>(octets: &[u8], out: &mut S) -> Result<(), S::Error>
     requires { length octets.now ≡ 4 }
-    ensures ok { OnOk result (S.takes out.old (four_text octets.now) out.new) }
+    ensures ok { OnOk result (S.takes out.old (ipv4_text octets.now) out.new) }
     ensures err { OnErr result (S.takes out.old [] out.new) }
 {
-    out.push(text_of_four(octets).as_slice())
+    out.push(text_of_ipv4(octets).as_slice())
 }
 
 /// Appends the text of sixteen octets, groups with `::` for their longest run of zeros (RFC 5952 4).
@@ -176,10 +176,10 @@ pub(crate) fn push_four<S: Sink>(octets: &[u8], out: &mut S) -> Result<(), S::Er
 /// # Errors
 ///
 /// `out` refuses the octets, and holds what it held.
-pub(crate) fn push_sixteen<S: Sink>(octets: &[u8], out: &mut S) -> Result<(), S::Error>
+pub(crate) fn push_ipv6<S: Sink>(octets: &[u8], out: &mut S) -> Result<(), S::Error>
     requires { length octets.now ≡ 16 }
-    ensures ok { OnOk result (S.takes out.old (groups_text octets.now) out.new) }
+    ensures ok { OnOk result (S.takes out.old (ipv6_text octets.now) out.new) }
     ensures err { OnErr result (S.takes out.old [] out.new) }
 {
-    out.push(text_of_sixteen(octets).as_slice())
+    out.push(text_of_ipv6(octets).as_slice())
 }

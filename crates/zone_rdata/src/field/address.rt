@@ -3,7 +3,7 @@ ghost use Rattle.zone_rdata.specs.Fault.{NoValue, IfFault};
 ghost use Rattle.zone_rdata.specs.Fields.Address.{IsAddress};
 ghost use Rattle.zone_rdata.specs.Reading.{Appends};
 
-use crate::address::{four_octets_of, sixteen_octets_of};
+use crate::address::{ipv4_octets_of, ipv6_octets_of};
 use crate::fault::{Failing, Fault};
 
 /// Appends the address of so many octets.
@@ -13,11 +13,11 @@ pub(crate) fn push_address(count: usize, text: &[u8], octets: &mut Vec<u8>) -> R
 {
     match count {
         4 => {
-            let address = four_octets_of(text).ok_or(Fault::BadRdata)?;
+            let address = ipv4_octets_of(text).ok_or(Fault::BadRdata)?;
             octets.extend_from_slice(&address)?;
         }
         16 => {
-            let address = sixteen_octets_of(text).ok_or(Fault::BadRdata)?;
+            let address = ipv6_octets_of(text).ok_or(Fault::BadRdata)?;
             octets.extend_from_slice(&address)?;
         }
         _ => return Err(Failing::Fault(Fault::BadRdata)),

@@ -1,6 +1,6 @@
 ghost use Rattle.std.specs.Prelude.{◌≡◌, ◌<◌, length, IfOk, IfErr};
 ghost use Rattle.zone_rdata.specs.Fault.{IfFault};
-ghost use Rattle.zone_rdata.specs.Uncompressed.{AppendsFront};
+ghost use Rattle.zone_rdata.specs.Uncompressed.{AppendsPrefix};
 
 use crate::fault::{Failing, Fault};
 
@@ -10,7 +10,7 @@ pub(crate) fn push_front<'o>(
     octets: &'o [u8],
     canonical: &mut Vec<u8>,
 ) -> Result<&'o [u8], Failing>
-    ensures found { IfOk result (λ rest. AppendsFront count octets.now rest.now canonical.old.items canonical.new.items) }
+    ensures found { IfOk result (λ rest. AppendsPrefix count octets.now rest.now canonical.old.items canonical.new.items) }
     ensures fault { IfErr result (IfFault (λ f. (f ≡ Fault.BadRdata) × (length octets.now < count))) }
 {
     if octets.len() < count {

@@ -5,7 +5,7 @@ ghost use Rattle.zone_rdata.specs.Fields.Serial.{SpellsSerial};
 ghost use Rattle.zone_rdata.specs.Reading.{Appends};
 
 use crate::fault::{Failing, Fault};
-use crate::number::{at_most, decimal_of, long_octets};
+use crate::number::{at_most, decimal_of, u32_octets};
 use byteorder::{BigEndian, ByteOrder};
 
 /// Appends the number that decimal digits stand for.
@@ -14,12 +14,12 @@ pub(crate) fn push_serial(text: &[u8], octets: &mut Vec<u8>) -> Result<(), Faili
     ensures fault { IfErr result (IfFault (NoValue Fault.BadNumber (SpellsSerial text.now))) }
 {
     let number = at_most(u32::MAX, decimal_of(text))?;
-    octets.extend_from_slice(&long_octets(number))?;
+    octets.extend_from_slice(&u32_octets(number))?;
     Ok(())
 }
 
 /// The number of 32 bits at the front of octets, and the octets after it.
-pub(crate) fn split_long(octets: &[u8]) -> (u32, &[u8])
+pub(crate) fn split_u32(octets: &[u8]) -> (u32, &[u8])
     requires { 4 ≤ length octets.now }
     ensures number { result.0 ≡ from_be_bytes w32 (take 4 octets.now) }
     ensures rest { result.1.now ≡ drop 4 octets.now }

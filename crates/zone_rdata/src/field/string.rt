@@ -1,5 +1,5 @@
 ghost use Rattle.std.specs.Prelude.{◌≡◌, ◌<◌, ◌≤◌, drop, length, IfOk, IfErr};
-ghost use Rattle.zone_name.specs.Name.{frame};
+ghost use Rattle.zone_name.specs.Name.{with_length};
 ghost use Rattle.zone_rdata.specs.Fault.{IfFault};
 ghost use Rattle.zone_rdata.specs.Fields.OneString.{BeginsWithString, string_at};
 ghost use Rattle.zone_rdata.specs.Uncompressed.{AppendsValue, BeginsWithNone};
@@ -26,7 +26,7 @@ pub(crate) fn push_sent_string<'o>(
 pub(crate) fn split_string(octets: &[u8]) -> (&[u8], &[u8])
     requires { BeginsWithString octets.now }
     ensures string { result.0.now ≡ string_at octets.now }
-    ensures rest { result.1.now ≡ drop (length (frame (string_at octets.now))) octets.now }
+    ensures rest { result.1.now ≡ drop (length (with_length (string_at octets.now))) octets.now }
     ensures short { length result.0.now ≤ 255 }
 {
     let (count, behind) = octets.split_at(1);

@@ -1,8 +1,8 @@
 ghost use Rattle.std.specs.Prelude.{◌≡◌, ◌↔◌, ◌<◌, map, IsTrue, IfOk, IfErr, OnOk};
 ghost use Rattle.std.specs.List.{flat_map};
-ghost use Rattle.zone_name.specs.Name.{frame};
+ghost use Rattle.zone_name.specs.Name.{with_length};
 ghost use Rattle.zone_rdata.specs.Fault.{IfFault};
-ghost use Rattle.zone_rdata.specs.Fields.Strings.{SpellsStrings, StringsFault, AreFramed};
+ghost use Rattle.zone_rdata.specs.Fields.Strings.{SpellsStrings, StringsFault, AreWithLengths};
 ghost use Rattle.zone_rdata.specs.Item.{raw};
 ghost use Rattle.zone_rdata.specs.Reading.{Appends};
 ghost use Rattle.zone_rdata.specs.Uncompressed.{AppendsValue, BeginsWithNone};
@@ -15,7 +15,7 @@ use crate::string::push_string;
 
 /// Appends the strings that the items spell, one or more, each behind its length.
 pub(crate) fn push_strings(items: &[Item], octets: &mut Vec<u8>) -> Result<(), Failing>
-    ensures found { OnOk result (Appends (SpellsStrings (map raw items.now)) (flat_map frame) octets.old.items octets.new.items) }
+    ensures found { OnOk result (Appends (SpellsStrings (map raw items.now)) (flat_map with_length) octets.old.items octets.new.items) }
     ensures fault { IfErr result (IfFault (StringsFault (map raw items.now))) }
 {
     if items.is_empty() {
@@ -43,7 +43,7 @@ pub(crate) fn push_sent_strings<'o>(
 
 /// Whether octets are one string or more, each behind its length.
 fn are_strings(octets: &[u8]) -> bool
-    ensures { IsTrue result ↔ AreFramed octets.now }
+    ensures { IsTrue result ↔ AreWithLengths octets.now }
 {
     if octets.is_empty() {
         return false;

@@ -5,21 +5,21 @@ ghost use Rattle.zone_rdata.specs.Fields.U16.{SpellsU16};
 ghost use Rattle.zone_rdata.specs.Reading.{Appends};
 
 use crate::fault::{Failing, Fault};
-use crate::number::{at_most, decimal_of, short_octets};
+use crate::number::{at_most, decimal_of, u16_octets_of};
 use byteorder::{BigEndian, ByteOrder};
 
 /// Appends the number that decimal digits stand for.
-pub(crate) fn push_short(text: &[u8], octets: &mut Vec<u8>) -> Result<(), Failing>
+pub(crate) fn push_u16_text(text: &[u8], octets: &mut Vec<u8>) -> Result<(), Failing>
     ensures found { OnOk result (Appends (SpellsU16 text.now) (to_be_bytes w16) octets.old.items octets.new.items) }
     ensures fault { IfErr result (IfFault (NoValue Fault.BadNumber (SpellsU16 text.now))) }
 {
     let number = at_most(65535, decimal_of(text))?;
-    octets.extend_from_slice(&short_octets(number as u16))?;
+    octets.extend_from_slice(&u16_octets_of(number as u16))?;
     Ok(())
 }
 
 /// The number of 16 bits at the front of octets, and the octets after it.
-pub(crate) fn split_short(octets: &[u8]) -> (u16, &[u8])
+pub(crate) fn split_u16(octets: &[u8]) -> (u16, &[u8])
     requires { 2 ≤ length octets.now }
     ensures number { result.0 ≡ from_be_bytes w16 (take 2 octets.now) }
     ensures rest { result.1.now ≡ drop 2 octets.now }

@@ -8,7 +8,7 @@ ghost use Rattle.zone_text.specs.Entries.{Entry};
 ghost use Rattle.zone_text.specs.EntryFault.{EntryFault};
 ghost use Rattle.zone_text.specs.Forms.{begins_with_digit, form_of, is_class_word};
 ghost use Rattle.zone_text.specs.Machine.Lower.{Choices, Lower};
-ghost use Rattle.zone_text.specs.Outcome.{AllState, AreLowItems};
+ghost use Rattle.zone_text.specs.Outcome.{AllState, AreOctetItems};
 ghost use Rattle.zone_text.specs.Records.{StatesNothing, StatesRecord};
 
 use zone_name::laws::{spelling_is_unique, texts_have_one_verdict};
@@ -79,7 +79,7 @@ pub fn an_entry_has_one_outcome()
 /// An entry of octets states nothing or a record, or has a first fault, where each entry before it states nothing or a
 /// record and the origin is a name.
 pub fn an_entry_has_an_outcome()
-    ensures { (origin : List (List ℕ)) (before : List Entry) (entry : Entry) → IsName origin → AllState origin before → AreLowItems entry.items → StatesNothing origin before (form_of entry) ⊎ (((r : Record) × StatesRecord origin before entry r) ⊎ ((fault : Fault) × EntryFault origin before entry fault)) }
+    ensures { (origin : List (List ℕ)) (before : List Entry) (entry : Entry) → IsName origin → AllState origin before → AreOctetItems entry.items → StatesNothing origin before (form_of entry) ⊎ (((r : Record) × StatesRecord origin before entry r) ⊎ ((fault : Fault) × EntryFault origin before entry fault)) }
 {
     lower_laws();
     lower_choices();

@@ -26,7 +26,7 @@ pub fn a_file_has_a_reading()
 }
 
 /// Something is decided of every front of a file under an origin that is a name, be it that no fault is.
-pub fn of_each_front_something_is_decided()
+pub fn of_each_prefix_something_is_decided()
     ensures { (origin : List (List ℕ)) (octets : List ℕ) → IsName origin → AllByRecursion (λ c. c < 256) octets → (placed : List Placed) × ((ending : Ending) × Decided origin octets placed ending) }
 {
     lower_laws();

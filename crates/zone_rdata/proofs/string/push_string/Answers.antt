@@ -1,5 +1,5 @@
 use Rattle.std.proofs.Common.{◌++◌, ap, ◌∙◌}
-use Rattle.zone_name.specs.Name.{frame}
+use Rattle.zone_name.specs.Name.{with_length}
 use Rattle.zone_rdata.specs.Item.{raw}
 use Rattle.zone_rdata.specs.Strings.{StringFault}
 use Rattle.zone_rdata.proofs.Failings.{fault_passed}
@@ -13,5 +13,5 @@ pub returns-clause-found : goal.returns-clause-found
 returns-clause-found c = record {
   octets = c.in_ok-octets.octets.items;
   spelt = c.in_ok-octets.ensures.found;
-  written = c.in_ok-push_framed.ensures.ok ∙ ap (λ o. c.args.out.now.items ++ frame o) c.as_slice.ensures.value;
+  written = c.in_ok-push_with_length.ensures.ok ∙ ap (λ o. c.args.out.now.items ++ with_length o) c.as_slice.ensures.value;
 }

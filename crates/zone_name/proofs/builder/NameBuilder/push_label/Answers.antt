@@ -1,6 +1,6 @@
 use Rattle.std.proofs.Common.{◌≡◌, ◌<◌, ◌≤◌, ◌+◌, ◌++◌, ◌∷◌, [], length, ◌∙◌, ap, arith}
 use Rattle.std.proofs.lemmas.List.{length-map}
-use Rattle.zone_name.specs.Name.{folded_label, folded_octet, frame, IsLabel}
+use Rattle.zone_name.specs.Name.{folded_label, folded_octet, with_length, IsLabel}
 use Rattle.zone_name.proofs.Pushing.{push_frame, pushed_octets, Pushed, IsLabel-folded, AllByRecursion-from_places}
 use Rattle.zone_name.proofs.builder.NameBuilder.push_label.Goals as goal
 
@@ -9,7 +9,7 @@ pushed c =
     let label = c.args.label.now in
     let is : IsLabel (folded_label label) = IsLabel-folded label (omega arith) (omega arith) (AllByRecursion-from_places (λ x. x < 256) label (λ k h. let f = c.type_inv.label k in omega arith)) in
     let room : length c.self.inside.octets.items + length (folded_label label) + 2 ≤ 255 = omega (arith, length-map label folded_octet) in
-    let same : c.loop-octet.self-inside.octets.items ≡ c.self.inside.octets.items ++ frame (folded_label label) = pushed_octets c.self.inside.octets.items label c.push.new.self.items c.loop-octet.self-inside.octets.items c.loop-octet.octet-index c.push.ensures.items c.loop-octet.invariant c.loop-octet-test.false in
+    let same : c.loop-octet.self-inside.octets.items ≡ c.self.inside.octets.items ++ with_length (folded_label label) = pushed_octets c.self.inside.octets.items label c.push.new.self.items c.loop-octet.self-inside.octets.items c.loop-octet.octet-index c.push.ensures.items c.loop-octet.invariant c.loop-octet-test.false in
     push_frame _ _ _ c.self.invariant is room same
 
 pub invariant_of-self : goal.invariant_of-self

@@ -1,6 +1,6 @@
 use Rattle.std.proofs.Common.{Ok, ap, sym, ◌∙◌, option_copied}
 use Rattle.zone_name.specs.Spelling.{unfounded}
-use Rattle.zone_name.specs.declared.reading.Form.TheVariants.{Root, Origin, Labels}
+use Rattle.zone_name.specs.declared.reading.NameForm.TheVariants.{Root, Origin, Labels}
 use Rattle.zone_name.proofs.Answered.{answered, answered-only, answered-origin, decided-found, decided-fault, at-relative}
 use Rattle.zone_name.proofs.name.Name.from_text.Goals as goal
 

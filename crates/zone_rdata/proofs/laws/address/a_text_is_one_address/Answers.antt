@@ -2,8 +2,8 @@ use Rattle.zone_rdata.proofs.Addresses.{numbers_unique}
 use Rattle.zone_rdata.proofs.AddressGaps.{groups_unique}
 use Rattle.zone_rdata.proofs.laws.address.a_text_is_one_address.Goals as goal
 
-pub returns-clause-four : goal.returns-clause-four
-returns-clause-four c = numbers_unique 3
+pub returns-clause-ipv4 : goal.returns-clause-ipv4
+returns-clause-ipv4 c = numbers_unique 3
 
-pub returns-clause-sixteen : goal.returns-clause-sixteen
-returns-clause-sixteen c = groups_unique
+pub returns-clause-ipv6 : goal.returns-clause-ipv6
+returns-clause-ipv6 c = groups_unique

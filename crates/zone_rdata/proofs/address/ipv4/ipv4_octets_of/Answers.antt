@@ -1,6 +1,6 @@
 use Rattle.zone_rdata.proofs.Addresses.{numbers_one, numbers_more, rest_refused, last_refused}
 use Rattle.zone_rdata.proofs.AddressParts.{if_none_any}
-use Rattle.zone_rdata.proofs.address.four.four_octets_of.Goals as goal
+use Rattle.zone_rdata.proofs.address.ipv4.ipv4_octets_of.Goals as goal
 
 pub returns-in_err-first-clause-none : goal.returns-in_err-first-clause-none
 returns-in_err-first-clause-none c = if_none_any _ _ (c.in_err-first.ensures.none 2)

@@ -1,6 +1,6 @@
 use Rattle.zone_rdata.proofs.Addresses.{numbers_none, number_refused}
 use Rattle.zone_rdata.proofs.AddressParts.{if_none_any}
-use Rattle.zone_rdata.proofs.address.four.octet_before_dot.Goals as goal
+use Rattle.zone_rdata.proofs.address.ipv4.octet_before_dot.Goals as goal
 
 pub returns-in_err-number-clause-none : goal.returns-in_err-number-clause-none
 returns-in_err-number-clause-none c = if_none_any _ _ (numbers_none c.args.text.now c.in_err-number.ensures.none)

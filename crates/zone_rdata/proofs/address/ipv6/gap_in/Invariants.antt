@@ -1,6 +1,6 @@
 use Rattle.std.proofs.Common.{ℕ, suc, ◌<◌}
 use Rattle.zone_rdata.specs.Machine.AddressReading.{HasGapAt}
-use Rattle.zone_rdata.proofs.address.sixteen.gap_in.Given as goal
+use Rattle.zone_rdata.proofs.address.ipv6.gap_in.Given as goal
 
 abbrev pub invariant-loop-at : goal.invariant-loop-at
 invariant-loop-at l = (k : ℕ) → suc k < l.at → HasGapAt l.text k → ⊥

@@ -1,5 +1,5 @@
 ghost use Rattle.std.specs.Prelude.{◌≡◌, ◌+◌, ◌<◌, ◌≤◌, ℕ, List, true, length, IfSome, IfNone};
-ghost use Rattle.zone_rdata.specs.Address.{AreAround, ArePartsOf, IsGroups};
+ghost use Rattle.zone_rdata.specs.Address.{AreAround, ArePartsOf, IsIpv6Address};
 ghost use Rattle.zone_rdata.specs.Machine.AddressReading.{HasGapAt};
 
 use super::groups::octets_of_parts;
@@ -50,9 +50,9 @@ fn octets_around(front: &[u8], back: &[u8]) -> Option<[u8; 16]>
 }
 
 /// The octets of an address in groups (RFC 4291 2.2). `None`: the text is no such address.
-pub(crate) fn sixteen_octets_of(text: &[u8]) -> Option<[u8; 16]>
-    ensures found { IfSome result (λ octets. IsGroups text.now octets) }
-    ensures none { IfNone result ((octets : List ℕ) → IsGroups text.now octets → ⊥) }
+pub(crate) fn ipv6_octets_of(text: &[u8]) -> Option<[u8; 16]>
+    ensures found { IfSome result (λ octets. IsIpv6Address text.now octets) }
+    ensures none { IfNone result ((octets : List ℕ) → IsIpv6Address text.now octets → ⊥) }
 {
     match gap_in(text) {
         None => octets_of_eight(text),

@@ -1,5 +1,5 @@
 ghost use Rattle.std.specs.Prelude.{◌≡◌, ◌+◌, ◌≤◌, ℕ, List, suc, IfSome, IfNone};
-ghost use Rattle.zone_rdata.specs.Address.{AreNumbers, IsFourNumbers, IsOctetNumber};
+ghost use Rattle.zone_rdata.specs.Address.{AreNumbers, IsIpv4Address, IsOctetNumber};
 ghost use Rattle.zone_rdata.specs.Machine.AddressReading.{IsCut, Lacks};
 
 use crate::number::decimal_of;
@@ -40,9 +40,9 @@ fn octet_before_dot(text: &[u8]) -> Option<(u8, &[u8])>
 }
 
 /// The octets of an address in four decimal numbers (RFC 1035 3.4.1). `None`: the text is no such address.
-pub(crate) fn four_octets_of(text: &[u8]) -> Option<[u8; 4]>
-    ensures found { IfSome result (λ octets. IsFourNumbers text.now octets) }
-    ensures none { IfNone result ((octets : List ℕ) → IsFourNumbers text.now octets → ⊥) }
+pub(crate) fn ipv4_octets_of(text: &[u8]) -> Option<[u8; 4]>
+    ensures found { IfSome result (λ octets. IsIpv4Address text.now octets) }
+    ensures none { IfNone result ((octets : List ℕ) → IsIpv4Address text.now octets → ⊥) }
 {
     let (first, rest) = octet_before_dot(text)?;
     let (second, rest) = octet_before_dot(rest)?;

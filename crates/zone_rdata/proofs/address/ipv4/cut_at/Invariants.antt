@@ -1,6 +1,6 @@
 use Rattle.std.proofs.Common.{take}
 use Rattle.zone_rdata.specs.Machine.AddressReading.{Lacks}
-use Rattle.zone_rdata.proofs.address.four.cut_at.Given as goal
+use Rattle.zone_rdata.proofs.address.ipv4.cut_at.Given as goal
 
 abbrev pub invariant-loop-at : goal.invariant-loop-at
 invariant-loop-at l = Lacks l.octet (take l.at l.text)
