@@ -37,8 +37,8 @@ on_serial origin field item text old new r is which done = on_appended origin fi
 pub on_time : (origin : List (List ℕ)) (field : Field) (item : RawItem) (text old new : List ℕ) (r : Result (Unit {0}) Failing) → item ≡ bare text → field ≡ fields.Time → OnOk r (Appends (SpellsTime text) (to_be_bytes w32) old new) → OnOk r (AppendsField origin field (item ∷ []) old new)
 on_time origin field item text old new r is which done = on_appended origin field fields.Time item text old new r is which (on_ok_weaker r (λ h. record { value = u32_value h.value; stated = h.stated; written = h.written }) done)
 
-pub on_two_octets : (origin : List (List ℕ)) (field : Field) (item : RawItem) (text old new : List ℕ) (r : Result (Unit {0}) Failing) → item ≡ bare text → field ≡ fields.U16 → OnOk r (Appends (SpellsU16 text) (to_be_bytes w16) old new) → OnOk r (AppendsField origin field (item ∷ []) old new)
-on_two_octets origin field item text old new r is which done = on_appended origin field fields.U16 item text old new r is which (on_ok_weaker r (λ h. record { value = u16_value h.value; stated = h.stated; written = h.written }) done)
+pub on_u16 : (origin : List (List ℕ)) (field : Field) (item : RawItem) (text old new : List ℕ) (r : Result (Unit {0}) Failing) → item ≡ bare text → field ≡ fields.U16 → OnOk r (Appends (SpellsU16 text) (to_be_bytes w16) old new) → OnOk r (AppendsField origin field (item ∷ []) old new)
+on_u16 origin field item text old new r is which done = on_appended origin field fields.U16 item text old new r is which (on_ok_weaker r (λ h. record { value = u16_value h.value; stated = h.stated; written = h.written }) done)
 
 pub on_address : (origin : List (List ℕ)) (field : Field) (n : ℕ) (item : RawItem) (text old new : List ℕ) (r : Result (Unit {0}) Failing) → item ≡ bare text → field ≡ fields.Octets n → OnOk r (Appends (IsAddress n text) (λ octets. octets) old new) → OnOk r (AppendsField origin field (item ∷ []) old new)
 on_address origin field n item text old new r is which done = on_appended origin field (fields.Octets n) item text old new r is which (on_ok_weaker r (λ h. record { value = fixed h.value; stated = h.stated; written = h.written }) done)

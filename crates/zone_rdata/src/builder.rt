@@ -9,7 +9,7 @@ use crate::class::Class;
 use crate::fault::{Failing, Fault};
 use crate::kind::Kind;
 use crate::layout::layout_of;
-use crate::number::{u16_octets_of, u32_octets};
+use crate::number::{u16_octets_of, u32_octets_of};
 use crate::rdata::Rdata;
 use crate::reading::are_octets;
 use crate::record::LONGEST_DATA;
@@ -208,7 +208,7 @@ fn append(part: Pushed, out: &mut Vec<u8>) -> Result<(), Failing>
     match part {
         Pushed::Octets(octets) => append_octets(octets, out),
         Pushed::U16(number) => append_octets(&u16_octets_of(number), out),
-        Pushed::U32(number) => append_octets(&u32_octets(number), out),
+        Pushed::U32(number) => append_octets(&u32_octets_of(number), out),
         Pushed::Name(name) => append_octets(name.wire(), out),
         Pushed::String(octets) => append_string(octets, out),
     }

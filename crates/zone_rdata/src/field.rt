@@ -1,16 +1,18 @@
-ghost use Rattle.std.specs.Prelude.{◌≡◌, ◌↔◌, ◌≤◌, ◌∷◌, [], Some, drop, length, map, IsTrue, IfOk, IfErr, OnOk};
+ghost use Rattle.std.specs.Prelude.{◌≡◌, ◌↔◌, ◌≤◌, ◌∷◌, [], Some, drop, length, map, IsTrue, IfOk, IfErr, OnOk, OnErr};
 ghost use Rattle.zone_rdata.specs.Field.{Suits, is_strings, IsFieldFault, field_at, own_items};
 ghost use Rattle.zone_rdata.specs.Machine.Pushed.{value_of};
 ghost use Rattle.zone_rdata.specs.Fault.{IfFault};
+ghost use Rattle.zone_name.specs.Sink.{TakesSome};
 ghost use Rattle.zone_rdata.specs.Item.{raw};
+ghost use Rattle.zone_rdata.specs.Layout.{IsSized};
 ghost use Rattle.zone_rdata.specs.Minimum.{number_in};
 ghost use Rattle.zone_rdata.specs.Reading.{AppendsField, AppendsFirst};
-ghost use Rattle.zone_rdata.specs.Text.{BeginsWithField, after_field};
+ghost use Rattle.zone_rdata.specs.Text.{BeginsWithField, after_field, field_text};
 ghost use Rattle.zone_rdata.specs.Uncompressed.{AppendsValue, BeginsWithNone};
 
 mod address;
-mod front;
 mod name;
+mod prefix;
 mod serial;
 mod string;
 mod strings;
@@ -20,20 +22,17 @@ mod u16;
 use crate::builder::Pushed;
 use crate::fault::{Failing, Fault};
 use crate::item::Item;
-use crate::string::push_string;
-use address::push_address;
-use front::push_front;
-pub(crate) use name::split_name;
-use name::{push_name, push_sent_name};
-use serial::push_serial;
-pub(crate) use serial::split_u32;
-use string::push_sent_string;
-pub(crate) use string::split_string;
-use strings::{push_sent_strings, push_strings};
+use crate::number::push_decimal;
+use crate::string::{push_string, push_string_text};
+use address::{push_address, push_address_text};
+use name::{push_name, push_sent_name, split_name};
+use prefix::push_prefix;
+use serial::{push_serial, split_u32};
+use string::{push_sent_string, split_string};
+use strings::{push_sent_strings, push_strings, push_strings_text};
 use time::push_time;
-use u16::push_u16_text;
-pub(crate) use u16::split_u16;
-use zone_name::Name;
+use u16::{push_u16, split_u16};
+use zone_name::{Name, Sink};
 
 /// A field of record data (RFC 1035 3.3).
 #[derive(Clone, Copy, Debug, PartialEq, Eq)]
@@ -74,7 +73,7 @@ impl Field {
             (Field::Name, Item::Bare(text)) => push_name(text, origin, octets),
             (Field::Serial, Item::Bare(text)) => push_serial(text, octets),
             (Field::Time, Item::Bare(text)) => push_time(text, octets),
-            (Field::U16, Item::Bare(text)) => push_u16_text(text, octets),
+            (Field::U16, Item::Bare(text)) => push_u16(text, octets),
             (Field::Octets(count), Item::Bare(text)) => push_address(count, text, octets),
         }
     }
@@ -112,9 +111,9 @@ impl Field {
     {
         match self {
             Field::Name => push_sent_name(octets, canonical),
-            Field::Serial | Field::Time => push_front(4, octets, canonical),
-            Field::U16 => push_front(2, octets, canonical),
-            Field::Octets(count) => push_front(count, octets, canonical),
+            Field::Serial | Field::Time => push_prefix(4, octets, canonical),
+            Field::U16 => push_prefix(2, octets, canonical),
+            Field::Octets(count) => push_prefix(count, octets, canonical),
             Field::OneString => push_sent_string(octets, canonical),
             Field::Strings => push_sent_strings(octets, canonical),
         }
@@ -143,6 +142,51 @@ impl Field {
         match self {
             Field::Serial | Field::Time => Some(split_u32(octets).0),
             _ => None,
+        }
+    }
+
+    /// Appends the text of the field at the front of octets, and gives the octets after it.
+    pub(crate) fn push_text<'o, S: Sink>(
+        self,
+        octets: &'o [u8],
+        out: &mut S,
+    ) -> Result<&'o [u8], S::Error>
+        requires sized { IsSized self }
+        requires front { BeginsWithField self octets.now }
+        ensures ok { OnOk result (S.takes out.old (field_text (field_at self octets.now)) out.new) }
+        ensures rest { IfOk result (λ rest. rest.now ≡ after_field self octets.now) }
+        ensures err { OnErr result (TakesSome S.takes out.old out.new) }
+    {
+        match self {
+            Field::Name => {
+                let (name, rest) = split_name(octets);
+                name.push_text(out)?;
+                Ok(rest)
+            }
+            Field::Serial | Field::Time => {
+                let (number, rest) = split_u32(octets);
+                push_decimal(number, out)?;
+                Ok(rest)
+            }
+            Field::U16 => {
+                let (number, rest) = split_u16(octets);
+                push_decimal(u32::from(number), out)?;
+                Ok(rest)
+            }
+            Field::Octets(count) => {
+                let (address, rest) = octets.split_at(count);
+                push_address_text(address, out)?;
+                Ok(rest)
+            }
+            Field::OneString => {
+                let (string, rest) = split_string(octets);
+                push_string_text(string, out)?;
+                Ok(rest)
+            }
+            Field::Strings => {
+                push_strings_text(octets, out)?;
+                Ok(octets.split_at(octets.len()).1)
+            }
         }
     }
 

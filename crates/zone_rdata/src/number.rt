@@ -1,9 +1,11 @@
-ghost use Rattle.std.specs.Prelude.{◌≡◌, ◌<◌, ◌≤◌, ℕ, Some, min, IfOk, IfErr, IfSome, IfNone};
+ghost use Rattle.std.specs.Prelude.{[], ◌≡◌, ◌<◌, ◌≤◌, ℕ, Some, decimal, min, IfOk, IfErr, IfSome, IfNone, OnErr, OnOk};
 ghost use Rattle.std.specs.Int.{w16, w32, to_be_bytes};
 ghost use Rattle.zone_rdata.specs.Number.{IsDecimal};
 
 use crate::fault::Fault;
 use byteorder::{BigEndian, ByteOrder};
+use itoa::Buffer;
+use zone_name::Sink;
 
 /// What a number is cut off at: one over the greatest number of 32 bits.
 pub(crate) const CAP: u64 = 4294967296;
@@ -47,10 +49,19 @@ pub(crate) fn u16_octets_of(number: u16) -> [u8; 2]
 }
 
 /// The octets of a number of 32 bits, the highest first.
-pub(crate) fn u32_octets(number: u32) -> [u8; 4]
+pub(crate) fn u32_octets_of(number: u32) -> [u8; 4]
     ensures { result ≡ to_be_bytes w32 number }
 {
     let mut octets = [0; 4];
     BigEndian::write_u32(&mut octets, number);
     octets
+}
+
+/// Appends a number in decimal.
+pub(crate) fn push_decimal<S: Sink>(number: u32, out: &mut S) -> Result<(), S::Error>
+    ensures ok { OnOk result (S.takes out.old (decimal number) out.new) }
+    ensures err { OnErr result (S.takes out.old [] out.new) }
+{
+    let mut buffer = Buffer::new();
+    out.push(buffer.format(number).as_bytes())
 }

@@ -1,10 +1,13 @@
-ghost use Rattle.std.specs.Prelude.{IfErr, OnOk};
+ghost use Rattle.std.specs.Prelude.{[], ◌≡◌, ◌⊎◌, length, IfErr, OnOk, OnErr};
+ghost use Rattle.zone_rdata.specs.Field.{fixed};
+ghost use Rattle.zone_rdata.specs.Text.{field_text};
 ghost use Rattle.zone_rdata.specs.Fault.{NoValue, IfFault};
 ghost use Rattle.zone_rdata.specs.Fields.Address.{IsAddress};
 ghost use Rattle.zone_rdata.specs.Reading.{Appends};
 
-use crate::address::{ipv4_octets_of, ipv6_octets_of};
+use crate::address::{ipv4_octets_of, ipv6_octets_of, push_ipv4, push_ipv6};
 use crate::fault::{Failing, Fault};
+use zone_name::Sink;
 
 /// Appends the address of so many octets.
 pub(crate) fn push_address(count: usize, text: &[u8], octets: &mut Vec<u8>) -> Result<(), Failing>
@@ -23,4 +26,17 @@ pub(crate) fn push_address(count: usize, text: &[u8], octets: &mut Vec<u8>) -> R
         _ => return Err(Failing::Fault(Fault::BadRdata)),
     }
     Ok(())
+}
+
+/// Appends the text of an address of 4 or 16 octets.
+pub(crate) fn push_address_text<S: Sink>(octets: &[u8], out: &mut S) -> Result<(), S::Error>
+    requires { (length octets.now ≡ 4) ⊎ (length octets.now ≡ 16) }
+    ensures ok { OnOk result (S.takes out.old (field_text (fixed octets.now)) out.new) }
+    ensures err { OnErr result (S.takes out.old [] out.new) }
+{
+    if octets.len() == 4 {
+        push_ipv4(octets, out)
+    } else {
+        push_ipv6(octets, out)
+    }
 }

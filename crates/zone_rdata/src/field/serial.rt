@@ -5,7 +5,7 @@ ghost use Rattle.zone_rdata.specs.Fields.Serial.{SpellsSerial};
 ghost use Rattle.zone_rdata.specs.Reading.{Appends};
 
 use crate::fault::{Failing, Fault};
-use crate::number::{at_most, decimal_of, u32_octets};
+use crate::number::{at_most, decimal_of, u32_octets_of};
 use byteorder::{BigEndian, ByteOrder};
 
 /// Appends the number that decimal digits stand for.
@@ -14,7 +14,7 @@ pub(crate) fn push_serial(text: &[u8], octets: &mut Vec<u8>) -> Result<(), Faili
     ensures fault { IfErr result (IfFault (NoValue Fault.BadNumber (SpellsSerial text.now))) }
 {
     let number = at_most(u32::MAX, decimal_of(text))?;
-    octets.extend_from_slice(&u32_octets(number))?;
+    octets.extend_from_slice(&u32_octets_of(number))?;
     Ok(())
 }
 

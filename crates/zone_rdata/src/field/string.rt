@@ -5,7 +5,7 @@ ghost use Rattle.zone_rdata.specs.Fields.OneString.{BeginsWithString, string_at}
 ghost use Rattle.zone_rdata.specs.Uncompressed.{AppendsValue, BeginsWithNone};
 
 use super::Field;
-use super::front::push_front;
+use super::prefix::push_prefix;
 use crate::fault::{Failing, Fault};
 
 /// Appends the string at the front of octets, with its length.
@@ -17,7 +17,7 @@ pub(crate) fn push_sent_string<'o>(
     ensures fault { IfErr result (IfFault (λ f. (f ≡ Fault.BadRdata) × BeginsWithNone Field.OneString octets.now)) }
 {
     match octets {
-        [count, ..] => push_front(usize::from(*count) + 1, octets, canonical),
+        [count, ..] => push_prefix(usize::from(*count) + 1, octets, canonical),
         [] => Err(Failing::Fault(Fault::BadRdata)),
     }
 }

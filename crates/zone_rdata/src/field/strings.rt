@@ -1,17 +1,21 @@
-ghost use Rattle.std.specs.Prelude.{◌≡◌, ◌↔◌, ◌<◌, map, IsTrue, IfOk, IfErr, OnOk};
-ghost use Rattle.std.specs.List.{flat_map};
+ghost use Rattle.std.specs.Prelude.{◌≡◌, ◌↔◌, ◌<◌, length, map, IsTrue, IfOk, IfErr, OnOk, OnErr};
+ghost use Rattle.std.specs.List.{flat_map, join_with_byte};
+ghost use Rattle.zone_name.specs.Sink.{TakesSome};
+ghost use Rattle.zone_rdata.specs.Strings.{string_text};
 ghost use Rattle.zone_name.specs.Name.{with_length};
 ghost use Rattle.zone_rdata.specs.Fault.{IfFault};
-ghost use Rattle.zone_rdata.specs.Fields.Strings.{SpellsStrings, StringsFault, AreWithLengths};
+ghost use Rattle.zone_rdata.specs.Fields.Strings.{SpellsStrings, StringsFault, AreWithLengths, HoldsStrings, strings_of};
 ghost use Rattle.zone_rdata.specs.Item.{raw};
 ghost use Rattle.zone_rdata.specs.Reading.{Appends};
 ghost use Rattle.zone_rdata.specs.Uncompressed.{AppendsValue, BeginsWithNone};
 
 use super::Field;
-use super::front::push_front;
+use super::prefix::push_prefix;
+use super::string::split_string;
 use crate::fault::{Failing, Fault};
 use crate::item::Item;
-use crate::string::push_string;
+use crate::string::{push_string, push_string_text};
+use zone_name::Sink;
 
 /// Appends the strings that the items spell, one or more, each behind its length.
 pub(crate) fn push_strings(items: &[Item], octets: &mut Vec<u8>) -> Result<(), Failing>
@@ -38,7 +42,7 @@ pub(crate) fn push_sent_strings<'o>(
     if !are_strings(octets) {
         return Err(Failing::Fault(Fault::BadRdata));
     }
-    push_front(octets.len(), octets, canonical)
+    push_prefix(octets.len(), octets, canonical)
 }
 
 /// Whether octets are one string or more, each behind its length.
@@ -57,4 +61,22 @@ fn are_strings(octets: &[u8]) -> bool
         rest = behind.split_at(count).1;
     }
     true
+}
+
+/// Appends the strings in quotes, parted by single spaces.
+pub(crate) fn push_strings_text<S: Sink>(octets: &[u8], out: &mut S) -> Result<(), S::Error>
+    requires some { 0 < length octets.now }
+    requires strings { HoldsStrings octets.now }
+    ensures ok { OnOk result (S.takes out.old (join_with_byte 32 (map string_text (strings_of octets.now))) out.new) }
+    ensures err { OnErr result (TakesSome S.takes out.old out.new) }
+{
+    let (string, mut rest) = split_string(octets);
+    push_string_text(string, out)?;
+    while !rest.is_empty() {
+        let (string, after) = split_string(rest);
+        out.push(b" ")?;
+        push_string_text(string, out)?;
+        rest = after;
+    }
+    Ok(())
 }

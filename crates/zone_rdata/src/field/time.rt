@@ -5,7 +5,7 @@ ghost use Rattle.zone_rdata.specs.Fields.Time.{SpellsTime};
 ghost use Rattle.zone_rdata.specs.Reading.{Appends};
 
 use crate::fault::{Failing, Fault};
-use crate::number::{at_most, u32_octets};
+use crate::number::{at_most, u32_octets_of};
 use crate::time::seconds_of;
 
 /// Appends the number of seconds that a time stands for.
@@ -14,6 +14,6 @@ pub(crate) fn push_time(text: &[u8], octets: &mut Vec<u8>) -> Result<(), Failing
     ensures fault { IfErr result (IfFault (NoValue Fault.BadNumber (SpellsTime text.now))) }
 {
     let number = at_most(u32::MAX, seconds_of(text))?;
-    octets.extend_from_slice(&u32_octets(number))?;
+    octets.extend_from_slice(&u32_octets_of(number))?;
     Ok(())
 }

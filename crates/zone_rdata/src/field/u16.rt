@@ -9,7 +9,7 @@ use crate::number::{at_most, decimal_of, u16_octets_of};
 use byteorder::{BigEndian, ByteOrder};
 
 /// Appends the number that decimal digits stand for.
-pub(crate) fn push_u16_text(text: &[u8], octets: &mut Vec<u8>) -> Result<(), Failing>
+pub(crate) fn push_u16(text: &[u8], octets: &mut Vec<u8>) -> Result<(), Failing>
     ensures found { OnOk result (Appends (SpellsU16 text.now) (to_be_bytes w16) octets.old.items octets.new.items) }
     ensures fault { IfErr result (IfFault (NoValue Fault.BadNumber (SpellsU16 text.now))) }
 {

@@ -1,7 +1,7 @@
 use Rattle.std.proofs.Common.{ap}
 use Rattle.std.proofs.lemmas.Result.{on_ok_weaker}
 use Rattle.zone_rdata.specs.Item.{raw}
-use Rattle.zone_rdata.proofs.Values.{on_name, on_serial, on_time, on_two_octets, on_address, on_string, strings_appended}
+use Rattle.zone_rdata.proofs.Values.{on_name, on_serial, on_time, on_u16, on_address, on_string, strings_appended}
 use Rattle.zone_rdata.proofs.field.Field.push_item.Goals as goal
 
 pub returns-in-OneString-default-clause-found : goal.returns-in-OneString-default-clause-found
@@ -20,7 +20,7 @@ pub returns-in-Time-Bare-clause-found : goal.returns-in-Time-Bare-clause-found
 returns-in-Time-Bare-clause-found c = on_time _ _ _ _ _ _ _ (ap raw c.in-Time-Bare.is-1) c.in-Time-Bare.is-0 c.push_time.ensures.found
 
 pub returns-in-U16-Bare-clause-found : goal.returns-in-U16-Bare-clause-found
-returns-in-U16-Bare-clause-found c = on_two_octets _ _ _ _ _ _ _ (ap raw c.in-U16-Bare.is-1) c.in-U16-Bare.is-0 c.push_u16_text.ensures.found
+returns-in-U16-Bare-clause-found c = on_u16 _ _ _ _ _ _ _ (ap raw c.in-U16-Bare.is-1) c.in-U16-Bare.is-0 c.push_u16.ensures.found
 
 pub returns-in-Octets-Bare-clause-found : goal.returns-in-Octets-Bare-clause-found
 returns-in-Octets-Bare-clause-found c = on_address _ _ _ _ _ _ _ _ (ap raw c.in-Octets-Bare.is-1) c.in-Octets-Bare.is-0 c.push_address.ensures.found

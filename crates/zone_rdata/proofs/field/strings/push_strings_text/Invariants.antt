@@ -1,7 +1,7 @@
 use Rattle.std.proofs.Common.{length}
 use Rattle.zone_name.proofs.Sinks.{Took}
 use Rattle.zone_rdata.proofs.StringTexts.{HaveQuoted}
-use Rattle.zone_rdata.proofs.printing.push_strings.Given as goal
+use Rattle.zone_rdata.proofs.field.strings.push_strings_text.Given as goal
 
 abbrev pub invariant-loop-rest : goal.invariant-loop-rest
 invariant-loop-rest g l = Took g.S.Sink.takes l.fn.out l.out (HaveQuoted l.octets l.rest)

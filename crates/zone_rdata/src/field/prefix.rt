@@ -5,7 +5,7 @@ ghost use Rattle.zone_rdata.specs.Uncompressed.{AppendsPrefix};
 use crate::fault::{Failing, Fault};
 
 /// Appends so many octets at the front of octets.
-pub(crate) fn push_front<'o>(
+pub(crate) fn push_prefix<'o>(
     count: usize,
     octets: &'o [u8],
     canonical: &mut Vec<u8>,

@@ -2,7 +2,7 @@ use Rattle.std.proofs.Common.{arith, subst}
 use Rattle.zone_name.proofs.Sinks.{Took-more, stops_behind}
 use Rattle.zone_rdata.proofs.StringFields.{first_string}
 use Rattle.zone_rdata.proofs.StringTexts.{quoted_first, quoted_more, quoted_all, first_of_rest}
-use Rattle.zone_rdata.proofs.printing.push_strings.Goals as goal
+use Rattle.zone_rdata.proofs.field.strings.push_strings_text.Goals as goal
 
 pub split_string-requires : goal.split_string-requires
 split_string-requires g c = (first_string c.args.octets.now c.requires.some c.requires.strings).0
