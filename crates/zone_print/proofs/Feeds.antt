@@ -1,6 +1,6 @@
 -- No part of a line has a line feed.
 use Rattle.std.proofs.Common.{◌≡◌, ◌≢◌, ℕ, zero, suc, ◌+◌, ◌/◌, ◌%◌, ◌==◌, ◌≤◌, List, [], ◌∷◌, ◌++◌, length, take, drop, map, ◌||◌, Bool, true, false, if◌then◌else◌, IsTrue, Option, None, Some, refl, sym, ap, ◌∙◌, codes, decimal, nat_lt, eq-eqb, arith}
-use Rattle.std.specs.List.{flat_map, join_with_byte, list_all}
+use Rattle.std.specs.List.{AllByRecursion, flat_map, join_with_byte, list_all}
 use Rattle.std.specs.Prelude.{slice_index}
 use Rattle.std.specs.Char.{digit_char}
 use Rattle.std.specs.Net.Addr.{segments_of}
@@ -9,12 +9,15 @@ use Rattle.hex.specs.Hex.{lower_digits, encode_with, encode_lower}
 use Rattle.std.specs.Fmt.{digit_glyph, digits, digits_onto}
 use Rattle.zone_name.specs.Text.{is_special, is_printed, decimal_escape, octet_text, label_text, name_text}
 use Rattle.zone_rdata.specs.declared.field.Field.{Field}
-use Rattle.zone_rdata.specs.Field.{FieldValue, name, u32_value, u16_value, fixed, string, strings, values_of}
+use Rattle.zone_rdata.specs.Field.{FieldValue, name, u32_value, u16_value, fixed, string, strings, values_of, field_items}
+use Rattle.zone_rdata.specs.Fields.OneString.{string_item}
+use Rattle.zone_rdata.specs.Generic.{generic_items}
+use Rattle.zone_rdata.specs.Item.{RawItem}
 use Rattle.zone_rdata.specs.Layout.{layout}
-use Rattle.zone_rdata.specs.Record.{Record, data_of}
+use Rattle.zone_rdata.specs.Record.{Data, Record, data_of}
 use Rattle.zone_rdata.specs.Address.{ipv4_text, ipv6_text, parted_groups}
 use Rattle.zone_rdata.specs.Strings.{is_shown, unit_text, inside_text, string_text}
-use Rattle.zone_rdata.specs.Text.{field_text, generic_text, laid_out_text, data_text}
+use Rattle.zone_rdata.specs.Text.{data_items, data_text, laid_out_items, written_item}
 use Rattle.zone_rdata.specs.Table.{Named, classes, type_names, mnemonic_among}
 use Rattle.zone_rdata.specs.Words.{class_mnemonic, laid_out_mnemonic, word_or_numbered, class_text, kind_text}
 use Rattle.zone_rdata.proofs.Tables.{each_mnemonic}
@@ -123,8 +126,8 @@ none_kind class n = none_word (laid_out_mnemonic (layout class n) n) (codes "TYP
 none_dot : (xs : List ℕ) → HasNoFeed xs → HasNoFeed (xs ++ 46 ∷ [])
 none_dot xs h = none_append xs (46 ∷ []) h (high 46 46 refl (omega arith), tt)
 
-none_four : (octets : List ℕ) → HasNoFeed (ipv4_text octets)
-none_four octets =
+none_ipv4 : (octets : List ℕ) → HasNoFeed (ipv4_text octets)
+none_ipv4 octets =
     let a = none_dot (decimal (slice_index octets 0)) (none_decimal (slice_index octets 0)) in
     let b = none_dot _ (none_append _ (decimal (slice_index octets 1)) a (none_decimal (slice_index octets 1))) in
     let c = none_dot _ (none_append _ (decimal (slice_index octets 2)) b (none_decimal (slice_index octets 2))) in
@@ -152,8 +155,8 @@ none_run segments run =
     (λ h. none_append (parted_groups (take run.0 segments) ++ codes "::") (parted_groups (drop (run.0 + run.1) segments)) (none_append (parted_groups (take run.0 segments)) (codes "::") (none_groups (take run.0 segments)) (high 58 58 refl (omega arith), (high 58 58 refl (omega arith), tt))) (none_groups (drop (run.0 + run.1) segments)))
     (λ h. none_groups segments)
 
-none_sixteen : (octets : List ℕ) → HasNoFeed (ipv6_text octets)
-none_sixteen octets = none_run (segments_of octets) (longest_zero_run (segments_of octets))
+none_ipv6 : (octets : List ℕ) → HasNoFeed (ipv6_text octets)
+none_ipv6 octets = none_run (segments_of octets) (longest_zero_run (segments_of octets))
 
 none_unit : (c : ℕ) → HasNoFeed (unit_text c)
 none_unit c =
@@ -166,11 +169,6 @@ none_unit c =
 none_string : (octets : List ℕ) → HasNoFeed (string_text octets)
 none_string octets = (high 34 34 refl (omega arith), none_append (inside_text octets) (34 ∷ []) (none_flat unit_text none_unit octets) (none_tested (34 ∷ []) refl))
 
-none_strings : (many : List (List ℕ)) → HasNoFeed (join_with_byte 32 (map string_text many))
-none_strings [] = tt
-none_strings (octets ∷ []) = none_string octets
-none_strings (octets ∷ other ∷ many) = none_append (string_text octets) (32 ∷ join_with_byte 32 (map string_text (other ∷ many))) (none_string octets) (high 32 32 refl (omega arith), none_strings (other ∷ many))
-
 none_digit : (l : List ℕ) (i : ℕ) → HasNoFeed l → slice_index l i ≢ 10
 none_digit [] i h = λ e. cc
 none_digit (x ∷ l) zero h = h.0
@@ -181,29 +179,47 @@ unfolding encode_with
 none_encoded [] = tt
 none_encoded (c ∷ octets) = (none_digit lower_digits (c / 16) (none_tested lower_digits refl), (none_digit lower_digits (c % 16) (none_tested lower_digits refl), none_encoded octets))
 
-none_generic : (octets : List ℕ) → HasNoFeed (generic_text octets)
-none_generic [] = none_tested (codes "\\# 0") refl
-none_generic (c ∷ octets) =
-    none_append (codes "\\# " ++ decimal (length (c ∷ octets))) (32 ∷ encode_lower (c ∷ octets))
-    (none_append (codes "\\# ") (decimal (length (c ∷ octets))) (none_tested (codes "\\# ") refl) (none_decimal (length (c ∷ octets))))
-    (high 32 32 refl (omega arith), none_encoded (c ∷ octets))
+-- ---- the items
 
-none_field : (v : FieldValue) → HasNoFeed (field_text v)
-none_field (name labels) = none_name labels
-none_field (u32_value n) = none_decimal n
-none_field (u16_value n) = none_decimal n
-none_field (fixed octets) = none_if (length octets == 4) (ipv4_text octets) (ipv6_text octets) (λ h. none_four octets) (λ h. none_sixteen octets)
-none_field (string octets) = none_string octets
+-- items of which none is written with a line feed
+abbrev AreFeedless : List RawItem → Type 0
+AreFeedless items = AllByRecursion (λ i. HasNoFeed (written_item i)) items
+
+none_items : (xs ys : List RawItem) → AreFeedless xs → AreFeedless ys → AreFeedless (xs ++ ys)
+none_items [] ys p q = q
+none_items (x ∷ xs) ys p q = (p.0, none_items xs ys p.1 q)
+
+none_strings : (many : List (List ℕ)) → AreFeedless (map string_item many)
+none_strings [] = tt
+none_strings (octets ∷ many) = (none_string octets, none_strings many)
+
+none_field : (v : FieldValue) → AreFeedless (field_items v)
+none_field (name labels) = (none_name labels, tt)
+none_field (u32_value n) = (none_decimal n, tt)
+none_field (u16_value n) = (none_decimal n, tt)
+none_field (fixed octets) = (none_if (length octets == 4) (ipv4_text octets) (ipv6_text octets) (λ h. none_ipv4 octets) (λ h. none_ipv6 octets), tt)
+none_field (string octets) = (none_string octets, tt)
 none_field (strings many) = none_strings many
 
-none_join : (values : List FieldValue) → HasNoFeed (join_with_byte 32 (map field_text values))
-none_join [] = tt
-none_join (v ∷ []) = none_field v
-none_join (v ∷ w ∷ values) = none_append (field_text v) (32 ∷ join_with_byte 32 (map field_text (w ∷ values))) (none_field v) (high 32 32 refl (omega arith), none_join (w ∷ values))
+none_fields : (values : List FieldValue) → AreFeedless (flat_map field_items values)
+none_fields [] = tt
+none_fields (v ∷ values) = none_items (field_items v) (flat_map field_items values) (none_field v) (none_fields values)
 
-none_laid_out : (fields : Option (List Field)) (octets : List ℕ) → HasNoFeed (laid_out_text fields octets)
+none_generic : (octets : List ℕ) → AreFeedless (generic_items octets)
+none_generic [] = (none_tested (codes "\\#") refl, (none_decimal 0, tt))
+none_generic (c ∷ octets) = (none_tested (codes "\\#") refl, (none_decimal (length (c ∷ octets)), (none_encoded (c ∷ octets), tt)))
+
+none_joined : (items : List RawItem) → AreFeedless items → HasNoFeed (join_with_byte 32 (map written_item items))
+none_joined [] h = tt
+none_joined (i ∷ []) h = h.0
+none_joined (i ∷ j ∷ items) h = none_append (written_item i) (32 ∷ join_with_byte 32 (map written_item (j ∷ items))) h.0 (high 32 32 refl (omega arith), none_joined (j ∷ items) h.1)
+
+none_laid_out : (fields : Option (List Field)) (octets : List ℕ) → AreFeedless (laid_out_items fields octets)
 none_laid_out None octets = none_generic octets
-none_laid_out (Some fields) octets = none_join (values_of fields octets)
+none_laid_out (Some fields) octets = none_fields (values_of fields octets)
+
+none_data : (d : Data) → HasNoFeed (data_text d)
+none_data d = none_joined (data_items d) (none_laid_out (layout d.class d.kind) d.octets)
 
 -- ---- the line
 
@@ -221,5 +237,5 @@ line_ends_with_feed r = record {
   front = name_text r.owner ++ 32 ∷ decimal r.ttl ++ 32 ∷ class_text r.class ++ 32 ∷ kind_text r.class r.kind ++ 32 ∷ data_text (data_of r);
   split = refl;
   others = none_line (name_text r.owner) (decimal r.ttl) (class_text r.class) (kind_text r.class r.kind) (data_text (data_of r))
-      (none_name r.owner) (none_decimal r.ttl) (none_class r.class) (none_kind r.class r.kind) (none_laid_out (layout r.class r.kind) r.octets);
+      (none_name r.owner) (none_decimal r.ttl) (none_class r.class) (none_kind r.class r.kind) (none_data (data_of r));
 }

@@ -5,7 +5,7 @@ use Rattle.zone_rdata.specs.declared.field.Field.{Field}
 use Rattle.zone_rdata.specs.Field.{field_at, values_of}
 use Rattle.zone_rdata.specs.Layout.{AreLaidOut}
 use Rattle.zone_rdata.specs.Minimum.{number_in, last_number}
-use Rattle.zone_rdata.specs.Text.{BeginsWithField, after_field}
+use Rattle.zone_rdata.specs.Machine.Printing.{BeginsWithField, after_field}
 use Rattle.zone_rdata.proofs.Texts.{first_field}
 
 -- the fields up to a place are passed: the rest is laid out, and leads to the last number of the whole

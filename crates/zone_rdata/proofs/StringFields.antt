@@ -6,7 +6,7 @@ use Rattle.zone_name.specs.Name.{with_length}
 use Rattle.zone_rdata.specs.Fields.OneString.{BeginsWithString, string_at}
 use Rattle.zone_rdata.specs.Fields.Strings.{HoldsStrings, AreStrings, strings_by, strings_of}
 use Rattle.zone_rdata.specs.Strings.{IsString}
-use Rattle.zone_rdata.specs.Text.{BeginsWithField, after_field}
+use Rattle.zone_rdata.specs.Machine.Printing.{BeginsWithField, after_field}
 use Rattle.zone_rdata.specs.declared.field.Field.{Field}
 use Rattle.zone_rdata.specs.declared.field.Field.TheVariants as fields
 use Rattle.zone_rdata.proofs.Names.{length-frames}

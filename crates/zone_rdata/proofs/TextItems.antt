@@ -11,7 +11,7 @@ use Rattle.zone_name.specs.Text.{name_text, label_text, octet_text}
 use Rattle.zone_rdata.specs.declared.field.Field.{Field}
 use Rattle.zone_rdata.specs.declared.field.Field.TheVariants as fields
 use Rattle.zone_rdata.specs.Address.{IsAddressOctet, IsIpv4Address, IsIpv6Address, ipv4_text, ipv6_text}
-use Rattle.zone_rdata.specs.Field.{FieldValue, name, u32_value, u16_value, fixed, string, strings, Holds, HoldEach, values_of, SpellsField}
+use Rattle.zone_rdata.specs.Field.{FieldValue, name, u32_value, u16_value, fixed, string, strings, Holds, HoldEach, values_of, SpellsField, field_text, field_items}
 use Rattle.zone_rdata.specs.Fields.Address.{AreFixed, IsAddress, of_ipv4, of_ipv6}
 use Rattle.zone_rdata.specs.Fields.Strings.{AreStrings, SpellEachString}
 use Rattle.zone_rdata.specs.Generic.{digit_items, generic_items}
@@ -21,8 +21,9 @@ use Rattle.zone_rdata.specs.Number.{plain}
 use Rattle.zone_rdata.specs.Record.{Data, IsRdata}
 use Rattle.zone_rdata.specs.Spelling.{SpellEach, States, StatesFor, in_words, in_octets}
 use Rattle.zone_rdata.specs.Strings.{IsString, string_text}
-use Rattle.zone_rdata.specs.Text.{data_text, field_text, generic_text, laid_out_text}
-use Rattle.zone_rdata.specs.TextItems.{data_items, field_items, laid_out_items, string_item, written_item}
+use Rattle.zone_rdata.specs.Text.{data_text, generic_text, data_items, laid_out_items, written_item}
+use Rattle.zone_rdata.specs.Machine.Printing.{laid_out_text}
+use Rattle.zone_rdata.specs.Fields.OneString.{string_item}
 use Rattle.zone_rdata.proofs.AddressLaws.{ipv4_plain, ipv4_printed, ipv6_plain, ipv6_printed}
 use Rattle.zone_rdata.proofs.Fields.{AreFor}
 use Rattle.zone_rdata.proofs.Tables.{table_row}
@@ -75,7 +76,8 @@ written_for (Some row) octets value =
     let values = values_of row octets in
     joined_spaced (map field_text values) ∙ ap (drop 1) (sym (each_spaced row values value.held)) ∙ sym (joined_spaced (map written_item (flat_map field_items values)))
 
-pub data_written : (d : Data) → IsRdata d → data_text d ≡ join_with_byte 32 (map written_item (data_items d))
+-- what is printed field by field is the text
+pub data_written : (d : Data) → IsRdata d → laid_out_text (layout d.class d.kind) d.octets ≡ data_text d
 data_written d h = written_for (layout d.class d.kind) d.octets h.octets.value
 
 -- ---- the items spell the values

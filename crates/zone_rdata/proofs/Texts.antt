@@ -5,9 +5,10 @@ use Rattle.hex.specs.Hex.{lower_digits, encode_with, encode_lower}
 use Rattle.std.specs.List.{flat_map, AllByRecursion, join_with_byte}
 use Rattle.std.proofs.lemmas.List.{take_at, drop_at, drop_more, drop_all, append-nil, take_more}
 use Rattle.zone_rdata.specs.declared.field.Field.{Field}
-use Rattle.zone_rdata.specs.Field.{field_octets, octets_of, field_at, values_of}
+use Rattle.zone_rdata.specs.Field.{field_octets, octets_of, field_at, values_of, field_text}
 use Rattle.zone_rdata.specs.Layout.{AreLaidOut}
-use Rattle.zone_rdata.specs.Text.{BeginsWithField, after_field, field_text, spaced, generic_head, generic_text, laid_out_text}
+use Rattle.zone_rdata.specs.Machine.Printing.{BeginsWithField, after_field, spaced, generic_head, laid_out_text}
+use Rattle.zone_rdata.specs.Text.{generic_text}
 
 -- octets of a layout begin with its first field, and go on with the others
 pub first_field : (f : Field) (row : List Field) (octets : List ℕ) → AreLaidOut (f ∷ row) octets → BeginsWithField f octets × AreLaidOut row (after_field f octets)

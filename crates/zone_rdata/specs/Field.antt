@@ -1,23 +1,24 @@
 -- What the fields of record data hold (RFC 1035 3.3): for each kind of field its values, their octets, the items that
 -- spell them and the fault of items that don't. What is said of a kind stands in `Fields`, a file each.
-use Rattle.std.specs.Prelude.{◌≡◌, ℕ, ◌<◌, List, [], ◌∷◌, length, take, drop, Bool, true, false, ⊤, Option, Some}
+use Rattle.std.specs.Prelude.{◌≡◌, ℕ, ◌<◌, List, [], ◌∷◌, length, take, drop, map, decimal, Bool, true, false, ⊤, Option, Some}
 use Rattle.std.specs.List.{flat_map}
 use Rattle.zone_name.specs.Name.{with_length, wire, labels_of, IsName}
 use Rattle.zone_name.specs.Spelling.{Spells}
+use Rattle.zone_name.specs.Text.{name_text}
 use Rattle.zone_rdata.specs.declared.fault.Fault.{Fault}
 use Rattle.zone_rdata.specs.declared.fault.Fault.TheVariants.{BadRdata, BadNumber}
 use Rattle.zone_rdata.specs.declared.field.Field.{Field}
 use Rattle.zone_rdata.specs.declared.field.Field.TheVariants.{Name, Serial, Time, U16, Octets, OneString, Strings}
 use Rattle.zone_rdata.specs.Fault.{NoValue}
-use Rattle.zone_rdata.specs.Fields.Address.{AreFixed, IsAddress}
+use Rattle.zone_rdata.specs.Fields.Address.{AreFixed, IsAddress, address_text}
 use Rattle.zone_rdata.specs.Fields.Name.{IsNameFault, IsSentName}
-use Rattle.zone_rdata.specs.Fields.OneString.{string_at}
+use Rattle.zone_rdata.specs.Fields.OneString.{string_at, string_item}
 use Rattle.zone_rdata.specs.Fields.Serial.{IsSerial, SpellsSerial, serial_at, serial_octets}
-use Rattle.zone_rdata.specs.Fields.Strings.{AreStrings, SpellsStrings, StringsFault, strings_of}
+use Rattle.zone_rdata.specs.Fields.Strings.{AreStrings, SpellsStrings, StringsFault, strings_of, strings_text}
 use Rattle.zone_rdata.specs.Fields.Time.{SpellsTime}
 use Rattle.zone_rdata.specs.Fields.U16.{IsU16, SpellsU16, u16_at, u16_octets}
 use Rattle.zone_rdata.specs.Item.{RawItem, bare, quoted}
-use Rattle.zone_rdata.specs.Strings.{IsString, SpellsString, StringFault}
+use Rattle.zone_rdata.specs.Strings.{IsString, SpellsString, StringFault, string_text}
 
 -- the value of one field: a name, a number of 32 or of 16 bits, octets of a fixed number, a string, or strings
 pub data FieldValue : Type 0 where
@@ -111,6 +112,22 @@ IsFieldFault origin Serial (bare text ∷ items) fault = NoValue BadNumber (Spel
 IsFieldFault origin Time (bare text ∷ items) fault = NoValue BadNumber (SpellsTime text) fault
 IsFieldFault origin U16 (bare text ∷ items) fault = NoValue BadNumber (SpellsU16 text) fault
 IsFieldFault origin (Octets n) (bare text ∷ items) fault = NoValue BadRdata (IsAddress n text) fault
+
+-- the canonical text of a value: a name absolute and in lower case, a number in decimal digits, an address, strings in
+-- quotes
+abbrev pub field_text : FieldValue → List ℕ
+field_text (name labels) = name_text labels
+field_text (u32_value n) = decimal n
+field_text (u16_value n) = decimal n
+field_text (fixed octets) = address_text octets
+field_text (string octets) = string_text octets
+field_text (strings many) = strings_text many
+
+-- its items: a quoted one for each string, else its text as a bare one
+abbrev pub field_items : FieldValue → List RawItem
+field_items (string octets) = string_item octets ∷ []
+field_items (strings many) = map string_item many
+field_items value = bare (field_text value) ∷ []
 
 -- the field takes all that is left
 abbrev pub is_strings : Field → Bool

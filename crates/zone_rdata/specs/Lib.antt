@@ -19,7 +19,6 @@ pub mod Wire
 pub mod DataFault
 pub mod Reading
 pub mod Text
-pub mod TextItems
 pub mod Source
 pub mod Machine
 pub mod Builder

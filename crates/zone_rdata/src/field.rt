@@ -1,5 +1,5 @@
 ghost use Rattle.std.specs.Prelude.{◌≡◌, ◌↔◌, ◌≤◌, ◌∷◌, [], Some, drop, length, map, IsTrue, IfOk, IfErr, OnOk, OnErr};
-ghost use Rattle.zone_rdata.specs.Field.{Suits, is_strings, IsFieldFault, field_at, own_items};
+ghost use Rattle.zone_rdata.specs.Field.{Suits, is_strings, IsFieldFault, field_at, own_items, field_text};
 ghost use Rattle.zone_rdata.specs.Machine.Pushed.{value_of};
 ghost use Rattle.zone_rdata.specs.Fault.{IfFault};
 ghost use Rattle.zone_name.specs.Sink.{TakesSome};
@@ -7,7 +7,7 @@ ghost use Rattle.zone_rdata.specs.Item.{raw};
 ghost use Rattle.zone_rdata.specs.Layout.{IsSized};
 ghost use Rattle.zone_rdata.specs.Minimum.{number_in};
 ghost use Rattle.zone_rdata.specs.Reading.{AppendsField, AppendsFirst};
-ghost use Rattle.zone_rdata.specs.Text.{BeginsWithField, after_field, field_text};
+ghost use Rattle.zone_rdata.specs.Machine.Printing.{BeginsWithField, after_field};
 ghost use Rattle.zone_rdata.specs.Uncompressed.{AppendsValue, BeginsWithNone};
 
 mod address;

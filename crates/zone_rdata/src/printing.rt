@@ -2,7 +2,8 @@ ghost use Rattle.std.specs.Prelude.{[], OnOk, OnErr, option_map, MatchOption, If
 ghost use Rattle.std.specs.List.{AllByRecursion};
 ghost use Rattle.zone_name.specs.Sink.{TakesSome};
 ghost use Rattle.zone_rdata.specs.Layout.{AreLaidOut, IsSized, fields_of};
-ghost use Rattle.zone_rdata.specs.Text.{generic_head, generic_text, laid_out_text, spaced};
+ghost use Rattle.zone_rdata.specs.Machine.Printing.{generic_head, laid_out_text, spaced};
+ghost use Rattle.zone_rdata.specs.Text.{generic_text};
 ghost use Rattle.hex.specs.Hex.{encode_lower};
 
 use crate::layout::Layout;

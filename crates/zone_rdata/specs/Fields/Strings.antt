@@ -1,11 +1,11 @@
 -- Several strings: one or more character-strings, up to the end of the data (RFC 1035 3.3.14).
-use Rattle.std.specs.Prelude.{◌≡◌, ℕ, zero, suc, ◌<◌, List, [], ◌∷◌, length, take, drop, ⊤, ◌⊎◌}
-use Rattle.std.specs.List.{flat_map, AllByRecursion}
+use Rattle.std.specs.Prelude.{◌≡◌, ℕ, zero, suc, ◌<◌, List, [], ◌∷◌, length, take, drop, map, ⊤, ◌⊎◌}
+use Rattle.std.specs.List.{flat_map, join_with_byte, AllByRecursion}
 use Rattle.zone_name.specs.Name.{with_length}
 use Rattle.zone_rdata.specs.declared.fault.Fault.{Fault}
 use Rattle.zone_rdata.specs.declared.fault.Fault.TheVariants.{BadRdata}
 use Rattle.zone_rdata.specs.Item.{RawItem}
-use Rattle.zone_rdata.specs.Strings.{IsString, SpellsString, StringFault}
+use Rattle.zone_rdata.specs.Strings.{IsString, SpellsString, StringFault, string_text}
 
 -- one string or more
 pub record AreStrings (many : List (List ℕ)) : Type 0 where
@@ -51,3 +51,7 @@ FirstStringFault (item ∷ items) fault = StringFault item fault ⊎ ((octets : 
 abbrev pub StringsFault : List RawItem → Fault → Type 0
 StringsFault [] fault = fault ≡ BadRdata
 StringsFault items fault = FirstStringFault items fault
+
+-- in quotes, parted by single spaces
+abbrev pub strings_text : List (List ℕ) → List ℕ
+strings_text many = join_with_byte 32 (map string_text many)

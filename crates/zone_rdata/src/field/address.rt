@@ -1,6 +1,5 @@
 ghost use Rattle.std.specs.Prelude.{[], ◌≡◌, ◌⊎◌, length, IfErr, OnOk, OnErr};
-ghost use Rattle.zone_rdata.specs.Field.{fixed};
-ghost use Rattle.zone_rdata.specs.Text.{field_text};
+ghost use Rattle.zone_rdata.specs.Field.{fixed, field_text};
 ghost use Rattle.zone_rdata.specs.Fault.{NoValue, IfFault};
 ghost use Rattle.zone_rdata.specs.Fields.Address.{IsAddress};
 ghost use Rattle.zone_rdata.specs.Reading.{Appends};

@@ -3,8 +3,7 @@ ghost use Rattle.std.specs.Prelude.{◌≡◌, List, ℕ, map};
 ghost use Rattle.std.specs.List.{join_with_byte};
 ghost use Rattle.zone_rdata.specs.Record.{Data, IsRdata};
 ghost use Rattle.zone_rdata.specs.Spelling.{States};
-ghost use Rattle.zone_rdata.specs.Text.{data_text};
-ghost use Rattle.zone_rdata.specs.TextItems.{data_items, written_item};
+ghost use Rattle.zone_rdata.specs.Text.{data_text, data_items, written_item};
 
 use zone_name::laws::printed_names_are_spelled;
 
