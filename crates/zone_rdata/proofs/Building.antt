@@ -8,7 +8,9 @@ use Rattle.zone_rdata.specs.declared.fault.Fault.{Fault}
 use Rattle.zone_rdata.specs.declared.fault.Fault.TheVariants.{BadRdata}
 use Rattle.zone_rdata.specs.declared.field.Field.{Field}
 use Rattle.zone_rdata.specs.declared.field.Field.TheVariants as fields
-use Rattle.zone_rdata.specs.Builder.{Built, IsOpaque, IsNext, FitsString, Pushes, IsPushFault, misplaced, long_string, too_long, IsWhole, part_field, more_fields, part_fields, parts_of, ArePushedParts, IsBuilt, IsReal, IsOver, over_string, over_data, Grows, least_of, ends_with_strings, part_at}
+use Rattle.zone_rdata.specs.Builder.{Built, IsOpaque, IsNext, FitsString, Pushes, IsPushFault, misplaced, long_string, too_long, IsWhole, ends_with_strings, part_at}
+use Rattle.zone_rdata.specs.Machine.Building.{over_string, over_data}
+use Rattle.zone_rdata.specs.Machine.Building.{part_field, more_fields, part_fields, parts_of, ArePushedParts, IsBuilt, IsReal, IsOver, Grows, least_of}
 use Rattle.zone_rdata.specs.Field.{Suits, is_strings, FieldValue, name, u32_value, u16_value, fixed, string, strings, field_octets, octets_of, Holds, HoldEach, values_of}
 use Rattle.zone_rdata.specs.Layout.{AreLaidOut, StringsLast, layout}
 use Rattle.zone_rdata.specs.Strings.{IsString}

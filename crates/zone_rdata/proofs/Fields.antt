@@ -1,6 +1,6 @@
 -- Octets of the values of a layout hold those values.
-use Rattle.std.proofs.Common.{◌≡◌, ◌≢◌, ℕ, suc, ◌^◌, ◌<◌, ◌≤◌, List, [], ◌∷◌, ◌++◌, length, take, drop, map, refl, sym, ap, ◌∙◌, subst, arith, length-append, Bool, true, false, Option, Some, None}
-use Rattle.std.specs.Prelude.{if◌then◌else◌, MatchOption}
+use Rattle.std.proofs.Common.{◌≡◌, ℕ, suc, ◌^◌, ◌<◌, ◌≤◌, List, [], ◌∷◌, ◌++◌, length, take, drop, refl, sym, ap, ◌∙◌, subst, arith, Option, Some, None}
+use Rattle.std.specs.Prelude.{MatchOption}
 use Rattle.std.specs.Int.{w16, w32, to_be_bytes, from_be_bytes}
 use Rattle.std.specs.List.{flat_map, AllByRecursion}
 use Rattle.std.proofs.lemmas.List.{take_at, drop_at, append-nil}
@@ -11,7 +11,7 @@ use Rattle.zone_rdata.specs.declared.field.Field.TheVariants as fields
 use Rattle.zone_rdata.specs.Field.{FieldValue, name, u32_value, u16_value, fixed, string, strings, field_octets, octets_of, Holds, HoldEach, field_at, values_of, SpellsField, own_items, items_behind}
 use Rattle.zone_rdata.specs.Fields.Strings.{strings_of, SpellEachString}
 use Rattle.zone_rdata.specs.Layout.{AreLaidOut, IsData, IsLayout, StringsLast, layout}
-use Rattle.zone_rdata.specs.Reading.{AreSpelt}
+use Rattle.zone_rdata.specs.Machine.Appending.{AreSpelt}
 use Rattle.zone_rdata.specs.Item.{RawItem, bare}
 use Rattle.zone_rdata.specs.Spelling.{IsCanonicalOf, SpellEach, States, StatesFor, in_words, in_octets}
 use Rattle.zone_rdata.specs.DataFault.{IsDataFault, IsFaultFor}

@@ -13,7 +13,7 @@ use Rattle.zone_rdata.specs.Fault.{IfFault}
 use Rattle.zone_rdata.specs.Generic.{StatesGeneric}
 use Rattle.zone_rdata.specs.Item.{RawItem, IsGeneric}
 use Rattle.zone_rdata.specs.Layout.{fields_of}
-use Rattle.zone_rdata.specs.Reading.{AreSpelt}
+use Rattle.zone_rdata.specs.Machine.Appending.{AreSpelt}
 use Rattle.zone_rdata.specs.Spelling.{IsCanonicalOf, StatesFor, in_words, in_octets}
 use Rattle.zone_rdata.specs.Uncompressed.{IsUncompressed}
 use Rattle.zone_rdata.proofs.Faults.{fault_more}

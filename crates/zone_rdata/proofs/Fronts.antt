@@ -11,7 +11,7 @@ use Rattle.zone_rdata.specs.Field.{FieldValue, name, u32_value, u16_value, fixed
 use Rattle.zone_rdata.specs.Strings.{IsString}
 use Rattle.zone_rdata.specs.Fields.Name.{BeginsWithSent}
 use Rattle.zone_rdata.specs.Fields.Strings.{AreWithLengths}
-use Rattle.zone_rdata.specs.Uncompressed.{BeginsWithValue, BeginsWithNone, AppendsValue, AppendsPrefix}
+use Rattle.zone_rdata.specs.Machine.Appending.{BeginsWithValue, BeginsWithNone, AppendsValue, AppendsPrefix}
 use Rattle.zone_rdata.proofs.Fields.{field_back}
 use Rattle.zone_rdata.proofs.Sent.{frame_same, frame_at, frames_push, sent_once}
 use Rattle.zone_rdata.proofs.StringSteps.{AllByRecursion-append}

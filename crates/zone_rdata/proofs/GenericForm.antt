@@ -8,7 +8,8 @@ use Rattle.zone_rdata.specs.declared.fault.Fault.TheVariants.{BadGeneric, RdataT
 use Rattle.zone_rdata.specs.declared.item.Item.{Item}
 use Rattle.zone_rdata.specs.Item.{RawItem, bare, quoted, raw, generic_mark, IsGeneric}
 use Rattle.zone_rdata.specs.Number.{IsDecimal}
-use Rattle.zone_rdata.specs.Generic.{StatesLength, JoinTo, StatesGeneric, LengthFault, no_number, beyond, GenericFault, no_length, long_length, bad_digits, AppendsDigits}
+use Rattle.zone_rdata.specs.Generic.{StatesLength, JoinTo, StatesGeneric, LengthFault, no_number, beyond, GenericFault, no_length, long_length, bad_digits}
+use Rattle.zone_rdata.specs.Machine.Appending.{AppendsDigits}
 
 -- two digits for each octet
 pub half_length : (text front : List ℕ) → decode_of text ≡ Ok front → length front ≡ length text / 2

@@ -11,7 +11,7 @@ use Rattle.zone_rdata.specs.declared.field.Field.{Field}
 use Rattle.zone_rdata.specs.DataFault.{FirstFieldFault, IsWordsFault, unspelt, too_long}
 use Rattle.zone_rdata.specs.Field.{IsFieldFault, FieldValue, field_octets, octets_of, own_items}
 use Rattle.zone_rdata.specs.Item.{RawItem, bare, raw, generic_mark, IsGeneric}
-use Rattle.zone_rdata.specs.Reading.{AppendsFirst, AreSpelt}
+use Rattle.zone_rdata.specs.Machine.Appending.{AppendsFirst, AreSpelt}
 use Rattle.zone_rdata.specs.Spelling.{SpellEach}
 
 -- some fields were read, and what the items that are left are for the other fields, all items are for all fields

@@ -1,11 +1,11 @@
 -- The last number of data, field after field.
-use Rattle.std.proofs.Common.{◌≡◌, ℕ, ◌+◌, ◌<◌, ◌≤◌, List, ◌∷◌, length, get_or, drop, refl, sym, ap, ◌∙◌, subst, Option, None}
-use Rattle.std.proofs.lemmas.List.{drop_more, drop_all}
+use Rattle.std.proofs.Common.{◌≡◌, ℕ, ◌+◌, ◌<◌, List, ◌∷◌, length, get_or, drop, sym, ap, ◌∙◌, subst, Option, None}
+use Rattle.std.proofs.lemmas.List.{drop_more}
 use Rattle.zone_rdata.specs.declared.field.Field.{Field}
 use Rattle.zone_rdata.specs.Field.{field_at, values_of}
 use Rattle.zone_rdata.specs.Layout.{AreLaidOut}
 use Rattle.zone_rdata.specs.Minimum.{number_in, last_number}
-use Rattle.zone_rdata.specs.Machine.Printing.{BeginsWithField, after_field}
+use Rattle.zone_rdata.specs.Machine.Printing.{after_field}
 use Rattle.zone_rdata.proofs.Texts.{first_field}
 
 -- the fields up to a place are passed: the rest is laid out, and leads to the last number of the whole

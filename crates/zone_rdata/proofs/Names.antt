@@ -1,8 +1,8 @@
 -- The name at the front of octets is the one that was written there.
-use Rattle.std.proofs.Common.{◌≡◌, ℕ, zero, suc, ◌≤◌, List, [], ◌∷◌, ◌++◌, length, refl, sym, ap, ◌∙◌, subst, arith, append_assoc, length-append}
+use Rattle.std.proofs.Common.{◌≡◌, ℕ, zero, suc, ◌≤◌, List, [], ◌∷◌, ◌++◌, length, refl, ap, ◌∙◌, arith, append_assoc, length-append}
 use Rattle.std.specs.List.{flat_map, AllByRecursion}
 use Rattle.std.proofs.lemmas.List.{take_at, drop_at}
-use Rattle.zone_name.specs.Name.{IsLabel, IsName, with_length, wire, labels_by, labels_of, BeginsWithName}
+use Rattle.zone_name.specs.Name.{IsLabel, with_length, wire, labels_by, labels_of}
 
 -- one label cut off the front
 labels_cut : (k m : ℕ) (text label more : List ℕ) → text ≡ label ++ more → length label ≡ suc k → labels_by (suc m) (suc k ∷ text) ≡ label ∷ labels_by m more

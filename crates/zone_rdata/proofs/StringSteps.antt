@@ -6,7 +6,6 @@ use Rattle.zone_name.specs.Spelling.{Written, text_of, octet_of, IsUnit, no_octe
 use Rattle.zone_rdata.specs.declared.fault.Fault.TheVariants.{BadEscape, StringTooLong}
 use Rattle.zone_rdata.specs.Item.{RawItem}
 use Rattle.zone_rdata.specs.Strings.{ReachesUnit, SpellsString, StringFault, bad_escape, long_string, item_text}
-use Rattle.zone_name.proofs.Units.{text_of-some}
 pub use Rattle.zone_name.proofs.Pushing.{AllByRecursion-append}
 
 -- the octets of the units up to a place of an item's text

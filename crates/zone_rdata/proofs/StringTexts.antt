@@ -1,7 +1,7 @@
 -- The text of strings, one behind another.
 use Rattle.std.proofs.Common.{◌≡◌, ℕ, ◌<◌, ◌≤◌, List, [], ◌∷◌, ◌++◌, length, drop, map, sym, ap, ◌∙◌, subst, arith, append_assoc}
 use Rattle.std.specs.List.{flat_map, join_with_byte}
-use Rattle.std.proofs.lemmas.List.{append-nil, length-drop}
+use Rattle.std.proofs.lemmas.List.{append-nil}
 use Rattle.zone_name.specs.Name.{with_length}
 use Rattle.zone_rdata.specs.Fields.OneString.{BeginsWithString, string_at}
 use Rattle.zone_rdata.specs.Fields.Strings.{HoldsStrings, strings_of}

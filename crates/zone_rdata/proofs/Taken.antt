@@ -4,7 +4,8 @@ use Rattle.std.proofs.lemmas.List.{append-nil, drop_more, drop_all}
 use Rattle.zone_rdata.specs.declared.field.Field.{Field}
 use Rattle.zone_rdata.specs.Field.{FieldValue, field_octets, octets_of, HoldEach}
 use Rattle.zone_rdata.specs.Layout.{StringsLast, layout}
-use Rattle.zone_rdata.specs.Uncompressed.{AreSent, IsUncompressed, BeginsWithValue, BeginsWithNone, AppendsValue}
+use Rattle.zone_rdata.specs.Uncompressed.{AreSent, IsUncompressed}
+use Rattle.zone_rdata.specs.Machine.Appending.{BeginsWithValue, BeginsWithNone, AppendsValue}
 use Rattle.zone_rdata.proofs.Tables.{table_row}
 use Rattle.zone_rdata.proofs.Fronts.{value_once}
 

@@ -1,9 +1,9 @@
 -- The text of data, field after field.
-use Rattle.std.proofs.Common.{◌≡◌, ℕ, zero, suc, ◌+◌, ◌<◌, ◌≤◌, List, [], ◌∷◌, ◌++◌, length, get_or, take, drop, map, refl, sym, ap, ◌∙◌, subst, arith, append_assoc, codes, decimal, Some, ◌/◌, ◌%◌}
+use Rattle.std.proofs.Common.{◌≡◌, ℕ, zero, suc, ◌+◌, ◌<◌, List, [], ◌∷◌, ◌++◌, length, get_or, take, drop, map, refl, sym, ap, ◌∙◌, subst, arith, append_assoc, codes, decimal, Some, ◌/◌, ◌%◌}
 use Rattle.std.specs.Prelude.{slice_index, Result, Ok, Err, OnOk, IsOk}
 use Rattle.hex.specs.Hex.{lower_digits, encode_with, encode_lower}
 use Rattle.std.specs.List.{flat_map, AllByRecursion, join_with_byte}
-use Rattle.std.proofs.lemmas.List.{take_at, drop_at, drop_more, drop_all, append-nil, take_more}
+use Rattle.std.proofs.lemmas.List.{take_at, drop_at, drop_more, append-nil, take_more}
 use Rattle.zone_rdata.specs.declared.field.Field.{Field}
 use Rattle.zone_rdata.specs.Field.{field_octets, octets_of, field_at, values_of, field_text}
 use Rattle.zone_rdata.specs.Layout.{AreLaidOut}

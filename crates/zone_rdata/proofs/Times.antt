@@ -12,7 +12,7 @@ use Rattle.zone_rdata.proofs.Decimal.{value_push, digits_push}
 use Rattle.zone_name.specs.Spelling.{is_digit}
 use Rattle.zone_rdata.specs.declared.time.Progress.{Progress}
 use Rattle.zone_rdata.specs.Number.{Group, IsTimeGroup, group_text, group_seconds, decimal_value, unit_seconds, IsTime, plain, grouped}
-use Rattle.zone_rdata.specs.Time.{Reads}
+use Rattle.zone_rdata.specs.Machine.TimeProgress.{Reads}
 
 abbrev pub AreDigits : List ℕ → Type 0
 AreDigits text = AllByRecursion (λ c. is_digit c ≡ true) text

@@ -10,7 +10,8 @@ use Rattle.zone_rdata.specs.Field.{FieldValue, field_octets}
 use Rattle.zone_rdata.specs.Layout.{StringsLast, layout}
 use Rattle.zone_rdata.specs.Fields.Name.{BeginsWithSent}
 use Rattle.zone_rdata.specs.Fields.Strings.{AreWithLengths}
-use Rattle.zone_rdata.specs.Uncompressed.{IsUncompressed, BeginsWithValue, BeginsWithNone, AppendsValue, AppendsPrefix}
+use Rattle.zone_rdata.specs.Uncompressed.{IsUncompressed}
+use Rattle.zone_rdata.specs.Machine.Appending.{BeginsWithValue, BeginsWithNone, AppendsValue, AppendsPrefix}
 use Rattle.zone_rdata.proofs.AddressChoice.{Choice}
 use Rattle.zone_rdata.proofs.Tables.{table_row}
 use Rattle.zone_rdata.proofs.Fronts.{AreLow, Framed, framed_none, framed_more, framed_all, framed_empty, framed_short, appends_serial, appends_time, appends_two, appends_fixed, appends_string, appends_strings, appends_name, none_serial, none_time, none_two, none_fixed, none_string, none_nil, none_strings, none_name, value_once}

@@ -1,5 +1,5 @@
 -- What a field's items spell is appended.
-use Rattle.std.proofs.Common.{◌≡◌, ◌≢◌, ℕ, ◌+◌, ◌<◌, ◌≤◌, List, [], ◌∷◌, ◌++◌, length, get_or, drop, map, refl, sym, ap, ◌∙◌, subst, arith, append_assoc, inl, inr, Result, Option, Some, None, min}
+use Rattle.std.proofs.Common.{◌≡◌, ℕ, ◌+◌, ◌<◌, ◌≤◌, List, [], ◌∷◌, ◌++◌, length, get_or, drop, map, refl, sym, ap, ◌∙◌, subst, arith, append_assoc, inl, inr, Result, Option, Some, None, min}
 use Rattle.std.specs.Prelude.{OnOk, IfSome, IfNone}
 use Rattle.std.specs.Int.{w16, w32, to_be_bytes}
 use Rattle.std.specs.List.{flat_map}
@@ -19,8 +19,9 @@ use Rattle.zone_rdata.specs.Fields.Strings.{SpellEachString, SpellsStrings, Firs
 use Rattle.zone_rdata.specs.Fields.Time.{SpellsTime}
 use Rattle.zone_rdata.specs.Fields.U16.{SpellsU16}
 use Rattle.zone_rdata.specs.Item.{RawItem, bare, raw}
-use Rattle.zone_rdata.specs.Reading.{Appends, AppendsField, AppendsFirst}
-use Rattle.zone_rdata.specs.Strings.{AppendsString, StringFault}
+use Rattle.zone_rdata.specs.Machine.Appending.{Appends, AppendsField, AppendsFirst}
+use Rattle.zone_rdata.specs.Strings.{StringFault}
+use Rattle.zone_rdata.specs.Machine.Appending.{AppendsString}
 
 -- ---- one item
 

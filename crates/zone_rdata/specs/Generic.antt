@@ -42,12 +42,6 @@ pub data GenericFault (items : List RawItem) : Fault → Type 0 where
   long_length : (n : ℕ) (digits : List RawItem) → IsGenericForm items n digits → 65535 < n → GenericFault items RdataTooLong
   bad_digits : (n : ℕ) (digits : List RawItem) → IsGenericForm items n digits → n ≤ 65535 → ((octets : List ℕ) → JoinTo digits octets → length octets ≢ n) → GenericFault items BadGeneric
 
--- the octets that an item's digits stand for are appended
-pub record AppendsDigits (text old new : List ℕ) : Type 0 where
-  pub octets : List ℕ
-  pub stands : decode_of text ≡ Ok octets
-  pub written : new ≡ old ++ octets
-
 -- the digits behind the length, in one item where there are any
 abbrev pub digit_items : List ℕ → List RawItem
 digit_items [] = []

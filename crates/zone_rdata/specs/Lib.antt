@@ -9,7 +9,6 @@ pub mod Field
 pub mod Uncompressed
 pub mod Table
 pub mod Layout
-pub mod Time
 pub mod Words
 pub mod Record
 pub mod Minimum
@@ -17,7 +16,6 @@ pub mod Order
 pub mod Spelling
 pub mod Wire
 pub mod DataFault
-pub mod Reading
 pub mod Text
 pub mod Source
 pub mod Machine

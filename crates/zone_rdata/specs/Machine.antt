@@ -2,3 +2,6 @@
 pub mod AddressReading
 pub mod Pushed
 pub mod Printing
+pub mod Appending
+pub mod TimeProgress
+pub mod Building

@@ -2,7 +2,6 @@
 -- the text that is printed.
 use Rattle.std.specs.Prelude.{◌≡◌, ◌≢◌, ℕ, ◌<◌, ◌≤◌, List, [], ◌∷◌, ◌++◌, length, nat_le, ◌==◌, ◌&&◌, ◌||◌, Bool, if◌then◌else◌}
 use Rattle.std.specs.List.{flat_map, AllByRecursion}
-use Rattle.zone_name.specs.Name.{with_length}
 use Rattle.zone_name.specs.Spelling.{Written, text_of, IsUnit, no_octet, written_text, written_octets, IsBadEscape}
 use Rattle.zone_name.specs.Text.{decimal_escape}
 use Rattle.zone_rdata.specs.declared.fault.Fault.{Fault}
@@ -37,12 +36,6 @@ pub record ReachesUnit (text : List ℕ) (before : List Written) (rest : List �
 pub data StringFault (item : RawItem) : Fault → Type 0 where
   bad_escape : (before : List Written) (rest : List ℕ) → ReachesUnit (item_text item) before rest → IsBadEscape rest → StringFault item BadEscape
   long_string : (before : List Written) (w : Written) (rest : List ℕ) → ReachesUnit (item_text item) before (text_of w ++ rest) → length before ≡ 255 → IsUnit no_octet w → StringFault item StringTooLong
-
--- the string's octets are appended behind their number (RFC 1035 3.3)
-pub record AppendsString (item : RawItem) (old new : List ℕ) : Type 0 where
-  pub octets : List ℕ
-  pub spelt : SpellsString item octets
-  pub written : new ≡ old ++ with_length octets
 
 -- the octets that print as themselves inside quotes, a space and `!` to `~`
 abbrev pub is_shown : ℕ → Bool

@@ -1,5 +1,6 @@
 ghost use Rattle.std.specs.Prelude.{◌≡◌, ◌↔◌, [], ◌≤◌, length, IsTrue, IfOk, IfErr, OnOk, OnErr};
-ghost use Rattle.zone_rdata.specs.Builder.{Built, Grows, IsNext, IsOver, IsPushFault, IsReal, IsWhole, Pushes, least_of};
+ghost use Rattle.zone_rdata.specs.Builder.{Built, IsNext, IsPushFault, IsWhole, Pushes};
+ghost use Rattle.zone_rdata.specs.Machine.Building.{Grows, IsOver, IsReal, least_of};
 ghost use Rattle.zone_rdata.specs.Machine.Pushed.{value_of};
 ghost use Rattle.zone_rdata.specs.Fault.{IfFault};
 ghost use Rattle.zone_rdata.specs.Field.{fixed, u32_value, name, octets_of, string, u16_value};
@@ -29,7 +30,8 @@ pub struct RdataBuilder {
 }
 
 impl Model for RdataBuilder {
-    ghost use Rattle.zone_rdata.specs.Builder.{Built, IsBuilt, parts_of};
+    ghost use Rattle.zone_rdata.specs.Builder.{Built};
+    ghost use Rattle.zone_rdata.specs.Machine.Building.{IsBuilt, parts_of};
     ghost use Rattle.zone_rdata.specs.Layout.{layout};
 
     ghost Value = { Built };

@@ -6,9 +6,9 @@ ghost use Rattle.zone_name.specs.Sink.{TakesSome};
 ghost use Rattle.zone_rdata.specs.Item.{raw};
 ghost use Rattle.zone_rdata.specs.Layout.{IsSized};
 ghost use Rattle.zone_rdata.specs.Minimum.{number_in};
-ghost use Rattle.zone_rdata.specs.Reading.{AppendsField, AppendsFirst};
+ghost use Rattle.zone_rdata.specs.Machine.Appending.{AppendsField, AppendsFirst};
 ghost use Rattle.zone_rdata.specs.Machine.Printing.{BeginsWithField, after_field};
-ghost use Rattle.zone_rdata.specs.Uncompressed.{AppendsValue, BeginsWithNone};
+ghost use Rattle.zone_rdata.specs.Machine.Appending.{AppendsValue, BeginsWithNone};
 
 mod address;
 mod name;

@@ -1,7 +1,8 @@
 ghost use Rattle.std.specs.Prelude.{◌≡◌, ◌≢◌, ◌≤◌, List, ℕ, length, map, IfOk, IfErr, OnOk, Ok, Err};
 ghost use Rattle.hex.specs.Hex.{decode_of};
 ghost use Rattle.zone_rdata.specs.Fault.{IfFault};
-ghost use Rattle.zone_rdata.specs.Generic.{AppendsDigits, GenericFault, JoinTo, LengthFault, StatesGeneric, StatesLength};
+ghost use Rattle.zone_rdata.specs.Generic.{GenericFault, JoinTo, LengthFault, StatesGeneric, StatesLength};
+ghost use Rattle.zone_rdata.specs.Machine.Appending.{AppendsDigits};
 ghost use Rattle.zone_rdata.specs.Item.{IsGeneric, raw};
 
 use crate::fault::{Failing, Fault};

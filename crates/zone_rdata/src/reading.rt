@@ -4,7 +4,7 @@ ghost use Rattle.zone_rdata.specs.DataFault.{IsWordsFault};
 ghost use Rattle.zone_rdata.specs.Fault.{IfFault};
 ghost use Rattle.zone_rdata.specs.Item.{raw, IsGeneric};
 ghost use Rattle.zone_rdata.specs.Layout.{fields_of};
-ghost use Rattle.zone_rdata.specs.Reading.{AreSpelt};
+ghost use Rattle.zone_rdata.specs.Machine.Appending.{AreSpelt};
 
 use crate::fault::{Failing, Fault};
 use crate::item::Item;

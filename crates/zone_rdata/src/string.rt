@@ -2,7 +2,8 @@ ghost use Rattle.std.specs.Prelude.{◌≡◌, ◌++◌, ◌≤◌, [], length, 
 ghost use Rattle.zone_name.specs.Name.{with_length};
 ghost use Rattle.zone_name.specs.Sink.{TakesSome};
 ghost use Rattle.zone_rdata.specs.Item.{raw};
-ghost use Rattle.zone_rdata.specs.Strings.{AppendsString, SpellsString, StringFault, item_text, string_text, unit_text};
+ghost use Rattle.zone_rdata.specs.Strings.{SpellsString, StringFault, item_text, string_text, unit_text};
+ghost use Rattle.zone_rdata.specs.Machine.Appending.{AppendsString};
 
 use crate::fault::{Failing, Fault};
 use crate::item::Item;

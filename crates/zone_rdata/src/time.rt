@@ -28,7 +28,7 @@ pub(crate) struct Progress {
 }
 
 impl Progress {
-    ghost use Rattle.zone_rdata.specs.Time.{Reads};
+    ghost use Rattle.zone_rdata.specs.Machine.TimeProgress.{Reads};
 
     /// What is read with one more octet. `None`: no time goes on so.
     fn with(self, octet: u8) -> Option<Progress>

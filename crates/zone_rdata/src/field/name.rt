@@ -3,8 +3,8 @@ ghost use Rattle.zone_name.specs.Name.{BeginsWithName, labels_of, wire};
 ghost use Rattle.zone_name.specs.Spelling.{Spells};
 ghost use Rattle.zone_rdata.specs.Fault.{IfFault};
 ghost use Rattle.zone_rdata.specs.Fields.Name.{IsNameFault, BeginsWithSent};
-ghost use Rattle.zone_rdata.specs.Reading.{Appends};
-ghost use Rattle.zone_rdata.specs.Uncompressed.{AppendsValue, BeginsWithNone};
+ghost use Rattle.zone_rdata.specs.Machine.Appending.{Appends};
+ghost use Rattle.zone_rdata.specs.Machine.Appending.{AppendsValue, BeginsWithNone};
 
 use super::Field;
 use crate::fault::{Failing, Fault};

@@ -1,6 +1,6 @@
 ghost use Rattle.std.specs.Prelude.{◌≡◌, ◌<◌, length, IfOk, IfErr};
 ghost use Rattle.zone_rdata.specs.Fault.{IfFault};
-ghost use Rattle.zone_rdata.specs.Uncompressed.{AppendsPrefix};
+ghost use Rattle.zone_rdata.specs.Machine.Appending.{AppendsPrefix};
 
 use crate::fault::{Failing, Fault};
 

@@ -2,7 +2,7 @@ ghost use Rattle.std.specs.Prelude.{◌≡◌, ◌<◌, ◌≤◌, drop, length,
 ghost use Rattle.zone_name.specs.Name.{with_length};
 ghost use Rattle.zone_rdata.specs.Fault.{IfFault};
 ghost use Rattle.zone_rdata.specs.Fields.OneString.{BeginsWithString, string_at};
-ghost use Rattle.zone_rdata.specs.Uncompressed.{AppendsValue, BeginsWithNone};
+ghost use Rattle.zone_rdata.specs.Machine.Appending.{AppendsValue, BeginsWithNone};
 
 use super::Field;
 use super::prefix::push_prefix;

@@ -6,8 +6,8 @@ ghost use Rattle.zone_name.specs.Name.{with_length};
 ghost use Rattle.zone_rdata.specs.Fault.{IfFault};
 ghost use Rattle.zone_rdata.specs.Fields.Strings.{SpellsStrings, StringsFault, AreWithLengths, HoldsStrings, strings_of};
 ghost use Rattle.zone_rdata.specs.Item.{raw};
-ghost use Rattle.zone_rdata.specs.Reading.{Appends};
-ghost use Rattle.zone_rdata.specs.Uncompressed.{AppendsValue, BeginsWithNone};
+ghost use Rattle.zone_rdata.specs.Machine.Appending.{Appends};
+ghost use Rattle.zone_rdata.specs.Machine.Appending.{AppendsValue, BeginsWithNone};
 
 use super::Field;
 use super::prefix::push_prefix;

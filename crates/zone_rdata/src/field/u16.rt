@@ -2,7 +2,7 @@ ghost use Rattle.std.specs.Prelude.{◌≡◌, ◌≤◌, drop, length, take, If
 ghost use Rattle.std.specs.Int.{w16, from_be_bytes, to_be_bytes};
 ghost use Rattle.zone_rdata.specs.Fault.{NoValue, IfFault};
 ghost use Rattle.zone_rdata.specs.Fields.U16.{SpellsU16};
-ghost use Rattle.zone_rdata.specs.Reading.{Appends};
+ghost use Rattle.zone_rdata.specs.Machine.Appending.{Appends};
 
 use crate::fault::{Failing, Fault};
 use crate::number::{at_most, decimal_of, u16_octets_of};

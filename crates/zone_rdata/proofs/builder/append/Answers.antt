@@ -1,5 +1,5 @@
 use Rattle.std.proofs.Common.{sym, subst}
-use Rattle.zone_rdata.specs.Builder.{IsOver}
+use Rattle.zone_rdata.specs.Machine.Building.{IsOver}
 use Rattle.zone_rdata.specs.Machine.Pushed.{value_of}
 use Rattle.zone_rdata.proofs.Building.{over_as}
 use Rattle.zone_rdata.proofs.Failings.{IfErr-fault}

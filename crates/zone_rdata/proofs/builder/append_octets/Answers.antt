@@ -1,5 +1,5 @@
 use Rattle.std.proofs.Common.{arith}
-use Rattle.zone_rdata.specs.Builder.{over_data}
+use Rattle.zone_rdata.specs.Machine.Building.{over_data}
 use Rattle.zone_rdata.proofs.builder.append_octets.Goals as goal
 
 pub returns-then-octets-len-clause-fault : goal.returns-then-octets-len-clause-fault

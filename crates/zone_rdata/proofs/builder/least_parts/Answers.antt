@@ -1,6 +1,6 @@
 use Rattle.std.proofs.Common.{length, sym, ap, ◌∙◌}
 use Rattle.std.specs.Prelude.{option_map}
-use Rattle.zone_rdata.specs.Builder.{least_of}
+use Rattle.zone_rdata.specs.Machine.Building.{least_of}
 use Rattle.zone_rdata.specs.Layout.{fields_of}
 use Rattle.zone_rdata.proofs.builder.least_parts.Goals as goal
 

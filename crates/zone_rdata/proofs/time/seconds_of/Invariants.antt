@@ -1,5 +1,5 @@
 use Rattle.std.proofs.Common.{take}
-use Rattle.zone_rdata.specs.Time.{Reads}
+use Rattle.zone_rdata.specs.Machine.TimeProgress.{Reads}
 use Rattle.zone_rdata.proofs.time.seconds_of.Given as goal
 
 abbrev pub invariant-loop-octet : goal.invariant-loop-octet

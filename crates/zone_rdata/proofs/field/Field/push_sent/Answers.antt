@@ -1,6 +1,6 @@
 use Rattle.std.proofs.Common.{sym, subst, arith}
 use Rattle.std.proofs.lemmas.Result.{IfOk-weaker}
-use Rattle.zone_rdata.specs.Uncompressed.{AppendsValue, BeginsWithNone}
+use Rattle.zone_rdata.specs.Machine.Appending.{AppendsValue, BeginsWithNone}
 use Rattle.zone_rdata.proofs.Failings.{IfErr-fault}
 use Rattle.zone_rdata.proofs.Bytes.{bytes_each}
 use Rattle.zone_rdata.proofs.Fronts.{appends_long, appends_two, appends_fixed, none_long, none_two, none_fixed}

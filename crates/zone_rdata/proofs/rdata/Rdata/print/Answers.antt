@@ -11,7 +11,7 @@ pub returns-clause-ok : goal.returns-clause-ok
 returns-clause-ok g c =
     let octets = c.deref.result.now in
     let text = ap (λ (l : Option (List Field)). laid_out_text l octets) c.layout_of.ensures
-            ∙ ap (λ (o : List ℕ). laid_out_text (layout c.self.inside.class c.self.inside.kind) o) c.deref.ensures.value
-            ∙ data_written _ c.self.invariant
-            ∙ ap data_text c.self.view_is in
+    ∙ ap (λ (o : List ℕ). laid_out_text (layout c.self.inside.class c.self.inside.kind) o) c.deref.ensures.value
+    ∙ data_written _ c.self.invariant
+    ∙ ap data_text c.self.view_is in
     subst (λ t. OnOk c.push_data.result (g.S.Sink.takes c.args.out.now t c.push_data.new.out)) text c.push_data.ensures.ok

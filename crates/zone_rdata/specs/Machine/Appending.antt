@@ -1,0 +1,67 @@
+-- Octets that grow while the items of record data are read.
+use Rattle.std.specs.Prelude.{◌≡◌, ℕ, List, ◌++◌, ◌≤◌, [], length, take, drop, Ok}
+use Rattle.zone_rdata.specs.declared.field.Field.{Field}
+use Rattle.zone_rdata.specs.Field.{FieldValue, field_octets, octets_of, SpellsField, own_items, items_behind, Holds, IsSent}
+use Rattle.zone_rdata.specs.Item.{RawItem}
+use Rattle.zone_rdata.specs.Spelling.{SpellEach}
+use Rattle.zone_rdata.specs.declared.field.Field.TheVariants.{Strings}
+use Rattle.hex.specs.Hex.{decode_of}
+use Rattle.zone_name.specs.Name.{with_length}
+use Rattle.zone_rdata.specs.Strings.{SpellsString}
+
+-- the octets of a value that is stated are appended
+pub record Appends {V : Type 0} (Stated : V → Type 0) (octets : V → List ℕ) (old new : List ℕ) : Type 0 where
+  pub value : V
+  pub stated : Stated value
+  pub written : new ≡ old ++ octets value
+
+-- the octets of the value that items spell for a field are appended
+abbrev pub AppendsField : List (List ℕ) → Field → List RawItem → List ℕ → List ℕ → Type 0
+AppendsField origin field items old new = Appends (SpellsField origin field items) field_octets old new
+
+-- likewise for the field at the front of items, and the rest is behind it
+pub record AppendsFirst (origin : List (List ℕ)) (field : Field) (items rest : List RawItem) (old new : List ℕ) : Type 0 where
+  pub appends : AppendsField origin field (own_items field items) old new
+  pub behind : rest ≡ items_behind field items
+
+-- the octets are those of the values that items spell for fields
+pub record AreSpelt (origin : List (List ℕ)) (fields : List Field) (items : List RawItem) (octets : List ℕ) : Type 0 where
+  pub values : List FieldValue
+  pub spelt : SpellEach origin fields items values
+  pub written : octets ≡ octets_of values
+
+-- octets that begin with a value of the field; strings are all that is left
+pub record BeginsWithValue (field : Field) (octets : List ℕ) (value : FieldValue) (rest : List ℕ) : Type 0 where
+  pub held : Holds field value
+  pub front : List ℕ
+  pub sent : IsSent value front
+  pub parts : octets ≡ front ++ rest
+  pub last : field ≡ Strings → rest ≡ []
+
+-- the canonical octets of the value at the front are appended
+pub record AppendsValue (field : Field) (octets rest old new : List ℕ) : Type 0 where
+  pub value : FieldValue
+  pub begins : BeginsWithValue field octets value rest
+  pub written : new ≡ old ++ field_octets value
+
+-- octets that begin with no value of the field
+abbrev pub BeginsWithNone : Field → List ℕ → Type 0
+BeginsWithNone field octets = (value : FieldValue) (rest : List ℕ) → BeginsWithValue field octets value rest → ⊥
+
+-- the front of octets is appended, and the rest is behind it
+pub record AppendsPrefix (count : ℕ) (octets rest old new : List ℕ) : Type 0 where
+  pub fits : count ≤ length octets
+  pub behind : rest ≡ drop count octets
+  pub written : new ≡ old ++ take count octets
+
+-- the octets that an item's digits stand for are appended
+pub record AppendsDigits (text old new : List ℕ) : Type 0 where
+  pub octets : List ℕ
+  pub stands : decode_of text ≡ Ok octets
+  pub written : new ≡ old ++ octets
+
+-- the string's octets are appended behind their number (RFC 1035 3.3)
+pub record AppendsString (item : RawItem) (old new : List ℕ) : Type 0 where
+  pub octets : List ℕ
+  pub spelt : SpellsString item octets
+  pub written : new ≡ old ++ with_length octets
