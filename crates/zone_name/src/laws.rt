@@ -2,7 +2,7 @@
 ghost use Rattle.std.specs.Prelude.{◌≡◌, ◌++◌, Option, IfSome};
 ghost use Rattle.std.specs.Cmp.{IsTotalOrder};
 ghost use Rattle.std.specs.declared.cmp.Ordering.TheVariants.{Equal};
-ghost use Rattle.zone_name.specs.Common.{AreOctets, AtMostOneIs, EitherIs, Labels, NeverBothAre, Octets};
+ghost use Rattle.zone_name.specs.Common.{AreOctets, AtMostOneIs, EitherIs, IsVerdict, Labels, NeverBothAre, Octets};
 ghost use Rattle.zone_name.specs.Name.{BeginsWithName, IsName, labels_of, wire};
 ghost use Rattle.zone_name.specs.Order.{name_cmp};
 ghost use Rattle.zone_name.specs.Spelling.{FirstFault, Spells};
@@ -25,6 +25,8 @@ pub fn spelling_is_unique()
 
 /// A text of octets spells a name under an origin or has a first fault, never both, and one first fault at most.
 pub fn texts_have_one_verdict()
+    ensures verdict { (origin : Option Labels) (text : Octets) → IfSome origin IsName → AreOctets text
+        → IsVerdict (Spells origin text) (FirstFault origin text) }
     ensures one_of { (origin : Option Labels) (text : Octets) → IfSome origin IsName → AreOctets text
         → EitherIs (Spells origin text) (FirstFault origin text) }
     ensures never_both { (origin : Option Labels) (text : Octets)
