@@ -46,7 +46,8 @@ impl NameBuilder {
         ensures ok { OnOk result (self.new ≡ self.old ++ folded_label label.now ∷ []) }
         ensures empty { (result ≡ Err EmptyLabel) ↔ (length label.now ≡ 0) }
         ensures long { (result ≡ Err LabelTooLong) ↔ (63 < length label.now) }
-        ensures too_long { (result ≡ Err NameTooLong) ↔ ((0 < length label.now) × (length label.now ≤ 63) × (255 < length (wire (self.old ++ label.now ∷ [])))) }
+        ensures too_long { (result ≡ Err NameTooLong) ↔ ((0 < length label.now)
+            × (length label.now ≤ 63) × (255 < length (wire (self.old ++ label.now ∷ [])))) }
         ensures err { OnErr result (self.new ≡ self.old) }
         ensures only { IfErr result IsLabelFault }
     {

@@ -1,4 +1,5 @@
-ghost use Rattle.std.specs.Prelude.{◌≡◌, ◌≤◌, ◌↔◌, ℕ, List, [], length, IsTrue, IfOk, IfErr, IfSome, Ok, option_copied};
+ghost use Rattle.std.specs.Prelude.{◌≡◌, ◌≤◌, ◌↔◌, List, [], length, IsTrue, IfOk, IfErr, IfSome, Ok, option_copied};
+ghost use Rattle.zone_name.specs.Common.{Octets};
 ghost use Rattle.zone_name.specs.Name.{wire, labels_of, IsName, HoldsName, IsWithin, BeginsWithName};
 ghost use Rattle.zone_name.specs.Spelling.{Spells, FirstFault};
 
@@ -34,7 +35,7 @@ impl Name {
     /// `NameTooLong`.
     pub fn from_text(text: &[u8], origin: Option<&Name>) -> Result<Name, NameFault>
         ensures found { IfOk result (λ name. Spells (option_copied origin.entry) text.now name) }
-        ensures only { (name : List (List ℕ)) → Spells (option_copied origin.entry) text.now name → result ≡ Ok name }
+        ensures only { (name : List Octets) → Spells (option_copied origin.entry) text.now name → result ≡ Ok name }
         ensures fault { IfErr result (FirstFault (option_copied origin.entry) text.now) }
     {
         known_origin(origin);
