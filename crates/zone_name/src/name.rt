@@ -62,6 +62,7 @@ impl Name {
     pub fn wire(&self) -> &[u8]
         ensures octets { result.now ≡ wire self.now }
         ensures short { length result.now ≤ 255 }
+        ensures name { IsName self.now }
         ensures back { labels_of result.now ≡ self.now }
     {
         self.octets.as_slice()
@@ -92,7 +93,8 @@ impl Name {
 
     /// The labels, from the leftmost.
     pub fn labels(&self) -> Labels<'_>
-        ensures { result ≡ self.now }
+        ensures value { result ≡ self.now }
+        ensures name { IsName self.now }
     {
         Labels {
             octets: self.octets.as_slice(),

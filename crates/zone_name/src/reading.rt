@@ -59,16 +59,15 @@ impl Spelled {
 
     /// The name of the labels, with the origin's behind them where the text is relative.
     fn under(self, origin: Option<&Name>) -> Result<Name, NameFault>
-        ensures { (labels : Labels) → Collects self.labels self.is_too_long labels
+        ensures value { (labels : Labels) → Collects self.labels self.is_too_long labels
             → result ≡ under (option_copied origin.entry) (Ok (labels, self.is_absolute)) }
+        ensures name { IfOk result IsName }
     {
         if self.is_absolute {
             if self.is_too_long {
                 return Err(NameFault::NameTooLong);
             }
-            let name = self.labels.finish();
-            name.known();
-            return Ok(name);
+            return Ok(self.labels.finish());
         }
         let Some(above) = origin else {
             return Err(NameFault::RelativeName);
@@ -85,9 +84,7 @@ pub(crate) fn named(text: &[u8], origin: Option<&Name>) -> Result<Name, NameFaul
     ensures value { result ≡ under (option_copied origin.entry) (reading text.now) }
     ensures name { IfOk result IsName }
 {
-    let name = read_labels(text)?.under(origin)?;
-    name.known();
-    Ok(name)
+    read_labels(text)?.under(origin)
 }
 
 /// The labels of a text that is neither `.` nor `@` (RFC 1035 5.1).

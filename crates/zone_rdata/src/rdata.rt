@@ -106,8 +106,6 @@ impl Rdata {
         data_is_unique();
         faulty_items_state_none();
         let octets = octets_for(alloc, layout_of(class, kind), items, origin)?;
-        class.known();
-        kind.known();
         are_octets(&octets);
         Ok(Rdata {
             class,
@@ -140,8 +138,6 @@ impl Rdata {
             return Err(Failing::Fault(Fault::RdataTooLong));
         }
         let octets = canonical_for(alloc, layout_of(class, kind), octets)?;
-        class.known();
-        kind.known();
         are_octets(&octets);
         Ok(Rdata {
             class,
