@@ -1,9 +1,8 @@
 -- The canonical spelling, label by label.
-use Rattle.std.proofs.Common.{◌≡◌, ◌≢◌, ℕ, ◌+◌, ◌*◌, ◌<◌, ◌≤◌, Bool, true, false, if◌then◌else◌, List, [], ◌∷◌, ◌++◌, length, refl, sym, ap, ◌∙◌, subst, arith, append_assoc, length-append}
+use Rattle.std.proofs.Common.{◌≡◌, ℕ, ◌+◌, ◌*◌, ◌≤◌, Bool, true, false, if◌then◌else◌, List, [], ◌∷◌, ◌++◌, length, refl, sym, ap, ◌∙◌, subst, arith, append_assoc, length-append}
 use Rattle.std.specs.List.{flat_map, AllByRecursion}
-use Rattle.std.proofs.lemmas.List.{append-nil}
 use Rattle.zone_name.specs.Name.{IsLabel, IsName, with_length}
-use Rattle.zone_name.specs.Text.{is_special, is_printed, decimal_escape, octet_text, label_text, name_text}
+use Rattle.zone_name.specs.Text.{is_special, is_printed, decimal_escape, octet_text, label_text}
 
 choice_short : (special printed : Bool) (c : ℕ) → length (if special then 92 ∷ c ∷ [] else (if printed then c ∷ [] else decimal_escape c)) ≤ 4
 choice_short true printed c = omega arith

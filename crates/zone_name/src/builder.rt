@@ -1,5 +1,5 @@
-ghost use Rattle.std.specs.Prelude.{◌≡◌, ◌<◌, ◌≤◌, ◌↔◌, ◌++◌, ◌∷◌, [], List, ℕ, length, OnOk, OnErr, IfErr, Err};
-ghost use Rattle.zone_name.specs.Name.{folded_label, folded_octet, wire};
+ghost use Rattle.std.specs.Prelude.{◌≡◌, ◌<◌, ◌≤◌, ◌↔◌, ◌++◌, ◌∷◌, [], List, ℕ, length, OnOk, OnErr, IfOk, IfErr, Err};
+ghost use Rattle.zone_name.specs.Name.{folded_label, folded_octet, wire, IsName};
 ghost use Rattle.zone_name.specs.Machine.Reading.{sized};
 ghost use Rattle.zone_name.specs.Spelling.{IsLabelFault};
 ghost use Rattle.zone_name.specs.declared.fault.NameFault.TheVariants.{EmptyLabel, LabelTooLong, NameTooLong};
@@ -46,7 +46,8 @@ impl NameBuilder {
         ensures ok { OnOk result (self.new ≡ self.old ++ folded_label label.now ∷ []) }
         ensures empty { (result ≡ Err EmptyLabel) ↔ (length label.now ≡ 0) }
         ensures long { (result ≡ Err LabelTooLong) ↔ (63 < length label.now) }
-        ensures too_long { (result ≡ Err NameTooLong) ↔ ((0 < length label.now) × (length label.now ≤ 63) × (255 < length (wire (self.old ++ label.now ∷ [])))) }
+        ensures too_long { (result ≡ Err NameTooLong) ↔ ((0 < length label.now)
+            × (length label.now ≤ 63) × (255 < length (wire (self.old ++ label.now ∷ [])))) }
         ensures err { OnErr result (self.new ≡ self.old) }
         ensures only { IfErr result IsLabelFault }
     {
@@ -69,7 +70,8 @@ impl NameBuilder {
 
     /// The name of the labels that were pushed.
     pub fn finish(self) -> Name
-        ensures { result ≡ self }
+        ensures value { result ≡ self }
+        ensures name { IsName result }
     {
         let mut octets = self.octets;
         octets.push(0);
@@ -82,9 +84,9 @@ impl NameBuilder {
     ///
     /// `NameTooLong` where they take more than 255 octets.
     pub(crate) fn finish_under(self, above: &Name) -> Result<Name, NameFault>
-        ensures { result ≡ sized (self ++ above.now) }
+        ensures value { result ≡ sized (self ++ above.now) }
+        ensures name { IfOk result IsName }
     {
-        above.known();
         let mut octets = self.octets;
         match octets.try_extend_from_slice(above.wire()) {
             Ok(()) => Ok(Name::of_octets(octets)),

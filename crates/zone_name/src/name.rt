@@ -1,4 +1,5 @@
-ghost use Rattle.std.specs.Prelude.{◌≡◌, ◌≤◌, ◌↔◌, ℕ, List, [], length, IsTrue, IfOk, IfErr, IfSome, Ok, option_copied};
+ghost use Rattle.std.specs.Prelude.{◌≡◌, ◌≤◌, ◌↔◌, List, [], length, IsTrue, IfOk, IfErr, IfSome, Ok, option_copied};
+ghost use Rattle.zone_name.specs.Common.{Octets};
 ghost use Rattle.zone_name.specs.Name.{wire, labels_of, IsName, HoldsName, IsWithin, BeginsWithName};
 ghost use Rattle.zone_name.specs.Spelling.{Spells, FirstFault};
 
@@ -34,7 +35,7 @@ impl Name {
     /// `NameTooLong`.
     pub fn from_text(text: &[u8], origin: Option<&Name>) -> Result<Name, NameFault>
         ensures found { IfOk result (λ name. Spells (option_copied origin.entry) text.now name) }
-        ensures only { (name : List (List ℕ)) → Spells (option_copied origin.entry) text.now name → result ≡ Ok name }
+        ensures only { (name : List Octets) → Spells (option_copied origin.entry) text.now name → result ≡ Ok name }
         ensures fault { IfErr result (FirstFault (option_copied origin.entry) text.now) }
     {
         known_origin(origin);
@@ -61,6 +62,7 @@ impl Name {
     pub fn wire(&self) -> &[u8]
         ensures octets { result.now ≡ wire self.now }
         ensures short { length result.now ≤ 255 }
+        ensures name { IsName self.now }
         ensures back { labels_of result.now ≡ self.now }
     {
         self.octets.as_slice()
@@ -91,7 +93,8 @@ impl Name {
 
     /// The labels, from the leftmost.
     pub fn labels(&self) -> Labels<'_>
-        ensures { result ≡ self.now }
+        ensures value { result ≡ self.now }
+        ensures name { IsName self.now }
     {
         Labels {
             octets: self.octets.as_slice(),

@@ -1,4 +1,5 @@
-ghost use Rattle.std.specs.Prelude.{◌≡◌, ℕ, ◌≤◌, List, length, IfOk, IfErr, Ok, Err, option_copied};
+ghost use Rattle.std.specs.Prelude.{◌≡◌, ◌≤◌, length, IfOk, IfErr, Ok, Err, option_copied};
+ghost use Rattle.zone_name.specs.Common.{Labels};
 ghost use Rattle.zone_name.specs.Name.{IsName};
 ghost use Rattle.zone_name.specs.Machine.Reading.{Collects, reading, under};
 ghost use Rattle.zone_name.specs.Machine.Seen.{Closes, HasForm};
@@ -58,15 +59,15 @@ impl Spelled {
 
     /// The name of the labels, with the origin's behind them where the text is relative.
     fn under(self, origin: Option<&Name>) -> Result<Name, NameFault>
-        ensures { (labels : List (List ℕ)) → Collects self.labels self.is_too_long labels → result ≡ under (option_copied origin.entry) (Ok (labels, self.is_absolute)) }
+        ensures value { (labels : Labels) → Collects self.labels self.is_too_long labels
+            → result ≡ under (option_copied origin.entry) (Ok (labels, self.is_absolute)) }
+        ensures name { IfOk result IsName }
     {
         if self.is_absolute {
             if self.is_too_long {
                 return Err(NameFault::NameTooLong);
             }
-            let name = self.labels.finish();
-            name.known();
-            return Ok(name);
+            return Ok(self.labels.finish());
         }
         let Some(above) = origin else {
             return Err(NameFault::RelativeName);
@@ -83,14 +84,13 @@ pub(crate) fn named(text: &[u8], origin: Option<&Name>) -> Result<Name, NameFaul
     ensures value { result ≡ under (option_copied origin.entry) (reading text.now) }
     ensures name { IfOk result IsName }
 {
-    let name = read_labels(text)?.under(origin)?;
-    name.known();
-    Ok(name)
+    read_labels(text)?.under(origin)
 }
 
 /// The labels of a text that is neither `.` nor `@` (RFC 1035 5.1).
 fn read_labels(text: &[u8]) -> Result<Spelled, NameFault>
-    ensures labels { IfOk result (λ s. (labels : List (List ℕ)) × (reading text.now ≡ Ok (labels, s.is_absolute)) × Collects s.labels s.is_too_long labels) }
+    ensures labels { IfOk result (λ s. (labels : Labels) × (reading text.now ≡ Ok (labels, s.is_absolute))
+        × Collects s.labels s.is_too_long labels) }
     ensures fault { IfErr result (λ fault. reading text.now ≡ Err fault) }
 {
     if text.is_empty() {

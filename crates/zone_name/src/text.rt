@@ -26,7 +26,6 @@ impl Name {
     fn text(&self) -> ArrayVec<u8, LONGEST>
         ensures { result.items ≡ name_text self.now }
     {
-        self.known();
         let mut text = ArrayVec::new();
         for label in self.labels() {
             push_label_text(&mut text, label);

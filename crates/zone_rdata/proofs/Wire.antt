@@ -6,7 +6,7 @@ use Rattle.zone_rdata.specs.declared.fault.Fault.{Fault}
 use Rattle.zone_rdata.specs.declared.fault.Fault.TheVariants.{BadRdata}
 use Rattle.zone_rdata.specs.declared.field.Field.{Field}
 use Rattle.zone_rdata.specs.declared.layout.Layout.{Layout}
-use Rattle.zone_rdata.specs.Layout.{IsData, StringsLast, AreLaidOut, fields_of, layout}
+use Rattle.zone_rdata.specs.Layout.{IsData, IsSized, StringsLast, AreLaidOut, fields_of, layout}
 use Rattle.zone_rdata.specs.Spelling.{IsCanonicalOf}
 use Rattle.zone_rdata.specs.Wire.{IsWireData, IsWireFault, no_value}
 use Rattle.zone_rdata.proofs.Fields.{AreFor, laid_out}
@@ -18,6 +18,11 @@ use Rattle.zone_rdata.proofs.Taken.{canonical-once}
 pub table_last : (class kind : ℕ) (laid : Option Layout) → option_map fields_of laid ≡ layout class kind → IfSome laid (λ l. StringsLast (fields_of l))
 table_last class kind None e = tt
 table_last class kind (Some l) e = (table_row class kind (fields_of l) (sym e)).last
+
+-- in a layout of the table octets of a fixed number are an address
+pub table_sized : (class kind : ℕ) (laid : Option Layout) → option_map fields_of laid ≡ layout class kind → IfSome laid (λ l. AllByRecursion IsSized (fields_of l))
+table_sized class kind None e = tt
+table_sized class kind (Some l) e = (table_row class kind (fields_of l) (sym e)).sized
 
 canonical_laid : (class kind : ℕ) (laid : Option (List Field)) (octets canonical : List ℕ) → laid ≡ layout class kind → IsCanonicalOf laid octets canonical → AreFor laid canonical
 canonical_laid class kind None octets canonical e is = tt

@@ -1,5 +1,5 @@
 -- Numbers and times in text (RFC 1035 5.1; the units are this project's choice).
-use Rattle.std.specs.Prelude.{◌≡◌, ℕ, ◌+◌, ◌-◌, ◌*◌, ◌<◌, List, [], ◌∷◌, ◌++◌, length, true, ◌==◌, ◌||◌, if◌then◌else◌, Option, Some, None}
+use Rattle.std.specs.Prelude.{◌≡◌, ℕ, ◌+◌, ◌-◌, ◌*◌, ◌<◌, List, [], ◌∷◌, ◌++◌, length, min, true, ◌==◌, ◌||◌, if◌then◌else◌, Option, Some, None}
 use Rattle.std.specs.List.{AllByRecursion, flat_map, sum_by}
 use Rattle.std.specs.Prelude.{fold}
 use Rattle.zone_name.specs.Spelling.{is_digit}
@@ -7,6 +7,10 @@ use Rattle.zone_name.specs.Spelling.{is_digit}
 -- the number that decimal digits stand for
 abbrev pub decimal_value : List ℕ → ℕ
 decimal_value digits = fold (λ n c. n * 10 + (c - 48)) 0 digits
+
+-- a number of which so much is said, or 4294967296 where it is greater
+abbrev pub IsCapped : (ℕ → Type 0) → ℕ → Type 0
+IsCapped Is n = (m : ℕ) × (Is m × (n ≡ min 4294967296 m))
 
 -- one or more digits that stand for the number, leading zeros allowed
 pub record IsDecimal (text : List ℕ) (n : ℕ) : Type 0 where

@@ -18,6 +18,10 @@ abbrev pub IsCanonicalOf : Option (List Field) → List ℕ → List ℕ → Typ
 IsCanonicalOf None stated octets = octets ≡ stated
 IsCanonicalOf (Some fields) stated octets = IsUncompressed fields stated octets
 
+-- items in the generic form state canonical octets for a layout, if there is one
+abbrev pub StatesInForm : Option (List Field) → List RawItem → List ℕ → Type 0
+StatesInForm laid items octets = (stated : List ℕ) × StatesGeneric items stated × IsCanonicalOf laid stated octets
+
 -- The items state canonical octets for a layout, if there is one, under an origin: field by field, or in the generic
 -- form. Data without a layout has the generic form alone.
 pub data StatesFor (origin : List (List ℕ)) (laid : Option (List Field)) (items : List RawItem) (octets : List ℕ) : Type 0 where

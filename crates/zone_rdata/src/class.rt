@@ -1,4 +1,5 @@
 ghost use Rattle.std.specs.Prelude.{[], ◌≡◌, ◌↔◌, ◌<◌, ℕ, IfSome, IfNone, IfOk, IfErr, OnOk, OnErr};
+ghost use Rattle.zone_name.specs.Common.{NothingIs};
 ghost use Rattle.zone_rdata.specs.Words.{IsClass, IsClassWord, class_text};
 
 use crate::fault::Fault;
@@ -49,8 +50,9 @@ impl Class {
     /// `BadClass` where no zone data can have the class.
     pub fn from_word(word: &[u8]) -> Result<Option<Class>, Fault>
         ensures found { IfOk result (λ class. IfSome class (IsClassWord word.now)) }
-        ensures none { IfOk result (λ class. IfNone class ((n : ℕ) → IsClassWord word.now n → ⊥)) }
-        ensures err { IfErr result (λ fault. (fault ≡ Fault.BadClass) × ((n : ℕ) × (IsClassWord word.now n × (IsClass n → ⊥)))) }
+        ensures none { IfOk result (λ class. IfNone class (NothingIs (IsClassWord word.now))) }
+        ensures err { IfErr result (λ fault. (fault ≡ Fault.BadClass)
+            × ((n : ℕ) × (IsClassWord word.now n × (IsClass n → ⊥)))) }
     {
         match number_of_word(CLASSES, b"CLASS", word) {
             Some(number) => Ok(Some(Class::from_number(number)?)),

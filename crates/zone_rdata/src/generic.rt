@@ -1,6 +1,7 @@
-ghost use Rattle.std.specs.Prelude.{◌≡◌, ◌≢◌, ◌≤◌, List, ℕ, length, map, IfOk, IfErr, OnOk, Ok, Err};
+ghost use Rattle.std.specs.Prelude.{◌≡◌, ◌≢◌, ◌≤◌, length, map, IfOk, IfErr, OnOk, Ok, Err};
 ghost use Rattle.hex.specs.Hex.{decode_of};
-ghost use Rattle.zone_rdata.specs.Fault.{IfFault};
+ghost use Rattle.zone_name.specs.Common.{Octets};
+ghost use Rattle.zone_rdata.specs.Fault.{IfFault, NoValue};
 ghost use Rattle.zone_rdata.specs.Generic.{GenericFault, JoinTo, LengthFault, StatesGeneric, StatesLength};
 ghost use Rattle.zone_rdata.specs.Machine.Appending.{AppendsDigits};
 ghost use Rattle.zone_rdata.specs.Item.{IsGeneric, raw};
@@ -53,7 +54,8 @@ fn octets_of_digits(alloc: Global, items: &[Item], len: usize) -> Result<Vec<u8>
     requires { len ≤ LONGEST_DATA }
     ensures found { IfOk result (λ octets. JoinTo (map raw items.now) octets.items) }
     ensures count { IfOk result (λ octets. length octets.items ≡ len) }
-    ensures fault { IfErr result (IfFault (λ f. (f ≡ Fault.BadGeneric) × ((octets : List ℕ) → JoinTo (map raw items.now) octets → length octets ≢ len))) }
+    ensures fault { IfErr result (IfFault (λ f. (f ≡ Fault.BadGeneric)
+        × ((octets : Octets) → JoinTo (map raw items.now) octets → length octets ≢ len))) }
 {
     let mut octets = Vec::with_capacity(alloc, len)?;
     for item in items {
@@ -76,7 +78,8 @@ fn push_digits(text: &[u8], octets: &mut Vec<u8>) -> Result<(), Failing>
     requires few { length octets.old.items ≤ LONGEST_DATA }
     requires fits { length text.now ≤ 131071 }
     ensures found { OnOk result (AppendsDigits text.now octets.old.items octets.new.items) }
-    ensures fault { IfErr result (IfFault (λ f. (f ≡ Fault.BadGeneric) × ((front : List ℕ) → decode_of text.now ≢ Ok front))) }
+    ensures fault { IfErr result (IfFault (NoValue Fault.BadGeneric
+        (λ front. decode_of text.now ≡ Ok front))) }
 {
     let before = octets.len();
     octets.resize(before + text.len() / 2, 0)?;

@@ -40,7 +40,8 @@ impl Kind {
     /// `UnknownType` from 65536 on, and `MetaType` where no record can have it: 0, 41 and 128 to 255.
     pub fn from_number(number: u64) -> Result<Kind, Fault>
         ensures ok { IfOk result (λ kind. kind ≡ number) }
-        ensures err { IfErr result (λ fault. (number < 65536 → fault ≡ Fault.MetaType) × (65536 ≤ number → fault ≡ Fault.UnknownType) × (IsKind number → ⊥)) }
+        ensures err { IfErr result (λ fault. (number < 65536 → fault ≡ Fault.MetaType)
+            × (65536 ≤ number → fault ≡ Fault.UnknownType) × (IsKind number → ⊥)) }
     {
         match u16::try_from(number) {
             Ok(0 | 41 | 128..=255) => Err(Fault::MetaType),

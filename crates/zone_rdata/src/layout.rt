@@ -1,6 +1,7 @@
 ghost use Rattle.std.specs.Prelude.{◌≡◌, option_map, slice_get};
 ghost use Rattle.zone_rdata.specs.Builder.{ends_with_strings, part_at};
 ghost use Rattle.zone_rdata.specs.Layout.{layout, fields_of};
+ghost use Rattle.zone_rdata.specs.Words.{IsClass, IsKind};
 
 use crate::class::Class;
 use crate::field::Field;
@@ -18,10 +19,13 @@ const IN: u16 = 1;
 
 /// The layout of a type's data in a class. `None`: the data is opaque.
 pub fn layout_of(class: Class, kind: Kind) -> Option<Layout>
-    ensures { option_map fields_of result ≡ layout class kind }
+    ensures fields { option_map fields_of result ≡ layout class kind }
+    ensures class { IsClass class }
+    ensures kind { IsKind kind }
 {
+    let class = class.number();
     let row = row_of(TYPES, kind.number())?;
-    if row.in_only && class.number() != IN {
+    if row.in_only && class != IN {
         return None;
     }
     Some(Layout { fields: row.fields })

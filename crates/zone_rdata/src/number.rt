@@ -1,6 +1,7 @@
-ghost use Rattle.std.specs.Prelude.{[], ◌≡◌, ◌<◌, ◌≤◌, ℕ, Some, decimal, min, IfOk, IfErr, IfSome, IfNone, OnErr, OnOk};
+ghost use Rattle.std.specs.Prelude.{[], ◌≡◌, ◌<◌, ◌≤◌, Some, decimal, IfOk, IfErr, IfSome, IfNone, OnErr, OnOk};
 ghost use Rattle.std.specs.Int.{w16, w32, to_be_bytes};
-ghost use Rattle.zone_rdata.specs.Number.{IsDecimal};
+ghost use Rattle.zone_name.specs.Common.{NothingIs};
+ghost use Rattle.zone_rdata.specs.Number.{IsCapped, IsDecimal};
 
 use crate::fault::Fault;
 use byteorder::{BigEndian, ByteOrder};
@@ -12,8 +13,8 @@ pub(crate) const CAP: u64 = 4294967296;
 
 /// The number that one or more decimal digits stand for, at most `CAP`. `None`: the text is none.
 pub(crate) fn decimal_of(text: &[u8]) -> Option<u64>
-    ensures found { IfSome result (λ n. (m : ℕ) × (IsDecimal text.now m × (n ≡ min CAP m))) }
-    ensures none { IfNone result ((m : ℕ) → IsDecimal text.now m → ⊥) }
+    ensures found { IfSome result (IsCapped (IsDecimal text.now)) }
+    ensures none { IfNone result (NothingIs (IsDecimal text.now)) }
 {
     if text.is_empty() {
         return None;

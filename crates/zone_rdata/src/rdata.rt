@@ -1,13 +1,13 @@
-ghost use Rattle.std.specs.Prelude.{◌≡◌, ◌++◌, ℕ, List, map, IfOk, IfErr, IfSome, OnOk, OnErr, option_map};
+ghost use Rattle.std.specs.Prelude.{◌≡◌, ◌++◌, map, IfOk, IfErr, IfSome, OnOk, OnErr, option_map};
+ghost use Rattle.zone_name.specs.Common.{Octets};
 ghost use Rattle.zone_name.specs.Sink.{TakesSome};
 ghost use Rattle.zone_rdata.specs.DataFault.{IsDataFault, IsFaultFor, IsFormFault};
 ghost use Rattle.zone_rdata.specs.Fault.{IfFault};
-ghost use Rattle.zone_rdata.specs.Generic.{StatesGeneric};
 ghost use Rattle.zone_rdata.specs.Item.{IsGeneric, raw};
 ghost use Rattle.zone_rdata.specs.Layout.{StringsLast, fields_of, layout};
 ghost use Rattle.zone_rdata.specs.Minimum.{minimum};
 ghost use Rattle.zone_rdata.specs.Record.{Data, IsRdata};
-ghost use Rattle.zone_rdata.specs.Spelling.{IsCanonicalOf, States, StatesFor};
+ghost use Rattle.zone_rdata.specs.Spelling.{States, StatesFor, StatesInForm};
 ghost use Rattle.zone_rdata.specs.Text.{data_text};
 ghost use Rattle.zone_rdata.specs.Wire.{IsWireData, IsWireFault};
 
@@ -49,7 +49,8 @@ impl Model for Rdata {
 fn octets_in_form(alloc: Global, layout: Option<Layout>, items: &[Item]) -> Result<Vec<u8>, Failing>
     requires marked { IsGeneric (map raw items.now) }
     requires last { IfSome layout (λ l. StringsLast (fields_of l)) }
-    ensures found { IfOk result (λ octets. (stated : List ℕ) × StatesGeneric (map raw items.now) stated × IsCanonicalOf (option_map fields_of layout) stated octets.items) }
+    ensures found { IfOk result (λ octets.
+        StatesInForm (option_map fields_of layout) (map raw items.now) octets.items) }
     ensures fault { IfErr result (IfFault (IsFormFault (option_map fields_of layout) (map raw items.now))) }
 {
     let stated = octets_of_generic(alloc, items)?;
@@ -67,8 +68,10 @@ fn octets_for(
     origin: &Name,
 ) -> Result<Vec<u8>, Failing>
     requires { IfSome layout (λ l. StringsLast (fields_of l)) }
-    ensures found { IfOk result (λ octets. StatesFor origin.now (option_map fields_of layout) (map raw items.now) octets.items) }
-    ensures fault { IfErr result (IfFault (IsFaultFor origin.now (option_map fields_of layout) (map raw items.now))) }
+    ensures found { IfOk result (λ octets.
+        StatesFor origin.now (option_map fields_of layout) (map raw items.now) octets.items) }
+    ensures fault { IfErr result (IfFault
+        (IsFaultFor origin.now (option_map fields_of layout) (map raw items.now))) }
 {
     if is_generic(items) {
         return octets_in_form(alloc, layout, items);
@@ -96,14 +99,13 @@ impl Rdata {
         ensures class { IfOk result (λ d. d.class ≡ class) }
         ensures kind { IfOk result (λ d. d.kind ≡ kind) }
         ensures found { IfOk result (λ d. States origin.now class kind (map raw items.now) d.octets) }
-        ensures only { (octets : List ℕ) → States origin.now class kind (map raw items.now) octets → IfOk result (λ d. d.octets ≡ octets) × IfErr result (λ e. e ≡ Failing.Memory) }
+        ensures only { (octets : Octets) → States origin.now class kind (map raw items.now) octets
+            → IfOk result (λ d. d.octets ≡ octets) × IfErr result (λ e. e ≡ Failing.Memory) }
         ensures fault { IfErr result (IfFault (IsDataFault origin.now class kind (map raw items.now))) }
     {
         data_is_unique();
         faulty_items_state_none();
         let octets = octets_for(alloc, layout_of(class, kind), items, origin)?;
-        class.known();
-        kind.known();
         are_octets(&octets);
         Ok(Rdata {
             class,
@@ -128,15 +130,14 @@ impl Rdata {
         ensures class { IfOk result (λ d. d.class ≡ class) }
         ensures kind { IfOk result (λ d. d.kind ≡ kind) }
         ensures found { IfOk result (λ d. IsWireData (layout class kind) octets.now d.octets) }
-        ensures only { (canonical : List ℕ) → IsWireData (layout class kind) octets.now canonical → IfOk result (λ d. d.octets ≡ canonical) × IfErr result (λ e. e ≡ Failing.Memory) }
+        ensures only { (canonical : Octets) → IsWireData (layout class kind) octets.now canonical
+            → IfOk result (λ d. d.octets ≡ canonical) × IfErr result (λ e. e ≡ Failing.Memory) }
         ensures fault { IfErr result (IfFault (IsWireFault (layout class kind) octets.now)) }
     {
         if octets.len() > LONGEST_DATA {
             return Err(Failing::Fault(Fault::RdataTooLong));
         }
         let octets = canonical_for(alloc, layout_of(class, kind), octets)?;
-        class.known();
-        kind.known();
         are_octets(&octets);
         Ok(Rdata {
             class,

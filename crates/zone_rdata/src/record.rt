@@ -51,7 +51,13 @@ impl Rr {
     /// `BadTtl` where the TTL is over 2147483647.
     pub fn new(owner: Name, ttl: u32, rdata: Rdata) -> Result<Rr, Fault>
         ensures ok { IsOk result ↔ (ttl ≤ MAX_TTL) }
-        ensures value { IfOk result (λ r. r ≡ record { owner = owner; class = rdata.class; kind = rdata.kind; ttl = ttl; octets = rdata.octets }) }
+        ensures value { IfOk result (λ r. r ≡ record {
+          owner = owner;
+          class = rdata.class;
+          kind = rdata.kind;
+          ttl = ttl;
+          octets = rdata.octets;
+        }) }
         ensures err { IfErr result (λ e. e ≡ Fault.BadTtl) }
     {
         if ttl > MAX_TTL {

@@ -1,5 +1,6 @@
-ghost use Rattle.std.specs.Prelude.{◌≡◌, ◌++◌, ◌≤◌, ◌<◌, ◌∷◌, [], ℕ, List, min, IfSome, IfNone};
-ghost use Rattle.zone_rdata.specs.Number.{IsTime, unit_seconds};
+ghost use Rattle.std.specs.Prelude.{◌≡◌, ◌++◌, ◌≤◌, ◌<◌, ◌∷◌, [], ℕ, IfSome, IfNone};
+ghost use Rattle.zone_name.specs.Common.{NothingIs, Octets};
+ghost use Rattle.zone_rdata.specs.Number.{IsCapped, IsTime, unit_seconds};
 
 use crate::number::CAP;
 
@@ -33,8 +34,10 @@ impl Progress {
     /// What is read with one more octet. `None`: no time goes on so.
     fn with(self, octet: u8) -> Option<Progress>
         requires { (self.total ≤ CAP) × (self.number ≤ CAP) }
-        ensures found { IfSome result (λ next. (text : List ℕ) → Reads text self → Reads (text ++ octet ∷ []) next) }
-        ensures none { IfNone result ((text rest : List ℕ) (n : ℕ) → Reads text self → IsTime (text ++ octet ∷ rest) n → ⊥) }
+        ensures found { IfSome result (λ next. (text : Octets)
+            → Reads text self → Reads (text ++ octet ∷ []) next) }
+        ensures none { IfNone result ((text rest : Octets) (n : ℕ)
+            → Reads text self → IsTime (text ++ octet ∷ rest) n → ⊥) }
     {
         if octet.is_ascii_digit() {
             return Some(Progress {
@@ -57,8 +60,8 @@ impl Progress {
 
     /// The time that is read where nothing more comes. `None`: it is none.
     fn seconds(self) -> Option<u64>
-        ensures found { IfSome result (λ n. (text : List ℕ) → Reads text self → (m : ℕ) × (IsTime text m × (n ≡ min CAP m))) }
-        ensures none { IfNone result ((text : List ℕ) (n : ℕ) → Reads text self → IsTime text n → ⊥) }
+        ensures found { IfSome result (λ n. (text : Octets) → Reads text self → IsCapped (IsTime text) n) }
+        ensures none { IfNone result ((text : Octets) (n : ℕ) → Reads text self → IsTime text n → ⊥) }
     {
         if self.grouped {
             if self.open { None } else { Some(self.total) }
@@ -73,8 +76,8 @@ impl Progress {
 /// The seconds that a text states, at most 4294967296: decimal digits, or one or more groups of digits and a unit w,
 /// d, h, m or s, summed. `None`: it is no time.
 pub fn seconds_of(text: &[u8]) -> Option<u64>
-    ensures found { IfSome result (λ n. (m : ℕ) × (IsTime text.now m × (n ≡ min 4294967296 m))) }
-    ensures none { IfNone result ((m : ℕ) → IsTime text.now m → ⊥) }
+    ensures found { IfSome result (IsCapped (IsTime text.now)) }
+    ensures none { IfNone result (NothingIs (IsTime text.now)) }
 {
     let mut so_far = Progress {
         total: 0,

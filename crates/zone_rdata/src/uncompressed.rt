@@ -16,7 +16,8 @@ use std::alloc::Global;
 pub(crate) fn canonical_of(alloc: Global, layout: Layout, octets: &[u8]) -> Result<Vec<u8>, Failing>
     requires { StringsLast (fields_of layout) }
     ensures found { IfOk result (λ canonical. IsUncompressed (fields_of layout) octets.now canonical.items) }
-    ensures fault { IfErr result (IfFault (NoValue Fault.BadRdata (IsUncompressed (fields_of layout) octets.now))) }
+    ensures fault { IfErr result (IfFault (NoValue Fault.BadRdata
+        (IsUncompressed (fields_of layout) octets.now))) }
 {
     let mut canonical = Vec::with_capacity(alloc, octets.len())?;
     let mut rest = octets;
@@ -41,7 +42,8 @@ pub(crate) fn canonical_for(
 ) -> Result<Vec<u8>, Failing>
     requires { IfSome layout (λ l. StringsLast (fields_of l)) }
     ensures found { IfOk result (λ canonical. IsCanonicalOf (option_map fields_of layout) octets.now canonical.items) }
-    ensures fault { IfErr result (IfFault (NoValue Fault.BadRdata (IsCanonicalOf (option_map fields_of layout) octets.now))) }
+    ensures fault { IfErr result (IfFault (NoValue Fault.BadRdata
+        (IsCanonicalOf (option_map fields_of layout) octets.now))) }
 {
     if let Some(layout) = layout {
         return canonical_of(alloc, layout, octets);

@@ -1,10 +1,12 @@
-ghost use Rattle.std.specs.Prelude.{◌≡◌, ◌↔◌, ◌++◌, ◌≤◌, ℕ, [], bytes_eq, length, map, min, true, IsTrue, IfSome, IfNone, OnOk, OnErr, option_copied, decimal};
+ghost use Rattle.std.specs.Prelude.{◌≡◌, ◌↔◌, ◌++◌, ◌≤◌, [], bytes_eq, length, map, true, IsTrue, IfSome, IfNone, OnOk, OnErr, option_copied, decimal};
 ghost use Rattle.std.specs.List.{find};
+ghost use Rattle.zone_name.specs.Common.{NothingIs};
 ghost use Rattle.zone_name.specs.Name.{folded_label};
+ghost use Rattle.zone_rdata.specs.Number.{IsCapped};
 ghost use Rattle.zone_rdata.specs.Table.{ascend};
 ghost use Rattle.zone_rdata.specs.Words.{IsNumbered, IsWordAmong};
 
-use crate::number::{CAP, decimal_of};
+use crate::number::decimal_of;
 use crate::table::Row;
 use arrayvec::ArrayVec;
 use itoa::Buffer;
@@ -19,8 +21,8 @@ pub(crate) fn is_word(word: &[u8], wanted: &[u8]) -> bool
 
 /// The number in decimal right behind a name in any case, at most `CAP`. `None`: the word is none.
 pub(crate) fn numbered(name: &[u8], word: &[u8]) -> Option<u64>
-    ensures found { IfSome result (λ n. (m : ℕ) × (IsNumbered name.now word.now m × (n ≡ min CAP m))) }
-    ensures none { IfNone result ((m : ℕ) → IsNumbered name.now word.now m → ⊥) }
+    ensures found { IfSome result (IsCapped (IsNumbered name.now word.now)) }
+    ensures none { IfNone result (NothingIs (IsNumbered name.now word.now)) }
 {
     if word.len() < name.len() {
         return None;
@@ -34,7 +36,8 @@ pub(crate) fn numbered(name: &[u8], word: &[u8]) -> Option<u64>
 
 /// The row whose mnemonic a word is, in any case.
 fn row_named<'r, R: Row>(rows: &'r [R], word: &[u8]) -> Option<&'r R>
-    ensures { option_copied result ≡ find (λ row. bytes_eq (folded_label word.now) (folded_label (R.names row).mnemonic)) rows.now }
+    ensures { option_copied result
+        ≡ find (λ row. bytes_eq (folded_label word.now) (folded_label (R.names row).mnemonic)) rows.now }
 {
     for row in rows {
         if is_word(word, row.mnemonic()) {
@@ -48,8 +51,8 @@ fn row_named<'r, R: Row>(rows: &'r [R], word: &[u8]) -> Option<&'r R>
 /// the name. `None`: it is no such word.
 pub(crate) fn number_of_word<R: Row>(rows: &[R], name: &[u8], word: &[u8]) -> Option<u64>
     requires { ascend 0 (map R.names rows.now) ≡ true }
-    ensures found { IfSome result (λ n. (m : ℕ) × (IsWordAmong (map R.names rows.now) name.now word.now m × (n ≡ min CAP m))) }
-    ensures none { IfNone result ((n : ℕ) → IsWordAmong (map R.names rows.now) name.now word.now n → ⊥) }
+    ensures found { IfSome result (IsCapped (IsWordAmong (map R.names rows.now) name.now word.now)) }
+    ensures none { IfNone result (NothingIs (IsWordAmong (map R.names rows.now) name.now word.now)) }
 {
     match row_named(rows, word) {
         Some(row) => Some(u64::from(row.number())),

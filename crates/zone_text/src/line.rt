@@ -40,7 +40,8 @@ fn ends_item(octet: u8) -> bool
 
 /// What follows the first octet of a bare item, as it is written. `None`: the item ends here.
 fn after_unit(text: &[u8]) -> Result<Option<&[u8]>, Fault>
-    ensures found { IfOk result (λ unit. MatchOption unit (EndsItem text.now) (λ rest. BeginsWithUnit text.now rest.now)) }
+    ensures found { IfOk result (λ unit. MatchOption unit (EndsItem text.now)
+        (λ rest. BeginsWithUnit text.now rest.now)) }
     ensures shorter { IfOk result (λ unit. IfSome unit (λ rest. length rest.now < length text.now)) }
     ensures fault { IfErr result (UnitFault text.now) }
 {

@@ -15,7 +15,8 @@ use zone_rdata::{Failing, Fault, Place, Placed, Reading};
 ///
 /// Want of memory.
 pub fn read_file(alloc: Global, origin: &Name, text: &[u8]) -> Result<Reading, AllocError>
-    ensures stated { IfOk result (λ reading. IfNone reading.ending (FileStates origin.now text.now reading.placed.items)) }
+    ensures stated { IfOk result (λ reading. IfNone reading.ending
+        (FileStates origin.now text.now reading.placed.items)) }
     ensures front { IfOk result (ReadsFront origin.now text.now) }
 {
     let mut placed = VecDeque::new(alloc);

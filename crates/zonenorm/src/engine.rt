@@ -76,7 +76,8 @@ fn zone_of(alloc: Global, form: Form<'_>, octets: &[u8]) -> Result<Zone, Stop>
 
 /// What an input of this form states: its records, and the fault after them if there is one.
 fn reading_of(alloc: Global, form: Form<'_>, octets: &[u8]) -> Result<Reading, AllocError>
-    ensures stated { IfOk result (λ reading. IfNone reading.ending (FileStates (origin_of form.entry) octets.now reading.placed.items)) }
+    ensures stated { IfOk result (λ reading. IfNone reading.ending
+        (FileStates (origin_of form.entry) octets.now reading.placed.items)) }
     ensures front { IfOk result (ReadsFront (origin_of form.entry) octets.now) }
 {
     match form {

@@ -1,5 +1,6 @@
-ghost use Rattle.std.specs.Prelude.{◌≡◌, ℕ, List, codes, None, map, IfOk, IfErr, IfSome, string_bytes};
+ghost use Rattle.std.specs.Prelude.{◌≡◌, codes, None, map, IfOk, IfErr, IfSome, string_bytes};
 ghost use Rattle.clap.specs.Words.{app_of, subcommand_rows_of};
+ghost use Rattle.zone_name.specs.Common.{NothingIs};
 ghost use Rattle.zone_name.specs.Spelling.{Spells};
 ghost use Rattle.zonenorm.specs.Order.{program_app, order_origin, AsksFor, Orders, IsLineFault, IsClapFault, line_status, line_text};
 
@@ -84,7 +85,8 @@ pub fn order_of(alloc: Global, words: &[String]) -> Result<Order, LineFault>
 /// The order whose origin has this text.
 fn order_with(text: &str) -> Result<Order, LineFault>
     ensures ordered { IfOk result (λ order. Spells None text.now (order_origin order)) }
-    ensures refused { IfErr result (λ fault. (fault ≡ LineFault.BadOrigin) × ((name : List (List ℕ)) → Spells None text.now name → ⊥)) }
+    ensures refused { IfErr result (λ fault. (fault ≡ LineFault.BadOrigin)
+        × NothingIs (Spells None text.now)) }
 {
     match Name::from_text(text.as_bytes(), None) {
         Ok(origin) => Ok(Order::Normalise(origin)),

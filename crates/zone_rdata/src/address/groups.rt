@@ -1,5 +1,7 @@
-ghost use Rattle.std.specs.Prelude.{◌≡◌, ◌+◌, ◌<◌, ◌≤◌, ◌++◌, ℕ, List, length, IfSome, IfNone, OnSome};
-ghost use Rattle.zone_rdata.specs.Address.{ArePartsOf, IsGroup, IsLastPart};
+ghost use Rattle.std.specs.Prelude.{◌≡◌, ◌+◌, ◌<◌, ◌≤◌, ◌++◌, length, IfSome, IfNone, OnSome};
+ghost use Rattle.zone_name.specs.Common.{NothingIs, Octets};
+ghost use Rattle.zone_rdata.specs.Address.{ArePartsOf};
+ghost use Rattle.zone_rdata.specs.Machine.AddressReading.{AppendsSome, IsGroupOf, IsLastPartOf, NoneFits};
 
 use super::ipv4::{cut_at, ipv4_octets_of};
 use arrayvec::ArrayVec;
@@ -10,8 +12,8 @@ const LENGTH: usize = 16;
 
 /// The two octets of a group. `None`: the text isn't one to four hexadecimal digits (RFC 4291 2.2).
 fn group_of(text: &[u8]) -> Option<[u8; 2]>
-    ensures found { IfSome result (λ octets. IsGroup (record { text = text.now; octets = octets })) }
-    ensures none { IfNone result ((octets : List ℕ) → IsGroup (record { text = text.now; octets = octets }) → ⊥) }
+    ensures found { IfSome result (λ octets. IsGroupOf text.now octets) }
+    ensures none { IfNone result (NothingIs (IsGroupOf text.now)) }
 {
     if text.is_empty() || text.len() > 4 {
         return None;
@@ -33,8 +35,8 @@ fn push_octets(octets: &mut ArrayVec<u8, LENGTH>, added: &[u8]) -> Option<()>
 
 /// Appends a group's octets. `None`: the text is no group, or there is no room.
 fn push_group(octets: &mut ArrayVec<u8, LENGTH>, text: &[u8]) -> Option<()>
-    ensures some { OnSome result ((added : List ℕ) × (IsGroup (record { text = text.now; octets = added }) × (octets.new.items ≡ octets.old.items ++ added))) }
-    ensures none { IfNone result ((added : List ℕ) → IsGroup (record { text = text.now; octets = added }) → LENGTH < length octets.old.items + length added) }
+    ensures some { OnSome result (AppendsSome (IsGroupOf text.now) octets.old.items octets.new.items) }
+    ensures none { IfNone result (NoneFits (IsGroupOf text.now) octets.old.items) }
 {
     let group = group_of(text)?;
     push_octets(octets, &group)
@@ -43,8 +45,8 @@ fn push_group(octets: &mut ArrayVec<u8, LENGTH>, text: &[u8]) -> Option<()>
 /// Appends the octets of a group or, where `ends` is so, of four decimal numbers. `None`: the text is neither, or
 /// there is no room.
 fn push_last(octets: &mut ArrayVec<u8, LENGTH>, text: &[u8], ends: bool) -> Option<()>
-    ensures some { OnSome result ((added : List ℕ) × (IsLastPart ends (record { text = text.now; octets = added }) × (octets.new.items ≡ octets.old.items ++ added))) }
-    ensures none { IfNone result ((added : List ℕ) → IsLastPart ends (record { text = text.now; octets = added }) → LENGTH < length octets.old.items + length added) }
+    ensures some { OnSome result (AppendsSome (IsLastPartOf ends text.now) octets.old.items octets.new.items) }
+    ensures none { IfNone result (NoneFits (IsLastPartOf ends text.now) octets.old.items) }
 {
     if let Some(group) = group_of(text) {
         return push_octets(octets, &group);
@@ -60,7 +62,8 @@ fn push_last(octets: &mut ArrayVec<u8, LENGTH>, text: &[u8], ends: bool) -> Opti
 /// decimal numbers (RFC 4291 2.2). `None`: the text isn't so.
 pub(super) fn octets_of_parts(text: &[u8], ends: bool) -> Option<ArrayVec<u8, LENGTH>>
     ensures found { IfSome result (λ octets. ArePartsOf ends text.now octets.items) }
-    ensures none { IfNone result ((octets : List ℕ) → ArePartsOf ends text.now octets → length octets ≤ LENGTH → ⊥) }
+    ensures none { IfNone result ((octets : Octets) → ArePartsOf ends text.now octets
+        → length octets ≤ LENGTH → ⊥) }
 {
     let mut octets = ArrayVec::new();
     if text.is_empty() {

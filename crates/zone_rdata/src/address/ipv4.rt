@@ -1,4 +1,5 @@
-ghost use Rattle.std.specs.Prelude.{◌≡◌, ◌+◌, ◌≤◌, ℕ, List, suc, IfSome, IfNone};
+ghost use Rattle.std.specs.Prelude.{◌≡◌, ◌+◌, ◌≤◌, ℕ, suc, IfSome, IfNone};
+ghost use Rattle.zone_name.specs.Common.{NothingIs, Octets};
 ghost use Rattle.zone_rdata.specs.Address.{AreNumbers, IsIpv4Address, IsOctetNumber};
 ghost use Rattle.zone_rdata.specs.Machine.AddressReading.{IsCut, Lacks};
 
@@ -20,7 +21,7 @@ pub(super) fn cut_at(text: &[u8], octet: u8) -> Option<(&[u8], &[u8])>
 /// The octet that a decimal number stands for. `None`: the text is no number, or it is over 255.
 fn octet_of(text: &[u8]) -> Option<u8>
     ensures found { IfSome result (λ n. IsOctetNumber text.now n) }
-    ensures none { IfNone result ((n : ℕ) → IsOctetNumber text.now n → ⊥) }
+    ensures none { IfNone result (NothingIs (IsOctetNumber text.now)) }
 {
     let number = decimal_of(text)?;
     if number > 255 {
@@ -31,8 +32,9 @@ fn octet_of(text: &[u8]) -> Option<u8>
 
 /// The octet of the number before the first dot, and what stands after that dot.
 fn octet_before_dot(text: &[u8]) -> Option<(u8, &[u8])>
-    ensures found { IfSome result (λ parts. (front : List ℕ) × (IsCut 46 text.now front parts.1.now × IsOctetNumber front parts.0)) }
-    ensures none { IfNone result ((more : ℕ) (octets : List ℕ) → AreNumbers (suc (suc more)) text.now octets → ⊥) }
+    ensures found { IfSome result (λ parts.
+        (front : Octets) × (IsCut 46 text.now front parts.1.now × IsOctetNumber front parts.0)) }
+    ensures none { IfNone result ((more : ℕ) → NothingIs (AreNumbers (suc (suc more)) text.now)) }
 {
     let (number, rest) = cut_at(text, b'.')?;
     let octet = octet_of(number)?;
@@ -42,7 +44,7 @@ fn octet_before_dot(text: &[u8]) -> Option<(u8, &[u8])>
 /// The octets of an address in four decimal numbers (RFC 1035 3.4.1). `None`: the text is no such address.
 pub(crate) fn ipv4_octets_of(text: &[u8]) -> Option<[u8; 4]>
     ensures found { IfSome result (λ octets. IsIpv4Address text.now octets) }
-    ensures none { IfNone result ((octets : List ℕ) → IsIpv4Address text.now octets → ⊥) }
+    ensures none { IfNone result (NothingIs (IsIpv4Address text.now)) }
 {
     let (first, rest) = octet_before_dot(text)?;
     let (second, rest) = octet_before_dot(rest)?;

@@ -1,4 +1,5 @@
-ghost use Rattle.std.specs.Prelude.{◌≡◌, ◌+◌, ◌<◌, ◌≤◌, ℕ, List, true, length, IfSome, IfNone};
+ghost use Rattle.std.specs.Prelude.{◌≡◌, ◌+◌, ◌<◌, ◌≤◌, ℕ, true, length, IfSome, IfNone};
+ghost use Rattle.zone_name.specs.Common.{NothingIs, Octets};
 ghost use Rattle.zone_rdata.specs.Address.{AreAround, ArePartsOf, IsIpv6Address};
 ghost use Rattle.zone_rdata.specs.Machine.AddressReading.{HasGapAt};
 
@@ -6,9 +7,10 @@ use super::groups::octets_of_parts;
 
 /// The place of the first two colons in a row.
 fn gap_in(text: &[u8]) -> Option<usize>
-    ensures found { IfSome result (λ at. HasGapAt text.now at × ((k : ℕ) → k < at → HasGapAt text.now k → ⊥)) }
+    ensures found { IfSome result (λ at. HasGapAt text.now at
+        × ((k : ℕ) → k < at → HasGapAt text.now k → ⊥)) }
     ensures inside { IfSome result (λ at. at + 2 ≤ length text.now) }
-    ensures none { IfNone result ((k : ℕ) → HasGapAt text.now k → ⊥) }
+    ensures none { IfNone result (NothingIs (HasGapAt text.now)) }
 {
     for at in 1..text.len() {
         if text[at - 1] == b':' && text[at] == b':' {
@@ -21,7 +23,8 @@ fn gap_in(text: &[u8]) -> Option<usize>
 /// The octets of eight groups. `None`: the text isn't eight groups without `::`.
 fn octets_of_eight(text: &[u8]) -> Option<[u8; 16]>
     ensures found { IfSome result (λ octets. ArePartsOf true text.now octets × length octets ≡ 16) }
-    ensures none { IfNone result ((octets : List ℕ) → ArePartsOf true text.now octets → length octets ≡ 16 → ⊥) }
+    ensures none { IfNone result ((octets : Octets) → ArePartsOf true text.now octets
+        → length octets ≡ 16 → ⊥) }
 {
     let parts = octets_of_parts(text, true)?;
     if parts.len() != 16 {
@@ -36,7 +39,7 @@ fn octets_of_eight(text: &[u8]) -> Option<[u8; 16]>
 /// groups, or there are too many.
 fn octets_around(front: &[u8], back: &[u8]) -> Option<[u8; 16]>
     ensures found { IfSome result (λ octets. AreAround front.now back.now octets) }
-    ensures none { IfNone result ((octets : List ℕ) → AreAround front.now back.now octets → ⊥) }
+    ensures none { IfNone result (NothingIs (AreAround front.now back.now)) }
 {
     let before = octets_of_parts(front, false)?;
     let after = octets_of_parts(back, true)?;
@@ -52,7 +55,7 @@ fn octets_around(front: &[u8], back: &[u8]) -> Option<[u8; 16]>
 /// The octets of an address in groups (RFC 4291 2.2). `None`: the text is no such address.
 pub(crate) fn ipv6_octets_of(text: &[u8]) -> Option<[u8; 16]>
     ensures found { IfSome result (λ octets. IsIpv6Address text.now octets) }
-    ensures none { IfNone result ((octets : List ℕ) → IsIpv6Address text.now octets → ⊥) }
+    ensures none { IfNone result (NothingIs (IsIpv6Address text.now)) }
 {
     match gap_in(text) {
         None => octets_of_eight(text),

@@ -6,7 +6,7 @@ use Rattle.zone_name.proofs.name.Name.text.Goals as goal
 
 pub loop-label-init : goal.loop-label-init
 loop-label-init c =
-    subst (WritesText c.new-text.result.items (flat_map label_text c.args.self.now)) (sym (c.into_iter-label-iterator.ensures.into_iter_gives ∙ c.labels-label-items.ensures)) (WritesText-start c.new-text.result.items c.args.self.now c.new-text.ensures c.known.ensures.name)
+    subst (WritesText c.new-text.result.items (flat_map label_text c.args.self.now)) (sym (c.into_iter-label-iterator.ensures.into_iter_gives ∙ c.labels-label-items.ensures.value)) (WritesText-start c.new-text.result.items c.args.self.now c.new-text.ensures c.labels-label-items.ensures.name)
 
 pub loop-label-preserved : goal.loop-label-preserved
 loop-label-preserved c =

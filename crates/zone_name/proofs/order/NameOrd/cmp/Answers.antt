@@ -5,8 +5,8 @@ use Rattle.zone_name.proofs.order.NameOrd.cmp.Goals as goal
 pub loop-label-init : goal.loop-label-init
 loop-label-init c =
     name_cmp-start c.args.self.now c.args.other.now c.past-labels.result c.past-others.result c.len-len.result c.len-other_len.result c.cmp-order.result
-    (c.len-len.ensures.value ∙ ap length c.labels.ensures) (c.len-other_len.ensures.value ∙ ap length c.labels-2.ensures)
-    (cc (c.past-labels.ensures, c.labels-3.ensures, c.saturating_sub.ensures)) (cc (c.past-others.ensures, c.labels-4.ensures, c.saturating_sub-2.ensures))
+    (c.len-len.ensures.value ∙ ap length c.labels.ensures.value) (c.len-other_len.ensures.value ∙ ap length c.labels-2.ensures.value)
+    (cc (c.past-labels.ensures, c.labels-3.ensures.value, c.saturating_sub.ensures)) (cc (c.past-others.ensures, c.labels-4.ensures.value, c.saturating_sub-2.ensures))
     c.cmp-order.ensures
 
 pub loop-label-preserved : goal.loop-label-preserved
