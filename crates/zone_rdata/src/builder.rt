@@ -155,8 +155,14 @@ impl RdataBuilder {
     ///
     /// `BadRdata` where a part is missing.
     pub fn finish(self) -> Result<Rdata, Fault>
-        ensures ok { IfOk result (λ d. IsWhole (layout self.class self.kind) self.parts × (d ≡ record { class = self.class; kind = self.kind; octets = octets_of self.parts })) }
-        ensures err { IfErr result (λ f. (f ≡ Fault.BadRdata) × (IsWhole (layout self.class self.kind) self.parts → ⊥)) }
+        ensures whole { OnOk result (IsWhole (layout self.class self.kind) self.parts) }
+        ensures ok { IfOk result (λ d. d ≡ record {
+          class = self.class;
+          kind = self.kind;
+          octets = octets_of self.parts;
+        }) }
+        ensures err { IfErr result (λ f. (f ≡ Fault.BadRdata)
+            × (IsWhole (layout self.class self.kind) self.parts → ⊥)) }
     {
         if self.count < least_parts(self.class, self.kind) {
             return Err(Fault::BadRdata);

@@ -63,8 +63,10 @@ impl Field {
 
     /// Appends the octets of the value that an item by itself spells for the field.
     fn push_item(self, item: Item, origin: &Name, octets: &mut Vec<u8>) -> Result<(), Failing>
-        ensures found { OnOk result (AppendsField origin.now self (raw item.entry ∷ []) octets.old.items octets.new.items) }
-        ensures fault { IfErr result (IfFault (IsFieldFault origin.now self (raw item.entry ∷ []))) }
+        ensures found { OnOk result
+            (AppendsField origin.now self (raw item.entry ∷ []) octets.old.items octets.new.items) }
+        ensures fault { IfErr result
+            (IfFault (IsFieldFault origin.now self (raw item.entry ∷ []))) }
     {
         match (self, item) {
             (Field::OneString, _) => push_string(item, octets),
@@ -85,9 +87,11 @@ impl Field {
         origin: &Name,
         octets: &mut Vec<u8>,
     ) -> Result<usize, Failing>
-        ensures found { IfOk result (λ n. AppendsFirst origin.now self (map raw items.now) (map raw (drop n items.now)) octets.old.items octets.new.items) }
+        ensures found { IfOk result (λ n.
+            AppendsFirst origin.now self (map raw items.now) (map raw (drop n items.now)) octets.old.items octets.new.items) }
         ensures inside { IfOk result (λ n. n ≤ length items.now) }
-        ensures fault { IfErr result (IfFault (IsFieldFault origin.now self (own_items self (map raw items.now)))) }
+        ensures fault { IfErr result
+            (IfFault (IsFieldFault origin.now self (own_items self (map raw items.now)))) }
     {
         if self == Field::Strings {
             push_strings(items, octets)?;
@@ -106,8 +110,10 @@ impl Field {
         octets: &'o [u8],
         canonical: &mut Vec<u8>,
     ) -> Result<&'o [u8], Failing>
-        ensures found { IfOk result (λ rest. AppendsValue self octets.now rest.now canonical.old.items canonical.new.items) }
-        ensures fault { IfErr result (IfFault (λ f. (f ≡ Fault.BadRdata) × BeginsWithNone self octets.now)) }
+        ensures found { IfOk result (λ rest.
+            AppendsValue self octets.now rest.now canonical.old.items canonical.new.items) }
+        ensures fault { IfErr result
+            (IfFault (λ f. (f ≡ Fault.BadRdata) × BeginsWithNone self octets.now)) }
     {
         match self {
             Field::Name => push_sent_name(octets, canonical),

@@ -10,7 +10,8 @@ use zone_name::Sink;
 
 /// Appends the address of so many octets.
 pub(crate) fn push_address(count: usize, text: &[u8], octets: &mut Vec<u8>) -> Result<(), Failing>
-    ensures found { OnOk result (Appends (IsAddress count text.now) (λ address. address) octets.old.items octets.new.items) }
+    ensures found { OnOk result
+        (Appends (IsAddress count text.now) (λ address. address) octets.old.items octets.new.items) }
     ensures fault { IfErr result (IfFault (NoValue Fault.BadRdata (IsAddress count text.now))) }
 {
     match count {

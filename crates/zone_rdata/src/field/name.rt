@@ -12,7 +12,8 @@ use zone_name::{Name, NameBuilder};
 
 /// Appends the octets of the name that a text spells under the origin.
 pub(crate) fn push_name(text: &[u8], origin: &Name, octets: &mut Vec<u8>) -> Result<(), Failing>
-    ensures found { OnOk result (Appends (Spells (Some origin.now) text.now) wire octets.old.items octets.new.items) }
+    ensures found { OnOk result
+        (Appends (Spells (Some origin.now) text.now) wire octets.old.items octets.new.items) }
     ensures fault { IfErr result (IfFault (IsNameFault origin.now text.now)) }
 {
     let name = Name::from_text(text, Some(origin))?;
@@ -25,8 +26,10 @@ pub(crate) fn push_sent_name<'o>(
     octets: &'o [u8],
     canonical: &mut Vec<u8>,
 ) -> Result<&'o [u8], Failing>
-    ensures found { IfOk result (λ rest. AppendsValue Field.Name octets.now rest.now canonical.old.items canonical.new.items) }
-    ensures fault { IfErr result (IfFault (λ f. (f ≡ Fault.BadRdata) × BeginsWithNone Field.Name octets.now)) }
+    ensures found { IfOk result (λ rest.
+        AppendsValue Field.Name octets.now rest.now canonical.old.items canonical.new.items) }
+    ensures fault { IfErr result
+        (IfFault (λ f. (f ≡ Fault.BadRdata) × BeginsWithNone Field.Name octets.now)) }
 {
     let Some((name, rest)) = name_at(octets) else {
         return Err(Failing::Fault(Fault::BadRdata));
@@ -38,7 +41,8 @@ pub(crate) fn push_sent_name<'o>(
 /// The name at the front of uncompressed octets, in lower case, and the octets after it.
 fn name_at(octets: &[u8]) -> Option<(Name, &[u8])>
     ensures found { IfSome result (λ r. BeginsWithSent octets.now r.0 r.1.now) }
-    ensures none { IfNone result ((labels : List (List ℕ)) (rest : List ℕ) → BeginsWithSent octets.now labels rest → ⊥) }
+    ensures none { IfNone result
+        ((labels : List (List ℕ)) (rest : List ℕ) → BeginsWithSent octets.now labels rest → ⊥) }
 {
     let mut labels = NameBuilder::new();
     let mut rest = octets;

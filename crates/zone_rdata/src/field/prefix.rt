@@ -10,8 +10,10 @@ pub(crate) fn push_prefix<'o>(
     octets: &'o [u8],
     canonical: &mut Vec<u8>,
 ) -> Result<&'o [u8], Failing>
-    ensures found { IfOk result (λ rest. AppendsPrefix count octets.now rest.now canonical.old.items canonical.new.items) }
-    ensures fault { IfErr result (IfFault (λ f. (f ≡ Fault.BadRdata) × (length octets.now < count))) }
+    ensures found { IfOk result (λ rest.
+        AppendsPrefix count octets.now rest.now canonical.old.items canonical.new.items) }
+    ensures fault { IfErr result
+        (IfFault (λ f. (f ≡ Fault.BadRdata) × (length octets.now < count))) }
 {
     if octets.len() < count {
         return Err(Failing::Fault(Fault::BadRdata));

@@ -13,8 +13,10 @@ pub(crate) fn push_sent_string<'o>(
     octets: &'o [u8],
     canonical: &mut Vec<u8>,
 ) -> Result<&'o [u8], Failing>
-    ensures found { IfOk result (λ rest. AppendsValue Field.OneString octets.now rest.now canonical.old.items canonical.new.items) }
-    ensures fault { IfErr result (IfFault (λ f. (f ≡ Fault.BadRdata) × BeginsWithNone Field.OneString octets.now)) }
+    ensures found { IfOk result (λ rest.
+        AppendsValue Field.OneString octets.now rest.now canonical.old.items canonical.new.items) }
+    ensures fault { IfErr result
+        (IfFault (λ f. (f ≡ Fault.BadRdata) × BeginsWithNone Field.OneString octets.now)) }
 {
     match octets {
         [count, ..] => push_prefix(usize::from(*count) + 1, octets, canonical),

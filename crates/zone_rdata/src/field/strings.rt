@@ -19,7 +19,8 @@ use zone_name::Sink;
 
 /// Appends the strings that the items spell, one or more, each behind its length.
 pub(crate) fn push_strings(items: &[Item], octets: &mut Vec<u8>) -> Result<(), Failing>
-    ensures found { OnOk result (Appends (SpellsStrings (map raw items.now)) (flat_map with_length) octets.old.items octets.new.items) }
+    ensures found { OnOk result
+        (Appends (SpellsStrings (map raw items.now)) (flat_map with_length) octets.old.items octets.new.items) }
     ensures fault { IfErr result (IfFault (StringsFault (map raw items.now))) }
 {
     if items.is_empty() {
@@ -36,8 +37,10 @@ pub(crate) fn push_sent_strings<'o>(
     octets: &'o [u8],
     canonical: &mut Vec<u8>,
 ) -> Result<&'o [u8], Failing>
-    ensures found { IfOk result (λ rest. AppendsValue Field.Strings octets.now rest.now canonical.old.items canonical.new.items) }
-    ensures fault { IfErr result (IfFault (λ f. (f ≡ Fault.BadRdata) × BeginsWithNone Field.Strings octets.now)) }
+    ensures found { IfOk result (λ rest.
+        AppendsValue Field.Strings octets.now rest.now canonical.old.items canonical.new.items) }
+    ensures fault { IfErr result
+        (IfFault (λ f. (f ≡ Fault.BadRdata) × BeginsWithNone Field.Strings octets.now)) }
 {
     if !are_strings(octets) {
         return Err(Failing::Fault(Fault::BadRdata));

@@ -9,5 +9,8 @@ returns-then-self-least_parts-clause-err c = (refl, finish_missing c.self.inside
 pub of_octets-requires : goal.of_octets-requires
 of_octets-requires c = parts_data c.self.inside.class c.self.inside.kind c.self.inside.count c.self.inside.octets.items c.self.invariant (omega arith) (subst (AllByRecursion (λ c. c < 256)) c.deref.ensures.value c.are_octets.ensures)
 
+pub returns-clause-whole : goal.returns-clause-whole
+returns-clause-whole c = (finish_made c.self.inside.class c.self.inside.kind c.self.inside.count c.self.inside.octets.items _ _ c.self.view_is c.self.invariant (omega arith) c.of_octets.ensures).0
+
 pub returns-clause-ok : goal.returns-clause-ok
-returns-clause-ok c = finish_made c.self.inside.class c.self.inside.kind c.self.inside.count c.self.inside.octets.items _ _ c.self.view_is c.self.invariant (omega arith) c.of_octets.ensures
+returns-clause-ok c = (finish_made c.self.inside.class c.self.inside.kind c.self.inside.count c.self.inside.octets.items _ _ c.self.view_is c.self.invariant (omega arith) c.of_octets.ensures).1
