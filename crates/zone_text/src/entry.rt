@@ -33,7 +33,8 @@ fn record_of(alloc: Global, origin: &Name, items: &[Item]) -> Result<Rr, Failing
     let class = Class::from_word(bare_text(class)?)?.ok_or(Fault::NotYet)?;
     let kind = Kind::from_word(bare_text(kind)?)?;
     let rdata = Rdata::from_items(alloc, class, kind, data, origin)?;
-    Ok(Rr::new(owner, ttl, rdata)?)
+    let rr = Rr::new(owner, ttl, rdata)?;
+    Ok(rr)
 }
 
 /// The record of a line, which comes without its line feed. `items` holds nothing that is used again.
