@@ -23,15 +23,13 @@ pub struct Rr {
 }
 
 impl Model for Rr {
-    ghost use Rattle.std.specs.Prelude.{◌≤◌};
-    ghost use Rattle.zone_rdata.specs.Record.{Record};
-    ghost use Rattle.zone_rdata.specs.declared.record.TheConstants.{MAX_TTL};
+    ghost use Rattle.zone_rdata.specs.Record.{Record, IsRecord};
 
     ghost Value = { Record };
 
     ghost view = { λ r. record { owner = r.owner; class = r.rdata.class; kind = r.rdata.kind; ttl = r.ttl; octets = r.rdata.octets } };
 
-    ghost invariant = { λ r. r.ttl ≤ MAX_TTL };
+    ghost invariant = { λ r. IsRecord (record { owner = r.owner; class = r.rdata.class; kind = r.rdata.kind; ttl = r.ttl; octets = r.rdata.octets }) };
 }
 
 /// A record and where it was stated.
@@ -58,11 +56,14 @@ impl Rr {
           ttl = ttl;
           octets = rdata.octets;
         }) }
+        ensures record { IfOk result IsRecord }
         ensures err { IfErr result (λ e. e ≡ Fault.BadTtl) }
     {
         if ttl > MAX_TTL {
             return Err(Fault::BadTtl);
         }
+        owner.known();
+        rdata.known();
         Ok(Rr { owner, ttl, rdata })
     }
 
@@ -102,19 +103,12 @@ impl Rr {
         &self.rdata
     }
 
-    /// What holds of every record.
-    pub fn known(&self)
-        ensures { IsRecord self.now }
-    {
-        self.owner.known();
-        self.rdata.known();
-    }
-
     /// The owner, the TTL in seconds and the data.
     pub fn into_parts(self) -> (Name, u32, Rdata)
         ensures owner { result.0 ≡ self.owner }
         ensures ttl { result.1 ≡ self.ttl }
         ensures rdata { result.2 ≡ data_of self }
+        ensures record { IsRecord self }
     {
         let Rr { owner, ttl, rdata } = self;
         (owner, ttl, rdata)

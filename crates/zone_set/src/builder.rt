@@ -57,7 +57,6 @@ impl ZoneBuilder {
         ensures unchanged { OnErr result (self.new ≡ self.old) }
     {
         let Placed { rr, place } = placed;
-        rr.known();
         let (owner, ttl, rdata) = rr.into_parts();
         let mut key = RecordKey {
             set: SetKey::new(owner, &rdata),

@@ -34,7 +34,6 @@ fn record_of(alloc: Global, origin: &Name, items: &[Item]) -> Result<Rr, Failing
     let kind = Kind::from_word(bare_text(kind)?)?;
     let rdata = Rdata::from_items(alloc, class, kind, data, origin)?;
     let rr = Rr::new(owner, ttl, rdata)?;
-    rr.known();
     Ok(rr)
 }
 

@@ -23,4 +23,4 @@ returns c =
     c.in_ok-rdata.ensures.class
     c.in_ok-rdata.ensures.kind
     c.in_ok-rr.ensures.value
-    c.known.ensures
+    c.in_ok-rr.ensures.record
