@@ -12,7 +12,7 @@ pub data NoUnit (left_out : ℕ → Bool) (octets : List ℕ) : Type 0 where
   at_octet : (c : ℕ) (rest : List ℕ) → octets ≡ c ∷ rest → left_out c ≡ true → NoUnit left_out octets
   at_backslash : IsBadEscape octets → NoUnit left_out octets
 
--- what the reading of a front says of the text
+-- what the reading of a prefix says of the text
 abbrev pub IsFirst : (ℕ → Bool) → List ℕ → Option (Written × List ℕ) → Type 0
 IsFirst left_out octets None = NoUnit left_out octets
 IsFirst left_out octets (Some (w, rest)) = IsUnit left_out w × (octets ≡ text_of w ++ rest)

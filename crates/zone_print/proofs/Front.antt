@@ -22,7 +22,7 @@ left_less old mid new text rest part others left e taken = record {
 pub left_after : (old mid new : Option (List ℕ)) (text rest : List ℕ) (n : ℕ) → Left old mid text rest → Appends mid new (take n rest) → Left old new text (drop n rest)
 left_after old mid new text rest n left taken = left_less old mid new text rest (take n rest) (drop n rest) left (sym (take-append-drop n rest)) taken
 
--- a front of a part of the rest is taken
+-- a prefix of a part of the rest is taken
 pub front_more : (old mid new : Option (List ℕ)) (text rest part others : List ℕ) → Left old mid text rest → rest ≡ part ++ others → AppendsPrefix mid new part → AppendsPrefix old new text
 front_more old mid new text rest part others left e (front, back, split, taken) = (
   left.front ++ front,

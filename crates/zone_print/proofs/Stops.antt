@@ -4,7 +4,7 @@ use Rattle.zone_rdata.specs.declared.fault.Stop.{Stop}
 use Rattle.zone_rdata.specs.declared.fault.Stop.TheVariants.{Write}
 use Rattle.zone_print.specs.Writing.{AppendsPrefix, StopsMidway, StopsWrite}
 
--- a writer that stopped after a front of the text
+-- a writer that stopped after a prefix of the text
 pub stops_write : (old new : Option (List ℕ)) (text : List ℕ) (stop : Stop) → stop ≡ Write → AppendsPrefix old new text → StopsMidway text old new stop
 stops_write old new text stop e front = subst (StopsMidway text old new) (sym e) (StopsMidway.write front)
 

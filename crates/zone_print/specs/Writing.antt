@@ -11,17 +11,17 @@ pub data StopsPush (limit : ℕ) (text : List ℕ) : Stop → Type 0 where
   large : limit < length text → StopsPush limit text (Refused ZoneTooLarge Whole)
   memory : StopsPush limit text Memory
 
--- known bytes of a writer grew by a front of the text
+-- known bytes of a writer grew by a prefix of the text
 abbrev pub AppendsPrefix : Option (List ℕ) → Option (List ℕ) → List ℕ → Type 0
 AppendsPrefix old new text = (front rest : List ℕ) × (text ≡ front ++ rest) × Appends old new front
 
--- why a text was not written, and what the writer holds: nothing of a text that is longer than the limit, else a front
+-- why a text was not written, and what the writer holds: nothing of a text that is longer than the limit, else a prefix
 pub data StopsWrite (limit : ℕ) (text : List ℕ) (old new : Option (List ℕ)) : Stop → Type 0 where
   large : limit < length text → Keeps old new → StopsWrite limit text old new (Refused ZoneTooLarge Whole)
   memory : AppendsPrefix old new text → StopsWrite limit text old new Memory
   write : AppendsPrefix old new text → StopsWrite limit text old new Write
 
--- why a text was written in part: a front of it was
+-- why a text was written in part: a prefix of it was
 pub data StopsMidway (text : List ℕ) (old new : Option (List ℕ)) : Stop → Type 0 where
   memory : AppendsPrefix old new text → StopsMidway text old new Memory
   write : AppendsPrefix old new text → StopsMidway text old new Write

@@ -1,4 +1,4 @@
--- What is decided of a front stays, whatever octets come behind it.
+-- What is decided of a prefix stays, whatever octets come behind it.
 use Rattle.std.proofs.Common.{◌≡◌, ℕ, zero, List, [], ◌∷◌, ◌++◌, Some, None, inl, inr, sym, ◌∙◌, ap, subst, append_assoc}
 use Rattle.std.proofs.lemmas.List.{append-nil}
 use Rattle.zone_rdata.specs.declared.fault.Fault.{Fault}
@@ -56,9 +56,9 @@ reads_on lower origin behind before (entry ∷ entries) others a b e f (refused 
   fault = λ found is. (s ∙ sym u, same_end fault other entry.line e f (fault_once lower origin before entry fault other h k) v t);
 }
 
--- ---- the pieces of a front and of a text that goes on
+-- ---- the pieces of a prefix and of a text that goes on
 
--- the ended entries of a front stand by themselves before what is left of it
+-- the ended entries of a prefix stand by themselves before what is left of it
 record IsParted (octets : List ℕ) (pieces : List Piece) : Type 0 where
   rest : List ℕ
   parted : octets ≡ text (joined (cut_from zero pieces).ended) ++ rest
@@ -115,7 +115,7 @@ entries_on pieces all (others, e) =
     let more = numbered_front 1 (cut_from zero pieces).ended (and_last (cut_from zero others).ended (cut_from zero others).open_pieces) in
     (more.0, rw (e, cut_again, and_last_behind) (more.1))
 
--- ---- a front and a text that goes on
+-- ---- a prefix and a text that goes on
 
 -- the same reading stays
 same_stays : (a b : List Placed) (e f : Ending) → (a ≡ b) × (e ≡ f) → Stays a e b f

@@ -102,7 +102,7 @@ file_by lower choices origin octets is low (inr bad) =
 pub file_reads : Lower → Choices → (origin : List (List ℕ)) (octets : List ℕ) → IsName origin → AllByRecursion (λ c. c < 256) octets → (placed : List Placed) × ((ending : Ending) × FileReads origin octets placed ending)
 file_reads lower choices origin octets is low = file_by lower choices origin octets is low (cut_or_broken octets)
 
--- ---- something is decided of a front
+-- ---- something is decided of a prefix
 
 broken_by : Lower → Choices → (origin : List (List ℕ)) (octets : List ℕ) → IsName origin → (pieces : List Piece) (fault : Fault) (breaks : Breaks octets pieces fault) → AreLowEntries (ended_entries pieces) → StaysBroken breaks.rest ⊎ BreaksAtEnd breaks.rest → (placed : List Placed) × ((ending : Ending) × Decided origin octets placed ending)
 broken_by lower choices origin octets is pieces fault breaks low (inl stays) =

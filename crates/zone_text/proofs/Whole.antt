@@ -164,7 +164,7 @@ file_states origin octets placed found = record {
   each = rw (cut_lines found.lines found.each) found.states;
 }
 
--- a file up to a place: a front that was read, the rest, and the number of the line that comes
+-- a file up to a place: a prefix that was read, the rest, and the number of the line that comes
 pub record ReadSoFar (origin : List (List ℕ)) (octets rest : List ℕ) (placed : List Placed) (line : ℕ) : Type 0 where
   pub front : List ℕ
   pub whole : octets ≡ front ++ rest
@@ -186,7 +186,7 @@ line_behind : (origin : List (List ℕ)) (octets rest : List ℕ) (placed : List
 line_behind origin octets rest placed line before None place = tt
 line_behind origin octets rest placed line before (Some e) place = record { whole = before.ends; number = rw (← before.number) place }
 
--- what was read is a front of the text
+-- what was read is a prefix of the text
 pub reads_front : (origin : List (List ℕ)) (octets rest : List ℕ) (reading : Reading) (line : ℕ) → ReadSoFar origin octets rest reading.placed.items line → (reading.ending ≡ None → rest ≡ []) → IfSome reading.ending (λ e. e.1 ≡ Line line) → ReadsFront origin octets reading
 reads_front origin octets rest reading line before all place = record {
   front = before.front;

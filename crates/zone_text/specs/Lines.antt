@@ -67,7 +67,7 @@ pub record IsLineBehind (lines : List ℕ) (place : Place) : Type 0 where
   pub whole : AreWholeLines lines
   pub number : place ≡ Line (1 + count_by (λ c. c == 10) lines)
 
--- What was read is a front of the text that states the records, the whole text if nothing was refused. A refusal
+-- What was read is a prefix of the text that states the records, the whole text if nothing was refused. A refusal
 -- stands behind whole lines, at the line on which the rest begins.
 pub record ReadsFront (origin : List (List ℕ)) (octets : List ℕ) (reading : Reading) : Type 0 where
   pub front : List ℕ

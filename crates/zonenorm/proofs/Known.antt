@@ -1,8 +1,7 @@
 -- The known octets of a reader and a writer, from one call to the next.
 use Rattle.std.proofs.Common.{◌≡◌, ℕ, ◌<◌, List, [], ◌++◌, length, append_assoc, length-append, refl, sym, arith}
-use Rattle.std.proofs.lemmas.List.{append-nil}
 use Rattle.std.specs.Prelude.{Option, Some, None, IfSome}
-use Rattle.std.specs.Io.KnownBytes.{Consumes, IsAtEnd, Keeps}
+use Rattle.std.specs.Io.KnownBytes.{Consumes}
 
 -- before the first read nothing was taken
 pub consumes_nothing : (a : Option (List ℕ)) (xs : List ℕ) → xs ≡ [] → Consumes a a xs

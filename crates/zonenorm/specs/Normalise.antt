@@ -46,7 +46,7 @@ pub record StatesZone (origin : List (List ℕ)) (octets : List ℕ) (z : Zone) 
   pub same : SameRecords z.records (records_of placed)
   pub zone : IsZone z
 
--- nothing was written, or a front of the canonical text of the zone that the octets state
+-- nothing was written, or a prefix of the canonical text of the zone that the octets state
 abbrev pub WritesPrefix : List (List ℕ) → List ℕ → Option (List ℕ) → Option (List ℕ) → Type 0
 WritesPrefix origin octets old new =
     Keeps old new ⊎ ((z : Zone) × StatesZone origin octets z × AppendsPrefix old new (canon z))

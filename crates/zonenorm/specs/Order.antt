@@ -85,7 +85,7 @@ WritesZone origin octets old new = (count : ℕ) × Normalises origin octets old
 
 -- What a run leaves of the octets that it was to read, of a writer and of an error writer, before and after it. Accepted,
 -- it wrote the canonical text of their zone and told nothing; refused, the octets are refused and nothing was written;
--- else a front of the text may have been written.
+-- else a prefix of the text may have been written.
 pub record Runs (origin : List (List ℕ)) (input old new errors errors' : Option (List ℕ)) (answer : ℕ) : Type 0 where
   pub status : IsStatus answer
   pub accepted : answer ≡ 0 → IfSome input (λ octets. WritesZone origin octets old new)

@@ -36,7 +36,7 @@ pub data IsRefusal (input : Input) : Fault → Place → Type 0 where
   too_long : text_limit < length (octets_of input) → IsRefusal input InputTooLong Whole
   reading : (placed : List Placed) (ending : Option (Fault × Place)) (fault : Fault) (place : Place) → length (octets_of input) ≤ text_limit → Reads input placed ending → RefusesReading placed ending fault place → IsRefusal input fault place
 
--- The records of a front of the octets and the fault that stands behind it are refused. The fault stands behind whole
+-- The records of a prefix of the octets and the fault that stands behind it are refused. The fault stands behind whole
 -- lines, at the line that begins there; the front is all of the octets where there is none.
 pub record RefusesRead (origin : List (List ℕ)) (octets : List ℕ) (fault : Fault) (place : Place) : Type 0 where
   pub front : List ℕ

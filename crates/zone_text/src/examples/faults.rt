@@ -65,12 +65,12 @@ pub fn records_before_an_open_quote()
     ensures { Reads (codes "@ 60 SOA n h 1 2 3 4 5\na 60 A 10.0.0.1\na 61 A 10.0.0.1\nb 60 TXT \"\n") (at_line 1 (soa 60) ∷ at_line 2 (address (under 97 x) 60) ∷ at_line 3 (address (under 97 x) 61) ∷ []) (fault_at 4 UnclosedQuote) }
 {}
 
-/// What is decided of a front: the entries that a line feed has ended, and no open one.
+/// What is decided of a prefix: the entries that a line feed has ended, and no open one.
 pub fn decided_entries()
     ensures { Decided x (codes "@ 60 NS n.x.\n$FOO\n@") (at_line 1 (ns x 1 60) ∷ []) (fault_at 2 UnknownDirective) }
 {}
 
-/// What is decided of a front that breaks: a `)` and a bad escape with what ends it, and no escape that is cut off.
+/// What is decided of a prefix that breaks: a `)` and a bad escape with what ends it, and no escape that is cut off.
 pub fn decided_breaks()
     ensures parenthesis { Decided x (codes "@ 60 NS n.x.\n)") (at_line 1 (ns x 1 60) ∷ []) (fault_at 2 UnbalancedParenthesis) }
     ensures lost_escape { Decided x (codes "t \\04x") [] (fault_at 1 BadEscape) }

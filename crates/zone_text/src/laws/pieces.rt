@@ -1,4 +1,4 @@
-//! Laws of pieces and the entries that they make: how a text is cut, how it breaks, and what a front of it settles.
+//! Laws of pieces and the entries that they make: how a text is cut, how it breaks, and what a prefix of it settles.
 ghost use Rattle.std.specs.Prelude.{◌++◌, ◌≡◌, ◌↔◌, ◌⊎◌, ℕ, List, None, Some, zero};
 ghost use Rattle.std.specs.List.{flat_map};
 ghost use Rattle.zone_name.specs.Spelling.{IsBadEscape};

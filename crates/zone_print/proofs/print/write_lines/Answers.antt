@@ -1,4 +1,4 @@
--- The writer took all but the piece and the lines to come, or a front of them.
+-- The writer took all but the piece and the lines to come, or a prefix of them.
 use Rattle.std.proofs.Common.{◌≡◌, ◌++◌, [], sym, ap, ◌∙◌}
 use Rattle.std.proofs.lemmas.Result.{err_from_is_err_and}
 use Rattle.zone_print.specs.Canonical.{lines}
