@@ -50,7 +50,8 @@ pub fn escape_at(after: &[u8]) -> Option<(u8, &[u8])>
 /// The octet of three digits, of which the first was read, and what stands behind them.
 fn digits_at(first: u8, after: &[u8]) -> Option<(u8, &[u8])>
     requires { is_digit first ≡ true }
-    ensures { option_map (λ read. (read.0, read.1.now)) result ≡ valued (digits_first first after.now) }
+    ensures { option_map (λ read. (read.0, read.1.now)) result
+        ≡ valued (digits_first first after.now) }
 {
     match after {
         [second, third, rest @ ..] => {

@@ -35,7 +35,8 @@ impl Name {
     /// `NameTooLong`.
     pub fn from_text(text: &[u8], origin: Option<&Name>) -> Result<Name, NameFault>
         ensures found { IfOk result (λ name. Spells (option_copied origin.entry) text.now name) }
-        ensures only { (name : List Octets) → Spells (option_copied origin.entry) text.now name → result ≡ Ok name }
+        ensures only { (name : List Octets) → Spells (option_copied origin.entry) text.now name
+            → result ≡ Ok name }
         ensures fault { IfErr result (FirstFault (option_copied origin.entry) text.now) }
     {
         known_origin(origin);

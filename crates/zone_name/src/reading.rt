@@ -89,7 +89,8 @@ pub(crate) fn named(text: &[u8], origin: Option<&Name>) -> Result<Name, NameFaul
 
 /// The labels of a text that is neither `.` nor `@` (RFC 1035 5.1).
 fn read_labels(text: &[u8]) -> Result<Spelled, NameFault>
-    ensures labels { IfOk result (λ s. (labels : Labels) × (reading text.now ≡ Ok (labels, s.is_absolute))
+    ensures labels { IfOk result (λ s. (labels : Labels)
+        × (reading text.now ≡ Ok (labels, s.is_absolute))
         × Collects s.labels s.is_too_long labels) }
     ensures fault { IfErr result (λ fault. reading text.now ≡ Err fault) }
 {

@@ -42,7 +42,8 @@ impl Model for Rdata {
 
     ghost view = { λ d. record { class = d.class; kind = d.kind; octets = d.octets.items } };
 
-    ghost invariant = { λ d. IsRdata (record { class = d.class; kind = d.kind; octets = d.octets.items }) };
+    ghost invariant = { λ d.
+        IsRdata (record { class = d.class; kind = d.kind; octets = d.octets.items }) };
 }
 
 /// The canonical octets that items in the generic form state for a layout.
@@ -51,7 +52,8 @@ fn octets_in_form(alloc: Global, layout: Option<Layout>, items: &[Item]) -> Resu
     requires last { IfSome layout (λ l. StringsLast (fields_of l)) }
     ensures found { IfOk result (λ octets.
         StatesInForm (option_map fields_of layout) (map raw items.now) octets.items) }
-    ensures fault { IfErr result (IfFault (IsFormFault (option_map fields_of layout) (map raw items.now))) }
+    ensures fault { IfErr result (IfFault
+        (IsFormFault (option_map fields_of layout) (map raw items.now))) }
 {
     let stated = octets_of_generic(alloc, items)?;
     match layout {
@@ -98,10 +100,12 @@ impl Rdata {
     ) -> Result<Rdata, Failing>
         ensures class { IfOk result (λ d. d.class ≡ class) }
         ensures kind { IfOk result (λ d. d.kind ≡ kind) }
-        ensures found { IfOk result (λ d. States origin.now class kind (map raw items.now) d.octets) }
+        ensures found { IfOk result (λ d.
+            States origin.now class kind (map raw items.now) d.octets) }
         ensures only { (octets : Octets) → States origin.now class kind (map raw items.now) octets
             → IfOk result (λ d. d.octets ≡ octets) × IfErr result (λ e. e ≡ Failing.Memory) }
-        ensures fault { IfErr result (IfFault (IsDataFault origin.now class kind (map raw items.now))) }
+        ensures fault { IfErr result (IfFault
+            (IsDataFault origin.now class kind (map raw items.now))) }
     {
         data_is_unique();
         faulty_items_state_none();

@@ -37,9 +37,11 @@ pub(crate) fn octets_of_items(
     items: &[Item],
     origin: &Name,
 ) -> Result<Vec<u8>, Failing>
-    ensures found { IfOk result (λ octets. AreSpelt origin.now (fields_of layout) (map raw items.now) octets.items) }
+    ensures found { IfOk result (λ octets.
+        AreSpelt origin.now (fields_of layout) (map raw items.now) octets.items) }
     ensures short { IfOk result (λ octets. length octets.items ≤ LONGEST_DATA) }
-    ensures fault { IfErr result (IfFault (IsWordsFault origin.now (fields_of layout) (map raw items.now))) }
+    ensures fault { IfErr result (IfFault
+        (IsWordsFault origin.now (fields_of layout) (map raw items.now))) }
 {
     let mut octets = Vec::new(alloc);
     let mut place = 0;

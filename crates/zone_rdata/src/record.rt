@@ -27,9 +27,21 @@ impl Model for Rr {
 
     ghost Value = { Record };
 
-    ghost view = { λ r. record { owner = r.owner; class = r.rdata.class; kind = r.rdata.kind; ttl = r.ttl; octets = r.rdata.octets } };
+    ghost view = { λ r. record {
+      owner = r.owner;
+      class = r.rdata.class;
+      kind = r.rdata.kind;
+      ttl = r.ttl;
+      octets = r.rdata.octets;
+    } };
 
-    ghost invariant = { λ r. IsRecord (record { owner = r.owner; class = r.rdata.class; kind = r.rdata.kind; ttl = r.ttl; octets = r.rdata.octets }) };
+    ghost invariant = { λ r. IsRecord (record {
+      owner = r.owner;
+      class = r.rdata.class;
+      kind = r.rdata.kind;
+      ttl = r.ttl;
+      octets = r.rdata.octets;
+    }) };
 }
 
 /// A record and where it was stated.

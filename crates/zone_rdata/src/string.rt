@@ -20,7 +20,8 @@ use zone_name::{NextUnit, Sink, next_unit};
 /// The leftmost `BadEscape` or `StringTooLong`, and want of memory.
 pub(crate) fn push_string(item: Item, out: &mut Vec<u8>) -> Result<(), Failing>
     ensures found { OnOk result (AppendsString (raw item.entry) out.old.items out.new.items) }
-    ensures fault { (fault : Fault) → result ≡ Err (Failing.Fault fault) → StringFault (raw item.entry) fault }
+    ensures fault { (fault : Fault) → result ≡ Err (Failing.Fault fault)
+        → StringFault (raw item.entry) fault }
     ensures err { OnErr result (out.new.items ≡ out.old.items) }
 {
     let octets = string_of(item)?;

@@ -60,8 +60,10 @@ impl Progress {
 
     /// The time that is read where nothing more comes. `None`: it is none.
     fn seconds(self) -> Option<u64>
-        ensures found { IfSome result (λ n. (text : Octets) → Reads text self → IsCapped (IsTime text) n) }
-        ensures none { IfNone result ((text : Octets) (n : ℕ) → Reads text self → IsTime text n → ⊥) }
+        ensures found { IfSome result (λ n.
+            (text : Octets) → Reads text self → IsCapped (IsTime text) n) }
+        ensures none { IfNone result ((text : Octets) (n : ℕ)
+            → Reads text self → IsTime text n → ⊥) }
     {
         if self.grouped {
             if self.open { None } else { Some(self.total) }

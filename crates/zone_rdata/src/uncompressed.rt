@@ -15,7 +15,8 @@ use std::alloc::Global;
 /// `BadRdata` where they aren't, and want of memory.
 pub(crate) fn canonical_of(alloc: Global, layout: Layout, octets: &[u8]) -> Result<Vec<u8>, Failing>
     requires { StringsLast (fields_of layout) }
-    ensures found { IfOk result (λ canonical. IsUncompressed (fields_of layout) octets.now canonical.items) }
+    ensures found { IfOk result (λ canonical.
+        IsUncompressed (fields_of layout) octets.now canonical.items) }
     ensures fault { IfErr result (IfFault (NoValue Fault.BadRdata
         (IsUncompressed (fields_of layout) octets.now))) }
 {
@@ -41,7 +42,8 @@ pub(crate) fn canonical_for(
     octets: &[u8],
 ) -> Result<Vec<u8>, Failing>
     requires { IfSome layout (λ l. StringsLast (fields_of l)) }
-    ensures found { IfOk result (λ canonical. IsCanonicalOf (option_map fields_of layout) octets.now canonical.items) }
+    ensures found { IfOk result (λ canonical.
+        IsCanonicalOf (option_map fields_of layout) octets.now canonical.items) }
     ensures fault { IfErr result (IfFault (NoValue Fault.BadRdata
         (IsCanonicalOf (option_map fields_of layout) octets.now))) }
 {

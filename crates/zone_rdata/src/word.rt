@@ -37,7 +37,8 @@ pub(crate) fn numbered(name: &[u8], word: &[u8]) -> Option<u64>
 /// The row whose mnemonic a word is, in any case.
 fn row_named<'r, R: Row>(rows: &'r [R], word: &[u8]) -> Option<&'r R>
     ensures { option_copied result
-        ≡ find (λ row. bytes_eq (folded_label word.now) (folded_label (R.names row).mnemonic)) rows.now }
+        ≡ find (λ row. bytes_eq (folded_label word.now) (folded_label (R.names row).mnemonic))
+        rows.now }
 {
     for row in rows {
         if is_word(word, row.mnemonic()) {
@@ -51,8 +52,10 @@ fn row_named<'r, R: Row>(rows: &'r [R], word: &[u8]) -> Option<&'r R>
 /// the name. `None`: it is no such word.
 pub(crate) fn number_of_word<R: Row>(rows: &[R], name: &[u8], word: &[u8]) -> Option<u64>
     requires { ascend 0 (map R.names rows.now) ≡ true }
-    ensures found { IfSome result (IsCapped (IsWordAmong (map R.names rows.now) name.now word.now)) }
-    ensures none { IfNone result (NothingIs (IsWordAmong (map R.names rows.now) name.now word.now)) }
+    ensures found { IfSome result
+        (IsCapped (IsWordAmong (map R.names rows.now) name.now word.now)) }
+    ensures none { IfNone result
+        (NothingIs (IsWordAmong (map R.names rows.now) name.now word.now)) }
 {
     match row_named(rows, word) {
         Some(row) => Some(u64::from(row.number())),

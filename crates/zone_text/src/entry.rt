@@ -13,7 +13,8 @@ use zone_rdata::{Class, Failing, Fault, Item, Kind, Rdata, Rr};
 /// The text of a bare item, as it stands in the file.
 fn bare_text<'t>(item: &Item<'t>) -> Result<&'t [u8], Fault>
     ensures found { IfOk result (λ text. raw item.now ≡ bare text.now) }
-    ensures fault { IfErr result (λ fault. (fault ≡ NotYet) × (text : List ℕ) × (raw item.now ≡ quoted text)) }
+    ensures fault { IfErr result (λ fault. (fault ≡ NotYet)
+        × (text : List ℕ) × (raw item.now ≡ quoted text)) }
 {
     match *item {
         Item::Bare(text) => Ok(text),

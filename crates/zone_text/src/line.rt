@@ -42,7 +42,8 @@ fn ends_item(octet: u8) -> bool
 fn after_unit(text: &[u8]) -> Result<Option<&[u8]>, Fault>
     ensures found { IfOk result (λ unit. MatchOption unit (EndsItem text.now)
         (λ rest. BeginsWithUnit text.now rest.now)) }
-    ensures shorter { IfOk result (λ unit. IfSome unit (λ rest. length rest.now < length text.now)) }
+    ensures shorter { IfOk result (λ unit. IfSome unit
+        (λ rest. length rest.now < length text.now)) }
     ensures fault { IfErr result (UnitFault text.now) }
 {
     let Some((first, after)) = text.split_first() else {

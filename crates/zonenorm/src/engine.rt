@@ -28,10 +28,13 @@ pub fn normalise<R: Read, W: Write>(
     writer: &mut W,
 ) -> Result<u64, Stop>
     ensures accepted { IfOk result (λ count. IfSome (R.remaining reader.old) (λ octets.
-        Normalises (origin_of form.entry) octets (W.contents writer.old) (W.contents writer.new) count)) }
-    ensures refused { IfErr result (λ stop. WritesNothing stop (W.contents writer.old) (W.contents writer.new)) }
+        Normalises (origin_of form.entry) octets
+        (W.contents writer.old) (W.contents writer.new) count)) }
+    ensures refused { IfErr result (λ stop.
+        WritesNothing stop (W.contents writer.old) (W.contents writer.new)) }
     ensures front { IfErr result (λ _. IfSome (R.remaining reader.old) (λ octets.
-        WritesPrefix (origin_of form.entry) octets (W.contents writer.old) (W.contents writer.new))) }
+        WritesPrefix (origin_of form.entry) octets
+        (W.contents writer.old) (W.contents writer.new))) }
     ensures fault { IfErr result (λ stop. IfSome (R.remaining reader.old) (λ octets.
         IfRefused stop (RefusesOctets (origin_of form.entry) octets))) }
 {
@@ -47,9 +50,11 @@ pub fn normalise<R: Read, W: Write>(
 ///
 /// `Refused` where they denote none, and `Memory`.
 pub fn normalise_bytes(alloc: Global, form: Form<'_>, octets: &[u8]) -> Result<Vec<u8>, Stop>
-    ensures accepted { IfOk result (λ text. NormalisesTo (origin_of form.entry) octets.now text.items) }
+    ensures accepted { IfOk result (λ text.
+        NormalisesTo (origin_of form.entry) octets.now text.items) }
     ensures stopped { IfErr result IsOfBytes }
-    ensures fault { IfErr result (λ stop. IfRefused stop (RefusesOctets (origin_of form.entry) octets.now)) }
+    ensures fault { IfErr result (λ stop.
+        IfRefused stop (RefusesOctets (origin_of form.entry) octets.now)) }
 {
     if octets.len() as u64 > TEXT_LIMIT {
         return Err(Stop::Refused(Fault::InputTooLong, Place::Whole));
@@ -66,7 +71,8 @@ pub fn normalise_bytes(alloc: Global, form: Form<'_>, octets: &[u8]) -> Result<V
 fn zone_of(alloc: Global, form: Form<'_>, octets: &[u8]) -> Result<Zone, Stop>
     ensures stated { IfOk result (StatesZone (origin_of form.entry) octets.now) }
     ensures stopped { IfErr result IsOfBytes }
-    ensures fault { IfErr result (λ stop. IfRefused stop (RefusesRead (origin_of form.entry) octets.now)) }
+    ensures fault { IfErr result (λ stop.
+        IfRefused stop (RefusesRead (origin_of form.entry) octets.now)) }
 {
     let mut reading = reading_of(alloc, form, octets)?;
     let mut builder = ZoneBuilder::new(alloc);

@@ -96,7 +96,8 @@ fn order_with(text: &str) -> Result<Order, LineFault>
 
 /// The text in the place of the origin of the command `normalise`, where that is the command.
 fn origin_text<'a>(matches: &ArgMatches<'a>) -> Option<&'a str>
-    ensures { IfSome result (λ text. AsksFor (codes "normalise") (subcommand_rows_of matches.now) text.now) }
+    ensures { IfSome result (λ text.
+        AsksFor (codes "normalise") (subcommand_rows_of matches.now) text.now) }
 {
     matches.subcommand_matches("normalise")?.get_str("ORIGIN")
 }

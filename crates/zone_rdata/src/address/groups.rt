@@ -35,7 +35,8 @@ fn push_octets(octets: &mut ArrayVec<u8, LENGTH>, added: &[u8]) -> Option<()>
 
 /// Appends a group's octets. `None`: the text is no group, or there is no room.
 fn push_group(octets: &mut ArrayVec<u8, LENGTH>, text: &[u8]) -> Option<()>
-    ensures some { OnSome result (AppendsSome (IsGroupOf text.now) octets.old.items octets.new.items) }
+    ensures some { OnSome result
+        (AppendsSome (IsGroupOf text.now) octets.old.items octets.new.items) }
     ensures none { IfNone result (NoneFits (IsGroupOf text.now) octets.old.items) }
 {
     let group = group_of(text)?;
@@ -45,7 +46,8 @@ fn push_group(octets: &mut ArrayVec<u8, LENGTH>, text: &[u8]) -> Option<()>
 /// Appends the octets of a group or, where `ends` is so, of four decimal numbers. `None`: the text is neither, or
 /// there is no room.
 fn push_last(octets: &mut ArrayVec<u8, LENGTH>, text: &[u8], ends: bool) -> Option<()>
-    ensures some { OnSome result (AppendsSome (IsLastPartOf ends text.now) octets.old.items octets.new.items) }
+    ensures some { OnSome result
+        (AppendsSome (IsLastPartOf ends text.now) octets.old.items octets.new.items) }
     ensures none { IfNone result (NoneFits (IsLastPartOf ends text.now) octets.old.items) }
 {
     if let Some(group) = group_of(text) {
