@@ -52,9 +52,7 @@ fn name_at(octets: &[u8]) -> Option<(Name, &[u8])>
         };
         let count = usize::from(*first);
         if count == 0 {
-            let name = labels.finish();
-            name.known();
-            return Some((name, behind));
+            return Some((labels.finish(), behind));
         }
         if behind.len() < count {
             return None;
