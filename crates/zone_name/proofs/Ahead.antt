@@ -4,7 +4,7 @@ use Rattle.std.specs.Cmp.Lexicographic.{pointwise, bytes_decides}
 use Rattle.std.proofs.lemmas.Bool.{false≢true, cases_Bool, eqb-true, both_ways, cond_both}
 use Rattle.zone_name.specs.Spelling.{Written, plain, escaped, decimal, text_of, octet_of, IsUnit, IsBadEscape, BeginsWithUnit, is_dot, no_octet}
 use Rattle.zone_name.specs.Machine.Units.{unit_first}
-use Rattle.zone_name.specs.Machine.Reading.{Ahead, at_end, at_dot, at_octet, at_fault, unit_ahead, ahead_in}
+use Rattle.zone_name.specs.Machine.LabelWalk.{Ahead, at_end, at_dot, at_octet, at_fault, unit_ahead, ahead_in}
 use Rattle.zone_name.proofs.Units.{IsFirst, at_end as no_more, at_octet as at_mark, at_backslash, first_is, first_of_unit, escape_of_unit, text_of-some}
 
 -- what is ahead, said of the text there

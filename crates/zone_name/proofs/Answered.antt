@@ -10,7 +10,7 @@ use Rattle.zone_name.specs.declared.fault.NameFault.{NameFault}
 use Rattle.zone_name.specs.declared.fault.NameFault.TheVariants.{EmptyLabel, NameTooLong, RelativeName}
 use Rattle.zone_name.specs.declared.reading.NameForm.{NameForm}
 use Rattle.zone_name.specs.declared.reading.NameForm.TheVariants.{Root, Origin, Labels}
-use Rattle.zone_name.specs.Machine.Reading.{reading, sized, under}
+use Rattle.zone_name.specs.Machine.LabelWalk.{reading, sized, under}
 use Rattle.zone_name.specs.Machine.Seen.{HasForm}
 use Rattle.zone_name.proofs.Spelled.{AreShort, Says, reading-says}
 use Rattle.zone_name.proofs.Only.{reading-dotted, reading-parted, reading-fault}

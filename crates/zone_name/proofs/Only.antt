@@ -7,7 +7,7 @@ use Rattle.zone_name.specs.Name.{folded_label}
 use Rattle.zone_name.specs.Spelling.{Written, text_of, octet_of, IsUnit, is_dot, IsWrittenLabel, AreWrittenLabels, written_text, written_octets, dotted, parted, named, EndsLabel, Reaches, FaultAt, empty_label, long_label, bad_escape}
 use Rattle.zone_name.specs.declared.fault.NameFault.{NameFault}
 use Rattle.zone_name.specs.declared.fault.NameFault.TheVariants.{EmptyLabel, LabelTooLong, BadEscape}
-use Rattle.zone_name.specs.Machine.Reading.{Ahead, at_dot, at_octet, at_fault, ahead_in, goes, failed, step_at, read, reading}
+use Rattle.zone_name.specs.Machine.LabelWalk.{Ahead, at_dot, at_octet, at_fault, ahead_in, goes, failed, step_at, read, reading}
 use Rattle.zone_name.proofs.Ahead.{ahead-unit, ahead-bad}
 use Rattle.zone_name.proofs.Units.{text_of-some}
 use Rattle.zone_name.proofs.Steps.{after_step, read_step, octet_step, bad_step, reading-nil}

@@ -7,7 +7,7 @@ use Rattle.std.proofs.lemmas.List.Concat.{flat_map-append}
 use Rattle.std.proofs.lemmas.Bool.{le-leb, lt-leb}
 use Rattle.std.proofs.lemmas.Bool.Decides.{nat_tests}
 use Rattle.zone_name.specs.Name.{IsLabel, IsName, IsFoldedOctet, folded_octet, folded_label, with_length, wire, labels_of, HoldsName, HoldsLabels}
-use Rattle.zone_name.specs.Machine.Reading.{sized}
+use Rattle.zone_name.specs.Machine.LabelWalk.{sized}
 use Rattle.zone_name.specs.declared.fault.NameFault.TheVariants.{NameTooLong}
 use Rattle.zone_name.proofs.Octets.{labels_of-open, labels_of-wire, HoldsName-wire}
 

@@ -9,7 +9,7 @@ use Rattle.zone_name.specs.Name.{folded_label}
 use Rattle.zone_name.specs.Spelling.{Written, text_of, octet_of, IsUnit, is_dot, IsWrittenLabel, AreWrittenLabels, written_text, written_octets, dotted, parted, named, Reaches, FaultAt, empty_label, long_label, bad_escape}
 use Rattle.zone_name.specs.declared.fault.NameFault.{NameFault}
 use Rattle.zone_name.specs.declared.fault.NameFault.TheVariants.{LabelTooLong}
-use Rattle.zone_name.specs.Machine.Reading.{Ahead, at_end, at_dot, at_octet, at_fault, ahead_in, failed, goes, step_at, read, reading}
+use Rattle.zone_name.specs.Machine.LabelWalk.{Ahead, at_end, at_dot, at_octet, at_fault, ahead_in, failed, goes, step_at, read, reading}
 use Rattle.zone_name.proofs.Ahead.{IsAhead, ahead_is, Shrinks, ahead_shrinks}
 use Rattle.zone_name.proofs.Steps.{after_step, read_step}
 use Rattle.zone_name.proofs.Pushing.{AllByRecursion-append}

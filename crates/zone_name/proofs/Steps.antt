@@ -5,7 +5,7 @@ use Rattle.zone_name.specs.Name.{folded_label}
 use Rattle.zone_name.specs.Spelling.{IsBadEscape}
 use Rattle.zone_name.specs.declared.fault.NameFault.{NameFault}
 use Rattle.zone_name.specs.declared.fault.NameFault.TheVariants.{EmptyLabel, LabelTooLong, BadEscape}
-use Rattle.zone_name.specs.Machine.Reading.{Ahead, at_end, at_octet, at_fault, ahead_in, Step, done, failed, goes, step_at, read, reading, Collects}
+use Rattle.zone_name.specs.Machine.LabelWalk.{Ahead, at_end, at_octet, at_fault, ahead_in, Step, done, failed, goes, step_at, read, reading, Collects}
 use Rattle.zone_name.specs.Machine.Seen.{Closes}
 use Rattle.zone_name.specs.declared.reading.Spelled.{Spelled}
 use Rattle.zone_name.proofs.Ahead.{Shrinks, ahead_shrinks, ahead-bad}

@@ -1,4 +1,4 @@
 -- How a text is read from the left. Private functions and proofs cite this, and no public clause does.
 pub mod Units
-pub mod Reading
+pub mod LabelWalk
 pub mod Seen

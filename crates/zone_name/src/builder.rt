@@ -1,6 +1,6 @@
 ghost use Rattle.std.specs.Prelude.{◌≡◌, ◌<◌, ◌≤◌, ◌↔◌, ◌++◌, ◌∷◌, [], List, ℕ, length, OnOk, OnErr, IfOk, IfErr, Err};
 ghost use Rattle.zone_name.specs.Name.{folded_label, folded_octet, wire, IsName};
-ghost use Rattle.zone_name.specs.Machine.Reading.{sized};
+ghost use Rattle.zone_name.specs.Machine.LabelWalk.{sized};
 ghost use Rattle.zone_name.specs.Spelling.{IsLabelFault};
 ghost use Rattle.zone_name.specs.declared.fault.NameFault.TheVariants.{EmptyLabel, LabelTooLong, NameTooLong};
 

@@ -1,7 +1,7 @@
 ghost use Rattle.std.specs.Prelude.{◌≡◌, ◌≤◌, length, IfOk, IfErr, Ok, Err, option_copied};
 ghost use Rattle.zone_name.specs.Common.{Labels};
 ghost use Rattle.zone_name.specs.Name.{IsName};
-ghost use Rattle.zone_name.specs.Machine.Reading.{Collects, reading, under};
+ghost use Rattle.zone_name.specs.Machine.LabelWalk.{Collects, reading, under};
 ghost use Rattle.zone_name.specs.Machine.Seen.{Closes, HasForm};
 
 use crate::builder::NameBuilder;

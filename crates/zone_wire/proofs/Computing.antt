@@ -10,7 +10,7 @@ use Rattle.zone_wire.specs.Message.{u16_at}
 use Rattle.zone_wire.specs.Stream.{records_of, handed_on, ending_of, StreamReads}
 use Rattle.zone_wire.specs.Transfer.{frame}
 use Rattle.zone_wire.specs.Name.{Found, IsNameAt}
-use Rattle.zone_wire.specs.Reading.{named, outcome}
+use Rattle.zone_wire.specs.Finding.{named, outcome}
 use Rattle.zone_wire.specs.Walk.{walk}
 use Rattle.zone_wire.proofs.Walking.{walk_names}
 

@@ -18,7 +18,7 @@ use Rattle.zone_rdata.proofs.Tables.{table_row}
 use Rattle.zone_wire.specs.Data.{name_before, sized_before, strings_before, value_at, values_at, data_at}
 use Rattle.zone_wire.specs.Message.{RecordAt}
 use Rattle.zone_wire.specs.Name.{Found}
-use Rattle.zone_wire.specs.Reading.{Outcome, named, outcome}
+use Rattle.zone_wire.specs.Finding.{Outcome, named, outcome}
 use Rattle.zone_wire.specs.Sections.{and_then}
 use Rattle.zone_wire.specs.Transfer.{octets_between, StandsAt, StandEach, AreFieldsAt, IsDataAt}
 use Rattle.zone_wire.specs.Walk.{walk}

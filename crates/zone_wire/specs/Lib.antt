@@ -3,7 +3,7 @@ pub mod Data
 pub mod Examples
 pub mod Message
 pub mod Name
-pub mod Reading
+pub mod Finding
 pub mod Sections
 pub mod Stream
 pub mod Transfer

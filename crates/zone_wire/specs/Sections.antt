@@ -4,7 +4,7 @@ use Rattle.zone_rdata.specs.declared.fault.Fault.{Fault}
 use Rattle.zone_rdata.specs.declared.fault.Fault.TheVariants.{ShortMessage, NotAResponse, Truncated, ErrorCode, BadCounts, TrailingOctets}
 use Rattle.zone_wire.specs.Message.{u16_at, QuestionAt, question_by, RecordAt, record_by, Sections}
 use Rattle.zone_wire.specs.Name.{Found}
-use Rattle.zone_wire.specs.Reading.{Outcome, named, refused, outcome}
+use Rattle.zone_wire.specs.Finding.{Outcome, named, refused, outcome}
 use Rattle.zone_wire.specs.Walk.{walk}
 
 -- what a value leads to, where there is one

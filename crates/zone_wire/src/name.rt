@@ -1,6 +1,6 @@
 ghost use Rattle.std.specs.Prelude.{◌≡◌, ◌<◌, ◌≤◌, ℕ, length, IfOk, IfErr, IsOk, MatchResult, Some};
 ghost use Rattle.zone_wire.specs.Name.{Found, IsNameAt, found_by};
-ghost use Rattle.zone_wire.specs.Reading.{Says, outcome};
+ghost use Rattle.zone_wire.specs.Finding.{Says, outcome};
 ghost use Rattle.zone_wire.specs.Walk.{walk, ending};
 
 use crate::place::{Spot, Standing, place_at};

@@ -19,7 +19,7 @@ use Rattle.zone_print.specs.Canonical.{canon, text_limit}
 use Rattle.zone_print.specs.Writing.{StopsPush, StopsWrite}
 use Rattle.zone_print.specs.Writing as printing
 use Rattle.zonenorm.specs.Normalise.{StatesZone}
-use Rattle.zonenorm.specs.Reading.{StopsReading}
+use Rattle.zonenorm.specs.WholeInput.{StopsReading}
 use Rattle.zonenorm.specs.Refusal.{RefusesReading, refused, unread, unfinished, too_large, RefusesRead, RefusesOctets, over, read, IfRefused}
 use Rattle.zonenorm.proofs.Added.{added_all}
 use Rattle.zonenorm.proofs.Deciding.{AllAccepted-push, none_before}

@@ -1,6 +1,6 @@
 pub mod Form
 pub mod Input
-pub mod Reading
+pub mod WholeInput
 pub mod Normalise
 pub mod Refusal
 pub mod Examples

@@ -1,6 +1,6 @@
 ghost use Rattle.std.specs.Prelude.{◌≡◌, ◌+◌, ◌≤◌, ◌<◌, ◌++◌, ℕ, List, length, IfOk, IfErr, IfSome};
 ghost use Rattle.std.specs.Io.KnownBytes.{Consumes, IsAtEnd};
-ghost use Rattle.zonenorm.specs.Reading.{StopsReading, StopsPiece};
+ghost use Rattle.zonenorm.specs.WholeInput.{StopsReading, StopsPiece};
 
 use std::alloc::{AllocError, Global};
 use std::io::Read;

@@ -1,7 +1,7 @@
 -- The form of a text that the code saw, and what closing a label does.
 use Rattle.std.specs.Prelude.{◌≡◌, ◌≢◌, codes, ℕ, List, [], ◌∷◌, ◌++◌, Result, Ok, Err}
 use Rattle.zone_name.specs.Name.{folded_label}
-use Rattle.zone_name.specs.Machine.Reading.{Collects}
+use Rattle.zone_name.specs.Machine.LabelWalk.{Collects}
 use Rattle.zone_name.specs.declared.fault.NameFault.{NameFault}
 use Rattle.zone_name.specs.declared.fault.NameFault.TheVariants.{EmptyLabel}
 use Rattle.zone_name.specs.declared.reading.NameForm.{NameForm}

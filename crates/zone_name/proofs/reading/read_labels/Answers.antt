@@ -1,5 +1,5 @@
 use Rattle.std.proofs.Common.{◌≡◌, ◌<◌, length, arith, subst, refl, ap, sym}
-use Rattle.zone_name.specs.Machine.Reading.{ahead_in}
+use Rattle.zone_name.specs.Machine.LabelWalk.{ahead_in}
 use Rattle.zone_name.specs.Machine.Seen.{Closes}
 use Rattle.std.proofs.lemmas.Bool.Decides.{nat_tests}
 use Rattle.std.proofs.lemmas.List.{nil_from_length}

@@ -3,7 +3,7 @@ use Rattle.zone_rdata.specs.Fields.Strings.{strings_of}
 use Rattle.zone_wire.specs.Answers.{record_of, answer_of}
 use Rattle.zone_wire.specs.Data.{value_at, data_at}
 use Rattle.zone_wire.specs.Examples.{record_x, ends_with}
-use Rattle.zone_wire.specs.Reading.{outcome}
+use Rattle.zone_wire.specs.Finding.{outcome}
 use Rattle.zone_wire.specs.Sections.{header_fault, question_at, record_at, sections_of}
 use Rattle.zone_wire.specs.Stream.{message_of, records_of}
 use Rattle.zone_wire.specs.Walk.{place_of, walk_by, walk}
