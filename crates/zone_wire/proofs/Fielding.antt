@@ -1,19 +1,21 @@
 -- The data of a record is read as the values that stand there.
-use Rattle.std.proofs.Common.{◌≡◌, ℕ, zero, suc, ◌+◌, ◌-◌, ◌≤◌, ◌^◌, ◌<◌, List, [], ◌∷◌, ◌++◌, length, refl, ap, sym, ◌∙◌, arith, nat_lt, nat_eq, get_or-drop, length-append}
+use Rattle.std.proofs.Common.{◌≡◌, ℕ, zero, suc, ◌+◌, ◌-◌, ◌≤◌, ◌^◌, ◌<◌, List, [], ◌∷◌, length, refl, ap, sym, ◌∙◌, arith, nat_lt, nat_eq, get_or-drop}
 use Rattle.std.specs.Prelude.{get_or, slice_index, take, drop, Option, Some, None, MatchOption, Result, Ok}
 use Rattle.std.specs.Int.{w16, w32, to_be_bytes, from_be_bytes}
 use Rattle.std.specs.Cmp.Lexicographic.{pointwise, bytes_decides}
 use Rattle.std.specs.List.{flat_map}
 use Rattle.std.proofs.lemmas.Bool.{cond-true, le-leb, lt-ltb, eq-eqb, and_from}
-use Rattle.std.proofs.lemmas.List.{take_all, take_at, drop_at, length-take-le, length-drop}
+use Rattle.std.proofs.lemmas.List.{take_all, length-take-le, length-drop}
 use Rattle.std.proofs.lemmas.Nat.{from_be_bytes-to_be_bytes_2, from_be_bytes-to_be_bytes_4}
 use Rattle.zone_name.specs.Name.{with_length}
 use Rattle.zone_rdata.specs.Field.{FieldValue, name, u32_value, u16_value, fixed, string, strings, field_octets, octets_of, Holds, HoldEach, field_at}
-use Rattle.zone_rdata.specs.Fields.Strings.{AreStrings, strings_by, strings_of}
+use Rattle.zone_rdata.specs.Fields.Strings.{AreStrings, strings_of}
 use Rattle.zone_rdata.specs.Layout.{layout, StringsLast}
 use Rattle.zone_rdata.specs.declared.fault.Fault.{Fault}
 use Rattle.zone_rdata.specs.declared.field.Field.{Field}
 use Rattle.zone_rdata.specs.declared.field.Field.TheVariants.{Name, Serial, Time, U16, Octets, OneString, Strings}
+use Rattle.zone_name.proofs.Octets.{length-frames}
+use Rattle.zone_rdata.proofs.StringFields.{strings_back}
 use Rattle.zone_rdata.proofs.Tables.{table_row}
 use Rattle.zone_wire.specs.Data.{name_before, sized_before, strings_before, value_at, values_at, data_at}
 use Rattle.zone_wire.specs.Message.{RecordAt}
@@ -58,27 +60,10 @@ part_first octets start past h = first (past - start) (drop start octets) (omega
     first (suc n) [] some = refl
     first (suc n) (x ∷ xs) some = refl
 
--- strings that are joined are cut again
-strings_back_by : (many : List (List ℕ)) (n : ℕ) → length many ≤ n → strings_by n (flat_map with_length many) ≡ many
-strings_back_by [] zero few = refl
-strings_back_by [] (suc n) few = refl
-strings_back_by (text ∷ many) zero few = absurd (omega arith)
-strings_back_by (text ∷ many) (suc n) few =
-    let rest = flat_map with_length many in
-    ap (λ t. t ∷ strings_by n (drop (length text) (text ++ rest))) (take_at text rest (length text) refl) ∙ ap (λ o. text ∷ strings_by n o) (drop_at text rest (length text) refl) ∙ ap (λ m. text ∷ m) (strings_back_by many n (omega arith))
-
-frames_long : (many : List (List ℕ)) → length many ≤ length (flat_map with_length many)
-frames_long [] = omega arith
-frames_long (text ∷ many) = omega (arith, frames_long many, length-append (with_length text) (flat_map with_length many))
-
-strings_back : (many : List (List ℕ)) → strings_of (flat_map with_length many) ≡ many
-unfolding strings_of
-strings_back many = strings_back_by many (length (flat_map with_length many)) (frames_long many)
-
 strings_read : (octets : List ℕ) (end : ℕ) (many : List (List ℕ)) → AreStrings many → octets ≡ flat_map with_length many → strings_before end octets ≡ Ok (strings many, end)
 strings_read octets end many are is =
     let cut : strings_of octets ≡ many = ap strings_of is ∙ strings_back many in
-    let some : 0 < length octets = omega (arith, are.some, frames_long many, ap length is) in
+    let some : 0 < length octets = omega (arith, are.some, length-frames many, ap length is) in
     let whole : flat_map with_length (strings_of octets) ≡ octets = ap (flat_map with_length) cut ∙ sym is in
     cond-true _ _ _ (and_from (nat_lt 0 (length octets)) (pointwise nat_eq (flat_map with_length (strings_of octets)) octets) (lt-ltb 0 (length octets) some) ((bytes_decides (flat_map with_length (strings_of octets)) octets).1 whole))
     ∙ ap (λ (m : List (List ℕ)). Ok (strings m, end)) cut
