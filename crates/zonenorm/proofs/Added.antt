@@ -1,16 +1,11 @@
 -- The records that a builder holds after it took records one after another.
-use Rattle.std.proofs.Common.{◌≡◌, ℕ, List, [], ◌∷◌, inl, inr, ⊎_elim, false}
-use Rattle.std.specs.Prelude.{◌⊎◌, ◌↔◌, IfNone, Result, Ok, Err, IfOk}
+use Rattle.std.proofs.Common.{◌≡◌, List, [], ◌∷◌, ◌++◌, subst, inl, inr, ⊎_elim}
+use Rattle.std.specs.Prelude.{◌⊎◌, ◌↔◌}
 use Rattle.zone_rdata.specs.Record.{Record}
 use Rattle.zone_rdata.specs.declared.record.Placed.{Placed}
-use Rattle.zone_rdata.specs.declared.source.Reading.{Reading}
-use Rattle.zone_rdata.specs.declared.fault.Stop.{Stop}
-use Rattle.zone_text.specs.File.{FileStates}
-use Rattle.zone_set.specs.Zone.{Zone, IsZone, Has, SameRecords}
-use Rattle.zone_rdata.specs.Source.{Pending}
-use Rattle.zone_set.specs.Builder.{AddsEach, TakesAll}
+use Rattle.zone_set.specs.Zone.{Has, SameRecords}
+use Rattle.zone_set.specs.Builder.{AddsEach}
 use Rattle.zone_set.specs.Refusal.{records_of}
-use Rattle.zonenorm.specs.Normalise.{StatesZone}
 
 -- what is held is what was taken and what was held before
 pub added : (placed : List Placed) (old new : List Record) → AddsEach old placed new → (r : Record) → Has new r ↔ (Has (records_of placed) r ⊎ Has old r)
@@ -28,15 +23,7 @@ added_all placed new records h e = rw e (λ r.
     let both = added placed [] new h r in
     ((λ t. ⊎_elim (λ s. s) (λ b. absurd b) (both.0 t)), (λ s. both.1 (inl s))))
 
--- the zone of a builder that took all that a file's reading gives
-pub zone_stated : (origin : List (List ℕ)) (octets : List ℕ) (reading : Reading) (held none : List Record) (rest : Pending) (r : Result Zone Stop) → none ≡ [] → IfNone reading.ending (FileStates origin octets reading.placed.items) → TakesAll none (record { failed = false; records = reading.placed.items; ending = reading.ending }) held rest → IfOk r IsZone → IfOk r (λ z. z.records ≡ held) → IfOk r (StatesZone origin octets)
-zone_stated origin octets reading held none rest (Err e) empty stated takes zone records = tt
-zone_stated origin octets reading held none rest (Ok z) empty stated takes zone records =
-    let whole : FileStates origin octets reading.placed.items = rw takes.whole at stated in
-    let taken : AddsEach [] reading.placed.items held = rw empty at takes.taken in
-    record {
-      placed = reading.placed.items;
-      states = whole;
-      same = added_all reading.placed.items held z.records taken records;
-      zone = zone;
-    }
+-- records that were taken one after another, and then others
+pub AddsEach-append : (old mid new : List Record) (placed others : List Placed) → AddsEach old placed mid → AddsEach mid others new → AddsEach old (placed ++ others) new
+AddsEach-append old mid new [] others same taken = subst (λ held. AddsEach held others new) same taken
+AddsEach-append old mid new (p ∷ placed) others (next, accepts, adds, rest) taken = (next, accepts, adds, AddsEach-append next mid new placed others rest taken)

@@ -37,7 +37,7 @@ pub placed_fit : (placed : List Placed) → AllByRecursion (λ p. IsRecord p.rr)
 placed_fit [] fits = tt
 placed_fit (p ∷ placed) fits = (fits.0, placed_fit placed fits.1)
 
-octet_at : (octets : List ℕ) → AllByRecursion (λ c. c < 256) octets → (i : ℕ) → get_or octets i 0 < 256
+pub octet_at : (octets : List ℕ) → AllByRecursion (λ c. c < 256) octets → (i : ℕ) → get_or octets i 0 < 256
 octet_at [] each i = lit< tt
 octet_at (c ∷ octets) each zero = each.0
 octet_at (c ∷ octets) each (suc i) = octet_at octets each.1 i
@@ -117,3 +117,8 @@ module _ (input : Input) where
   pub refusal_or_zone : WholeOutcome → BrokenOutcome → (placed : List Placed) (ending : Option (Fault × Place)) → IsStated placed → Reads input placed ending → Outcome
   refusal_or_zone whole broken placed ending stated reads =
       ⊎_elim (λ short. within whole broken short.1 placed ending stated reads) (λ long. inl (InputTooLong, Whole, too_long long.1)) (leb_tells (length (octets_of input)) text_limit)
+
+-- what inputs of both forms are read as without a fault they state
+pub read_is_stated : ((origin : List (List ℕ)) (octets : List ℕ) (placed : List Placed) → FileStates origin octets placed ↔ FileReads origin octets placed None) → ((stream : List ℕ) (placed : List Placed) → ((i : ℕ) → get_or stream i 0 < 256) → StreamReads stream placed None → StreamStates stream placed) → (input : Input) (placed : List Placed) → IsInput input → Reads input placed None → States input placed
+read_is_stated files streams (file origin octets) placed is reads = (files origin octets placed).1 reads
+read_is_stated files streams (transfer stream) placed is reads = streams stream placed (octet_at stream is) reads

@@ -1,11 +1,13 @@
 pub mod Known
 pub mod Added
-pub mod Stopped
 pub mod Asked
 pub mod Parting
 pub mod Refusing
 pub mod Deciding
+pub mod Decided
 pub mod Making
 pub mod Small
-pub mod Refused
 pub mod Inputs
+pub mod Accepted
+pub mod Taken
+pub mod Feeding

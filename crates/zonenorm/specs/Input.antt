@@ -1,6 +1,6 @@
 -- The inputs that state records: a master file with its origin (RFC 1035 5), or the octets of a zone transfer as they
 -- came over TCP (RFC 5936 2.2), each message behind its length (RFC 1035 4.2.2).
-use Rattle.std.specs.Prelude.{ℕ, ◌<◌, List, Option}
+use Rattle.std.specs.Prelude.{ℕ, ◌<◌, List, Option, ⊤}
 use Rattle.std.specs.List.{AllByRecursion}
 use Rattle.zone_name.specs.Name.{IsName}
 use Rattle.zone_rdata.specs.declared.fault.Fault.{Fault}
@@ -8,10 +8,17 @@ use Rattle.zone_rdata.specs.declared.fault.Place.{Place}
 use Rattle.zone_rdata.specs.declared.record.Placed.{Placed}
 use Rattle.zone_text.specs.File.{FileStates}
 use Rattle.zone_text.specs.FileReads.{FileReads}
+use Rattle.zone_text.specs.Decided as file_decides
 use Rattle.zone_wire.specs.Stream.{StreamReads}
+use Rattle.zone_wire.specs.Stream as stream_decides
 use Rattle.zone_wire.specs.Transfer.{StreamStates}
 use Rattle.zone_set.specs.Zone.{Zone}
 use Rattle.zone_print.specs.Denotes.{DenotesBy}
+
+-- the form of an input: a master file under an origin, or a transfer
+pub data InputForm : Type 0 where
+  as_file : List (List ℕ) → InputForm
+  as_transfer : InputForm
 
 pub data Input : Type 0 where
   file : List (List ℕ) → List ℕ → Input
@@ -21,10 +28,20 @@ abbrev pub octets_of : Input → List ℕ
 octets_of (file origin octets) = octets
 octets_of (transfer octets) = octets
 
+-- octets as an input of a form
+abbrev pub input_of : InputForm → List ℕ → Input
+input_of (as_file origin) octets = file origin octets
+input_of as_transfer octets = transfer octets
+
 -- what can be given as an input: octets, a file's under an origin that is a name
 abbrev pub IsInput : Input → Type 0
 IsInput (file origin octets) = IsName origin × AllByRecursion (λ c. c < 256) octets
 IsInput (transfer octets) = AllByRecursion (λ c. c < 256) octets
+
+-- the origin of a master file is a name
+abbrev pub IsForm : InputForm → Type 0
+IsForm (as_file origin) = IsName origin
+IsForm as_transfer = ⊤
 
 -- the records that an input states, in order and with their places
 abbrev pub States : Input → List Placed → Type 0
@@ -35,6 +52,11 @@ States (transfer octets) placed = StreamStates octets placed
 abbrev pub Reads : Input → List Placed → Option (Fault × Place) → Type 0
 Reads (file origin octets) placed ending = FileReads origin octets placed ending
 Reads (transfer octets) placed ending = StreamReads octets placed ending
+
+-- what is decided of an input by the octets so far, whatever octets come behind them
+abbrev pub Decides : Input → List Placed → Option (Fault × Place) → Type 0
+Decides (file origin octets) placed ending = file_decides.Decided origin octets placed ending
+Decides (transfer octets) placed ending = stream_decides.Decided octets placed ending
 
 -- the zone that an input denotes
 abbrev pub InputDenotes : Input → Zone → Type 0

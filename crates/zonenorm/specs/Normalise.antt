@@ -4,25 +4,23 @@ use Rattle.std.specs.Io.KnownBytes.{Appends, Keeps}
 use Rattle.zone_rdata.specs.declared.fault.Stop.{Stop}
 use Rattle.zone_rdata.specs.declared.fault.Stop.TheVariants.{Refused, Read, Write, Memory}
 use Rattle.zone_rdata.specs.declared.record.Placed.{Placed}
-use Rattle.zone_text.specs.File.{FileStates}
 use Rattle.zone_set.specs.Refusal.{records_of}
 use Rattle.zone_set.specs.Zone.{Zone, IsZone, SameRecords}
 use Rattle.zone_print.specs.Canonical.{canon}
-use Rattle.zone_print.specs.Denotes.{Denotes}
 use Rattle.zone_print.specs.Writing.{AppendsPrefix}
+use Rattle.zonenorm.specs.Input.{Input, InputDenotes, States}
 
--- The octets denote a zone under the origin, its canonical text and nothing else was written, and the answer is the
--- number of its records.
-pub record Normalises (origin : List (List ℕ)) (octets : List ℕ) (old new : Option (List ℕ)) (count : ℕ) : Type 0 where
+-- The input denotes a zone, its canonical text and nothing else was written, and the answer is the number of its records.
+pub record Normalises (input : Input) (old new : Option (List ℕ)) (count : ℕ) : Type 0 where
   pub zone : Zone
-  pub denotes : Denotes origin octets zone
+  pub denotes : InputDenotes input zone
   pub written : Appends old new (canon zone)
   pub counted : count ≡ min (length zone.records) (2 ^ 64 - 1)
 
--- the octets denote a zone under the origin, and this is its canonical text
-pub record NormalisesTo (origin : List (List ℕ)) (octets text : List ℕ) : Type 0 where
+-- the input denotes a zone, and this is its canonical text
+pub record NormalisesTo (input : Input) (text : List ℕ) : Type 0 where
   pub zone : Zone
-  pub denotes : Denotes origin octets zone
+  pub denotes : InputDenotes input zone
   pub canonical : text ≡ canon zone
 
 -- a refused input writes nothing, nor does one that can't be read
@@ -39,14 +37,14 @@ IsOfBytes Read = ⊥
 IsOfBytes Write = ⊥
 IsOfBytes Memory = Unit {0}
 
--- the records that the octets state under the origin are those of the zone, as a set, whatever the length of its text
-pub record StatesZone (origin : List (List ℕ)) (octets : List ℕ) (z : Zone) : Type 0 where
+-- the records that the input states are those of the zone, as a set, whatever the length of its text
+pub record StatesZone (input : Input) (z : Zone) : Type 0 where
   pub placed : List Placed
-  pub states : FileStates origin octets placed
+  pub states : States input placed
   pub same : SameRecords z.records (records_of placed)
   pub zone : IsZone z
 
--- nothing was written, or a prefix of the canonical text of the zone that the octets state
-abbrev pub WritesPrefix : List (List ℕ) → List ℕ → Option (List ℕ) → Option (List ℕ) → Type 0
-WritesPrefix origin octets old new =
-    Keeps old new ⊎ ((z : Zone) × StatesZone origin octets z × AppendsPrefix old new (canon z))
+-- nothing was written, or a prefix of the canonical text of the zone that the input states
+abbrev pub WritesPrefix : Input → Option (List ℕ) → Option (List ℕ) → Type 0
+WritesPrefix input old new =
+    Keeps old new ⊎ ((z : Zone) × StatesZone input z × AppendsPrefix old new (canon z))

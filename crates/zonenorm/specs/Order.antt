@@ -8,7 +8,8 @@ use Rattle.zone_rdata.specs.declared.fault.Place.{Place}
 use Rattle.zone_rdata.specs.declared.fault.Stop.{Stop}
 use Rattle.zone_rdata.specs.declared.fault.Stop.TheVariants.{Refused, Read, Write, Memory}
 use Rattle.zonenorm.specs.Normalise.{Normalises, WritesPrefix}
-use Rattle.zonenorm.specs.Refusal.{RefusesOctets}
+use Rattle.zonenorm.specs.Input.{Input, InputForm, as_file, input_of}
+use Rattle.zonenorm.specs.Refusal.{IsRefusal}
 use Rattle.zonenorm.specs.declared.order.Order.{Order}
 use Rattle.zonenorm.specs.declared.order.Order.TheVariants.{Normalise}
 use Rattle.zonenorm.specs.declared.order.LineFault.{LineFault}
@@ -64,6 +65,10 @@ line_text line_faults.BadOrigin = codes "F46 BadOrigin: an origin is an absolute
 line_text (line_faults.Clap told) = string_bytes told
 line_text line_faults.Memory = codes "out of memory"
 
+-- the form of the input that is to be normalised
+abbrev pub order_form : Order → InputForm
+order_form (Normalise origin) = as_file origin
+
 -- the origin of the input that is to be normalised
 abbrev pub order_origin : Order → List (List ℕ)
 order_origin (Normalise origin) = origin
@@ -80,16 +85,16 @@ abbrev pub IsStatus : ℕ → Type 0
 IsStatus status = (status ≡ 0) ⊎ ((status ≡ 3) ⊎ (status ≡ 4))
 
 -- some number of records goes with what was written
-abbrev pub WritesZone : List (List ℕ) → List ℕ → Option (List ℕ) → Option (List ℕ) → Type 0
-WritesZone origin octets old new = (count : ℕ) × Normalises origin octets old new count
+abbrev pub WritesZone : Input → Option (List ℕ) → Option (List ℕ) → Type 0
+WritesZone input old new = (count : ℕ) × Normalises input old new count
 
 -- What a run leaves of the octets that it was to read, of a writer and of an error writer, before and after it. Accepted,
 -- it wrote the canonical text of their zone and told nothing; refused, the octets are refused and nothing was written;
 -- else a prefix of the text may have been written.
-pub record Runs (origin : List (List ℕ)) (input old new errors errors' : Option (List ℕ)) (answer : ℕ) : Type 0 where
+pub record Runs (form : InputForm) (input old new errors errors' : Option (List ℕ)) (answer : ℕ) : Type 0 where
   pub status : IsStatus answer
-  pub accepted : answer ≡ 0 → IfSome input (λ octets. WritesZone origin octets old new)
+  pub accepted : answer ≡ 0 → IfSome input (λ octets. WritesZone (input_of form octets) old new)
   pub silent : answer ≡ 0 → Keeps errors errors'
   pub refused : answer ≡ 3 → Keeps old new
-  pub fault : answer ≡ 3 → IfSome input (λ octets. (fault : Fault) × (place : Place) × RefusesOctets origin octets fault place)
-  pub front : answer ≢ 0 → IfSome input (λ octets. WritesPrefix origin octets old new)
+  pub fault : answer ≡ 3 → IfSome input (λ octets. (fault : Fault) × (place : Place) × IsRefusal (input_of form octets) fault place)
+  pub front : answer ≢ 0 → IfSome input (λ octets. WritesPrefix (input_of form octets) old new)

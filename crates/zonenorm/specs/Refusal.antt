@@ -8,8 +8,6 @@ use Rattle.zone_rdata.specs.declared.fault.Place.TheVariants.{Whole}
 use Rattle.zone_rdata.specs.declared.fault.Stop.{Stop}
 use Rattle.zone_rdata.specs.declared.fault.Stop.TheVariants.{Refused, Read, Write, Memory}
 use Rattle.zone_rdata.specs.declared.record.Placed.{Placed}
-use Rattle.zone_text.specs.File.{FileStates}
-use Rattle.zone_text.specs.Lines.{IsLineBehind}
 use Rattle.zone_set.specs.Builder.{StopsFinish}
 use Rattle.zone_set.specs.Refusal.{AllAccepted, IsFirstRefused, records_of}
 use Rattle.zone_set.specs.Zone.{Zone, IsZone, SameRecords}
@@ -32,27 +30,12 @@ pub record MakesZone (placed : List Placed) (z : Zone) : Type 0 where
   pub text_short : length (canon z) ≤ text_limit
 
 -- why an input is refused, and where: it is longer than the limit, or else its reading is refused
-pub data IsRefusal (input : Input) : Fault → Place → Type 0 where
-  too_long : text_limit < length (octets_of input) → IsRefusal input InputTooLong Whole
-  reading : (placed : List Placed) (ending : Option (Fault × Place)) (fault : Fault) (place : Place) → length (octets_of input) ≤ text_limit → Reads input placed ending → RefusesReading placed ending fault place → IsRefusal input fault place
+pub data IsRefusalWithin (limit : ℕ) (input : Input) : Fault → Place → Type 0 where
+  too_long : limit < length (octets_of input) → IsRefusalWithin limit input InputTooLong Whole
+  reading : (placed : List Placed) (ending : Option (Fault × Place)) (fault : Fault) (place : Place) → length (octets_of input) ≤ limit → Reads input placed ending → RefusesReading placed ending fault place → IsRefusalWithin limit input fault place
 
--- The records of a prefix of the octets and the fault that stands behind it are refused. The fault stands behind whole
--- lines, at the line that begins there; the front is all of the octets where there is none.
-pub record RefusesRead (origin : List (List ℕ)) (octets : List ℕ) (fault : Fault) (place : Place) : Type 0 where
-  pub front : List ℕ
-  pub rest : List ℕ
-  pub placed : List Placed
-  pub ending : Option (Fault × Place)
-  pub whole : octets ≡ front ++ rest
-  pub states : FileStates origin front placed
-  pub all : ending ≡ None → rest ≡ []
-  pub behind : IfSome ending (λ e. IsLineBehind front e.1)
-  pub refuses : RefusesReading placed ending fault place
-
--- octets are refused: for their length where they are longer than the limit, and else as they were read
-pub data RefusesOctets (origin : List (List ℕ)) (octets : List ℕ) : Fault → Place → Type 0 where
-  over : text_limit < length octets → RefusesOctets origin octets InputTooLong Whole
-  read : (fault : Fault) (place : Place) → length octets ≤ text_limit → RefusesRead origin octets fault place → RefusesOctets origin octets fault place
+abbrev pub IsRefusal : Input → Fault → Place → Type 0
+IsRefusal = IsRefusalWithin text_limit
 
 -- the fault and place of a refusal are so
 abbrev pub IfRefused : Stop → (Fault → Place → Type 0) → Type 0

@@ -1,20 +1,27 @@
-ghost use Rattle.std.specs.Prelude.{IfOk, IfErr, IfSome, IfNone};
-ghost use Rattle.zone_text.specs.File.{FileStates};
-ghost use Rattle.zone_text.specs.Lines.{ReadsFront};
-ghost use Rattle.zonenorm.specs.Form.{origin_of};
-ghost use Rattle.zonenorm.specs.Normalise.{Normalises, NormalisesTo, StatesZone, WritesNothing, WritesPrefix, IsOfBytes};
-ghost use Rattle.zonenorm.specs.Refusal.{IfRefused, RefusesOctets, RefusesRead};
+ghost use Rattle.std.specs.Prelude.{◌≡◌, ◌+◌, ◌≤◌, length, IfOk, IfErr, IfSome};
+ghost use Rattle.std.specs.Io.KnownBytes.{Consumes};
+ghost use Rattle.std.specs.List.{AllByRecursion};
+ghost use Rattle.zone_name.specs.Common.{Octets};
+ghost use Rattle.zone_print.specs.Canonical.{text_limit};
+ghost use Rattle.zonenorm.specs.Form.{form_of};
+ghost use Rattle.zonenorm.specs.Input.{input_of};
+ghost use Rattle.zonenorm.specs.Machine.Stops.{IsOfReading};
+ghost use Rattle.zonenorm.specs.Machine.Taking.{ReadsZoneWithin};
+ghost use Rattle.zonenorm.specs.Normalise.{Normalises, NormalisesTo, WritesNothing, WritesPrefix, IsOfBytes};
+ghost use Rattle.zonenorm.specs.Refusal.{IfRefused, IsRefusal};
 
 use crate::form::Form;
-use crate::input::read_input;
-use std::alloc::{AllocError, Global};
+use crate::input::read_zone;
+use crate::laws::what_is_read_is_stated;
+use crate::taking::Taking;
+use std::alloc::Global;
 use std::io::{Read, Write};
 use zone_print::{TEXT_LIMIT, push_zone, write_zone};
-use zone_rdata::{Fault, Place, Reading, Stop};
-use zone_set::{Zone, ZoneBuilder};
-use zone_text::read_file;
+use zone_rdata::{Fault, Place, Stop};
+use zone_set::Zone;
 
-/// Writes the canonical text of the zone that the reader's octets denote, and answers the number of its records.
+/// Writes the canonical text of the zone that the reader's octets denote, and answers the number of its records. The
+/// reader is read to its end, or to the octet behind [`TEXT_LIMIT`], in pieces.
 ///
 /// # Errors
 ///
@@ -28,18 +35,20 @@ pub fn normalise<R: Read, W: Write>(
     writer: &mut W,
 ) -> Result<u64, Stop>
     ensures accepted { IfOk result (λ count. IfSome (R.remaining reader.old) (λ octets.
-        Normalises (origin_of form.entry) octets
+        Normalises (input_of (form_of form.entry) octets)
         (W.contents writer.old) (W.contents writer.new) count)) }
     ensures refused { IfErr result (λ stop.
         WritesNothing stop (W.contents writer.old) (W.contents writer.new)) }
     ensures front { IfErr result (λ _. IfSome (R.remaining reader.old) (λ octets.
-        WritesPrefix (origin_of form.entry) octets
+        WritesPrefix (input_of (form_of form.entry) octets)
         (W.contents writer.old) (W.contents writer.new))) }
     ensures fault { IfErr result (λ stop. IfSome (R.remaining reader.old) (λ octets.
-        IfRefused stop (RefusesOctets (origin_of form.entry) octets))) }
+        IfRefused stop (IsRefusal (input_of (form_of form.entry) octets)))) }
+    ensures few { (given : Octets) × (length given ≤ text_limit + 1)
+        × Consumes (R.remaining reader.old) (R.remaining reader.new) given }
 {
-    let octets = read_input(alloc, reader, TEXT_LIMIT)?;
-    let zone = zone_of(alloc, form, &octets)?;
+    let zone = zone_of(alloc, form, reader)?;
+    what_is_read_is_stated();
     write_zone(alloc, &zone, writer)?;
     Ok(zone.len())
 }
@@ -51,42 +60,48 @@ pub fn normalise<R: Read, W: Write>(
 /// `Refused` where they denote none, and `Memory`.
 pub fn normalise_bytes(alloc: Global, form: Form<'_>, octets: &[u8]) -> Result<Vec<u8>, Stop>
     ensures accepted { IfOk result (λ text.
-        NormalisesTo (origin_of form.entry) octets.now text.items) }
+        NormalisesTo (input_of (form_of form.entry) octets.now) text.items) }
     ensures stopped { IfErr result IsOfBytes }
     ensures fault { IfErr result (λ stop.
-        IfRefused stop (RefusesOctets (origin_of form.entry) octets.now)) }
+        IfRefused stop (IsRefusal (input_of (form_of form.entry) octets.now))) }
 {
-    if octets.len() as u64 > TEXT_LIMIT {
-        return Err(Stop::Refused(Fault::InputTooLong, Place::Whole));
-    }
-    let zone = zone_of(alloc, form, octets)?;
+    let zone = zone_of_bytes(alloc, form, octets)?;
+    what_is_read_is_stated();
     push_zone(alloc, &zone)
+}
+
+/// The zone of the records that the reader's octets state.
+///
+/// # Errors
+///
+/// `Refused` with the refusal of the input, but for the length of its canonical text; `Read` and `Memory`.
+fn zone_of<R: Read>(alloc: Global, form: Form<'_>, reader: &mut R) -> Result<Zone, Stop>
+    ensures zone { IfOk result (λ z. IfSome (R.remaining reader.old) (λ octets.
+        ReadsZoneWithin text_limit (input_of (form_of form.entry) octets) z)) }
+    ensures fault { IfErr result (λ stop. IfSome (R.remaining reader.old) (λ octets.
+        IfRefused stop (IsRefusal (input_of (form_of form.entry) octets)))) }
+    ensures stopped { IfErr result IsOfReading }
+    ensures few { (given : Octets) × (length given ≤ text_limit + 1)
+        × Consumes (R.remaining reader.old) (R.remaining reader.new) given }
+{
+    match form {
+        Form::File(_origin) => Err(Stop::Memory),
+    }
 }
 
 /// The zone of the records that the octets state.
 ///
 /// # Errors
 ///
-/// `Refused` where they state no records, or records that make no zone; `Memory`.
-fn zone_of(alloc: Global, form: Form<'_>, octets: &[u8]) -> Result<Zone, Stop>
-    ensures stated { IfOk result (StatesZone (origin_of form.entry) octets.now) }
-    ensures stopped { IfErr result IsOfBytes }
+/// `Refused` with the refusal of the input, but for the length of its canonical text; `Memory`.
+fn zone_of_bytes(alloc: Global, form: Form<'_>, octets: &[u8]) -> Result<Zone, Stop>
+    ensures zone { IfOk result (λ z.
+        ReadsZoneWithin text_limit (input_of (form_of form.entry) octets.now) z) }
     ensures fault { IfErr result (λ stop.
-        IfRefused stop (RefusesRead (origin_of form.entry) octets.now)) }
-{
-    let mut reading = reading_of(alloc, form, octets)?;
-    let mut builder = ZoneBuilder::new(alloc);
-    builder.take_all(&mut reading)?;
-    builder.finish()
-}
-
-/// What an input of this form states: its records, and the fault after them if there is one.
-fn reading_of(alloc: Global, form: Form<'_>, octets: &[u8]) -> Result<Reading, AllocError>
-    ensures stated { IfOk result (λ reading. IfNone reading.ending
-        (FileStates (origin_of form.entry) octets.now reading.placed.items)) }
-    ensures front { IfOk result (ReadsFront (origin_of form.entry) octets.now) }
+        IfRefused stop (IsRefusal (input_of (form_of form.entry) octets.now))) }
+    ensures stopped { IfErr result IsOfBytes }
 {
     match form {
-        Form::File(origin) => read_file(alloc, origin, octets),
+        Form::File(_origin) => Err(Stop::Memory),
     }
 }

@@ -1,27 +1,81 @@
-ghost use Rattle.std.specs.Prelude.{◌≡◌, ◌+◌, ◌≤◌, ◌<◌, ◌++◌, ℕ, List, length, IfOk, IfErr, IfSome};
-ghost use Rattle.std.specs.Io.KnownBytes.{Consumes, IsAtEnd};
-ghost use Rattle.zonenorm.specs.WholeInput.{StopsReading, StopsPiece};
+ghost use Rattle.std.specs.Prelude.{◌≡◌, ◌+◌, ◌^◌, ◌≤◌, ◌<◌, false, [], length, IfOk, IfErr, IfSome};
+ghost use Rattle.std.specs.Io.KnownBytes.{Consumes, IsAtEnd, Keeps};
+ghost use Rattle.zone_name.specs.Common.{Octets};
+ghost use Rattle.zonenorm.specs.Input.{InputForm, input_of, IsForm};
+ghost use Rattle.zonenorm.specs.Machine.Taking.{Begins, ReadsZoneWithin};
+ghost use Rattle.zonenorm.specs.Machine.Stops.{IsOfReading, IsOfPiece};
+ghost use Rattle.zonenorm.specs.Normalise.{IsOfBytes};
+ghost use Rattle.zonenorm.specs.Refusal.{IfRefused, IsRefusalWithin};
 
+use crate::fed::FedSource;
+use crate::taking::Taking;
 use std::alloc::{AllocError, Global};
 use std::io::Read;
 use zone_rdata::{Fault, Place, Stop};
+use zone_set::Zone;
 
 /// How many octets one read asks for at most.
 const PIECE: usize = 65_536;
 
-/// All octets that the reader gives, up to its end.
+/// The zone of what the reader gives up to its end, which is fed to a source in pieces. Behind a fault it reads on, since
+/// an input that is too long is refused for that.
 ///
 /// # Errors
 ///
-/// `Read` where the reader answers an error, an interruption too; `InputTooLong` at the input as a whole where it
-/// gives more than `limit` octets, of which `limit + 1` are read; `Memory`.
-pub fn read_input<R: Read>(alloc: Global, reader: &mut R, limit: u64) -> Result<Vec<u8>, Stop>
-    ensures octets { IfOk result (λ octets. IfSome (R.remaining reader.old) (λ all. octets.items ≡ all)) }
-    ensures short { IfOk result (λ octets. length octets.items ≤ limit) }
-    ensures stopped { IfErr result (StopsReading limit (R.remaining reader.old)) }
+/// `Read` where the reader answers an error, an interruption too; `Refused` with `InputTooLong` where it gives more than
+/// `limit` octets, of which `limit + 1` are read, and else with the refusal of the input, but for the length of its
+/// canonical text; `Memory`.
+pub(crate) fn read_zone<S: FedSource, R: Read>(
+    alloc: Global,
+    source: &mut S,
+    reader: &mut R,
+    limit: u64,
+) -> Result<Zone, Stop>
+    requires limit { limit + 2 < 2 ^ 64 }
+    requires open { S.finished (S.held source.old) ≡ false }
+    requires unfed { S.fed (S.held source.old) ≡ 0 }
+    ensures zone { IfOk result (λ z. (form : InputForm) → Begins (S.Stands form) (S.pending source.old) (S.held source.old)
+        → IfSome (R.remaining reader.old) (λ octets. ReadsZoneWithin limit (input_of form octets) z)) }
+    ensures fault { IfErr result (λ stop. (form : InputForm) → IsForm form
+        → Begins (S.Stands form) (S.pending source.old) (S.held source.old)
+        → IfSome (R.remaining reader.old) (λ octets. IfRefused stop (IsRefusalWithin limit (input_of form octets)))) }
+    ensures stopped { IfErr result IsOfReading }
+    ensures few { (given : Octets) × (length given ≤ limit + 1) × Consumes (R.remaining reader.old) (R.remaining reader.new) given }
 {
     let mut piece = zeros(alloc, PIECE)?;
-    read_in_pieces(alloc, reader, &mut piece, limit)
+    read_in_pieces(alloc, source, reader, &mut piece, limit)
+}
+
+/// The zone of these octets, which are fed to a source in pieces.
+///
+/// # Errors
+///
+/// `Refused` with `InputTooLong` where there are more than `limit` octets, and else with the refusal of the input, but for
+/// the length of its canonical text; `Memory`.
+pub(crate) fn zone_of_octets<S: FedSource>(
+    alloc: Global,
+    source: &mut S,
+    octets: &[u8],
+    limit: u64,
+) -> Result<Zone, Stop>
+    requires limit { limit + 2 < 2 ^ 64 }
+    requires open { S.finished (S.held source.old) ≡ false }
+    requires unfed { S.fed (S.held source.old) ≡ 0 }
+    ensures zone { IfOk result (λ z. (form : InputForm) → Begins (S.Stands form) (S.pending source.old) (S.held source.old)
+        → ReadsZoneWithin limit (input_of form octets.now) z) }
+    ensures fault { IfErr result (λ stop. (form : InputForm) → IsForm form
+        → Begins (S.Stands form) (S.pending source.old) (S.held source.old)
+        → IfRefused stop (IsRefusalWithin limit (input_of form octets.now))) }
+    ensures stopped { IfErr result IsOfBytes }
+{
+    if octets.len() as u64 > limit {
+        return Err(Stop::Refused(Fault::InputTooLong, Place::Whole));
+    }
+    let mut taking = Taking::new(alloc);
+    for piece in octets.chunks(PIECE) {
+        taking.take(source, piece)?;
+    }
+    taking.finish(source)
 }
 
 /// So many octets 0. The length is a parameter, so that no proof counts up to it.
@@ -31,47 +85,53 @@ fn zeros(alloc: Global, len: usize) -> Result<Vec<u8>, AllocError>
     vec![in alloc; 0u8; len]
 }
 
-/// What `read_input` answers, by reads into `piece`.
-fn read_in_pieces<R: Read>(
+/// What `read_zone` answers, by reads into `piece`.
+fn read_in_pieces<S: FedSource, R: Read>(
     alloc: Global,
+    source: &mut S,
     reader: &mut R,
     piece: &mut [u8],
     limit: u64,
-) -> Result<Vec<u8>, Stop>
-    requires { 0 < length piece.old }
-    ensures octets { IfOk result (λ octets. IfSome (R.remaining reader.old) (λ all. octets.items ≡ all)) }
-    ensures short { IfOk result (λ octets. length octets.items ≤ limit) }
-    ensures stopped { IfErr result (StopsReading limit (R.remaining reader.old)) }
+) -> Result<Zone, Stop>
+    requires limit { limit + 2 < 2 ^ 64 }
+    requires open { S.finished (S.held source.old) ≡ false }
+    requires unfed { S.fed (S.held source.old) ≡ 0 }
+    requires room { 0 < length piece.old }
+    ensures zone { IfOk result (λ z. (form : InputForm) → Begins (S.Stands form) (S.pending source.old) (S.held source.old)
+        → IfSome (R.remaining reader.old) (λ octets. ReadsZoneWithin limit (input_of form octets) z)) }
+    ensures fault { IfErr result (λ stop. (form : InputForm) → IsForm form
+        → Begins (S.Stands form) (S.pending source.old) (S.held source.old)
+        → IfSome (R.remaining reader.old) (λ octets. IfRefused stop (IsRefusalWithin limit (input_of form octets)))) }
+    ensures stopped { IfErr result IsOfReading }
+    ensures few { (given : Octets) × (length given ≤ limit + 1) × Consumes (R.remaining reader.old) (R.remaining reader.new) given }
 {
-    let mut octets = Vec::new(alloc);
-    while octets.len() as u64 <= limit {
-        let others = (limit - octets.len() as u64).min(piece.len() as u64 - 1) as usize;
-        if read_piece(reader, &mut piece[..others + 1], &mut octets)? == 0 {
-            return Ok(octets);
+    let mut taking = Taking::new(alloc);
+    let mut count = 0;
+    while count <= limit {
+        let others = (limit - count).min(piece.len() as u64 - 1) as usize;
+        let given = read_piece(reader, &mut piece[..others + 1])?;
+        if given.is_empty() {
+            return taking.finish(source);
         }
+        taking.take(source, given)?;
+        count += given.len() as u64;
     }
     Err(Stop::Refused(Fault::InputTooLong, Place::Whole))
 }
 
-/// Adds what one read into `piece` gives to `octets`, and answers how many octets that is: none at the end alone.
+/// What one read into `piece` gives: nothing at the end alone.
 ///
 /// # Errors
 ///
-/// `Read` where the reader answers an error, and `Memory`.
-fn read_piece<R: Read>(
-    reader: &mut R,
-    piece: &mut [u8],
-    octets: &mut Vec<u8>,
-) -> Result<usize, Stop>
+/// `Read` where the reader answers an error.
+fn read_piece<'p, R: Read>(reader: &mut R, piece: &'p mut [u8]) -> Result<&'p [u8], Stop>
     requires { 0 < length piece.old }
-    ensures grown { IfOk result (λ n. length octets.new.items ≡ length octets.old.items + n) }
-    ensures few { IfOk result (λ n. n ≤ length piece.old) }
-    ensures taken { IfOk result (λ _. (given : List ℕ) × (octets.new.items ≡ octets.old.items ++ given)
-        × Consumes (R.remaining reader.old) (R.remaining reader.new) given) }
-    ensures end { IfOk result (λ n. n ≡ 0 → IsAtEnd (R.remaining reader.new)) }
-    ensures stopped { IfErr result StopsPiece }
+    ensures taken { IfOk result (λ given. Consumes (R.remaining reader.old) (R.remaining reader.new) given.now) }
+    ensures few { IfOk result (λ given. length given.now ≤ length piece.old) }
+    ensures end { IfOk result (λ given. given.now ≡ [] → IsAtEnd (R.remaining reader.new)) }
+    ensures stopped { IfErr result IsOfPiece }
+    ensures kept { IfErr result (λ _. Keeps (R.remaining reader.old) (R.remaining reader.new)) }
 {
     let count = reader.read(piece).map_err(|_| Stop::Read)?;
-    octets.extend_from_slice(&piece[..count])?;
-    Ok(count)
+    Ok(&piece[..count])
 }

@@ -1,14 +1,15 @@
 //! Laws of inputs over the definitions alone. The functions only call other laws: their contracts are the laws.
-ghost use Rattle.std.specs.Prelude.{◌≡◌, ◌⊎◌, List, Option, Some, None};
+ghost use Rattle.std.specs.Prelude.{◌≡◌, ◌<◌, ◌++◌, ◌⊎◌, List, Option, Some, None};
 ghost use Rattle.std.specs.List.{AllByRecursion};
-ghost use Rattle.zone_name.specs.Common.{AtMostOneIs, NothingIs};
+ghost use Rattle.zone_name.specs.Common.{AtMostOneIs, NothingIs, Octets};
 ghost use Rattle.zone_rdata.specs.Record.{IsRecord};
 ghost use Rattle.zone_rdata.specs.declared.fault.Fault.{Fault};
 ghost use Rattle.zone_rdata.specs.declared.fault.Place.{Place};
 ghost use Rattle.zone_rdata.specs.declared.record.Placed.{Placed};
 ghost use Rattle.zone_set.specs.Refusal.{records_of};
 ghost use Rattle.zone_set.specs.Zone.{Zone};
-ghost use Rattle.zonenorm.specs.Input.{Input, InputDenotes, IsInput};
+ghost use Rattle.zonenorm.specs.Input.{Decides, Input, InputDenotes, InputForm, input_of, IsForm, IsInput, Reads, States};
+ghost use Rattle.zonenorm.specs.Machine.Taking.{RefusesFront, RefusesRead};
 ghost use Rattle.zonenorm.specs.Refusal.{IsRefusal, MakesZone, RefusesReading};
 
 /// A reading is refused for at most one fault, at one place.
@@ -80,5 +81,26 @@ pub fn refusal_or_zone()
     zone_text::laws::file::a_file_states_what_is_read();
     zone_wire::laws::each_stream_is_read();
     zone_wire::laws::what_is_read_is_records();
+    zone_wire::laws::a_transfer_is_read();
+}
+
+/// What refuses a front of an input refuses the input.
+pub(crate) fn what_is_decided_refuses()
+    ensures { (form : InputForm) (octets front more : Octets) (placed : List Placed) (ending : Option (Fault × Place)) (fault : Fault) (place : Place)
+        → IsForm form → AllByRecursion (λ c. c < 256) octets → octets ≡ front ++ more
+        → Decides (input_of form front) placed ending → RefusesFront placed ending fault place
+        → RefusesRead (input_of form octets) fault place }
+{
+    zone_text::laws::file::a_file_has_a_reading();
+    zone_text::laws::file::what_is_decided_stays();
+    zone_wire::laws::each_stream_is_read();
+    zone_wire::laws::what_is_decided_is_read();
+}
+
+/// What an input of octets is read as, without a fault, it states.
+pub fn what_is_read_is_stated()
+    ensures { (input : Input) (placed : List Placed) → IsInput input → Reads input placed None → States input placed }
+{
+    zone_text::laws::file::a_file_states_what_is_read();
     zone_wire::laws::a_transfer_is_read();
 }

@@ -4,11 +4,13 @@
 mod engine;
 pub mod examples;
 mod explain;
+mod fed;
 mod form;
 mod input;
 pub mod laws;
 mod order;
 mod run;
+mod taking;
 
 pub use engine::{normalise, normalise_bytes};
 pub use explain::explain_line;

@@ -1,6 +1,6 @@
 ghost use Rattle.std.specs.Prelude.{◌≡◌, ◌⊎◌};
-ghost use Rattle.zonenorm.specs.Form.{origin_of};
-ghost use Rattle.zonenorm.specs.Order.{order_origin, line_status, status_of, Runs};
+ghost use Rattle.zonenorm.specs.Form.{form_of};
+ghost use Rattle.zonenorm.specs.Order.{order_form, line_status, status_of, Runs};
 
 use crate::engine::normalise;
 use crate::explain::{OUT_OF_MEMORY, explain_line};
@@ -21,7 +21,7 @@ pub fn run<R: Read, W: Write, E: Write>(
     output: &mut W,
     errors: &mut E,
 ) -> u8
-    ensures { Runs (order_origin order.now) (R.remaining input.old) (W.contents output.old) (W.contents output.new)
+    ensures { Runs (order_form order.now) (R.remaining input.old) (W.contents output.old) (W.contents output.new)
         (E.contents errors.old) (E.contents errors.new) result }
 {
     match order {
@@ -37,7 +37,7 @@ fn run_normalise<R: Read, W: Write, E: Write>(
     output: &mut W,
     errors: &mut E,
 ) -> u8
-    ensures { Runs (origin_of form.entry) (R.remaining input.old) (W.contents output.old) (W.contents output.new)
+    ensures { Runs (form_of form.entry) (R.remaining input.old) (W.contents output.old) (W.contents output.new)
         (E.contents errors.old) (E.contents errors.new) result }
 {
     match normalise(alloc, form, input, output) {

@@ -1,21 +1,75 @@
-use Rattle.std.proofs.Common.{rules, refl}
-use Rattle.zonenorm.proofs.Known.{consumes_nothing, consumes_both, consumes_long}
+use Rattle.std.proofs.Common.{rules, refl, sym, ◌∙◌, ◌≡◌, ◌≤◌, ◌+◌, ◌++◌, [], length, length-append, ap, arith}
+use Rattle.std.proofs.lemmas.Result.{MatchResult-weaker}
+use Rattle.zonenorm.specs.Input.{input_of}
+use Rattle.zonenorm.specs.Machine.Taking.{ReadsZoneWithin}
+use Rattle.zonenorm.specs.Refusal.{IfRefused, IsRefusalWithin}
+use Rattle.zonenorm.proofs.Feeding.{begun, within, refused_within, all_given, too_many, nothing_consumed, consumed_both, consumed_none, each_joined, of_reading, if_none, no_octets}
 use Rattle.zonenorm.proofs.input.read_in_pieces.Goals as goal
 
-pub loop-octets-init : goal.loop-octets-init
-loop-octets-init g c = record {
-  taken = consumes_nothing _ _ c.new-octets.ensures.items;
-  few = search rules;
+pub loop-count-init : goal.loop-count-init
+loop-count-init g c = record {
+  fed = record {
+    given = [];
+    consumed = nothing_consumed _;
+    counted = refl;
+    each = tt;
+    few = search rules;
+    fed_few = rw c.requires.unfed (search rules);
+    taken = λ form begins. begun g.S.FedSource.Stands form _ _ _ _ c.new-taking.ensures.holds c.new-taking.ensures.refuses begins;
+  };
+  going = c.requires.«open»;
 }
 
-pub loop-octets-preserved : goal.loop-octets-preserved
-loop-octets-preserved g c =
-    let piece = c.in_ok-read_piece.ensures.taken in
+pub returns-then-is_empty-clause-zone : goal.returns-then-is_empty-clause-zone
+returns-then-is_empty-clause-zone g c =
+    let fed = c.loop-count.invariant.fed in
+    let nothing = no_octets _ (sym c.is_empty.ensures ∙ c.if-is_empty.true) in
+    let short : length fed.given ≤ c.args.limit = rw fed.counted (omega arith) in
+    MatchResult-weaker c.finish.result c.finish.ensures.zone (λ z reads form begins.
+    all_given (λ octets. ReadsZoneWithin c.args.limit (input_of form octets) z) _ _ fed.given (consumed_none _ _ _ _ _ fed.consumed c.in_ok-given.ensures.taken nothing) (c.in_ok-given.ensures.end nothing)
+    (within c.args.limit form fed.given z short (reads form fed.given (fed.taken form begins)))) (λ stop h. h)
+
+pub returns-then-is_empty-clause-fault : goal.returns-then-is_empty-clause-fault
+returns-then-is_empty-clause-fault g c =
+    let fed = c.loop-count.invariant.fed in
+    let nothing = no_octets _ (sym c.is_empty.ensures ∙ c.if-is_empty.true) in
+    let short : length fed.given ≤ c.args.limit = rw fed.counted (omega arith) in
+    MatchResult-weaker c.finish.result c.finish.ensures.fault (λ z h. h) (λ stop refuses form is begins.
+    all_given (λ octets. IfRefused stop (IsRefusalWithin c.args.limit (input_of form octets))) _ _ fed.given (consumed_none _ _ _ _ _ fed.consumed c.in_ok-given.ensures.taken nothing) (c.in_ok-given.ensures.end nothing)
+    (refused_within c.args.limit form fed.given stop short (refuses form fed.given is fed.each (fed.taken form begins))))
+
+pub returns-then-is_empty-clause-stopped : goal.returns-then-is_empty-clause-stopped
+returns-then-is_empty-clause-stopped g c = MatchResult-weaker c.finish.result c.finish.ensures.stopped (λ z h. h) of_reading
+
+pub returns-then-is_empty-clause-few : goal.returns-then-is_empty-clause-few
+returns-then-is_empty-clause-few g c =
+    let fed = c.loop-count.invariant.fed in
+    let nothing = no_octets _ (sym c.is_empty.ensures ∙ c.if-is_empty.true) in
+    (fed.given, rw fed.counted fed.few, consumed_none _ _ _ _ _ fed.consumed c.in_ok-given.ensures.taken nothing)
+
+pub returns-in_err-take-clause-few : goal.returns-in_err-take-clause-few
+returns-in_err-take-clause-few g c =
+    let fed = c.loop-count.invariant.fed in
+    let more : c.loop-count.count + length c.in_ok-given.given.now ≤ c.args.limit + 1 = search rules in
+    (fed.given ++ c.in_ok-given.given.now, rw length-append (rw fed.counted more), consumed_both _ _ _ _ _ fed.consumed c.in_ok-given.ensures.taken)
+
+pub loop-count-preserved : goal.loop-count-preserved
+loop-count-preserved g c =
+    let fed = c.loop-count.invariant.fed in
     record {
-      taken = consumes_both _ _ _ _ _ _ c.loop-octets.invariant.taken piece.1 piece.2;
-      few = search rules;
+      fed = record {
+        given = fed.given ++ c.in_ok-given.given.now;
+        consumed = consumed_both _ _ _ _ _ fed.consumed c.in_ok-given.ensures.taken;
+        counted = rw length-append (rw fed.counted refl);
+        each = each_joined fed.given c.in_ok-given.given.now fed.each c.take.ensures.octets;
+        few = search rules;
+        fed_few = search (rules, c.take.ensures.fed, fed.fed_few);
+        taken = λ form begins. c.in_ok-take.ensures.taken form fed.given (fed.taken form begins);
+      };
+      going = c.in_ok-take.ensures.«open»;
     }
 
-pub returns-clause-stopped : goal.returns-clause-stopped
-returns-clause-stopped g c =
-    (refl, refl, consumes_long _ _ _ _ c.loop-octets.invariant.taken (search rules))
+pub returns-clause-fault : goal.returns-clause-fault
+returns-clause-fault g c = λ form is begins.
+    let fed = c.loop-count.invariant.fed in
+    too_many c.args.limit form _ _ fed.given fed.consumed (rw fed.counted (omega arith))

@@ -1,16 +1,18 @@
-use Rattle.std.proofs.Common.{◌≤◌, ◌+◌, ◌-◌, length}
-use Rattle.std.specs.Io.KnownBytes.{Consumes}
+use Rattle.std.proofs.Common.{◌≡◌, ◌-◌, ◌+◌, false}
+use Rattle.zonenorm.specs.Machine.Taking.{Begins, IsTaken}
+use Rattle.zonenorm.proofs.Feeding.{HasFed}
 use Rattle.zonenorm.proofs.input.read_in_pieces.Given as goal
 
--- what was taken so far is held, and is at most one octet over the limit
-abbrev pub invariant-loop-octets : goal.invariant-loop-octets
-invariant-loop-octets g l =
+-- what the reader gave so far was taken, and is at most one octet over the limit
+abbrev pub invariant-loop-count : goal.invariant-loop-count
+invariant-loop-count g l =
     let remaining = g.R.Read.remaining in
+    let source = l.initial.source in
     record {
-      taken : Consumes (remaining l.initial.reader) (remaining l.reader) l.octets.items;
-      few : length l.octets.items ≤ l.limit + 1;
+      fed : HasFed (λ form. Begins (g.S.FedSource.Stands form) (g.S.RrSource.pending source) (g.S.FedSource.held source)) (λ form octets. IsTaken (g.S.FedSource.Stands form (g.S.RrSource.pending l.source) (g.S.FedSource.held l.source)) form (g.S.RrSource.pending l.source) l.taking.builder l.taking.refusal octets) (remaining l.initial.reader) (remaining l.reader) l.count (g.S.FedSource.fed (g.S.FedSource.held l.source)) l.limit;
+      going : g.S.FedSource.finished (g.S.FedSource.held l.source) ≡ false;
     }
 
 -- the octets that may still come
-abbrev pub decreases-loop-octets : goal.decreases-loop-octets
-decreases-loop-octets g l = l.limit + 1 - length l.octets.items
+abbrev pub decreases-loop-count : goal.decreases-loop-count
+decreases-loop-count g l = l.limit + 1 - l.count

@@ -1,0 +1,132 @@
+-- From what was taken of the octets that a reader gave to what the reader's octets are read as.
+use Rattle.std.proofs.Common.{◌≡◌, ℕ, suc, ◌<◌, ◌≤◌, ◌+◌, Bool, true, false, List, [], ◌∷◌, ◌++◌, length, length-append, refl, sym, ap, ◌∙◌, subst, append-nil, append_assoc, arith, eqb-true}
+use Rattle.std.specs.Prelude.{◌==◌, get_or, Option, Some, None, IfSome, Result, Ok, Err, IfOk, IfErr}
+use Rattle.std.specs.Io.KnownBytes.{Consumes, IsAtEnd, Keeps}
+use Rattle.std.specs.List.{AllByRecursion}
+use Rattle.zone_name.specs.Common.{Octets}
+use Rattle.zone_rdata.specs.Record.{Record}
+use Rattle.zone_rdata.specs.Source.{Pending}
+use Rattle.zone_rdata.specs.declared.fault.Fault.{Fault}
+use Rattle.zone_rdata.specs.declared.fault.Fault.TheVariants.{InputTooLong}
+use Rattle.zone_rdata.specs.declared.fault.Place.{Place}
+use Rattle.zone_rdata.specs.declared.fault.Place.TheVariants.{Whole}
+use Rattle.zone_rdata.specs.declared.fault.Stop.{Stop}
+use Rattle.zone_rdata.specs.declared.fault.Stop.TheVariants.{Refused, Read, Write, Memory}
+use Rattle.zone_rdata.specs.declared.record.Placed.{Placed}
+use Rattle.zone_set.specs.Builder.{StopsTaking, failure, memory, refused, ending, StopsFinish, no_soa, outside}
+use Rattle.zone_set.specs.Zone.{Zone}
+use Rattle.zonenorm.specs.Input.{InputForm, as_file, as_transfer, Input, input_of, octets_of}
+use Rattle.zonenorm.specs.Machine.Taking.{IsTaken, all_taken, Begins, ReadsZone, ReadsZoneWithin, RefusesRead}
+use Rattle.zonenorm.specs.Machine.Stops.{IsOfReading}
+use Rattle.zonenorm.specs.Normalise.{IsOfBytes}
+use Rattle.zonenorm.specs.Refusal.{IfRefused, IsRefusalWithin, too_long, reading}
+
+pub octets_of_input : (form : InputForm) (octets : Octets) → octets_of (input_of form octets) ≡ octets
+octets_of_input (as_file origin) octets = refl
+octets_of_input as_transfer octets = refl
+
+-- ---- octets that fit
+
+pub each_octet : (octets : Octets) → ((i : ℕ) → get_or octets i 0 < 256) → AllByRecursion (λ c. c < 256) octets
+each_octet [] fit = tt
+each_octet (c ∷ octets) fit = (fit 0, each_octet octets (λ i. fit (suc i)))
+
+pub each_joined : (octets more : Octets) → AllByRecursion (λ c. c < 256) octets → AllByRecursion (λ c. c < 256) more → AllByRecursion (λ c. c < 256) (octets ++ more)
+each_joined [] more each others = others
+each_joined (c ∷ octets) more each others = (each.0, each_joined octets more each.1 others)
+
+-- ---- what is read
+
+pub within : (limit : ℕ) (form : InputForm) (octets : Octets) (z : Zone) → length octets ≤ limit → ReadsZone (input_of form octets) z → ReadsZoneWithin limit (input_of form octets) z
+within limit form octets z short reads = record { short = subst (λ os. length os ≤ limit) (sym (octets_of_input form octets)) short; reads = reads }
+
+pub refused_within : (limit : ℕ) (form : InputForm) (octets : Octets) (stop : Stop) → length octets ≤ limit → IfRefused stop (RefusesRead (input_of form octets)) → IfRefused stop (IsRefusalWithin limit (input_of form octets))
+refused_within limit form octets (Refused fault place) short refuses = reading refuses.placed refuses.ending fault place (subst (λ os. length os ≤ limit) (sym (octets_of_input form octets)) short) refuses.reads refuses.refuses
+refused_within limit form octets Read short refuses = tt
+refused_within limit form octets Write short refuses = tt
+refused_within limit form octets Memory short refuses = tt
+
+pub refused_over : (limit : ℕ) (form : InputForm) (octets : Octets) → limit < length octets → IsRefusalWithin limit (input_of form octets) InputTooLong Whole
+refused_over limit form octets long = too_long (subst (λ os. limit < length os) (sym (octets_of_input form octets)) long)
+
+-- ---- a reader that was read to its end gave all its octets
+
+pub all_given : (P : Octets → Type 0) (old new : Option Octets) (given : Octets) → Consumes old new given → IsAtEnd new → P given → IfSome old P
+all_given P None new given consumed end holds = tt
+all_given P (Some all) None given consumed end holds = absurd consumed
+all_given P (Some all) (Some rest) given consumed end holds = subst P (sym (consumed ∙ ap (λ os. given ++ os) end ∙ append-nil given)) holds
+
+-- and one that gave too many has too many
+pub too_many : (limit : ℕ) (form : InputForm) (old new : Option Octets) (given : Octets) → Consumes old new given → limit < length given → IfSome old (λ octets. IsRefusalWithin limit (input_of form octets) InputTooLong Whole)
+too_many limit form None new given consumed long = tt
+too_many limit form (Some all) None given consumed long = absurd consumed
+too_many limit form (Some all) (Some rest) given consumed long =
+    refused_over limit form all (subst (λ os. limit < length os) (sym consumed) (rw length-append (omega arith)))
+
+pub if_some : (P Q : Octets → Type 0) (known : Option Octets) → ((octets : Octets) → P octets → Q octets) → IfSome known P → IfSome known Q
+if_some P Q None imply holds = tt
+if_some P Q (Some octets) imply holds = imply octets holds
+
+pub if_none : (P : Octets → Type 0) (known : Option Octets) → ((octets : Octets) → P octets) → IfSome known P
+if_none P None holds = tt
+if_none P (Some octets) holds = holds octets
+
+-- what a source begins with is taken of no octets
+pub begun : {Held : Type 0} (Stands : InputForm → Pending → Held → Octets → List Placed → Type 0) (form : InputForm) (pending : Pending) (inside : Held) (held : List Record) (refusal : Option (Fault × Place)) → held ≡ [] → refusal ≡ None → Begins (Stands form) pending inside → IsTaken (Stands form pending inside) form pending held refusal []
+begun Stands form pending inside held refusal none unrefused begins = all_taken [] unrefused begins.stands begins.nothing none
+
+-- ---- what was read so far
+
+-- The octets that the reader gave, and what was taken of them for each form under which the source began with nothing
+pub record HasFed (Began : InputForm → Type 0) (Taken : InputForm → Octets → Type 0) (old new : Option Octets) (count fed limit : ℕ) : Type 0 where
+  pub given : Octets
+  pub consumed : Consumes old new given
+  pub counted : length given ≡ count
+  pub each : AllByRecursion (λ c. c < 256) given
+  pub few : count ≤ limit + 1
+  pub fed_few : fed ≤ count
+  pub taken : (form : InputForm) → Began form → Taken form given
+
+pub nothing_consumed : (known : Option Octets) → Consumes known known []
+nothing_consumed None = tt
+nothing_consumed (Some octets) = refl
+
+pub consumed_both : (a b c : Option Octets) (given more : Octets) → Consumes a b given → Consumes b c more → Consumes a c (given ++ more)
+consumed_both None b c given more first next = tt
+consumed_both (Some p) None c given more first next = absurd first
+consumed_both (Some p) (Some q) None given more first next = absurd next
+consumed_both (Some p) (Some q) (Some r) given more first next = first ∙ ap (λ os. given ++ os) next ∙ sym (append_assoc given more r)
+
+pub consumed_kept : (a b c : Option Octets) (given : Octets) → Consumes a b given → Keeps b c → Consumes a c given
+consumed_kept None b c given first kept = tt
+consumed_kept (Some p) None c given first kept = absurd first
+consumed_kept (Some p) (Some q) None given first kept = absurd kept
+consumed_kept (Some p) (Some q) (Some r) given first kept = first ∙ ap (λ os. given ++ os) (sym kept)
+
+pub consumed_none : (a b c : Option Octets) (given more : Octets) → Consumes a b given → Consumes b c more → more ≡ [] → Consumes a c given
+consumed_none a b c given more first next none = subst (Consumes a c) (ap (λ os. given ++ os) none ∙ append-nil given) (consumed_both a b c given more first next)
+
+-- ---- stops
+
+pub of_reading : (stop : Stop) → IsOfBytes stop → IsOfReading stop
+of_reading (Refused fault place) is = tt
+of_reading Read is = tt
+of_reading Write is = is
+of_reading Memory is = tt
+
+pub memory_of_bytes : (stop : Stop) → stop ≡ Memory → IsOfBytes stop
+memory_of_bytes stop is = subst IsOfBytes (sym is) tt
+
+pub taking_of_bytes : (old new : List Record) (pending rest : Pending) (stop : Stop) → StopsTaking old pending new rest stop → IsOfBytes stop
+taking_of_bytes old new pending rest _ (failure fails same kept) = tt
+taking_of_bytes old new pending rest _ (memory taken others p works parts more left) = tt
+taking_of_bytes old new pending rest _ (refused taken others p f works parts more left why) = tt
+taking_of_bytes old new pending rest _ (ending e works is more left) = tt
+
+pub finishing_of_bytes : (held : List Record) (stop : Stop) → StopsFinish held stop → IsOfBytes stop
+finishing_of_bytes held _ (no_soa without) = tt
+finishing_of_bytes held _ (outside owner least) = tt
+
+pub no_octets : (octets : Octets) → (length octets == 0) ≡ true → octets ≡ []
+no_octets [] none = refl
+no_octets (c ∷ octets) none = absurd (omega (arith, eqb-true (length (c ∷ octets)) 0 none))

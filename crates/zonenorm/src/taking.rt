@@ -1,0 +1,101 @@
+ghost use Rattle.std.specs.Prelude.{◌≡◌, ◌+◌, ◌^◌, ◌<◌, ◌≤◌, ◌++◌, ℕ, false, [], None, length, IfOk, IfErr, OnOk};
+ghost use Rattle.std.specs.List.{AllByRecursion};
+ghost use Rattle.zone_name.specs.Common.{Octets};
+ghost use Rattle.zone_rdata.specs.declared.fault.Stop.TheVariants.{Memory};
+ghost use Rattle.zonenorm.specs.Input.{InputForm, input_of, IsForm};
+ghost use Rattle.zonenorm.specs.Machine.Taking.{IsTaken, ReadsZone, RefusesRead};
+ghost use Rattle.zonenorm.specs.Normalise.{IsOfBytes};
+ghost use Rattle.zonenorm.specs.Refusal.{IfRefused};
+
+use crate::fed::FedSource;
+use crate::laws::what_is_decided_refuses;
+use std::alloc::Global;
+use zone_rdata::{Fault, Place, Stop};
+use zone_set::{Zone, ZoneBuilder};
+
+/// What was taken of an input that is fed.
+#[derive(Drop)]
+pub(crate) struct Taking {
+    /// The records before the first refusal.
+    builder: ZoneBuilder,
+    /// Why the input is refused, and where, if that is decided.
+    refusal: Option<(Fault, Place)>,
+}
+
+impl Taking {
+    /// Nothing was taken.
+    pub(crate) fn new(alloc: Global) -> Taking
+        ensures holds { result.builder ≡ [] }
+        ensures refuses { result.refusal ≡ None }
+    {
+        Taking {
+            builder: ZoneBuilder::new(alloc),
+            refusal: None,
+        }
+    }
+
+    /// Feeds a piece to the source, and takes the records that it decides. Behind a refusal it does nothing.
+    ///
+    /// # Errors
+    ///
+    /// `Memory`.
+    pub(crate) fn take<S: FedSource>(&mut self, source: &mut S, piece: &[u8]) -> Result<(), Stop>
+        requires open { S.finished (S.held source.old) ≡ false }
+        requires fits { S.fed (S.held source.old) + length piece.now + 1 < 2 ^ 64 }
+        ensures taken { OnOk result ((form : InputForm) (octets : Octets)
+            → IsTaken (S.Stands form (S.pending source.old) (S.held source.old)) form (S.pending source.old)
+                self.old.builder self.old.refusal octets
+            → IsTaken (S.Stands form (S.pending source.new) (S.held source.new)) form (S.pending source.new)
+                self.new.builder self.new.refusal (octets ++ piece.now)) }
+        ensures open { S.finished (S.held source.new) ≡ false }
+        ensures fed { S.fed (S.held source.new) ≤ S.fed (S.held source.old) + length piece.now }
+        ensures stopped { IfErr result (λ stop. stop ≡ Memory) }
+        ensures octets { AllByRecursion (λ c. c < 256) piece.now }
+    {
+        if self.refusal.is_some() {
+            return Ok(());
+        }
+        source.feed(piece)?;
+        match self.builder.take_all(source) {
+            Ok(()) => Ok(()),
+            Err(Stop::Refused(fault, place)) => {
+                self.refusal = Some((fault, place));
+                Ok(())
+            }
+            Err(stop) => Err(stop),
+        }
+    }
+
+    /// Ends the source, and makes the zone of all records.
+    ///
+    /// # Errors
+    ///
+    /// `Refused` with the refusal of the input, but for its length and that of its canonical text; `Memory`.
+    pub(crate) fn finish<S: FedSource>(self, source: &mut S) -> Result<Zone, Stop>
+        requires open { S.finished (S.held source.old) ≡ false }
+        ensures zone { IfOk result (λ z. (form : InputForm) (octets : Octets)
+            → IsTaken (S.Stands form (S.pending source.old) (S.held source.old)) form (S.pending source.old)
+                self.builder self.refusal octets
+            → ReadsZone (input_of form octets) z) }
+        ensures fault { IfErr result (λ stop. (form : InputForm) (octets : Octets)
+            → IsForm form → AllByRecursion (λ c. c < 256) octets
+            → IsTaken (S.Stands form (S.pending source.old) (S.held source.old)) form (S.pending source.old)
+                self.builder self.refusal octets
+            → IfRefused stop (RefusesRead (input_of form octets))) }
+        ensures stopped { IfErr result IsOfBytes }
+    {
+        let Taking {
+            mut builder,
+            refusal,
+        } = self;
+        what_is_decided_refuses();
+        match refusal {
+            Some((fault, place)) => Err(Stop::Refused(fault, place)),
+            None => {
+                source.finish()?;
+                builder.take_all(source)?;
+                builder.finish()
+            }
+        }
+    }
+}
