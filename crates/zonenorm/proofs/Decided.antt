@@ -75,7 +75,7 @@ module _ (files : FilesAreRead) (files_go : FilesGoOn) (streams : StreamsAreRead
         ending = last;
         reads = reads;
         refuses = refuses_on placed later ending last fault place
-          (records_go front more placed later ending last decides reads, λ e is. let same = faults front more placed later e last (subst (stream_decides.Decided front placed) is decides) reads in (same.0, same.1 ∙ sym is)) refuses;
+            (records_go front more placed later ending last decides reads, λ e is. let same = faults front more placed later e last (subst (stream_decides.Decided front placed) is decides) reads in (same.0, same.1 ∙ sym is)) refuses;
       }
 
   pub refused_by_front : (form : InputForm) (octets front more : List ℕ) (placed : List Placed) (ending : Ending) (fault : Fault) (place : Place) → IsForm form → AllByRecursion (λ c. c < 256) octets → octets ≡ front ++ more → Decides (input_of form front) placed ending → RefusesFront placed ending fault place → RefusesRead (input_of form octets) fault place

@@ -1,5 +1,6 @@
 -- From what was taken of the octets that a reader gave to what the reader's octets are read as.
-use Rattle.std.proofs.Common.{◌≡◌, ℕ, suc, ◌<◌, ◌≤◌, ◌+◌, Bool, true, false, List, [], ◌∷◌, ◌++◌, length, length-append, refl, sym, ap, ◌∙◌, subst, append-nil, append_assoc, arith, eqb-true}
+use Rattle.std.proofs.Common.{◌≡◌, ℕ, suc, ◌<◌, ◌≤◌, ◌+◌, ◌-◌, Bool, true, false, List, [], ◌∷◌, ◌++◌, length, length-append, take, drop, refl, sym, ap, ◌∙◌, subst, append-nil, append_assoc, arith, eqb-true}
+use Rattle.std.proofs.lemmas.List.{take-append-drop}
 use Rattle.std.specs.Prelude.{◌==◌, get_or, Option, Some, None, IfSome, Result, Ok, Err, IfOk, IfErr}
 use Rattle.std.specs.Io.KnownBytes.{Consumes, IsAtEnd, Keeps}
 use Rattle.std.specs.List.{AllByRecursion}
@@ -15,7 +16,7 @@ use Rattle.zone_rdata.specs.declared.fault.Stop.TheVariants.{Refused, Read, Writ
 use Rattle.zone_rdata.specs.declared.record.Placed.{Placed}
 use Rattle.zone_set.specs.Builder.{StopsTaking, failure, memory, refused, ending, StopsFinish, no_soa, outside}
 use Rattle.zone_set.specs.Zone.{Zone}
-use Rattle.zonenorm.specs.Input.{InputForm, as_file, as_transfer, Input, input_of, octets_of}
+use Rattle.zonenorm.specs.Input.{InputForm, as_file, as_transfer, input_of, octets_of, IsForm, IsInput}
 use Rattle.zonenorm.specs.Machine.Taking.{IsTaken, all_taken, Begins, ReadsZone, ReadsZoneWithin, RefusesRead}
 use Rattle.zonenorm.specs.Machine.Stops.{IsOfReading}
 use Rattle.zonenorm.specs.Normalise.{IsOfBytes}
@@ -37,8 +38,12 @@ each_joined (c ∷ octets) more each others = (each.0, each_joined octets more e
 
 -- ---- what is read
 
-pub within : (limit : ℕ) (form : InputForm) (octets : Octets) (z : Zone) → length octets ≤ limit → ReadsZone (input_of form octets) z → ReadsZoneWithin limit (input_of form octets) z
-within limit form octets z short reads = record { short = subst (λ os. length os ≤ limit) (sym (octets_of_input form octets)) short; reads = reads }
+pub within : (limit : ℕ) (form : InputForm) (octets : Octets) (z : Zone) → AllByRecursion (λ c. c < 256) octets → length octets ≤ limit → ReadsZone (input_of form octets) z → ReadsZoneWithin limit (input_of form octets) z
+within limit form octets z each short reads = record {
+  each = subst (AllByRecursion (λ c. c < 256)) (sym (octets_of_input form octets)) each;
+  short = subst (λ os. length os ≤ limit) (sym (octets_of_input form octets)) short;
+  reads = reads;
+}
 
 pub refused_within : (limit : ℕ) (form : InputForm) (octets : Octets) (stop : Stop) → length octets ≤ limit → IfRefused stop (RefusesRead (input_of form octets)) → IfRefused stop (IsRefusalWithin limit (input_of form octets))
 refused_within limit form octets (Refused fault place) short refuses = reading refuses.placed refuses.ending fault place (subst (λ os. length os ≤ limit) (sym (octets_of_input form octets)) short) refuses.reads refuses.refuses
@@ -130,3 +135,32 @@ finishing_of_bytes held _ (outside owner least) = tt
 pub no_octets : (octets : Octets) → (length octets == 0) ≡ true → octets ≡ []
 no_octets [] none = refl
 no_octets (c ∷ octets) none = absurd (omega (arith, eqb-true (length (c ∷ octets)) 0 none))
+
+pub parted : (octets given rest : Octets) → octets ≡ given ++ rest → length given + length rest ≡ length octets
+parted octets given rest whole = rw (whole, length-append) refl
+
+pub rests : (n : ℕ) (octets given piece after : Octets) → piece ≡ take n octets → after ≡ drop n octets → given ++ octets ≡ (given ++ piece) ++ after
+rests n octets given piece after front back = rw (front, back) (ap (λ os. given ++ os) (sym (take-append-drop n octets)) ∙ sym (append_assoc given (take n octets) (drop n octets)))
+
+-- one more piece of octets that are parted
+pub fed_more : (Began : InputForm → Type 0) (Taken Next : InputForm → Octets → Type 0) (octets rest piece after : Octets) (n fed later limit : ℕ) → HasFed Began Taken (Some octets) (Some rest) (length octets - length rest) fed limit → piece ≡ take n rest → after ≡ drop n rest → AllByRecursion (λ c. c < 256) piece → length octets ≤ limit → later ≤ fed + length piece → ((form : InputForm) (given : Octets) → Taken form given → Next form (given ++ piece)) → HasFed Began Next (Some octets) (Some after) (length octets - length after) later limit
+fed_more Began Taken Next octets rest piece after n fed later limit had front back each short few on =
+    let whole : octets ≡ (had.given ++ piece) ++ after = had.consumed ∙ rests n rest had.given piece after front back in
+    let all : length (had.given ++ piece) + length after ≡ length octets = parted octets (had.given ++ piece) after whole in
+    let before : length had.given + length rest ≡ length octets = parted octets had.given rest had.consumed in
+    let joined : length (had.given ++ piece) ≡ length had.given + length piece = length-append had.given piece in
+    let fed_few : fed ≤ length octets - length rest = had.fed_few in
+    record {
+      given = had.given ++ piece;
+      consumed = whole;
+      counted = omega (arith, all);
+      each = each_joined had.given piece had.each each;
+      few = omega arith;
+      fed_few = omega (arith, all, before, joined, fed_few, few);
+      taken = λ form begins. on form had.given (had.taken form begins);
+    }
+
+-- octets are an input of a form
+pub is_input : (form : InputForm) (octets : Octets) → IsForm form → AllByRecursion (λ c. c < 256) (octets_of (input_of form octets)) → IsInput (input_of form octets)
+is_input (as_file origin) octets name each = (name, each)
+is_input as_transfer octets name each = each

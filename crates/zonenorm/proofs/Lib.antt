@@ -11,3 +11,4 @@ pub mod Inputs
 pub mod Accepted
 pub mod Taken
 pub mod Feeding
+pub mod Written

@@ -1,10 +1,9 @@
 ghost use Rattle.std.specs.Prelude.{◌≡◌, ◌+◌, ◌≤◌, length, IfOk, IfErr, IfSome};
 ghost use Rattle.std.specs.Io.KnownBytes.{Consumes};
-ghost use Rattle.std.specs.List.{AllByRecursion};
 ghost use Rattle.zone_name.specs.Common.{Octets};
 ghost use Rattle.zone_print.specs.Canonical.{text_limit};
 ghost use Rattle.zonenorm.specs.Form.{form_of};
-ghost use Rattle.zonenorm.specs.Input.{input_of};
+ghost use Rattle.zonenorm.specs.Input.{input_of, IsForm};
 ghost use Rattle.zonenorm.specs.Machine.Stops.{IsOfReading};
 ghost use Rattle.zonenorm.specs.Machine.Taking.{ReadsZoneWithin};
 ghost use Rattle.zonenorm.specs.Normalise.{Normalises, NormalisesTo, WritesNothing, WritesPrefix, IsOfBytes};
@@ -80,12 +79,16 @@ fn zone_of<R: Read>(alloc: Global, form: Form<'_>, reader: &mut R) -> Result<Zon
         ReadsZoneWithin text_limit (input_of (form_of form.entry) octets) z)) }
     ensures fault { IfErr result (λ stop. IfSome (R.remaining reader.old) (λ octets.
         IfRefused stop (IsRefusal (input_of (form_of form.entry) octets)))) }
+    ensures form { IsForm (form_of form.entry) }
     ensures stopped { IfErr result IsOfReading }
     ensures few { (given : Octets) × (length given ≤ text_limit + 1)
         × Consumes (R.remaining reader.old) (R.remaining reader.new) given }
 {
     match form {
-        Form::File(_origin) => Err(Stop::Memory),
+        Form::File(origin) => {
+            origin.known();
+            Err(Stop::Memory)
+        }
     }
 }
 
@@ -99,9 +102,13 @@ fn zone_of_bytes(alloc: Global, form: Form<'_>, octets: &[u8]) -> Result<Zone, S
         ReadsZoneWithin text_limit (input_of (form_of form.entry) octets.now) z) }
     ensures fault { IfErr result (λ stop.
         IfRefused stop (IsRefusal (input_of (form_of form.entry) octets.now))) }
+    ensures form { IsForm (form_of form.entry) }
     ensures stopped { IfErr result IsOfBytes }
 {
     match form {
-        Form::File(_origin) => Err(Stop::Memory),
+        Form::File(origin) => {
+            origin.known();
+            Err(Stop::Memory)
+        }
     }
 }

@@ -72,8 +72,11 @@ pub(crate) fn zone_of_octets<S: FedSource>(
         return Err(Stop::Refused(Fault::InputTooLong, Place::Whole));
     }
     let mut taking = Taking::new(alloc);
-    for piece in octets.chunks(PIECE) {
+    let mut rest = octets;
+    while !rest.is_empty() {
+        let (piece, after) = rest.split_at(rest.len().min(PIECE));
         taking.take(source, piece)?;
+        rest = after;
     }
     taking.finish(source)
 }

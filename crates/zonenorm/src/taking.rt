@@ -44,9 +44,9 @@ impl Taking {
         requires fits { S.fed (S.held source.old) + length piece.now + 1 < 2 ^ 64 }
         ensures taken { OnOk result ((form : InputForm) (octets : Octets)
             → IsTaken (S.Stands form (S.pending source.old) (S.held source.old)) form (S.pending source.old)
-                self.old.builder self.old.refusal octets
+            self.old.builder self.old.refusal octets
             → IsTaken (S.Stands form (S.pending source.new) (S.held source.new)) form (S.pending source.new)
-                self.new.builder self.new.refusal (octets ++ piece.now)) }
+            self.new.builder self.new.refusal (octets ++ piece.now)) }
         ensures open { S.finished (S.held source.new) ≡ false }
         ensures fed { S.fed (S.held source.new) ≤ S.fed (S.held source.old) + length piece.now }
         ensures stopped { IfErr result (λ stop. stop ≡ Memory) }
@@ -75,12 +75,12 @@ impl Taking {
         requires open { S.finished (S.held source.old) ≡ false }
         ensures zone { IfOk result (λ z. (form : InputForm) (octets : Octets)
             → IsTaken (S.Stands form (S.pending source.old) (S.held source.old)) form (S.pending source.old)
-                self.builder self.refusal octets
+            self.builder self.refusal octets
             → ReadsZone (input_of form octets) z) }
         ensures fault { IfErr result (λ stop. (form : InputForm) (octets : Octets)
             → IsForm form → AllByRecursion (λ c. c < 256) octets
             → IsTaken (S.Stands form (S.pending source.old) (S.held source.old)) form (S.pending source.old)
-                self.builder self.refusal octets
+            self.builder self.refusal octets
             → IfRefused stop (RefusesRead (input_of form octets))) }
         ensures stopped { IfErr result IsOfBytes }
     {

@@ -1,5 +1,6 @@
 -- What the program holds of an input while it is fed: the records that were taken, or why the input is refused.
 use Rattle.std.specs.Prelude.{◌≡◌, ℕ, ◌≤◌, ◌<◌, List, [], ◌++◌, length, Option, Some, None, false}
+use Rattle.std.specs.List.{AllByRecursion}
 use Rattle.zone_name.specs.Common.{Octets}
 use Rattle.zone_rdata.specs.Record.{Record}
 use Rattle.zone_rdata.specs.Source.{Pending}
@@ -41,8 +42,9 @@ pub record RefusesRead (input : Input) (fault : Fault) (place : Place) : Type 0 
   pub reads : Reads input placed ending
   pub refuses : RefusesReading placed ending fault place
 
--- the same of an input that is no longer than a limit
+-- the same of an input of octets that is no longer than a limit
 pub record ReadsZoneWithin (limit : ℕ) (input : Input) (z : Zone) : Type 0 where
+  pub each : AllByRecursion (λ c. c < 256) (octets_of input)
   pub short : length (octets_of input) ≤ limit
   pub reads : ReadsZone input z
 

@@ -1,9 +1,9 @@
-use Rattle.std.proofs.Common.{rules, refl, sym, ◌∙◌, ◌≡◌, ◌≤◌, ◌+◌, ◌++◌, [], length, length-append, ap, arith}
+use Rattle.std.proofs.Common.{rules, refl, sym, ◌∙◌, ◌≤◌, ◌+◌, ◌++◌, [], length, length-append, arith}
 use Rattle.std.proofs.lemmas.Result.{MatchResult-weaker}
 use Rattle.zonenorm.specs.Input.{input_of}
 use Rattle.zonenorm.specs.Machine.Taking.{ReadsZoneWithin}
 use Rattle.zonenorm.specs.Refusal.{IfRefused, IsRefusalWithin}
-use Rattle.zonenorm.proofs.Feeding.{begun, within, refused_within, all_given, too_many, nothing_consumed, consumed_both, consumed_none, each_joined, of_reading, if_none, no_octets}
+use Rattle.zonenorm.proofs.Feeding.{begun, within, refused_within, all_given, too_many, nothing_consumed, consumed_both, consumed_none, each_joined, of_reading, no_octets}
 use Rattle.zonenorm.proofs.input.read_in_pieces.Goals as goal
 
 pub loop-count-init : goal.loop-count-init
@@ -27,7 +27,7 @@ returns-then-is_empty-clause-zone g c =
     let short : length fed.given ≤ c.args.limit = rw fed.counted (omega arith) in
     MatchResult-weaker c.finish.result c.finish.ensures.zone (λ z reads form begins.
     all_given (λ octets. ReadsZoneWithin c.args.limit (input_of form octets) z) _ _ fed.given (consumed_none _ _ _ _ _ fed.consumed c.in_ok-given.ensures.taken nothing) (c.in_ok-given.ensures.end nothing)
-    (within c.args.limit form fed.given z short (reads form fed.given (fed.taken form begins)))) (λ stop h. h)
+    (within c.args.limit form fed.given z fed.each short (reads form fed.given (fed.taken form begins)))) (λ stop h. h)
 
 pub returns-then-is_empty-clause-fault : goal.returns-then-is_empty-clause-fault
 returns-then-is_empty-clause-fault g c =
