@@ -10,14 +10,14 @@ ghost use Rattle.zonenorm.specs.Normalise.{Normalises, NormalisesTo, WritesNothi
 ghost use Rattle.zonenorm.specs.Refusal.{IfRefused, IsRefusal};
 
 use crate::form::Form;
-use crate::input::read_zone;
+use crate::input::{read_zone, zone_of_octets};
 use crate::laws::what_is_read_is_stated;
-use crate::taking::Taking;
 use std::alloc::Global;
 use std::io::{Read, Write};
 use zone_print::{TEXT_LIMIT, push_zone, write_zone};
 use zone_rdata::{Fault, Place, Stop};
 use zone_set::Zone;
+use zone_text::TextSource;
 
 /// Writes the canonical text of the zone that the reader's octets denote, and answers the number of its records. The
 /// reader is read to its end, or to the octet behind [`TEXT_LIMIT`], in pieces.
@@ -87,7 +87,7 @@ fn zone_of<R: Read>(alloc: Global, form: Form<'_>, reader: &mut R) -> Result<Zon
     match form {
         Form::File(origin) => {
             origin.known();
-            Err(Stop::Memory)
+            read_zone(alloc, &mut TextSource::new(alloc, origin), reader, TEXT_LIMIT)
         }
     }
 }
@@ -108,7 +108,7 @@ fn zone_of_bytes(alloc: Global, form: Form<'_>, octets: &[u8]) -> Result<Zone, S
     match form {
         Form::File(origin) => {
             origin.known();
-            Err(Stop::Memory)
+            zone_of_octets(alloc, &mut TextSource::new(alloc, origin), octets, TEXT_LIMIT)
         }
     }
 }

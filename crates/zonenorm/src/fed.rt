@@ -7,6 +7,7 @@ ghost use Rattle.zone_set.specs.Builder.{leaves};
 ghost use Rattle.zonenorm.specs.Input.{InputForm, input_of, Decides, Reads};
 
 use zone_rdata::{RrSource, Stop};
+use zone_text::TextSource;
 
 /// A source of records that is fed an input in pieces.
 pub(crate) trait FedSource: RrSource {
@@ -69,4 +70,36 @@ pub(crate) trait FedSource: RrSource {
     ghost gives: { (form : InputForm) (pending : Pending) (inside : Self.Held) (octets : Octets) (given taken others : List Placed)
         → Stands form pending inside octets given → pending.records ≡ taken ++ others
         → Stands form (leaves pending others) inside octets (given ++ taken) };
+}
+
+impl FedSource for TextSource {
+    ghost use Rattle.std.specs.Prelude.{refl, ap};
+    ghost use Rattle.zone_text.specs.Source.{Held};
+    ghost use Rattle.zonenorm.specs.Machine.Fed.{FileStands, file_decides, file_gives, file_reads};
+
+    ghost Held = { Held };
+
+    ghost held = { λ s. s.held };
+
+    ghost Stands = { FileStands };
+
+    ghost fed = { λ inside. inside.fed };
+
+    ghost finished = { λ inside. inside.finished };
+
+    fn feed(&mut self, piece: &[u8]) -> Result<(), Stop> {
+        TextSource::feed(self, piece)
+    }
+
+    fn finish(&mut self) -> Result<(), Stop> {
+        TextSource::finish(self)
+    }
+
+    ghost keeps = { λ old new same. same };
+
+    ghost decides = { file_decides };
+
+    ghost reads = { file_reads };
+
+    ghost gives = { file_gives };
 }
