@@ -23,3 +23,4 @@ pub mod Lasting
 pub mod Ending
 pub mod Escapes
 pub mod ForGood
+pub mod Scanned
