@@ -13,7 +13,8 @@ use Rattle.zone_text.specs.Pieces.{Piece, Cuts, piece_text, text}
 use Rattle.zone_text.specs.Breaks.{Breaks}
 use Rattle.zone_text.specs.Lasting.{BreaksForGood, StaysBroken, BreaksAtEnd, EndInLineFeed}
 use Rattle.zone_text.specs.Entries.{Cut, Entry, cut_from, and_last, entry_of, numbered, entries_of, ended_entries, open_line}
-use Rattle.zone_text.specs.FileReads.{ReadEach, FileReads, whole, broken}
+use Rattle.zone_text.specs.FileReads.{ReadEach, FileReads}
+use Rattle.zone_text.specs.FileReads as file
 use Rattle.zone_text.specs.Given.{Ending, gives_none, gives_one, refused}
 use Rattle.zone_text.specs.Decided.{ArePieces, Decided, decided, undecided}
 use Rattle.zone_text.proofs.Cuttings.{cut_not_broken, cut_or_broken}
@@ -101,7 +102,7 @@ break_more fed more ended unfinished pieces fault is breaks =
 
 pub pieces_more : (fed more : List ℕ) (ended : List (List Piece)) (unfinished : List ℕ) (pieces : List Piece) → IsSplit fed ended unfinished → ArePieces (unfinished ++ more) pieces → ArePieces (fed ++ more) (joined ended ++ pieces)
 pieces_more fed more ended unfinished pieces is (inl cut) = inl (cut_more fed more ended unfinished pieces is cut)
-pieces_more fed more ended unfinished pieces is (inr broken) = inr (broken.0, break_more fed more ended unfinished pieces broken.0 is broken.1)
+pieces_more fed more ended unfinished pieces is (inr found) = inr (found.0, break_more fed more ended unfinished pieces found.0 is found.1)
 
 -- what breaks the octets behind the ended entries, as the octets so far show, breaks all
 behind_pieces : (fed more : List ℕ) (ended : List (List Piece)) (unfinished : List ℕ) (pieces : List Piece) (rest : List ℕ) → IsSplit fed ended unfinished → unfinished ++ more ≡ text pieces ++ rest → fed ++ more ≡ text (joined ended ++ pieces) ++ rest
@@ -119,7 +120,32 @@ for_good_more fed more ended unfinished pieces fault is good =
     (behind_pieces fed more ended unfinished pieces good.breaks.rest is good.breaks.whole)
     good.stays
 
--- and what doesn't, doesn't
-none_for_good : (octets : List ℕ) (pieces : List Piece) → ArePieces octets pieces → ((fault : Fault) → BreaksForGood octets pieces fault → ⊥) → (more : List ℕ) (others : List Piece) → ((rest : List ℕ) → octets ≡ text pieces ++ rest → more ≡ text others ++ rest) → ArePieces more others → (fault : Fault) → BreaksForGood more others fault → ⊥
-none_for_good octets pieces (inl cut) none more others same are fault good = absurd (?)
-none_for_good octets pieces (inr broken) none more others same are fault good = ?
+-- and where nothing does yet, nothing does
+none_cut : (octets : List ℕ) (pieces : List Piece) → Cuts octets pieces → (fault : Fault) → BreaksForGood octets pieces fault → ⊥
+none_cut octets pieces cut fault good = cut_not_broken octets pieces pieces fault cut good.breaks
+
+none_broken : (fed more : List ℕ) (ended : List (List Piece)) (unfinished : List ℕ) (pieces : List Piece) (fault : Fault) (breaks : Breaks (unfinished ++ more) pieces fault) → IsSplit fed ended unfinished → ((other : Fault) → BreaksForGood (unfinished ++ more) pieces other → ⊥) → StaysBroken breaks.rest ⊎ BreaksAtEnd breaks.rest → (other : Fault) → BreaksForGood (fed ++ more) (joined ended ++ pieces) other → ⊥
+none_broken fed more ended unfinished pieces fault breaks is none (inl stays) other good = none fault (record { breaks = breaks; stays = stays })
+none_broken fed more ended unfinished pieces fault breaks is none (inr ends) other good =
+    ends_not_for_good (fed ++ more) (joined ended ++ pieces) breaks.rest (behind_pieces fed more ended unfinished pieces breaks.rest is breaks.whole) ends other good
+
+pub none_more : (fed more : List ℕ) (ended : List (List Piece)) (unfinished : List ℕ) (pieces : List Piece) → IsSplit fed ended unfinished → ArePieces (unfinished ++ more) pieces → ((fault : Fault) → BreaksForGood (unfinished ++ more) pieces fault → ⊥) → (fault : Fault) → BreaksForGood (fed ++ more) (joined ended ++ pieces) fault → ⊥
+none_more fed more ended unfinished pieces is (inl cut) none fault good =
+    none_cut (fed ++ more) (joined ended ++ pieces) (cut_more fed more ended unfinished pieces is cut) fault good
+none_more fed more ended unfinished pieces is (inr found) none fault good =
+    none_broken fed more ended unfinished pieces found.0 found.1 is none (break_stays_or_ends (unfinished ++ more) pieces found.0 found.1) fault good
+
+-- ---- the entries of those pieces
+
+pub cut_behind : (ended : List (List Piece)) (more : List Piece) → AreEnded zero ended → cut_from zero (joined ended ++ more) ≡ record { ended = ended ++ (cut_from zero more).ended; open_pieces = (cut_from zero more).open_pieces }
+cut_behind ended more are = again_zero ended more are
+
+-- no entry more
+pub ended_as_before : (ended : List (List Piece)) (more : List Piece) → AreEnded zero ended → (cut_from zero more).ended ≡ [] → (cut_from zero (joined ended ++ more)).ended ≡ ended
+ended_as_before ended more are none =
+    ap (λ (c : Cut). c.ended) (cut_behind ended more are) ∙ ap (λ t. ended ++ t) none ∙ append-nil ended
+
+-- one entry more
+pub one_ended : (ended : List (List Piece)) (entry : List Piece) → AreEnded zero ended → cut_from zero entry ≡ record { ended = entry ∷ []; open_pieces = [] } → (cut_from zero (joined ended ++ entry)).ended ≡ ended ++ entry ∷ []
+one_ended ended entry are one =
+    ap (λ (c : Cut). c.ended) (cut_behind ended entry are) ∙ ap (λ (c : Cut). ended ++ c.ended) one

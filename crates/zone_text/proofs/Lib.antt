@@ -24,3 +24,4 @@ pub mod Ending
 pub mod Escapes
 pub mod ForGood
 pub mod Left
+pub mod Scanned

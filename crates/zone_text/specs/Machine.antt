@@ -2,3 +2,4 @@
 pub mod Cutting
 pub mod Lower
 pub mod Items
+pub mod Scan

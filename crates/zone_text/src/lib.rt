@@ -6,6 +6,7 @@ pub mod examples;
 pub mod laws;
 mod line;
 mod reader;
+mod scan;
 mod ttl;
 
 pub use reader::read_file;
