@@ -121,7 +121,7 @@ for_good_more fed more ended unfinished pieces fault is good =
     good.stays
 
 -- and where nothing does yet, nothing does
-none_cut : (octets : List ℕ) (pieces : List Piece) → Cuts octets pieces → (fault : Fault) → BreaksForGood octets pieces fault → ⊥
+pub none_cut : (octets : List ℕ) (pieces : List Piece) → Cuts octets pieces → (fault : Fault) → BreaksForGood octets pieces fault → ⊥
 none_cut octets pieces cut fault good = cut_not_broken octets pieces pieces fault cut good.breaks
 
 none_broken : (fed more : List ℕ) (ended : List (List Piece)) (unfinished : List ℕ) (pieces : List Piece) (fault : Fault) (breaks : Breaks (unfinished ++ more) pieces fault) → IsSplit fed ended unfinished → ((other : Fault) → BreaksForGood (unfinished ++ more) pieces other → ⊥) → StaysBroken breaks.rest ⊎ BreaksAtEnd breaks.rest → (other : Fault) → BreaksForGood (fed ++ more) (joined ended ++ pieces) other → ⊥

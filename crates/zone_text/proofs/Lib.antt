@@ -24,4 +24,5 @@ pub mod Ending
 pub mod Escapes
 pub mod ForGood
 pub mod Left
+pub mod Decisions
 pub mod Scanned
