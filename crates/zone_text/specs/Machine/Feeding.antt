@@ -1,0 +1,42 @@
+-- How the octets that a source is fed are read, entry by entry.
+use Rattle.std.specs.Prelude.{◌≡◌, ℕ, suc, ◌+◌, ◌≤◌, ◌<◌, ◌^◌, List, [], ◌∷◌, ◌++◌, length, count_by, ◌==◌, true, false, Some, None}
+use Rattle.zone_name.specs.Common.{Labels}
+use Rattle.zone_rdata.specs.declared.fault.Fault.{Fault}
+use Rattle.zone_rdata.specs.declared.fault.Place.{Place}
+use Rattle.zone_rdata.specs.declared.record.Placed.{Placed}
+use Rattle.zone_text.specs.Decided.{Decided}
+use Rattle.zone_text.specs.Defaults.{AreDefaults}
+use Rattle.zone_text.specs.Entries.{Entry, entry_of}
+use Rattle.zone_text.specs.FileReads.{ReadEach}
+use Rattle.zone_text.specs.Machine.Scan.{beginning, scan_of}
+use Rattle.zone_text.specs.Pieces.{Piece, text}
+use Rattle.zone_text.specs.Source.{Leave}
+use Rattle.zone_text.specs.declared.ended.EndedEntries.{EndedEntries}
+use Rattle.zone_text.specs.declared.scan.Scanned.{Scanned}
+use Rattle.zone_text.specs.declared.scan.Spot.{Spot}
+use Rattle.zone_text.specs.declared.scan.Step.{Step}
+use Rattle.zone_text.specs.declared.scan.Step.TheVariants.{On}
+
+-- An entry was read behind others: the record that it states came behind theirs, or its fault is the last word. If it is
+-- no fault, the defaults and the line are those behind the entry.
+pub record ReadsEntry (origin : Labels) (before : List Entry) (pieces : List Piece) (old new : EndedEntries) : Type 0 where
+  pub others : List Placed
+  pub read : ReadEach origin None before (entry_of old.line pieces ∷ []) others new.decided.ending
+  pub records : new.decided.placed.items ≡ old.decided.placed.items ++ others
+  pub defaults : new.decided.ending ≡ None → AreDefaults origin (entry_of old.line pieces ∷ before) new.defaults
+  pub line : new.decided.ending ≡ None → new.line ≡ old.line + count_by (λ c. c == 10) (text pieces)
+
+-- the entries that were read and the octets behind them follow from the octets fed and the records given
+pub record Follow (origin : Labels) (ended : EndedEntries) (unfinished : List ℕ) (fed : List ℕ) (given : List Placed) : Type 0 where
+  pub decided : Decided origin fed (given ++ ended.decided.placed.items) ended.decided.ending
+  pub leave : ended.decided.ending ≡ None → Leave origin fed ended.defaults ended.line unfinished
+
+-- the scan of octets took all of them, and they lead there
+abbrev pub ScansTo : Spot → List ℕ → Step → Type 0
+ScansTo start octets step = scan_of start octets ≡ record { taken = length octets; step = step }
+
+-- the octets of the unfinished entry lead to the spot, and are dropped where a fault is decided
+pub record IsIntake (ended : EndedEntries) (at : Spot) (unfinished : List ℕ) : Type 0 where
+  pub spot : ScansTo beginning unfinished (On at)
+  pub dropped : (found : Fault × Place) → ended.decided.ending ≡ Some found → unfinished ≡ []
+  pub line : 1 ≤ ended.line
