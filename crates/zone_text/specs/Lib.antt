@@ -7,6 +7,7 @@ pub mod Entries
 pub mod Forms
 pub mod Inherited
 pub mod Records
+pub mod Defaults
 pub mod EntryFault
 pub mod Given
 pub mod File

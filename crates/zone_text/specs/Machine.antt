@@ -1,4 +1,8 @@
 -- What private functions and proofs cite, and no public clause.
 pub mod Cutting
-pub mod Lower
+pub mod EntryReading
+pub mod Form
+pub mod ItemLengths
 pub mod Items
+pub mod Lower
+pub mod WordValues
