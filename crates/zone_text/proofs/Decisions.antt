@@ -63,8 +63,8 @@ pub break_decided : (origin : List (List ℕ)) (fed more : List ℕ) (ended : Li
 break_decided origin fed more ended unfinished pieces fault placed is good none read =
     let same : ended ≡ (cut_from zero (joined ended ++ pieces)).ended = sym (ended_as_before ended pieces is.stays none) in
     let found : Decided origin (fed ++ more) placed (Some (fault, Line (open_line (joined ended ++ pieces)))) =
-      decided (joined ended ++ pieces) fault (for_good_more fed more ended unfinished pieces fault is good)
-      (reads_behind origin (Some (fault, Line (open_line (joined ended ++ pieces)))) [] (ended_entries (joined ended ++ pieces)) placed (subst (λ t. ReadsEnded origin None t placed None) same read)) in
+    decided (joined ended ++ pieces) fault (for_good_more fed more ended unfinished pieces fault is good)
+    (reads_behind origin (Some (fault, Line (open_line (joined ended ++ pieces)))) [] (ended_entries (joined ended ++ pieces)) placed (subst (λ t. ReadsEnded origin None t placed None) same read)) in
     subst (λ (t : List (List Piece)). Decided origin (fed ++ more) placed (Some (fault, Line (line_behind t)))) (sym same) found
 
 -- no entry more is ended, and others may come
@@ -145,6 +145,6 @@ last_broken origin fed ended unfinished pieces fault placed is breaks none read 
     let same : ended ≡ (cut_from zero (joined ended ++ pieces)).ended = sym (ended_as_before ended pieces is.stays none) in
     let all : Breaks fed (joined ended ++ pieces) fault = subst (λ t. Breaks t (joined ended ++ pieces) fault) (append-nil fed) (break_more fed [] ended unfinished pieces fault is (subst (λ t. Breaks t pieces fault) (sym (append-nil unfinished)) breaks)) in
     let found : FileReads origin fed placed (Some (fault, Line (open_line (joined ended ++ pieces)))) =
-      broken (joined ended ++ pieces) fault all
-      (reads_behind origin (Some (fault, Line (open_line (joined ended ++ pieces)))) [] (ended_entries (joined ended ++ pieces)) placed (subst (λ t. ReadsEnded origin None t placed None) same read)) in
+    broken (joined ended ++ pieces) fault all
+    (reads_behind origin (Some (fault, Line (open_line (joined ended ++ pieces)))) [] (ended_entries (joined ended ++ pieces)) placed (subst (λ t. ReadsEnded origin None t placed None) same read)) in
     subst (λ (t : List (List Piece)). FileReads origin fed placed (Some (fault, Line (line_behind t)))) (sym same) found

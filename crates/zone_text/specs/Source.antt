@@ -1,6 +1,6 @@
 -- A source of the records of a master file that is fed in pieces: what it holds, and what it stands for. This is this
 -- project's own: RFC 1035 speaks of whole files.
-use Rattle.std.specs.Prelude.{◌≡◌, ℕ, zero, List, ◌++◌, length, reverse, Bool, true, false, None}
+use Rattle.std.specs.Prelude.{◌≡◌, ℕ, zero, ◌+◌, List, ◌++◌, length, reverse, Bool, true, false, None}
 use Rattle.std.specs.List.{flat_map}
 use Rattle.zone_name.specs.Common.{Labels}
 use Rattle.zone_rdata.specs.Source.{Pending}
@@ -25,6 +25,13 @@ pub record SourceState : Type 0 where
   pub pending : Pending
   pub held : Held
 
+-- the source with so many octets more
+abbrev pub counted : ℕ → SourceState → SourceState
+counted more source = record {
+  pending = source.pending;
+  held = record source.held { fed = source.held.fed + more };
+}
+
 -- these are the octets behind the last line feed that ended an entry
 pub record AreUnfinished (fed unfinished : List ℕ) : Type 0 where
   pub pieces : List Piece
@@ -35,8 +42,8 @@ pub record AreUnfinished (fed unfinished : List ℕ) : Type 0 where
 -- those entries
 pub record Leave (origin : Labels) (fed : List ℕ) (defaults : Defaults) (line : ℕ) (unfinished : List ℕ) : Type 0 where
   pub octets : AreUnfinished fed unfinished
-  pub defaults : AreDefaults origin (reverse (ended_entries octets.pieces)) defaults
-  pub line : line ≡ open_line octets.pieces
+  pub inherited : AreDefaults origin (reverse (ended_entries octets.pieces)) defaults
+  pub numbered : line ≡ open_line octets.pieces
 
 -- The source, made under an origin, stands for the octets that it was fed and the records that it has given. Before the
 -- end of the file it has still to give what else is decided, and while no fault is decided it holds what the octets leave.

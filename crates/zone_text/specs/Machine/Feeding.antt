@@ -1,5 +1,5 @@
 -- How the octets that a source is fed are read, entry by entry.
-use Rattle.std.specs.Prelude.{◌≡◌, ℕ, suc, ◌+◌, ◌≤◌, ◌<◌, ◌^◌, List, [], ◌∷◌, ◌++◌, length, count_by, ◌==◌, true, false, Some, None}
+use Rattle.std.specs.Prelude.{◌≡◌, ℕ, ◌+◌, ◌≤◌, ◌<◌, ◌^◌, List, [], ◌∷◌, ◌++◌, length, count_by, ◌==◌, Bool, true, false, Some, None}
 use Rattle.zone_name.specs.Common.{Labels}
 use Rattle.zone_rdata.specs.declared.fault.Fault.{Fault}
 use Rattle.zone_rdata.specs.declared.fault.Place.{Place}
@@ -9,7 +9,7 @@ use Rattle.zone_text.specs.Defaults.{AreDefaults}
 use Rattle.zone_text.specs.Entries.{Entry, entry_of}
 use Rattle.zone_text.specs.FileReads.{ReadEach}
 use Rattle.zone_text.specs.Machine.Scan.{beginning, scan_of}
-use Rattle.zone_text.specs.Pieces.{Piece, text}
+use Rattle.zone_text.specs.Pieces.{Piece, Cuts, text}
 use Rattle.zone_text.specs.Source.{Leave}
 use Rattle.zone_text.specs.declared.ended.EndedEntries.{EndedEntries}
 use Rattle.zone_text.specs.declared.scan.Scanned.{Scanned}
@@ -26,6 +26,12 @@ pub record ReadsEntry (origin : Labels) (before : List Entry) (pieces : List Pie
   pub defaults : new.decided.ending ≡ None → AreDefaults origin (entry_of old.line pieces ∷ before) new.defaults
   pub line : new.decided.ending ≡ None → new.line ≡ old.line + count_by (λ c. c == 10) (text pieces)
 
+-- octets are read as the entry behind others, whatever these are
+pub record ReadsOctets (octets : List ℕ) (old new : EndedEntries) : Type 0 where
+  pub reads : (origin : Labels) (before : List Entry) (pieces : List Piece) → AreDefaults origin before old.defaults → Cuts octets pieces → ReadsEntry origin before pieces old new
+  pub later : old.line ≤ new.line
+  pub near : new.line ≤ old.line + length octets
+
 -- the entries that were read and the octets behind them follow from the octets fed and the records given
 pub record Follow (origin : Labels) (ended : EndedEntries) (unfinished : List ℕ) (fed : List ℕ) (given : List Placed) : Type 0 where
   pub decided : Decided origin fed (given ++ ended.decided.placed.items) ended.decided.ending
@@ -40,3 +46,11 @@ pub record IsIntake (ended : EndedEntries) (at : Spot) (unfinished : List ℕ) :
   pub spot : ScansTo beginning unfinished (On at)
   pub dropped : (found : Fault × Place) → ended.decided.ending ≡ Some found → unfinished ≡ []
   pub line : 1 ≤ ended.line
+
+-- what a source holds: nothing of the unfinished entry once it has failed or the file has ended, and numbers that fit
+pub record IsSource (failed finished : Bool) (fed : ℕ) (ended : EndedEntries) (at : Spot) (unfinished : List ℕ) : Type 0 where
+  pub is : failed ≡ false → IsIntake ended at unfinished
+  pub line : failed ≡ false → ended.line + length unfinished ≤ fed + 1
+  pub fits : fed + 1 < 2 ^ 64
+  pub none_failed : failed ≡ true → unfinished ≡ []
+  pub none_finished : finished ≡ true → unfinished ≡ []
