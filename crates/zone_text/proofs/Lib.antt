@@ -23,4 +23,5 @@ pub mod Lasting
 pub mod Ending
 pub mod Escapes
 pub mod ForGood
+pub mod ScanSteps
 pub mod Scanned
