@@ -92,6 +92,9 @@ split fed pieces unfinished are rest = record {
 longer : (fed more : List ℕ) (ended : List (List Piece)) (unfinished : List ℕ) → IsSplit fed ended unfinished → fed ++ more ≡ text (joined ended) ++ (unfinished ++ more)
 longer fed more ended unfinished is = ap (λ t. t ++ more) is.whole ∙ append_assoc (text (joined ended)) unfinished more
 
+pub whole_behind : (fed more : List ℕ) (ended : List (List Piece)) (unfinished : List ℕ) → IsSplit fed ended unfinished → fed ++ more ≡ flat_map text ended ++ (unfinished ++ more)
+whole_behind fed more ended unfinished is = longer fed more ended unfinished is ∙ ap (λ t. t ++ (unfinished ++ more)) (sym (text_of_entries ended))
+
 pub cut_more : (fed more : List ℕ) (ended : List (List Piece)) (unfinished : List ℕ) (pieces : List Piece) → IsSplit fed ended unfinished → Cuts (unfinished ++ more) pieces → Cuts (fed ++ more) (joined ended ++ pieces)
 cut_more fed more ended unfinished pieces is cut =
     subst (λ t. Cuts t (joined ended ++ pieces)) (sym (longer fed more ended unfinished is)) (cut_joined (text (joined ended)) (unfinished ++ more) (joined ended) pieces is.front is.stays.ends cut)

@@ -25,4 +25,6 @@ pub mod Escapes
 pub mod ForGood
 pub mod Left
 pub mod Decisions
+pub mod Followed
+pub mod ScanSteps
 pub mod Scanned
