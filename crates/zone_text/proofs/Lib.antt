@@ -26,5 +26,7 @@ pub mod ForGood
 pub mod Left
 pub mod Decisions
 pub mod Followed
+pub mod EntryTaken
+pub mod Begun
 pub mod ScanSteps
 pub mod Scanned
