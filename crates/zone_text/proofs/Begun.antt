@@ -1,5 +1,7 @@
 -- What a source holds at the beginning of a file and at that of an entry.
-use Rattle.std.proofs.Common.{◌≡◌, ℕ, zero, ◌+◌, ◌≤◌, List, [], ◌∷◌, ◌++◌, length, Option, Some, None, refl, sym, ap, ◌∙◌, subst, arith, inl}
+use Rattle.std.proofs.Common.{◌≡◌, ℕ, zero, ◌+◌, ◌≤◌, List, [], ◌∷◌, ◌++◌, length, ◌==◌, Bool, true, false, Option, Some, None, refl, sym, ap, ◌∙◌, subst, arith, inl}
+use Rattle.std.specs.Option.{is_some}
+use Rattle.std.proofs.lemmas.Bool.{eqb-true, eqb-false}
 use Rattle.zone_name.specs.Common.{Labels}
 use Rattle.zone_rdata.specs.declared.fault.Fault.{Fault}
 use Rattle.zone_rdata.specs.declared.fault.Place.{Place}
@@ -15,6 +17,24 @@ use Rattle.zone_text.specs.Machine.Feeding.{Follow, IsIntake, ScansTo}
 use Rattle.zone_text.specs.Machine.Scan.{beginning, scan_of}
 use Rattle.zone_text.specs.Pieces.{Piece, Cuts}
 use Rattle.zone_text.proofs.Left.{none_cut}
+
+-- octets of which there is none, or one
+pub none_left : (octets : List ℕ) (n : ℕ) (empty : Bool) → n ≡ length octets → empty ≡ (n == 0) → empty ≡ true → octets ≡ []
+none_left [] n empty len is none_is = refl
+none_left (c ∷ octets) n empty len is none_is = absurd (omega (arith, len, eqb-true n 0 (sym is ∙ none_is)))
+
+pub some_left : (octets : List ℕ) (n : ℕ) (empty : Bool) → n ≡ length octets → empty ≡ (n == 0) → empty ≡ false → octets ≡ [] → ⊥
+some_left [] n empty len is some_is none = eqb-false n 0 (sym is ∙ some_is) len
+some_left (c ∷ octets) n empty len is some_is none = cc
+
+-- a fault that is decided
+pub some_found : {A : Type 0} (o : Option A) → is_some o ≡ true → (x : A) × (o ≡ Some x)
+some_found None is = absurd (let t : ⊥ = cc in t)
+some_found (Some x) is = (x, refl)
+
+pub none_found : {A : Type 0} (o : Option A) → is_some o ≡ false → o ≡ None
+none_found None is = refl
+none_found (Some x) is = absurd (let t : ⊥ = cc in t)
 
 -- no octets lead to the beginning of an entry
 pub scans_nothing : (at : Spot) (unfinished : List ℕ) → at ≡ beginning → unfinished ≡ [] → ScansTo beginning unfinished (On at)

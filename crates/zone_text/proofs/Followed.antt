@@ -206,3 +206,8 @@ end_of_entry origin old new at c more fed given scanned ends none reads follow =
     let is : IsRead origin ended old (c ∷ more) fed given = found.1 in
     let cut = rw ends at (at_end (c ∷ more) at scanned) in
     last_read origin ended old new c more fed given cut.0 is cut.1 cut.2 (reads.reads origin (reverse (numbered 1 ended)) cut.0 is.defaults cut.1)
+
+-- octets of which there is one
+pub end_of_some : (origin : Labels) (old new : EndedEntries) (at : Spot) (unfinished fed : List ℕ) (given : List Placed) → ScansTo beginning unfinished (On at) → (unfinished ≡ [] → ⊥) → end_fault_of at ≡ None → old.decided.ending ≡ None → ReadsOctets unfinished old new → Follow origin old unfinished fed given → Reads origin fed given new
+end_of_some origin old new at [] fed given scanned some ends none reads follow = absurd (some refl)
+end_of_some origin old new at (c ∷ more) fed given scanned some ends none reads follow = end_of_entry origin old new at c more fed given scanned ends none reads follow

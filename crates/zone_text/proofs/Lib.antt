@@ -28,5 +28,7 @@ pub mod Decisions
 pub mod Followed
 pub mod EntryTaken
 pub mod Begun
+pub mod PartTaken
+pub mod FedPieces
 pub mod ScanSteps
 pub mod Scanned
