@@ -24,4 +24,6 @@ pub mod Ending
 pub mod Escapes
 pub mod ForGood
 pub mod ScanSteps
+pub mod ScanReads
+pub mod ScanPieces
 pub mod Scanned
