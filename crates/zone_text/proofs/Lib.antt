@@ -31,4 +31,6 @@ pub mod Begun
 pub mod PartTaken
 pub mod FedPieces
 pub mod ScanSteps
+pub mod ScanReads
+pub mod ScanPieces
 pub mod Scanned

@@ -1,7 +1,7 @@
 -- One octet of a scan, and how answers of scans are joined.
-use Rattle.std.proofs.Common.{◌≡◌, ℕ, suc, ◌+◌, ◌-◌, ◌<◌, ◌≤◌, List, [], ◌∷◌, length, drop, get_or, false, ◌==◌, ◌||◌, refl, sym, ap, ◌∙◌, subst, arith, add-one, drop-cons}
+use Rattle.std.proofs.Common.{◌≡◌, ℕ, suc, ◌+◌, ◌-◌, ◌<◌, ◌≤◌, List, length, drop, get_or, false, ◌==◌, ◌||◌, refl, sym, ap, ◌∙◌, subst, arith, drop-cons}
 use Rattle.std.proofs.Math.Seq.{drop-length}
-use Rattle.std.proofs.lemmas.Bool.{cond_both, or_parts, both_ways, eqb-false}
+use Rattle.std.proofs.lemmas.Bool.{cond_both, or_parts, both_ways}
 use Rattle.zone_text.specs.declared.scan.Behind.{Behind}
 use Rattle.zone_text.specs.declared.scan.Behind.TheVariants.{Inside, Whole, Lost}
 use Rattle.zone_text.specs.declared.scan.Escape.{Escape}

@@ -1,5 +1,6 @@
 -- What a scan says of the octets that it took: where it goes on and stops, and the pieces that they are.
-use Rattle.std.proofs.Common.{◌≡◌, ℕ, zero, suc, ◌+◌, ◌≤◌, List, [], ◌∷◌, ◌++◌, length, take, refl, sym, ap, ◌∙◌, arith}
+use Rattle.std.proofs.Common.{◌≡◌, ℕ, zero, suc, ◌+◌, ◌≤◌, List, [], ◌∷◌, ◌++◌, length, take, Option, Some, None, refl, sym, ap, ◌∙◌, subst, arith, length-append, inl, inr}
+use Rattle.std.proofs.Math.Seq.{take-length}
 use Rattle.std.proofs.lemmas.List.{length-take}
 use Rattle.std.specs.Prelude.{MatchOption}
 use Rattle.zone_rdata.specs.declared.fault.Fault.{Fault}
@@ -11,9 +12,13 @@ use Rattle.zone_text.specs.declared.scan.Step.TheVariants.{On, Ends, LostEscape,
 use Rattle.zone_text.specs.Pieces.{Piece, Cuts}
 use Rattle.zone_text.specs.Breaks.{Breaks}
 use Rattle.zone_text.specs.Lasting.{BreaksForGood}
-use Rattle.zone_text.specs.Entries.{cut_from}
+use Rattle.zone_text.specs.Entries.{Cut, cut_from}
 use Rattle.zone_text.specs.Decided.{ArePieces}
 use Rattle.zone_text.specs.Machine.Scan.{beginning, step_of, further, scan_on, scan_of, end_fault_of, IsOneEntry}
+use Rattle.zone_text.proofs.Cuttings.{IsCut, cuts, breaks}
+use Rattle.zone_text.proofs.ForGood.{stays_for_good, ends_not_for_good}
+use Rattle.zone_text.proofs.ScanPieces.{IsRead, is_read}
+use Rattle.zone_text.proofs.ScanReads.{Reads, reads}
 use Rattle.zone_text.proofs.ScanSteps.{further_on, further_none, rises}
 
 -- ---- where a scan goes on and stops
@@ -96,17 +101,60 @@ unfinished_depth start at (c ∷ rest) e = depth_by start at c rest (step_of sta
 
 -- ---- the pieces of octets that a scan took whole
 
+read_by : (octets : List ℕ) (step : Step) → scan_of beginning octets ≡ record { taken = length octets; step = step } → IsRead step zero octets
+read_by octets step e =
+    let P : Scanned → Type 0 = λ found. Reads found.step zero (take found.taken octets) in
+    let found : Reads step zero (take (length octets) octets) = subst P e (reads octets beginning tt) in
+    is_read step zero octets (subst (Reads step zero) (take-length octets) found)
+
+no_ended : (pieces : List Piece) → cut_from zero pieces ≡ record { ended = []; open_pieces = pieces } → (cut_from zero pieces).ended ≡ []
+no_ended pieces e = ap (λ (cut : Cut). cut.ended) e
+
 pub ends_entry : (octets : List ℕ) → scan_of beginning octets ≡ record { taken = length octets; step = Ends } → (pieces : List Piece) × IsOneEntry octets pieces
-ends_entry octets e = ?
+ends_entry octets e =
+    let read : IsRead Ends zero octets = read_by octets Ends e in
+    (read.pieces, record { cut = cuts octets read.pieces read.cut; ended = read.entries })
+
+are_pieces : (octets : List ℕ) (pieces : List Piece) (fault : Option Fault) → IsCut zero octets pieces fault → ArePieces octets pieces
+are_pieces octets pieces None is = inl (cuts octets pieces is)
+are_pieces octets pieces (Some fault) is = inr (fault, breaks octets pieces fault is)
 
 pub stays_open : (octets : List ℕ) (at : Spot) → scan_of beginning octets ≡ record { taken = length octets; step = On at } → (pieces : List Piece) × ArePieces octets pieces × ((cut_from zero pieces).ended ≡ []) × ((fault : Fault) → BreaksForGood octets pieces fault → ⊥)
-stays_open octets at e = ?
+stays_open octets at e =
+    let read : IsRead (On at) zero octets = read_by octets (On at) e in
+    (read.pieces, are_pieces octets read.pieces (end_fault_of at) read.cut, no_ended read.pieces read.entries, ends_not_for_good octets read.pieces read.rest read.whole read.left)
 
 pub loses_escape : (octets : List ℕ) → scan_of beginning octets ≡ record { taken = length octets; step = LostEscape } → (pieces : List Piece) × BreaksForGood octets pieces BadEscape × ((cut_from zero pieces).ended ≡ [])
-loses_escape octets e = ?
+loses_escape octets e =
+    let read : IsRead LostEscape zero octets = read_by octets LostEscape e in
+    (read.pieces, stays_for_good octets read.pieces BadEscape (breaks octets read.pieces BadEscape read.cut) read.rest read.whole read.left, no_ended read.pieces read.entries)
 
 pub closes_nothing : (octets : List ℕ) → scan_of beginning octets ≡ record { taken = length octets; step = ClosesNothing } → (pieces : List Piece) × BreaksForGood octets pieces UnbalancedParenthesis × ((cut_from zero pieces).ended ≡ [])
-closes_nothing octets e = ?
+closes_nothing octets e =
+    let read : IsRead ClosesNothing zero octets = read_by octets ClosesNothing e in
+    (read.pieces, stays_for_good octets read.pieces UnbalancedParenthesis (breaks octets read.pieces UnbalancedParenthesis read.cut) read.rest read.whole read.left, no_ended read.pieces read.entries)
+
+-- what the input's end makes of the octets
+abbrev AtEnd : List ℕ → Option Fault → Type 0
+AtEnd octets fault = MatchOption fault ((pieces : List Piece) × Cuts octets pieces × ((cut_from zero pieces).ended ≡ [])) (λ found. (pieces : List Piece) × Breaks octets pieces found × ((cut_from zero pieces).ended ≡ []))
+
+end_by : (octets : List ℕ) (pieces : List Piece) (fault : Option Fault) → IsCut zero octets pieces fault → (cut_from zero pieces).ended ≡ [] → AtEnd octets fault
+end_by octets pieces None is none = (pieces, cuts octets pieces is, none)
+end_by octets pieces (Some fault) is none = (pieces, breaks octets pieces fault is, none)
 
 pub at_end : (octets : List ℕ) (at : Spot) → scan_of beginning octets ≡ record { taken = length octets; step = On at } → MatchOption (end_fault_of at) ((pieces : List Piece) × Cuts octets pieces × ((cut_from zero pieces).ended ≡ [])) (λ fault. (pieces : List Piece) × Breaks octets pieces fault × ((cut_from zero pieces).ended ≡ []))
-at_end octets at e = ?
+at_end octets at e =
+    let read : IsRead (On at) zero octets = read_by octets (On at) e in
+    end_by octets read.pieces (end_fault_of at) read.cut (no_ended read.pieces read.entries)
+
+-- ---- octets kept from before
+
+-- Octets that stopped nothing, and a piece behind them: its front up to where the scan stops joins them, and they are
+-- scanned whole.
+pub joins_kept : (start at : Spot) (kept piece : List ℕ) → scan_of start kept ≡ record { taken = length kept; step = On at } → let front : List ℕ = take (scan_of at piece).taken piece in scan_of start (kept ++ front) ≡ record { taken = length (kept ++ front); step = (scan_of at piece).step }
+joins_kept start at kept piece e =
+    let front : List ℕ = take (scan_of at piece).taken piece in
+    let all : length kept + (scan_of at piece).taken ≡ length (kept ++ front) = omega (arith, takes_front at piece, length-append kept front) in
+    goes_on start at kept front e
+    ∙ ap (further (length kept)) (stops_at at piece)
+    ∙ ap (λ t. record { taken = t; step = (scan_of at piece).step }) all
