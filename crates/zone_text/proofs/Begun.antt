@@ -48,7 +48,7 @@ nothing_taken ended at unfinished begins none line = record {
   line = line;
 }
 
-no_pieces : Cuts [] []
+pub no_pieces : Cuts [] []
 no_pieces = record { whole = refl; each = tt; follow = tt; balanced = refl }
 
 -- of nothing, nothing is decided

@@ -121,7 +121,7 @@ entries_on pieces all (others, e) =
 same_stays : (a b : List Placed) (e f : Ending) → (a ≡ b) × (e ≡ f) → Stays a e b f
 same_stays a b e f same = record { others = []; first = sym same.0 ∙ sym (append-nil a); fault = λ found is. (sym same.0, sym same.1) }
 
-broken_once : Lower → (origin : List (List ℕ)) (octets : List ℕ) (pieces all : List Piece) (fault other : Fault) (a b : List Placed) (e f : Ending) → Breaks octets pieces fault → Breaks octets all other → ReadEach origin (Some (fault, Line (open_line pieces))) [] (ended_entries pieces) a e → ReadEach origin (Some (other, Line (open_line all))) [] (ended_entries all) b f → (a ≡ b) × (e ≡ f)
+pub broken_once : Lower → (origin : List (List ℕ)) (octets : List ℕ) (pieces all : List Piece) (fault other : Fault) (a b : List Placed) (e f : Ending) → Breaks octets pieces fault → Breaks octets all other → ReadEach origin (Some (fault, Line (open_line pieces))) [] (ended_entries pieces) a e → ReadEach origin (Some (other, Line (open_line all))) [] (ended_entries all) b f → (a ≡ b) × (e ≡ f)
 broken_once lower origin octets pieces all fault other a b e f x y xs ys =
     let same = one_break octets pieces all fault other x y in
     let front : pieces ≡ all = same.0 in

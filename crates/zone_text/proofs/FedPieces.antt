@@ -1,5 +1,5 @@
 -- A piece fed part by part.
-use Rattle.std.proofs.Common.{◌≡◌, ℕ, ◌+◌, ◌≤◌, List, [], ◌++◌, length, take, drop, Some, None, refl, sym, ap, ◌∙◌, subst, arith, append_assoc}
+use Rattle.std.proofs.Common.{◌≡◌, ℕ, ◌+◌, ◌≤◌, List, [], ◌++◌, length, take, drop, Option, Some, None, IfSome, refl, sym, ap, ◌∙◌, subst, arith, append_assoc}
 use Rattle.std.proofs.lemmas.List.{append-nil}
 use Rattle.zone_name.specs.Common.{Labels}
 use Rattle.zone_rdata.specs.declared.fault.Fault.{Fault}
@@ -22,6 +22,7 @@ pub record HasFed (old new : Intake) (piece rest : List ℕ) : Type 0 where
   pub whole : piece ≡ front ++ rest
   pub is : IsIntake new.ended new.at new.unfinished.items
   pub near : new.ended.line + length new.unfinished.items + length rest ≤ old.ended.line + length old.unfinished.items + length piece
+  pub settled : (found : Fault × Place) → old.ended.decided.ending ≡ Some found → new ≡ old
   pub follow : FollowsOn old.ended old.unfinished.items new.ended new.unfinished.items front
 
 pub fed_nothing : (old : Intake) (piece : List ℕ) → IsIntake old.ended old.at old.unfinished.items → HasFed old old piece piece
@@ -30,16 +31,18 @@ fed_nothing old piece is = record {
   whole = refl;
   is = is;
   near = omega arith;
+  settled = λ _ _. refl;
   follow = λ origin fed given follow. subst (λ t. Follow origin old.ended old.unfinished.items t given) (sym (append-nil fed)) follow;
 }
 
 -- a part more
-pub fed_more : (old mid new : Intake) (piece rest part after : List ℕ) → HasFed old mid piece rest → rest ≡ part ++ after → length rest ≡ length part + length after → IsIntake new.ended new.at new.unfinished.items → new.ended.line + length new.unfinished.items ≤ mid.ended.line + length mid.unfinished.items + length part → FollowsOn mid.ended mid.unfinished.items new.ended new.unfinished.items part → HasFed old new piece after
-fed_more old mid new piece rest part after before cut len is near follow = record {
+pub fed_more : (old mid new : Intake) (piece rest part after : List ℕ) → HasFed old mid piece rest → mid.ended.decided.ending ≡ None → rest ≡ part ++ after → length rest ≡ length part + length after → IsIntake new.ended new.at new.unfinished.items → new.ended.line + length new.unfinished.items ≤ mid.ended.line + length mid.unfinished.items + length part → FollowsOn mid.ended mid.unfinished.items new.ended new.unfinished.items part → HasFed old new piece after
+fed_more old mid new piece rest part after before none cut len is near follow = record {
   front = before.front ++ part;
   whole = before.whole ∙ ap (λ t. before.front ++ t) cut ∙ sym (append_assoc before.front part after);
   is = is;
   near = omega (arith, before.near, near, len);
+  settled = λ found ending. absurd (let same : mid ≡ old = before.settled found ending in let e : Some found ≡ None = sym ending ∙ ap (λ (s : Intake). s.ended.decided.ending) (sym same) ∙ none in let t : ⊥ = cc in t);
   follow = λ origin fed given f. subst (λ t. Follow origin new.ended new.unfinished.items t given) (append_assoc fed before.front part) (follow origin (fed ++ before.front) given (before.follow origin fed given f));
 }
 
@@ -64,3 +67,11 @@ takes_part at rest part found is cut =
 -- each octet of the unfinished entry opened one parenthesis at the most
 pub depth_within : (ended : EndedEntries) (at : Spot) (unfinished : List ℕ) → IsIntake ended at unfinished → at.depth ≤ length unfinished
 depth_within ended at unfinished is = let h = unfinished_depth beginning at unfinished (ap (λ (f : Scanned). f.step) is.spot) in omega (arith, h)
+
+-- where a fault was decided nothing changes
+pub fed_settled : (old new : Intake) (piece rest : List ℕ) → HasFed old new piece rest → IfSome old.ended.decided.ending (λ _. new ≡ old)
+fed_settled old new piece rest before = by old.ended.decided.ending before.settled
+  where
+    by : (ending : Option (Fault × Place)) → ((found : Fault × Place) → ending ≡ Some found → new ≡ old) → IfSome ending (λ _. new ≡ old)
+    by None same = tt
+    by (Some found) same = same found refl

@@ -30,6 +30,8 @@ pub mod EntryTaken
 pub mod Begun
 pub mod PartTaken
 pub mod FedPieces
+pub mod Standing
+pub mod DecidedOnce
 pub mod ScanSteps
 pub mod ScanReads
 pub mod ScanPieces

@@ -54,3 +54,10 @@ pub record Stands (origin : Labels) (source : SourceState) (fed : List ℕ) (giv
   pub decided : source.held.finished ≡ false → Decided origin fed (given ++ source.pending.records) source.pending.ending
   pub leave : source.held.finished ≡ false → source.pending.ending ≡ None → Leave origin fed source.held.defaults source.held.line source.held.unfinished
   pub read : source.held.finished ≡ true → FileReads origin fed (given ++ source.pending.records) source.pending.ending
+
+-- the source gives these records next, and stays as it is else
+pub record Gives (old : SourceState) (placed : List Placed) (new : SourceState) : Type 0 where
+  pub first : old.pending.records ≡ placed ++ new.pending.records
+  pub works : new.pending.failed ≡ old.pending.failed
+  pub ending : new.pending.ending ≡ old.pending.ending
+  pub held : new.held ≡ old.held

@@ -1,5 +1,5 @@
 //! Octets of a master file as they come in pieces: the entries that they end, and the one that they leave unfinished.
-ghost use Rattle.std.specs.Prelude.{◌≡◌, ◌+◌, ◌<◌, ◌≤◌, ◌^◌, ◌++◌, [], ℕ, List, length, OnOk, None};
+ghost use Rattle.std.specs.Prelude.{◌≡◌, ◌+◌, ◌<◌, ◌≤◌, ◌^◌, ◌++◌, [], ℕ, List, length, IfSome, OnOk, None};
 ghost use Rattle.zone_name.specs.Common.{Labels};
 ghost use Rattle.zone_rdata.specs.declared.record.Placed.{Placed};
 ghost use Rattle.zone_text.specs.FileReads.{FileReads};
@@ -46,6 +46,7 @@ impl Intake {
         requires fits { self.old.ended.line + length self.old.unfinished.items + length piece.now < 2 ^ 64 }
         ensures is { OnOk result (IsIntake self.new.ended self.new.at self.new.unfinished.items) }
         ensures near { OnOk result (self.new.ended.line + length self.new.unfinished.items ≤ self.old.ended.line + length self.old.unfinished.items + length piece.now) }
+        ensures settled { OnOk result (IfSome self.old.ended.decided.ending (λ _. self.new ≡ self.old)) }
         ensures follow { OnOk result ((origin : Labels) (fed : List ℕ) (given : List Placed)
             → Follow origin self.old.ended self.old.unfinished.items fed given
             → Follow origin self.new.ended self.new.unfinished.items (fed ++ piece.now) given) }

@@ -22,25 +22,12 @@ pub struct TextSource {
 }
 
 impl Model for TextSource {
-    ghost use Rattle.zone_text.specs.Machine.Feeding.{IsSource};
+    ghost use Rattle.zone_text.specs.Machine.Feeding.{IsSource, state_of};
     ghost use Rattle.zone_text.specs.Source.{SourceState};
 
     ghost Value = { SourceState };
 
-    ghost view = { λ s. record {
-      pending = record {
-        failed = s.failed;
-        records = s.intake.ended.decided.placed.items;
-        ending = s.intake.ended.decided.ending;
-      };
-      held = record {
-        finished = s.finished;
-        fed = s.fed;
-        defaults = s.intake.ended.defaults;
-        line = s.intake.ended.line;
-        unfinished = s.intake.unfinished.items;
-      };
-    } };
+    ghost view = { λ s. state_of s.failed s.finished s.fed s.intake.ended s.intake.unfinished.items };
 
     ghost invariant = { λ s. IsSource s.failed s.finished s.fed s.intake.ended s.intake.at s.intake.unfinished.items };
 }

@@ -10,7 +10,7 @@ use Rattle.zone_text.specs.Entries.{Entry, entry_of}
 use Rattle.zone_text.specs.FileReads.{ReadEach}
 use Rattle.zone_text.specs.Machine.Scan.{beginning, scan_of}
 use Rattle.zone_text.specs.Pieces.{Piece, Cuts, text}
-use Rattle.zone_text.specs.Source.{Leave}
+use Rattle.zone_text.specs.Source.{Leave, SourceState}
 use Rattle.zone_text.specs.declared.ended.EndedEntries.{EndedEntries}
 use Rattle.zone_text.specs.declared.scan.Scanned.{Scanned}
 use Rattle.zone_text.specs.declared.scan.Spot.{Spot}
@@ -46,6 +46,13 @@ pub record IsIntake (ended : EndedEntries) (at : Spot) (unfinished : List ℕ) :
   pub spot : ScansTo beginning unfinished (On at)
   pub dropped : (found : Fault × Place) → ended.decided.ending ≡ Some found → unfinished ≡ []
   pub line : 1 ≤ ended.line
+
+-- a source as contracts see it
+abbrev pub state_of : Bool → Bool → ℕ → EndedEntries → List ℕ → SourceState
+state_of failed finished fed ended unfinished = record {
+  pending = record { failed = failed; records = ended.decided.placed.items; ending = ended.decided.ending };
+  held = record { finished = finished; fed = fed; defaults = ended.defaults; line = ended.line; unfinished = unfinished };
+}
 
 -- what a source holds: nothing of the unfinished entry once it has failed or the file has ended, and numbers that fit
 pub record IsSource (failed finished : Bool) (fed : ℕ) (ended : EndedEntries) (at : Spot) (unfinished : List ℕ) : Type 0 where
