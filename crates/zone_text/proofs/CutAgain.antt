@@ -68,7 +68,7 @@ line_behind : (pieces : List Piece) → EndInLineFeed pieces → EndInLineFeed (
 line_behind [] ends = tt
 line_behind (p ∷ pieces) ends = ends
 
-again_zero : (ended : List (List Piece)) (more : List Piece) → AreEnded zero ended → cut_from zero (joined ended ++ more) ≡ record { ended = ended ++ (cut_from zero more).ended; open_pieces = (cut_from zero more).open_pieces }
+pub again_zero : (ended : List (List Piece)) (more : List Piece) → AreEnded zero ended → cut_from zero (joined ended ++ more) ≡ record { ended = ended ++ (cut_from zero more).ended; open_pieces = (cut_from zero more).open_pieces }
 again_zero [] more are = refl
 again_zero (entry ∷ ended) more are = are.again entry ended more refl
 

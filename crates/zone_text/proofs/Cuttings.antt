@@ -165,7 +165,7 @@ pub record IsCut (depth : ℕ) (octets : List ℕ) (pieces : List Piece) (fault 
   pub parentheses : depth_after depth pieces ≡ Some at
   pub ends : Ends at rest fault
 
-no_piece : (depth : ℕ) (octets : List ℕ) (fault : Option Fault) → Ends depth octets fault → IsCut depth octets [] fault
+pub no_piece : (depth : ℕ) (octets : List ℕ) (fault : Option Fault) → Ends depth octets fault → IsCut depth octets [] fault
 no_piece depth octets fault ends = record {
   rest = octets;
   at = depth;
@@ -177,7 +177,7 @@ no_piece depth octets fault ends = record {
   ends = ends;
 }
 
-text_on : (octets rest after : List ℕ) (p : Piece) (pieces : List Piece) → octets ≡ piece_text p ++ rest → rest ≡ text pieces ++ after → octets ≡ text (p ∷ pieces) ++ after
+pub text_on : (octets rest after : List ℕ) (p : Piece) (pieces : List Piece) → octets ≡ piece_text p ++ rest → rest ≡ text pieces ++ after → octets ≡ text (p ∷ pieces) ++ after
 text_on octets rest after p pieces e more = e ∙ ap (λ t. piece_text p ++ t) more ∙ sym (append_assoc (piece_text p) (text pieces) after)
 
 follow_on : (p : Piece) (pieces : List Piece) (rest after : List ℕ) → Stops p rest → rest ≡ text pieces ++ after → AllByRecursion IsPiece pieces → AllFollow pieces → AllFollow (p ∷ pieces)
@@ -195,7 +195,7 @@ last_on (comment octets) (q ∷ pieces) depth rest after fault stop whole ends l
 last_on (bare units) (q ∷ pieces) depth rest after fault stop whole ends last = last
 last_on (quoted units) (q ∷ pieces) depth rest after fault stop whole ends last = last
 
-one_piece_more : (depth : ℕ) (octets rest : List ℕ) (p : Piece) (pieces : List Piece) (fault : Option Fault) → Takes depth octets p rest → IsCut (depth_behind depth p) rest pieces fault → IsCut depth octets (p ∷ pieces) fault
+pub one_piece_more : (depth : ℕ) (octets rest : List ℕ) (p : Piece) (pieces : List Piece) (fault : Option Fault) → Takes depth octets p rest → IsCut (depth_behind depth p) rest pieces fault → IsCut depth octets (p ∷ pieces) fault
 one_piece_more depth octets rest p pieces fault front more = record {
   rest = more.rest;
   at = more.at;

@@ -59,10 +59,10 @@ reads_on lower origin behind before (entry ∷ entries) others a b e f (refused 
 -- ---- the pieces of a prefix and of a text that goes on
 
 -- the ended entries of a prefix stand by themselves before what is left of it
-record IsParted (octets : List ℕ) (pieces : List Piece) : Type 0 where
-  rest : List ℕ
-  parted : octets ≡ text (joined (cut_from zero pieces).ended) ++ rest
-  front : Cuts (text (joined (cut_from zero pieces).ended)) (joined (cut_from zero pieces).ended)
+pub record IsParted (octets : List ℕ) (pieces : List Piece) : Type 0 where
+  pub rest : List ℕ
+  pub parted : octets ≡ text (joined (cut_from zero pieces).ended) ++ rest
+  pub front : Cuts (text (joined (cut_from zero pieces).ended)) (joined (cut_from zero pieces).ended)
 
 parted_cut : (octets : List ℕ) (pieces : List Piece) → Cuts octets pieces → IsParted octets pieces
 parted_cut octets pieces cut =
@@ -76,15 +76,15 @@ parted_break octets pieces fault breaks =
     let found = break_parted octets ended (cut_from zero pieces).open_pieces fault (ended_at_zero breaks.depth pieces breaks.parentheses) (rw (cut_whole) breaks) in
     record { rest = found.0; parted = found.1; front = found.2 }
 
-parted : (octets : List ℕ) (pieces : List Piece) → ArePieces octets pieces → IsParted octets pieces
+pub parted : (octets : List ℕ) (pieces : List Piece) → ArePieces octets pieces → IsParted octets pieces
 parted octets pieces (inl cut) = parted_cut octets pieces cut
 parted octets pieces (inr (fault, breaks)) = parted_break octets pieces fault breaks
 
 -- the pieces of a text that goes on are those of the ended entries of its front, and others
-abbrev GoesOn : List Piece → List Piece → Type 0
+abbrev pub GoesOn : List Piece → List Piece → Type 0
 GoesOn pieces all = (others : List Piece) × (all ≡ joined (cut_from zero pieces).ended ++ others)
 
-pieces_of : (octets : List ℕ) (all other : List Piece) → ArePieces octets all → ArePieces octets other → all ≡ other
+pub pieces_of : (octets : List ℕ) (all other : List Piece) → ArePieces octets all → ArePieces octets other → all ≡ other
 pieces_of octets all other (inl x) (inl y) = one_cut octets all other x y
 pieces_of octets all other (inl x) (inr (fault, y)) = absurd (cut_not_broken octets all other fault x y)
 pieces_of octets all other (inr (fault, x)) (inl y) = absurd (cut_not_broken octets other all fault y x)
@@ -97,7 +97,7 @@ joined_pieces front rest pieces cut =
       | inr found ↦ (found.0, inr (found.1, break_joined front rest (joined (cut_from zero pieces).ended) found.0 found.1 cut (cut_ended zero pieces).ends found.2))
     ]
 
-goes_on : (octets more : List ℕ) (pieces all : List Piece) → ArePieces octets pieces → ArePieces (octets ++ more) all → GoesOn pieces all
+pub goes_on : (octets more : List ℕ) (pieces all : List Piece) → ArePieces octets pieces → ArePieces (octets ++ more) all → GoesOn pieces all
 goes_on octets more pieces all x y =
     let front = parted octets pieces x in
     let behind = joined_pieces (text (joined (cut_from zero pieces).ended)) (front.rest ++ more) pieces front.front in
@@ -105,12 +105,12 @@ goes_on octets more pieces all x y =
     (behind.0, pieces_of (octets ++ more) all (joined (cut_from zero pieces).ended ++ behind.0) y (rw split (behind.1)))
 
 -- so its entries are the ended ones of the front, and others
-ended_on : (pieces all : List Piece) → GoesOn pieces all → (others : List Entry) × (ended_entries all ≡ ended_entries pieces ++ others)
+pub ended_on : (pieces all : List Piece) → GoesOn pieces all → (others : List Entry) × (ended_entries all ≡ ended_entries pieces ++ others)
 ended_on pieces all (others, e) =
     let more = numbered_front 1 (cut_from zero pieces).ended (cut_from zero others).ended in
     (more.0, rw (e, cut_again) (more.1))
 
-entries_on : (pieces all : List Piece) → GoesOn pieces all → (others : List Entry) × (entries_of all ≡ ended_entries pieces ++ others)
+pub entries_on : (pieces all : List Piece) → GoesOn pieces all → (others : List Entry) × (entries_of all ≡ ended_entries pieces ++ others)
 entries_on pieces all (others, e) =
     let more = numbered_front 1 (cut_from zero pieces).ended (and_last (cut_from zero others).ended (cut_from zero others).open_pieces) in
     (more.0, rw (e, cut_again, and_last_behind) (more.1))
@@ -121,7 +121,7 @@ entries_on pieces all (others, e) =
 same_stays : (a b : List Placed) (e f : Ending) → (a ≡ b) × (e ≡ f) → Stays a e b f
 same_stays a b e f same = record { others = []; first = sym same.0 ∙ sym (append-nil a); fault = λ found is. (sym same.0, sym same.1) }
 
-broken_once : Lower → (origin : List (List ℕ)) (octets : List ℕ) (pieces all : List Piece) (fault other : Fault) (a b : List Placed) (e f : Ending) → Breaks octets pieces fault → Breaks octets all other → ReadEach origin (Some (fault, Line (open_line pieces))) [] (ended_entries pieces) a e → ReadEach origin (Some (other, Line (open_line all))) [] (ended_entries all) b f → (a ≡ b) × (e ≡ f)
+pub broken_once : Lower → (origin : List (List ℕ)) (octets : List ℕ) (pieces all : List Piece) (fault other : Fault) (a b : List Placed) (e f : Ending) → Breaks octets pieces fault → Breaks octets all other → ReadEach origin (Some (fault, Line (open_line pieces))) [] (ended_entries pieces) a e → ReadEach origin (Some (other, Line (open_line all))) [] (ended_entries all) b f → (a ≡ b) × (e ≡ f)
 broken_once lower origin octets pieces all fault other a b e f x y xs ys =
     let same = one_break octets pieces all fault other x y in
     let front : pieces ≡ all = same.0 in

@@ -12,7 +12,7 @@ use Rattle.zone_text.proofs.CutAgain.{joined, cut_whole, cut_again, cut_ended, e
 use Rattle.zone_text.proofs.Cuttings.{IsCut, cutting_is, cutting_only, reads_cut, reads_broken}
 use Rattle.zone_text.proofs.Lasting.{IsParted, parted, both_cut}
 
-text_of_entries : (entries : List (List Piece)) → flat_map text entries ≡ text (joined entries)
+pub text_of_entries : (entries : List (List Piece)) → flat_map text entries ≡ text (joined entries)
 text_of_entries [] = refl
 text_of_entries (entry ∷ entries) = ap (λ t. text entry ++ t) (text_of_entries entries) ∙ sym (flat_map-append piece_text entry (joined entries))
 

@@ -23,3 +23,16 @@ pub mod Lasting
 pub mod Ending
 pub mod Escapes
 pub mod ForGood
+pub mod Left
+pub mod Decisions
+pub mod Followed
+pub mod EntryTaken
+pub mod Begun
+pub mod PartTaken
+pub mod FedPieces
+pub mod Standing
+pub mod DecidedOnce
+pub mod ScanSteps
+pub mod ScanReads
+pub mod ScanPieces
+pub mod Scanned

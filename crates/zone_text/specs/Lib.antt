@@ -7,6 +7,7 @@ pub mod Entries
 pub mod Forms
 pub mod Inherited
 pub mod Records
+pub mod Defaults
 pub mod EntryFault
 pub mod Given
 pub mod File
@@ -14,4 +15,5 @@ pub mod FileReads
 pub mod Decided
 pub mod Outcome
 pub mod Lines
+pub mod Source
 pub mod ExampleEntries

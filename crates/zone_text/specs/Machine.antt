@@ -1,4 +1,10 @@
 -- What private functions and proofs cite, and no public clause.
 pub mod Cutting
-pub mod Lower
+pub mod EntryReading
+pub mod Feeding
+pub mod Form
+pub mod ItemLengths
 pub mod Items
+pub mod Lower
+pub mod Scan
+pub mod WordValues

@@ -2,3 +2,4 @@
 pub mod entry;
 pub mod file;
 pub mod pieces;
+pub mod source;

@@ -22,7 +22,7 @@ use zone_rdata::laws::word::{
 };
 
 /// The laws of names, words and data on which those of entries stand.
-pub(super) fn lower_laws()
+pub(crate) fn lower_laws()
     ensures { Lower }
 {
     spelling_is_unique();

@@ -1,5 +1,5 @@
 //! Laws of files: the records that one states, and its reading.
-ghost use Rattle.std.specs.Prelude.{◌≡◌, ◌++◌, ◌<◌, ◌↔◌, List, ℕ, None};
+ghost use Rattle.std.specs.Prelude.{◌≡◌, ◌++◌, ◌<◌, ◌↔◌, List, ℕ, [], None};
 ghost use Rattle.std.specs.List.{AllByRecursion};
 ghost use Rattle.zone_name.specs.Name.{IsName};
 ghost use Rattle.zone_rdata.specs.declared.record.Placed.{Placed};
@@ -7,6 +7,7 @@ ghost use Rattle.zone_text.specs.Decided.{Decided, Stays};
 ghost use Rattle.zone_text.specs.File.{FileStates};
 ghost use Rattle.zone_text.specs.FileReads.{FileReads};
 ghost use Rattle.zone_text.specs.Given.{Ending};
+ghost use Rattle.zone_text.specs.Source.{AreUnfinished};
 
 use crate::laws::entry::{lower_choices, lower_laws};
 
@@ -32,6 +33,23 @@ pub fn of_each_prefix_something_is_decided()
     lower_laws();
     lower_choices();
 }
+
+/// Of a prefix at most one thing is decided.
+pub fn of_each_prefix_one_thing_is_decided()
+    ensures { (origin : List (List ℕ)) (octets : List ℕ) (a b : List Placed) (e f : Ending) → Decided origin octets a e → Decided origin octets b f → (a ≡ b) × (e ≡ f) }
+{
+    lower_laws();
+}
+
+/// Of nothing, nothing is decided.
+pub fn of_nothing_nothing_is_decided()
+    ensures { (origin : List (List ℕ)) (placed : List Placed) (ending : Ending) → Decided origin [] placed ending ↔ ((placed ≡ []) × (ending ≡ None)) }
+{}
+
+/// The unfinished octets of a text are one list.
+pub fn one_end_of_a_text_is_unfinished()
+    ensures { (octets a b : List ℕ) → AreUnfinished octets a → AreUnfinished octets b → a ≡ b }
+{}
 
 /// A file has at most one reading.
 pub fn a_file_has_one_reading()

@@ -1,12 +1,12 @@
 //! Laws of pieces and the entries that they make: how a text is cut, how it breaks, and what a prefix of it settles.
-ghost use Rattle.std.specs.Prelude.{◌++◌, ◌≡◌, ◌↔◌, ◌⊎◌, ℕ, List, None, Some, zero};
+ghost use Rattle.std.specs.Prelude.{[], ◌++◌, ◌≡◌, ◌↔◌, ◌⊎◌, ℕ, List, None, Some, zero};
 ghost use Rattle.std.specs.List.{flat_map};
 ghost use Rattle.zone_name.specs.Spelling.{IsBadEscape};
 ghost use Rattle.zone_rdata.specs.declared.fault.Fault.{Fault};
 ghost use Rattle.zone_text.specs.Breaks.{Breaks};
 ghost use Rattle.zone_text.specs.Machine.Cutting.{cutting};
 ghost use Rattle.zone_text.specs.Decided.{ArePieces};
-ghost use Rattle.zone_text.specs.Entries.{and_last, cut_from, ended_entries, entries_of, Entry};
+ghost use Rattle.zone_text.specs.Entries.{and_last, cut_from, ended_entries, entries_of, Entry, numbered, open_line};
 ghost use Rattle.zone_text.specs.Lasting.{BreaksAtEnd, BreaksForGood, EndInLineFeed, IsCutOff, IsLostEscape, StaysBroken};
 ghost use Rattle.zone_text.specs.Pieces.{Cuts, depth_after, Piece, text};
 
@@ -76,4 +76,11 @@ pub fn entries_joined_are_the_text()
 pub fn ended_entries_stay()
     ensures longer { (octets more : List ℕ) (pieces later : List Piece) → ArePieces octets pieces → ArePieces (octets ++ more) later → (others : List Entry) × (ended_entries later ≡ ended_entries pieces ++ others) }
     ensures whole { (pieces : List Piece) → (others : List Entry) × (entries_of pieces ≡ ended_entries pieces ++ others) }
+{}
+
+/// The entries of pieces one behind the other, where the first all stand in ended entries, are those of the first and
+/// then those of the second numbered from the line on which it begins.
+pub fn entries_are_numbered_on()
+    ensures ended { (pieces more : List Piece) → (cut_from zero pieces).open_pieces ≡ [] → ended_entries (pieces ++ more) ≡ ended_entries pieces ++ numbered (open_line pieces) (cut_from zero more).ended }
+    ensures all { (pieces more : List Piece) → (cut_from zero pieces).open_pieces ≡ [] → entries_of (pieces ++ more) ≡ ended_entries pieces ++ numbered (open_line pieces) (and_last (cut_from zero more).ended (cut_from zero more).open_pieces) }
 {}

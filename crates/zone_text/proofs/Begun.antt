@@ -1,0 +1,66 @@
+-- What a source holds at the beginning of a file and at that of an entry.
+use Rattle.std.proofs.Common.{◌≡◌, ℕ, zero, ◌+◌, ◌≤◌, List, [], ◌∷◌, ◌++◌, length, ◌==◌, Bool, true, false, Option, Some, None, refl, sym, ap, ◌∙◌, subst, arith, inl}
+use Rattle.std.specs.Option.{is_some}
+use Rattle.std.proofs.lemmas.Bool.{eqb-true, eqb-false}
+use Rattle.zone_name.specs.Common.{Labels}
+use Rattle.zone_rdata.specs.declared.fault.Fault.{Fault}
+use Rattle.zone_rdata.specs.declared.fault.Place.{Place}
+use Rattle.zone_rdata.specs.declared.record.Placed.{Placed}
+use Rattle.zone_text.specs.declared.defaults.Defaults.{Defaults}
+use Rattle.zone_text.specs.declared.ended.EndedEntries.{EndedEntries}
+use Rattle.zone_text.specs.declared.scan.Spot.{Spot}
+use Rattle.zone_text.specs.declared.scan.Step.TheVariants.{On}
+use Rattle.zone_text.specs.Decided.{Decided, undecided}
+use Rattle.zone_text.specs.Defaults.{AreDefaults}
+use Rattle.zone_text.specs.Given.{Ending}
+use Rattle.zone_text.specs.Machine.Feeding.{Follow, IsIntake, ScansTo}
+use Rattle.zone_text.specs.Machine.Scan.{beginning, scan_of}
+use Rattle.zone_text.specs.Pieces.{Piece, Cuts}
+use Rattle.zone_text.proofs.Left.{none_cut}
+
+-- octets of which there is none, or one
+pub none_left : (octets : List ℕ) (n : ℕ) (empty : Bool) → n ≡ length octets → empty ≡ (n == 0) → empty ≡ true → octets ≡ []
+none_left [] n empty len is none_is = refl
+none_left (c ∷ octets) n empty len is none_is = absurd (omega (arith, len, eqb-true n 0 (sym is ∙ none_is)))
+
+pub some_left : (octets : List ℕ) (n : ℕ) (empty : Bool) → n ≡ length octets → empty ≡ (n == 0) → empty ≡ false → octets ≡ [] → ⊥
+some_left [] n empty len is some_is none = eqb-false n 0 (sym is ∙ some_is) len
+some_left (c ∷ octets) n empty len is some_is none = cc
+
+-- a fault that is decided
+pub some_found : {A : Type 0} (o : Option A) → is_some o ≡ true → (x : A) × (o ≡ Some x)
+some_found None is = absurd (let t : ⊥ = cc in t)
+some_found (Some x) is = (x, refl)
+
+pub none_found : {A : Type 0} (o : Option A) → is_some o ≡ false → o ≡ None
+none_found None is = refl
+none_found (Some x) is = absurd (let t : ⊥ = cc in t)
+
+-- no octets lead to the beginning of an entry
+pub scans_nothing : (at : Spot) (unfinished : List ℕ) → at ≡ beginning → unfinished ≡ [] → ScansTo beginning unfinished (On at)
+unfolding scan_of
+scans_nothing at unfinished begins none = rw (begins, none) refl
+
+pub nothing_taken : (ended : EndedEntries) (at : Spot) (unfinished : List ℕ) → at ≡ beginning → unfinished ≡ [] → 1 ≤ ended.line → IsIntake ended at unfinished
+nothing_taken ended at unfinished begins none line = record {
+  spot = scans_nothing at unfinished begins none;
+  dropped = λ _ _. none;
+  line = line;
+}
+
+pub no_pieces : Cuts [] []
+no_pieces = record { whole = refl; each = tt; follow = tt; balanced = refl }
+
+-- of nothing, nothing is decided
+pub nothing_decided : (origin : Labels) → Decided origin [] [] None
+nothing_decided origin = undecided [] (inl no_pieces) (none_cut [] [] no_pieces) (refl, refl)
+
+pub nothing_follows : (origin : Labels) (ended : EndedEntries) (unfinished : List ℕ) → unfinished ≡ [] → ended.decided.placed.items ≡ [] → ended.decided.ending ≡ None → AreDefaults origin [] ended.defaults → ended.line ≡ 1 → Follow origin ended unfinished [] []
+nothing_follows origin ended unfinished none records ending defaults line = record {
+  decided = rw (records, ending) (nothing_decided origin);
+  leave = λ _. record {
+    octets = record { pieces = []; are = inl no_pieces; whole = sym none };
+    inherited = defaults;
+    numbered = line;
+  };
+}

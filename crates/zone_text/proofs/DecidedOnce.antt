@@ -1,0 +1,66 @@
+-- What is decided of a prefix, and the octets that it leaves, are one thing.
+use Rattle.std.proofs.Common.{◌≡◌, ◌↔◌, ℕ, zero, ◌+◌, List, [], ◌∷◌, ◌++◌, None, Some, refl, sym, ap, ◌∙◌, subst, inl, inr}
+use Rattle.std.specs.List.{flat_map}
+use Rattle.std.proofs.lemmas.List.{append-nil, append_cancel_left}
+use Rattle.zone_rdata.specs.declared.fault.Fault.{Fault}
+use Rattle.zone_rdata.specs.declared.record.Placed.{Placed}
+use Rattle.zone_text.specs.Decided.{ArePieces, Decided, decided, undecided}
+use Rattle.zone_text.specs.Entries.{Cut, Entry, and_last, cut_from, ended_entries, entries_of, numbered, open_line}
+use Rattle.zone_text.specs.FileReads.{ReadEach}
+use Rattle.zone_text.specs.Given.{Ending}
+use Rattle.zone_text.specs.Lasting.{BreaksForGood}
+use Rattle.zone_text.specs.Machine.Lower.{Lower}
+use Rattle.zone_text.specs.Pieces.{Piece, Cuts, text}
+use Rattle.zone_text.specs.Source.{AreUnfinished}
+use Rattle.zone_text.proofs.Begun.{no_pieces, nothing_decided}
+use Rattle.zone_text.proofs.CutAgain.{joined, cut_again, cut_whole, and_last_behind}
+use Rattle.zone_text.proofs.Cuttings.{cut_not_broken}
+use Rattle.zone_text.proofs.Decides.{pieces_of, broken_once}
+use Rattle.zone_text.proofs.Files.{reads_once}
+use Rattle.zone_text.proofs.Left.{numbered_then}
+
+pub decided_once : Lower → (origin : List (List ℕ)) (octets : List ℕ) (a b : List Placed) (e f : Ending) → Decided origin octets a e → Decided origin octets b f → (a ≡ b) × (e ≡ f)
+decided_once lower origin octets a b e f (undecided ps are never xs) (undecided qs others none ys) =
+    let same : ps ≡ qs = pieces_of octets ps qs are others in
+    reads_once lower origin None [] (ended_entries qs) a b e f (subst (λ p. ReadEach origin None [] (ended_entries p) a e) same xs) ys
+decided_once lower origin octets a b e f (undecided ps are never xs) (decided qs fault good ys) =
+    let same : qs ≡ ps = pieces_of octets qs ps (inr (fault, good.breaks)) are in
+    absurd (never fault (subst (λ p. BreaksForGood octets p fault) same good))
+decided_once lower origin octets a b e f (decided ps fault good xs) (undecided qs others none ys) =
+    let same : ps ≡ qs = pieces_of octets ps qs (inr (fault, good.breaks)) others in
+    absurd (none fault (subst (λ p. BreaksForGood octets p fault) same good))
+decided_once lower origin octets a b e f (decided ps fault good xs) (decided qs other better ys) =
+    broken_once lower origin octets ps qs fault other a b e f good.breaks better.breaks xs ys
+
+nothing_only : (origin : List (List ℕ)) (placed : List Placed) (ending : Ending) → Decided origin [] placed ending → (placed ≡ []) × (ending ≡ None)
+nothing_only origin placed ending (undecided ps are never read) =
+    let same : ps ≡ [] = pieces_of [] ps [] are (inl no_pieces) in
+    subst (λ p. ReadEach origin None [] (ended_entries p) placed ending) same read
+nothing_only origin placed ending (decided ps fault good read) = absurd (cut_not_broken [] [] ps fault no_pieces good.breaks)
+
+pub of_nothing : (origin : List (List ℕ)) (placed : List Placed) (ending : Ending) → Decided origin [] placed ending ↔ ((placed ≡ []) × (ending ≡ None))
+of_nothing origin placed ending = (nothing_only origin placed ending, λ is. rw (is.0, is.1) (nothing_decided origin))
+
+pub unfinished_once : (octets a b : List ℕ) → AreUnfinished octets a → AreUnfinished octets b → a ≡ b
+unfinished_once octets a b x y =
+    let same : y.pieces ≡ x.pieces = pieces_of octets y.pieces x.pieces y.are x.are in
+    append_cancel_left (flat_map text (cut_from zero x.pieces).ended) a b (sym x.whole ∙ y.whole ∙ ap (λ p. flat_map text (cut_from zero p).ended ++ b) same)
+
+-- ---- the entries of pieces one behind the other
+
+all_ended : (pieces : List Piece) → (cut_from zero pieces).open_pieces ≡ [] → pieces ≡ joined (cut_from zero pieces).ended
+all_ended pieces none = sym (cut_whole zero pieces) ∙ ap (λ t. joined (cut_from zero pieces).ended ++ t) none ∙ append-nil (joined (cut_from zero pieces).ended)
+
+cut_behind_all : (pieces more : List Piece) → (cut_from zero pieces).open_pieces ≡ [] → cut_from zero (pieces ++ more) ≡ record { ended = (cut_from zero pieces).ended ++ (cut_from zero more).ended; open_pieces = (cut_from zero more).open_pieces }
+cut_behind_all pieces more none = ap (λ p. cut_from zero (p ++ more)) (all_ended pieces none) ∙ cut_again pieces more
+
+pub ended_on_behind : (pieces more : List Piece) → (cut_from zero pieces).open_pieces ≡ [] → ended_entries (pieces ++ more) ≡ ended_entries pieces ++ numbered (open_line pieces) (cut_from zero more).ended
+ended_on_behind pieces more none =
+    ap (λ (c : Cut). numbered 1 c.ended) (cut_behind_all pieces more none)
+    ∙ numbered_then 1 (cut_from zero pieces).ended (cut_from zero more).ended
+
+pub entries_on_behind : (pieces more : List Piece) → (cut_from zero pieces).open_pieces ≡ [] → entries_of (pieces ++ more) ≡ ended_entries pieces ++ numbered (open_line pieces) (and_last (cut_from zero more).ended (cut_from zero more).open_pieces)
+entries_on_behind pieces more none =
+    ap (λ (c : Cut). numbered 1 (and_last c.ended c.open_pieces)) (cut_behind_all pieces more none)
+    ∙ ap (numbered 1) (and_last_behind (cut_from zero pieces).ended (cut_from zero more).ended (cut_from zero more).open_pieces)
+    ∙ numbered_then 1 (cut_from zero pieces).ended (and_last (cut_from zero more).ended (cut_from zero more).open_pieces)

@@ -1,0 +1,154 @@
+-- What octets leave of a file: the entries that line feeds have ended, and the octets behind them.
+use Rattle.std.proofs.Common.{◌≡◌, ℕ, zero, ◌+◌, List, [], ◌∷◌, ◌++◌, length, ◌==◌, Option, Some, None, refl, sym, ap, ◌∙◌, subst, arith, append_assoc, add_assoc, add-zero, ◌⊎◌, inl, inr}
+use Rattle.std.specs.List.{flat_map, count_by}
+use Rattle.std.specs.Prelude.{reverse}
+use Rattle.std.proofs.lemmas.List.{append-nil, flat_map_more, reverse-append}
+use Rattle.std.proofs.lemmas.List.Concat.{flat_map-append}
+use Rattle.std.proofs.lemmas.List.Sums.{sum_by-append}
+use Rattle.zone_rdata.specs.declared.fault.Fault.{Fault}
+use Rattle.zone_rdata.specs.declared.fault.Place.{Place}
+use Rattle.zone_rdata.specs.declared.fault.Place.TheVariants.{Line}
+use Rattle.zone_rdata.specs.declared.record.Placed.{Placed}
+use Rattle.zone_text.specs.Pieces.{Piece, Cuts, piece_text, text}
+use Rattle.zone_text.specs.Breaks.{Breaks}
+use Rattle.zone_text.specs.Lasting.{BreaksForGood, StaysBroken, BreaksAtEnd, EndInLineFeed}
+use Rattle.zone_text.specs.Entries.{Cut, Entry, cut_from, and_last, entry_of, numbered, entries_of, ended_entries, open_line}
+use Rattle.zone_text.specs.FileReads.{ReadEach, FileReads}
+use Rattle.zone_text.specs.FileReads as file
+use Rattle.zone_text.specs.Given.{Ending, gives_none, gives_one, refused}
+use Rattle.zone_text.specs.Decided.{ArePieces, Decided, decided, undecided}
+use Rattle.zone_text.proofs.Cuttings.{cut_not_broken, cut_or_broken}
+use Rattle.zone_text.proofs.Lasting.{cut_joined, break_joined, breaks_for_good}
+use Rattle.zone_text.proofs.CutAgain.{joined, AreEnded, cut_whole, cut_ended, again_zero, and_last_behind}
+use Rattle.zone_text.proofs.Decides.{IsParted, parted, pieces_of, goes_on, ended_on, entries_on}
+use Rattle.zone_text.proofs.Ending.{text_of_entries}
+use Rattle.zone_text.proofs.Escapes.{break_stays_or_ends}
+use Rattle.zone_text.proofs.ForGood.{stays_for_good, ends_not_for_good}
+
+-- ---- readings of entries one behind the other
+
+abbrev pub line_feeds : List ℕ → ℕ
+line_feeds octets = count_by (λ c. c == 10) octets
+
+more_records : (p : Placed) (placed rest more : List Placed) → placed ≡ p ∷ rest → placed ++ more ≡ p ∷ (rest ++ more)
+more_records p placed rest more e = ap (λ t. t ++ more) e
+
+none_is_some : {A : Type 0} (x : A) → None ≡ Some x → ⊥
+none_is_some x e = cc
+
+-- the entries before, the latest first, with one more
+pub turned : (entry : Entry) (entries before : List Entry) → reverse (entry ∷ entries) ++ before ≡ reverse entries ++ (entry ∷ before)
+turned entry entries before =
+    ap (λ t. t ++ before) (reverse-append (entry ∷ []) entries) ∙ append_assoc (reverse entries) (entry ∷ []) before
+
+-- entries of which none is refused, and others behind them
+pub reads_then : (origin : List (List ℕ)) (behind : Ending) (before entries more : List Entry) (placed others : List Placed) (ending : Ending) → ReadEach origin None before entries placed None → ReadEach origin behind (reverse entries ++ before) more others ending → ReadEach origin behind before (entries ++ more) (placed ++ others) ending
+reads_then origin behind before [] more placed others ending read next =
+    subst (λ t. ReadEach origin behind before more t ending) (ap (λ t. t ++ others) (sym read.0)) next
+reads_then origin behind before (entry ∷ entries) more placed others ending (gives_none n read) next =
+    gives_none n (reads_then origin behind (entry ∷ before) entries more placed others ending read (subst (λ t. ReadEach origin behind t more others ending) (turned entry entries before) next))
+reads_then origin behind before (entry ∷ entries) more placed others ending (gives_one p rest states place e read) next =
+    gives_one p (rest ++ others) states place (more_records p placed rest others e) (reads_then origin behind (entry ∷ before) entries more rest others ending read (subst (λ t. ReadEach origin behind t more others ending) (turned entry entries before) next))
+reads_then origin behind before (entry ∷ entries) more placed others ending (refused fault h e f) next = absurd (none_is_some (fault, Line entry.line) f)
+
+-- entries of which one is refused, whatever stands behind them
+pub refused_before : (origin : List (List ℕ)) (behind : Ending) (before entries more : List Entry) (placed : List Placed) (found : Fault × Place) → ReadEach origin None before entries placed (Some found) → ReadEach origin behind before (entries ++ more) placed (Some found)
+refused_before origin behind before [] more placed found read = absurd (none_is_some found (sym read.1))
+refused_before origin behind before (entry ∷ entries) more placed found (gives_none n read) = gives_none n (refused_before origin behind (entry ∷ before) entries more placed found read)
+refused_before origin behind before (entry ∷ entries) more placed found (gives_one p rest states place e read) = gives_one p rest states place e (refused_before origin behind (entry ∷ before) entries more rest found read)
+refused_before origin behind before (entry ∷ entries) more placed found (refused fault h e f) = refused fault h e f
+
+-- the same entries, and what comes behind them
+pub reads_behind : (origin : List (List ℕ)) (behind : Ending) (before entries : List Entry) (placed : List Placed) → ReadEach origin None before entries placed None → ReadEach origin behind before entries placed behind
+reads_behind origin behind before [] placed read = (read.0, refl)
+reads_behind origin behind before (entry ∷ entries) placed (gives_none n read) = gives_none n (reads_behind origin behind (entry ∷ before) entries placed read)
+reads_behind origin behind before (entry ∷ entries) placed (gives_one p rest states place e read) = gives_one p rest states place e (reads_behind origin behind (entry ∷ before) entries rest read)
+reads_behind origin behind before (entry ∷ entries) placed (refused fault h e f) = absurd (none_is_some (fault, Line entry.line) f)
+
+-- ---- lines
+
+pub numbered_then : (line : ℕ) (entries more : List (List Piece)) → numbered line (entries ++ more) ≡ numbered line entries ++ numbered (line + line_feeds (flat_map text entries)) more
+numbered_then line [] more = rw (add-zero) refl
+numbered_then line (first ∷ entries) more =
+    ap (λ t. entry_of line first ∷ t) (numbered_then (line + line_feeds (text first)) entries more)
+    ∙ ap (λ n. entry_of line first ∷ (numbered (line + line_feeds (text first)) entries ++ numbered n more)) (add_assoc line (line_feeds (text first)) (line_feeds (flat_map text entries)) ∙ ap (λ n. line + n) (sym (sum_by-append _ (text first) (flat_map text entries))))
+
+-- ---- the pieces of octets, their ended entries, and the octets behind these
+
+-- octets are ended entries and the octets behind them
+pub record IsSplit (fed : List ℕ) (ended : List (List Piece)) (unfinished : List ℕ) : Type 0 where
+  pub whole : fed ≡ text (joined ended) ++ unfinished
+  pub front : Cuts (text (joined ended)) (joined ended)
+  pub stays : AreEnded zero ended
+
+pub split : (fed : List ℕ) (pieces : List Piece) (unfinished : List ℕ) → ArePieces fed pieces → fed ≡ flat_map text (cut_from zero pieces).ended ++ unfinished → IsSplit fed (cut_from zero pieces).ended unfinished
+split fed pieces unfinished are rest = record {
+  whole = rest ∙ ap (λ t. t ++ unfinished) (text_of_entries (cut_from zero pieces).ended);
+  front = (parted fed pieces are).front;
+  stays = cut_ended zero pieces;
+}
+
+-- other octets behind them
+longer : (fed more : List ℕ) (ended : List (List Piece)) (unfinished : List ℕ) → IsSplit fed ended unfinished → fed ++ more ≡ text (joined ended) ++ (unfinished ++ more)
+longer fed more ended unfinished is = ap (λ t. t ++ more) is.whole ∙ append_assoc (text (joined ended)) unfinished more
+
+pub whole_behind : (fed more : List ℕ) (ended : List (List Piece)) (unfinished : List ℕ) → IsSplit fed ended unfinished → fed ++ more ≡ flat_map text ended ++ (unfinished ++ more)
+whole_behind fed more ended unfinished is = longer fed more ended unfinished is ∙ ap (λ t. t ++ (unfinished ++ more)) (sym (text_of_entries ended))
+
+pub cut_more : (fed more : List ℕ) (ended : List (List Piece)) (unfinished : List ℕ) (pieces : List Piece) → IsSplit fed ended unfinished → Cuts (unfinished ++ more) pieces → Cuts (fed ++ more) (joined ended ++ pieces)
+cut_more fed more ended unfinished pieces is cut =
+    subst (λ t. Cuts t (joined ended ++ pieces)) (sym (longer fed more ended unfinished is)) (cut_joined (text (joined ended)) (unfinished ++ more) (joined ended) pieces is.front is.stays.ends cut)
+
+pub break_more : (fed more : List ℕ) (ended : List (List Piece)) (unfinished : List ℕ) (pieces : List Piece) (fault : Fault) → IsSplit fed ended unfinished → Breaks (unfinished ++ more) pieces fault → Breaks (fed ++ more) (joined ended ++ pieces) fault
+break_more fed more ended unfinished pieces fault is breaks =
+    subst (λ t. Breaks t (joined ended ++ pieces) fault) (sym (longer fed more ended unfinished is)) (break_joined (text (joined ended)) (unfinished ++ more) (joined ended) pieces fault is.front is.stays.ends breaks)
+
+pub pieces_more : (fed more : List ℕ) (ended : List (List Piece)) (unfinished : List ℕ) (pieces : List Piece) → IsSplit fed ended unfinished → ArePieces (unfinished ++ more) pieces → ArePieces (fed ++ more) (joined ended ++ pieces)
+pieces_more fed more ended unfinished pieces is (inl cut) = inl (cut_more fed more ended unfinished pieces is cut)
+pieces_more fed more ended unfinished pieces is (inr found) = inr (found.0, break_more fed more ended unfinished pieces found.0 is found.1)
+
+-- what breaks the octets behind the ended entries, as the octets so far show, breaks all
+behind_pieces : (fed more : List ℕ) (ended : List (List Piece)) (unfinished : List ℕ) (pieces : List Piece) (rest : List ℕ) → IsSplit fed ended unfinished → unfinished ++ more ≡ text pieces ++ rest → fed ++ more ≡ text (joined ended ++ pieces) ++ rest
+behind_pieces fed more ended unfinished pieces rest is e =
+    longer fed more ended unfinished is
+    ∙ ap (λ t. text (joined ended) ++ t) e
+    ∙ sym (append_assoc (text (joined ended)) (text pieces) rest)
+    ∙ ap (λ t. t ++ rest) (sym (flat_map-append piece_text (joined ended) pieces))
+
+pub for_good_more : (fed more : List ℕ) (ended : List (List Piece)) (unfinished : List ℕ) (pieces : List Piece) (fault : Fault) → IsSplit fed ended unfinished → BreaksForGood (unfinished ++ more) pieces fault → BreaksForGood (fed ++ more) (joined ended ++ pieces) fault
+for_good_more fed more ended unfinished pieces fault is good =
+    stays_for_good (fed ++ more) (joined ended ++ pieces) fault
+    (break_more fed more ended unfinished pieces fault is good.breaks)
+    good.breaks.rest
+    (behind_pieces fed more ended unfinished pieces good.breaks.rest is good.breaks.whole)
+    good.stays
+
+-- and where nothing does yet, nothing does
+pub none_cut : (octets : List ℕ) (pieces : List Piece) → Cuts octets pieces → (fault : Fault) → BreaksForGood octets pieces fault → ⊥
+none_cut octets pieces cut fault good = cut_not_broken octets pieces pieces fault cut good.breaks
+
+none_broken : (fed more : List ℕ) (ended : List (List Piece)) (unfinished : List ℕ) (pieces : List Piece) (fault : Fault) (breaks : Breaks (unfinished ++ more) pieces fault) → IsSplit fed ended unfinished → ((other : Fault) → BreaksForGood (unfinished ++ more) pieces other → ⊥) → StaysBroken breaks.rest ⊎ BreaksAtEnd breaks.rest → (other : Fault) → BreaksForGood (fed ++ more) (joined ended ++ pieces) other → ⊥
+none_broken fed more ended unfinished pieces fault breaks is none (inl stays) other good = none fault (record { breaks = breaks; stays = stays })
+none_broken fed more ended unfinished pieces fault breaks is none (inr ends) other good =
+    ends_not_for_good (fed ++ more) (joined ended ++ pieces) breaks.rest (behind_pieces fed more ended unfinished pieces breaks.rest is breaks.whole) ends other good
+
+pub none_more : (fed more : List ℕ) (ended : List (List Piece)) (unfinished : List ℕ) (pieces : List Piece) → IsSplit fed ended unfinished → ArePieces (unfinished ++ more) pieces → ((fault : Fault) → BreaksForGood (unfinished ++ more) pieces fault → ⊥) → (fault : Fault) → BreaksForGood (fed ++ more) (joined ended ++ pieces) fault → ⊥
+none_more fed more ended unfinished pieces is (inl cut) none fault good =
+    none_cut (fed ++ more) (joined ended ++ pieces) (cut_more fed more ended unfinished pieces is cut) fault good
+none_more fed more ended unfinished pieces is (inr found) none fault good =
+    none_broken fed more ended unfinished pieces found.0 found.1 is none (break_stays_or_ends (unfinished ++ more) pieces found.0 found.1) fault good
+
+-- ---- the entries of those pieces
+
+pub cut_behind : (ended : List (List Piece)) (more : List Piece) → AreEnded zero ended → cut_from zero (joined ended ++ more) ≡ record { ended = ended ++ (cut_from zero more).ended; open_pieces = (cut_from zero more).open_pieces }
+cut_behind ended more are = again_zero ended more are
+
+-- no entry more
+pub ended_as_before : (ended : List (List Piece)) (more : List Piece) → AreEnded zero ended → (cut_from zero more).ended ≡ [] → (cut_from zero (joined ended ++ more)).ended ≡ ended
+ended_as_before ended more are none =
+    ap (λ (c : Cut). c.ended) (cut_behind ended more are) ∙ ap (λ t. ended ++ t) none ∙ append-nil ended
+
+-- one entry more
+pub one_ended : (ended : List (List Piece)) (entry : List Piece) → AreEnded zero ended → cut_from zero entry ≡ record { ended = entry ∷ []; open_pieces = [] } → (cut_from zero (joined ended ++ entry)).ended ≡ ended ++ entry ∷ []
+one_ended ended entry are one =
+    ap (λ (c : Cut). c.ended) (cut_behind ended entry are) ∙ ap (λ (c : Cut). ended ++ c.ended) one

@@ -1,0 +1,414 @@
+-- The pieces of octets as a scan leaves them: one after the other, and what is open at the end.
+use Rattle.std.proofs.Common.{◌≡◌, ◌≢◌, ℕ, suc, ◌+◌, ◌-◌, true, false, ◌||◌, ◌==◌, nat_le, List, [], ◌∷◌, ◌++◌, take, Option, Some, refl, sym, ap, ◌∙◌, subst, arith, append_assoc, inl, inr}
+use Rattle.std.specs.List.{AllByRecursion}
+use Rattle.std.proofs.lemmas.Bool.{cond_both, cases_Bool, and_parts, and_cases, or_cases, or_parts, eqb-true, eqb-false, leb-true, leb-false}
+use Rattle.std.proofs.lemmas.List.{append-nil}
+use Rattle.zone_name.specs.Spelling.{Written, plain, escaped, decimal, text_of, octet_of, IsEscape, IsBadEscape, is_digit, written_text, IsUnit}
+use Rattle.zone_name.proofs.Units.{NoUnit, at_end, at_octet, at_backslash, unit_of_escape}
+use Rattle.zone_rdata.specs.declared.fault.Fault.{Fault}
+use Rattle.zone_rdata.specs.declared.fault.Fault.TheVariants.{BadEscape, UnclosedQuote}
+use Rattle.zone_rdata.specs.Strings.{is_quote}
+use Rattle.zone_text.specs.declared.scan.Behind.{Behind}
+use Rattle.zone_text.specs.declared.scan.Behind.TheVariants.{Inside, Whole, Lost}
+use Rattle.zone_text.specs.declared.scan.Escape.{Escape}
+use Rattle.zone_text.specs.declared.scan.Escape.TheVariants.{Begun, One, Two}
+use Rattle.zone_text.specs.declared.scan.Mode.{Mode}
+use Rattle.zone_text.specs.declared.scan.Mode.TheVariants.{Open, Quoted, Comment, Escaped, QuotedEscaped}
+use Rattle.zone_text.specs.declared.scan.Scanned.{Scanned}
+use Rattle.zone_text.specs.declared.scan.Spot.{Spot}
+use Rattle.zone_text.specs.declared.scan.Step.{Step}
+use Rattle.zone_text.specs.declared.scan.Step.TheVariants.{On, Ends, LostEscape, ClosesNothing}
+use Rattle.zone_text.specs.Pieces.{Piece, blank, opening, closing, line_feed, comment, bare, quoted, piece_text, is_blank, ends_item, IsPiece}
+use Rattle.zone_text.specs.Lasting.{IsLostEscape, at_line_end, one_digit, two_digits, too_great, IsCutOff, behind_backslash, behind_digit, behind_two_digits}
+use Rattle.zone_text.specs.Machine.Cutting.{depth_behind}
+use Rattle.zone_text.specs.Machine.Scan.{on, fed_line, closed, open_step, quoted_step, comment_step, ends_number, escape_step, step_in, step_of, scan_on, scan_of, unclosed, end_fault_of}
+use Rattle.zone_text.specs.Machine.Scan as machine
+use Rattle.zone_text.proofs.Escapes.{malformed_is_bad}
+use Rattle.zone_text.proofs.Fronts.{Takes}
+
+-- ---- pieces and what is open behind them
+
+-- an escape that the octets lost, or that they cut off
+abbrev pub EscapeAt : Step → List ℕ → Type 0
+EscapeAt (On at) rest = (end_fault_of at ≡ Some BadEscape) × IsCutOff rest
+EscapeAt LostEscape rest = IsLostEscape rest
+EscapeAt Ends rest = ⊥
+EscapeAt ClosesNothing rest = ⊥
+
+-- the octets ran out, and the input's end has the fault
+abbrev pub RanOut : Option Fault → Step → Type 0
+RanOut fault (On at) = end_fault_of at ≡ fault
+RanOut fault Ends = ⊥
+RanOut fault LostEscape = ⊥
+RanOut fault ClosesNothing = ⊥
+
+-- the piece ends no entry
+abbrev pub EndsNone : ℕ → Piece → Type 0
+EndsNone depth line_feed = depth ≢ 0
+EndsNone depth p = Unit {0}
+
+-- from a depth on
+pub data Reads (step : Step) : ℕ → List ℕ → Type 0 where
+  ends : (depth : ℕ) (octets : List ℕ) → step ≡ Ends → depth ≡ 0 → octets ≡ 10 ∷ [] → Reads step depth octets
+  closes : (depth : ℕ) (octets : List ℕ) → step ≡ ClosesNothing → depth ≡ 0 → octets ≡ 41 ∷ [] → Reads step depth octets
+  runs_out : (depth : ℕ) (octets : List ℕ) → RanOut (unclosed depth) step → octets ≡ [] → Reads step depth octets
+  in_quote : (depth : ℕ) (octets : List ℕ) (units : List Written) → RanOut (Some UnclosedQuote) step → AllByRecursion (IsUnit is_quote) units → octets ≡ 34 ∷ written_text units → Reads step depth octets
+  in_escape : (depth : ℕ) (octets : List ℕ) → EscapeAt step octets → Reads step depth octets
+  in_quoted_escape : (depth : ℕ) (octets : List ℕ) (units : List Written) (after : List ℕ) → AllByRecursion (IsUnit is_quote) units → octets ≡ 34 ∷ written_text units ++ after → EscapeAt step after → Reads step depth octets
+  then_more : (depth : ℕ) (octets : List ℕ) (p : Piece) (rest : List ℕ) → Takes depth octets p rest → EndsNone depth p → Reads step (depth_behind depth p) rest → Reads step depth octets
+
+-- ---- first octets
+
+-- an octet that begins the piece
+abbrev Begins : ℕ → Piece → Type 0
+Begins c (blank d) = is_blank c ≡ true
+Begins c line_feed = c ≡ 10
+Begins c opening = c ≡ 40
+Begins c closing = c ≡ 41
+Begins c (comment octets) = c ≡ 59
+Begins c (bare units) = ends_item c ≡ false
+Begins c (quoted units) = c ≡ 34
+
+begins : (c : ℕ) (octets : List ℕ) (p : Piece) (rest : List ℕ) → IsPiece p → c ∷ octets ≡ piece_text p ++ rest → Begins c p
+begins c octets (blank d) rest is e = let same : c ≡ d = cc in ap is_blank same ∙ is
+begins c octets line_feed rest is e = cc
+begins c octets opening rest is e = cc
+begins c octets closing rest is e = cc
+begins c octets (comment more) rest is e = cc
+begins c octets (bare []) rest is e = absurd (omega (arith, is.0))
+begins c octets (bare (plain d ∷ units)) rest is e = let same : c ≡ d = cc in ap ends_item same ∙ is.1.0.0
+begins c octets (bare (escaped d ∷ units)) rest is e = let same : c ≡ 92 = cc in ap ends_item same
+begins c octets (bare (decimal x y z ∷ units)) rest is e = let same : c ≡ 92 = cc in ap ends_item same
+begins c octets (quoted units) rest is e = cc
+
+escape_begins : (step : Step) (octets : List ℕ) → EscapeAt step octets → (more : List ℕ) × (octets ≡ 92 ∷ more)
+escape_begins (On at) octets open_escape = cut_begins open_escape.1
+  where
+    cut_begins : IsCutOff octets → (more : List ℕ) × (octets ≡ 92 ∷ more)
+    cut_begins (behind_backslash e) = ([], e)
+    cut_begins (behind_digit x e dx) = (x ∷ [], e)
+    cut_begins (behind_two_digits x y e dx dy) = (x ∷ y ∷ [], e)
+escape_begins LostEscape octets lost = lost_begins lost
+  where
+    lost_begins : IsLostEscape octets → (more : List ℕ) × (octets ≡ 92 ∷ more)
+    lost_begins (at_line_end c more e end) = (c ∷ more, e)
+    lost_begins (one_digit x c more e dx nc) = (x ∷ c ∷ more, e)
+    lost_begins (two_digits x y c more e dx dy nc) = (x ∷ y ∷ c ∷ more, e)
+    lost_begins (too_great x y z more e dx dy dz great) = (x ∷ y ∷ z ∷ more, e)
+escape_begins Ends octets open_escape = absurd open_escape
+escape_begins ClosesNothing octets open_escape = absurd open_escape
+
+pub escape_is_bad : (step : Step) (octets : List ℕ) → EscapeAt step octets → IsBadEscape octets
+escape_is_bad (On at) octets open_escape = malformed_is_bad octets (inr open_escape.1)
+escape_is_bad LostEscape octets lost = malformed_is_bad octets (inl lost)
+escape_is_bad Ends octets open_escape = absurd open_escape
+escape_is_bad ClosesNothing octets open_escape = absurd open_escape
+
+no_escape_begins : (step : Step) (c : ℕ) (octets text : List ℕ) → text ≡ c ∷ octets → c ≢ 92 → EscapeAt step text → ⊥
+no_escape_begins step c octets text e other open_escape =
+    let found = escape_begins step text open_escape in
+    let both : c ∷ octets ≡ 92 ∷ found.0 = sym e ∙ found.1 in
+    let same : c ≡ 92 = cc in
+    other same
+
+others_begin : (c d : ℕ) (octets more text : List ℕ) → text ≡ c ∷ octets → text ≡ d ∷ more → c ≢ d → ⊥
+others_begin c d octets more text e f other =
+    let both : c ∷ octets ≡ d ∷ more = sym e ∙ f in
+    let same : c ≡ d = cc in
+    other same
+
+none_begins : (c : ℕ) (octets text : List ℕ) → text ≡ c ∷ octets → text ≡ [] → ⊥
+none_begins c octets text e f = let both : c ∷ octets ≡ [] = sym e ∙ f in cc
+
+rest_behind : (c : ℕ) (octets more text : List ℕ) → text ≡ c ∷ octets → text ≡ c ∷ more → octets ≡ more
+rest_behind c octets more text e f = let both : c ∷ octets ≡ c ∷ more = sym e ∙ f in cc
+
+-- ---- a unit more in front of what a quote opened
+
+module _ (step : Step) (depth : ℕ) (w : Written) (is : IsUnit is_quote w) (octets text : List ℕ) (e : text ≡ 34 ∷ octets) where
+  quoted_more : (rest : List ℕ) (p : Piece) → Takes depth text p rest → EndsNone depth p → Reads step (depth_behind depth p) rest → Reads step depth (34 ∷ (text_of w ++ octets))
+  quoted_more rest (quoted units) front none more =
+      let tail : octets ≡ (written_text units ++ 34 ∷ []) ++ rest = rest_behind 34 octets ((written_text units ++ 34 ∷ []) ++ rest) text e front.whole in
+      then_more depth (34 ∷ (text_of w ++ octets)) (quoted (w ∷ units)) rest (record {
+        whole = ap (λ t. 34 ∷ t) (
+            ap (λ t. text_of w ++ t) (tail ∙ append_assoc (written_text units) (34 ∷ []) rest)
+            ∙ sym (append_assoc (text_of w) (written_text units) (34 ∷ rest))
+            ∙ sym (append_assoc (text_of w ++ written_text units) (34 ∷ []) rest)
+            );
+        piece = (is, front.piece);
+        stop = tt;
+        room = tt;
+      }) tt more
+  quoted_more rest (blank d) front none more = absurd (let no : false ≡ true = begins 34 octets (blank d) rest front.piece (sym e ∙ front.whole) in cc)
+  quoted_more rest line_feed front none more = absurd (omega (arith, begins 34 octets line_feed rest front.piece (sym e ∙ front.whole)))
+  quoted_more rest opening front none more = absurd (omega (arith, begins 34 octets opening rest front.piece (sym e ∙ front.whole)))
+  quoted_more rest closing front none more = absurd (omega (arith, begins 34 octets closing rest front.piece (sym e ∙ front.whole)))
+  quoted_more rest (comment others) front none more = absurd (omega (arith, begins 34 octets (comment others) rest front.piece (sym e ∙ front.whole)))
+  quoted_more rest (bare units) front none more = absurd (let no : true ≡ false = begins 34 octets (bare units) rest front.piece (sym e ∙ front.whole) in cc)
+
+  push_quoted_in : Reads step depth text → Reads step depth (34 ∷ (text_of w ++ octets))
+  push_quoted_in (ends depth text s d f) = absurd (others_begin 34 10 octets [] text e f (λ h. omega arith))
+  push_quoted_in (closes depth text s d f) = absurd (others_begin 34 41 octets [] text e f (λ h. omega arith))
+  push_quoted_in (runs_out depth text ran f) = absurd (none_begins 34 octets text e f)
+  push_quoted_in (in_quote depth text units ran each f) =
+      in_quote depth (34 ∷ (text_of w ++ octets)) (w ∷ units) ran (is, each) (ap (λ t. 34 ∷ (text_of w ++ t)) (rest_behind 34 octets (written_text units) text e f))
+  push_quoted_in (in_escape depth text open_escape) = absurd (no_escape_begins step 34 octets text e (λ h. omega arith) open_escape)
+  push_quoted_in (in_quoted_escape depth text units after each f open_escape) =
+      in_quoted_escape depth (34 ∷ (text_of w ++ octets)) (w ∷ units) after (is, each) (
+      ap (λ t. 34 ∷ (text_of w ++ t)) (rest_behind 34 octets (written_text units ++ after) text e f)
+      ∙ ap (λ t. 34 ∷ t) (sym (append_assoc (text_of w) (written_text units) after))
+      ) open_escape
+  push_quoted_in (then_more depth text p rest front none more) = quoted_more rest p front none more
+
+push_quoted : (step : Step) (depth : ℕ) (w : Written) (octets : List ℕ) → IsUnit is_quote w → Reads step depth (34 ∷ octets) → Reads step depth (34 ∷ (text_of w ++ octets))
+push_quoted step depth w octets is more = push_quoted_in step depth w is octets (34 ∷ octets) refl more
+
+-- ---- an octet more in front of what a semicolon opened
+
+module _ (step : Step) (depth c : ℕ) (is : c ≢ 10) (octets text : List ℕ) (e : text ≡ 59 ∷ octets) where
+  comment_more : (rest : List ℕ) (p : Piece) → Takes depth text p rest → EndsNone depth p → Reads step (depth_behind depth p) rest → Reads step depth (59 ∷ c ∷ octets)
+  comment_more rest (comment others) front none more =
+      then_more depth (59 ∷ c ∷ octets) (comment (c ∷ others)) rest (record {
+        whole = ap (λ t. 59 ∷ c ∷ t) (rest_behind 59 octets (others ++ rest) text e front.whole);
+        piece = (is, front.piece);
+        stop = front.stop;
+        room = tt;
+      }) tt more
+  comment_more rest (blank d) front none more = absurd (let no : false ≡ true = begins 59 octets (blank d) rest front.piece (sym e ∙ front.whole) in cc)
+  comment_more rest line_feed front none more = absurd (omega (arith, begins 59 octets line_feed rest front.piece (sym e ∙ front.whole)))
+  comment_more rest opening front none more = absurd (omega (arith, begins 59 octets opening rest front.piece (sym e ∙ front.whole)))
+  comment_more rest closing front none more = absurd (omega (arith, begins 59 octets closing rest front.piece (sym e ∙ front.whole)))
+  comment_more rest (quoted units) front none more = absurd (omega (arith, begins 59 octets (quoted units) rest front.piece (sym e ∙ front.whole)))
+  comment_more rest (bare units) front none more = absurd (let no : true ≡ false = begins 59 octets (bare units) rest front.piece (sym e ∙ front.whole) in cc)
+
+  push_comment_in : Reads step depth text → Reads step depth (59 ∷ c ∷ octets)
+  push_comment_in (ends depth text s d f) = absurd (others_begin 59 10 octets [] text e f (λ h. omega arith))
+  push_comment_in (closes depth text s d f) = absurd (others_begin 59 41 octets [] text e f (λ h. omega arith))
+  push_comment_in (runs_out depth text ran f) = absurd (none_begins 59 octets text e f)
+  push_comment_in (in_quote depth text units ran each f) = absurd (others_begin 59 34 octets (written_text units) text e f (λ h. omega arith))
+  push_comment_in (in_escape depth text open_escape) = absurd (no_escape_begins step 59 octets text e (λ h. omega arith) open_escape)
+  push_comment_in (in_quoted_escape depth text units after each f open_escape) = absurd (others_begin 59 34 octets (written_text units ++ after) text e f (λ h. omega arith))
+  push_comment_in (then_more depth text p rest front none more) = comment_more rest p front none more
+
+push_comment : (step : Step) (depth c : ℕ) (octets : List ℕ) → c ≢ 10 → Reads step depth (59 ∷ octets) → Reads step depth (59 ∷ c ∷ octets)
+push_comment step depth c octets is more = push_comment_in step depth c is octets (59 ∷ octets) refl more
+
+-- ---- a unit of a bare item more
+
+module _ (step : Step) (depth : ℕ) (w : Written) (is : IsUnit ends_item w) (octets : List ℕ) where
+  bare_alone : NoUnit ends_item octets → Reads step depth octets → Reads step depth (text_of w ++ octets)
+  bare_alone none more = then_more depth (text_of w ++ octets) (bare (w ∷ [])) octets (record {
+    whole = sym (ap (λ t. t ++ octets) (append-nil (text_of w)));
+    piece = (omega arith, (is, tt));
+    stop = none;
+    room = tt;
+  }) tt more
+
+  bare_more : (rest : List ℕ) (p : Piece) → Takes depth octets p rest → EndsNone depth p → Reads step (depth_behind depth p) rest → Reads step depth (text_of w ++ octets)
+  bare_more rest (bare units) front none more = then_more depth (text_of w ++ octets) (bare (w ∷ units)) rest (record {
+    whole = ap (λ t. text_of w ++ t) front.whole ∙ sym (append_assoc (text_of w) (written_text units) rest);
+    piece = (omega arith, (is, front.piece.1));
+    stop = front.stop;
+    room = tt;
+  }) tt more
+  bare_more rest (blank d) front none more = bare_alone (at_octet d rest front.whole (rw front.piece refl)) (then_more depth octets (blank d) rest front none more)
+  bare_more rest line_feed front none more = bare_alone (at_octet 10 rest front.whole refl) (then_more depth octets line_feed rest front none more)
+  bare_more rest opening front none more = bare_alone (at_octet 40 rest front.whole refl) (then_more depth octets opening rest front none more)
+  bare_more rest closing front none more = bare_alone (at_octet 41 rest front.whole refl) (then_more depth octets closing rest front none more)
+  bare_more rest (comment others) front none more = bare_alone (at_octet 59 (others ++ rest) front.whole refl) (then_more depth octets (comment others) rest front none more)
+  bare_more rest (quoted units) front none more = bare_alone (at_octet 34 ((written_text units ++ 34 ∷ []) ++ rest) front.whole refl) (then_more depth octets (quoted units) rest front none more)
+
+  push_bare : Reads step depth octets → Reads step depth (text_of w ++ octets)
+  push_bare (ends depth octets s d f) = bare_alone (at_octet 10 [] f refl) (ends depth octets s d f)
+  push_bare (closes depth octets s d f) = bare_alone (at_octet 41 [] f refl) (closes depth octets s d f)
+  push_bare (runs_out depth octets ran f) = bare_alone (at_end f) (runs_out depth octets ran f)
+  push_bare (in_quote depth octets units ran each f) = bare_alone (at_octet 34 (written_text units) f refl) (in_quote depth octets units ran each f)
+  push_bare (in_escape depth octets open_escape) = bare_alone (at_backslash (escape_is_bad step octets open_escape)) (in_escape depth octets open_escape)
+  push_bare (in_quoted_escape depth octets units after each f open_escape) = bare_alone (at_octet 34 (written_text units ++ after) f refl) (in_quoted_escape depth octets units after each f open_escape)
+  push_bare (then_more depth octets p rest front none more) = bare_more rest p front none more
+
+-- ---- what is open in front of octets
+
+abbrev escape_text : Escape → List ℕ → List ℕ
+escape_text Begun octets = 92 ∷ octets
+escape_text (One x) octets = 92 ∷ x ∷ octets
+escape_text (Two x y) octets = 92 ∷ x ∷ y ∷ octets
+
+-- the octets with what is open in front of them; of a bare item only an escape
+abbrev pub opened : Mode → List ℕ → List ℕ
+opened Open octets = octets
+opened Quoted octets = 34 ∷ octets
+opened Comment octets = 59 ∷ octets
+opened (Escaped escape) octets = escape_text escape octets
+opened (QuotedEscaped escape) octets = 34 ∷ escape_text escape octets
+
+abbrev AreDigits : Escape → Type 0
+AreDigits Begun = Unit {0}
+AreDigits (One x) = is_digit x ≡ true
+AreDigits (Two x y) = (is_digit x ≡ true) × (is_digit y ≡ true)
+
+-- an escape holds digits
+abbrev pub HoldsDigits : Mode → Type 0
+HoldsDigits Open = Unit {0}
+HoldsDigits Quoted = Unit {0}
+HoldsDigits Comment = Unit {0}
+HoldsDigits (Escaped escape) = AreDigits escape
+HoldsDigits (QuotedEscaped escape) = AreDigits escape
+
+-- ---- one octet
+
+-- what an octet behind a backslash makes of the escape
+abbrev EscapeBy : Escape → ℕ → Behind → Type 0
+EscapeBy escape c (Inside next) = AreDigits next × ((octets : List ℕ) → escape_text escape (c ∷ octets) ≡ escape_text next octets)
+EscapeBy escape c Whole = (w : Written) × IsEscape w × ((octets : List ℕ) → escape_text escape (c ∷ octets) ≡ text_of w ++ octets)
+EscapeBy escape c Lost = IsLostEscape (escape_text escape (c ∷ []))
+
+ends_line : (c : ℕ) → (c == 10 || c == 13) ≡ true → IsLostEscape (92 ∷ c ∷ [])
+ends_line c e = elim (or_cases (c == 10) (c == 13) e) as (λ s. IsLostEscape (92 ∷ c ∷ [])) [
+  | inl feed ↦ at_line_end c [] refl (inl (eqb-true c 10 feed))
+  | inr return ↦ at_line_end c [] refl (inr (eqb-true c 13 return))
+]
+
+ends_no_number : (x y c : ℕ) → is_digit x ≡ true → is_digit y ≡ true → ends_number x y c ≡ false → IsLostEscape (92 ∷ x ∷ y ∷ c ∷ [])
+ends_no_number x y c dx dy e = elim (cases_Bool (is_digit c)) as (λ s. IsLostEscape (92 ∷ x ∷ y ∷ c ∷ [])) [
+  | inl dc ↦ elim (and_cases (is_digit c) (nat_le (octet_of (decimal x y c)) 255) e) as (λ s. IsLostEscape (92 ∷ x ∷ y ∷ c ∷ [])) [
+    | inl nc ↦ two_digits x y c [] refl dx dy nc
+    | inr great ↦ too_great x y c [] refl dx dy dc (leb-false (octet_of (decimal x y c)) 255 great)
+  ]
+  | inr nc ↦ two_digits x y c [] refl dx dy nc
+]
+
+escape_by : (escape : Escape) (c : ℕ) → AreDigits escape → EscapeBy escape c (machine.behind_backslash escape c)
+escape_by Begun c digits =
+    let P : Behind → Type 0 = EscapeBy Begun c in
+    cond_both (is_digit c) (Inside (One c)) _ P (λ d. (d, λ octets. refl)) λ d.
+    cond_both (c == 10 || c == 13) Lost Whole P (ends_line c) λ e.
+    let other = or_parts (c == 10) (c == 13) e in
+    (escaped c, (d, eqb-false c 10 other.0, eqb-false c 13 other.1), λ octets. refl)
+escape_by (One x) c digits =
+    cond_both (is_digit c) (Inside (Two x c)) Lost (EscapeBy (One x) c) (λ d. ((digits, d), λ octets. refl)) (λ d. one_digit x c [] refl digits d)
+escape_by (Two x y) c digits =
+    cond_both (ends_number x y c) Whole Lost (EscapeBy (Two x y) c)
+    (λ e. let both = and_parts (is_digit c) (nat_le (octet_of (decimal x y c)) 255) e in
+    (decimal x y c, (digits.0, digits.1, both.0, leb-true (octet_of (decimal x y c)) 255 both.1), λ octets. refl))
+    (ends_no_number x y c digits.0 digits.1)
+
+-- what an octet makes of what is read behind it
+abbrev OneMore : Mode → ℕ → ℕ → Step → Type 0
+OneMore mode depth c (On next) = HoldsDigits next.mode × ((octets : List ℕ) (step : Step) → Reads step next.depth (opened next.mode octets) → Reads step depth (opened mode (c ∷ octets)))
+OneMore mode depth c Ends = Reads Ends depth (opened mode (c ∷ []))
+OneMore mode depth c LostEscape = Reads LostEscape depth (opened mode (c ∷ []))
+OneMore mode depth c ClosesNothing = Reads ClosesNothing depth (opened mode (c ∷ []))
+
+one_octet : (c d : ℕ) (octets : List ℕ) → c ≡ d → c ∷ octets ≡ d ∷ octets
+one_octet c d octets e = ap (λ t. t ∷ octets) e
+
+open_line : (depth c : ℕ) → c ≡ 10 → OneMore Open depth c (fed_line depth)
+open_line depth c e = cond_both (depth == 0) Ends (on Open depth) (OneMore Open depth c)
+    (λ d. ends depth (c ∷ []) refl (eqb-true depth 0 d) (one_octet c 10 [] e))
+    (λ d. (tt, λ octets step more. then_more depth (c ∷ octets) line_feed octets (record { whole = one_octet c 10 octets e; piece = tt; stop = tt; room = tt }) (eqb-false depth 0 d) more))
+
+open_closing : (depth c : ℕ) → c ≡ 41 → OneMore Open depth c (closed depth)
+open_closing depth c e = cond_both (depth == 0) ClosesNothing (on Open (depth - 1)) (OneMore Open depth c)
+    (λ d. closes depth (c ∷ []) refl (eqb-true depth 0 d) (one_octet c 41 [] e))
+    (λ d. (tt, λ octets step more. then_more depth (c ∷ octets) closing octets (record { whole = one_octet c 41 octets e; piece = tt; stop = tt; room = let some : depth ≢ 0 = eqb-false depth 0 d in omega arith }) tt more))
+
+open_other : (depth c : ℕ) → c ≢ 92 → (is_blank c ≡ false → ends_item c ≡ false) → OneMore Open depth c (on Open depth)
+open_other depth c no_backslash goes_on = elim (cases_Bool (is_blank c)) as (λ s. OneMore Open depth c (on Open depth)) [
+  | inl is ↦ (tt, λ octets step more. then_more depth (c ∷ octets) (blank c) octets (record { whole = refl; piece = is; stop = tt; room = tt }) tt more)
+  | inr is_none ↦ (tt, λ octets step more. push_bare step depth (plain c) (goes_on is_none, no_backslash) octets more)
+]
+
+one_open : (depth c : ℕ) → OneMore Open depth c (open_step depth c)
+one_open depth c =
+    let P : Step → Type 0 = OneMore Open depth c in
+    cond_both (c == 10) (fed_line depth) _ P (λ e. open_line depth c (eqb-true c 10 e)) λ e0.
+    cond_both (c == 34) (on Quoted depth) _ P (λ e. (tt, λ octets step more. subst (Reads step depth) (sym (one_octet c 34 octets (eqb-true c 34 e))) more)) λ e1.
+    cond_both (c == 40) (on Open (depth + 1)) _ P (λ e. (
+      tt,
+      λ octets step more.
+          let next : Reads step (suc depth) octets = subst (λ d. Reads step d octets) (let n : depth + 1 ≡ suc depth = omega arith in n) more in
+          then_more depth (c ∷ octets) opening octets (record { whole = one_octet c 40 octets (eqb-true c 40 e); piece = tt; stop = tt; room = tt }) tt next,
+    )) λ e2.
+    cond_both (c == 41) (closed depth) _ P (λ e. open_closing depth c (eqb-true c 41 e)) λ e3.
+    cond_both (c == 59) (on Comment depth) _ P (λ e. (tt, λ octets step more. subst (Reads step depth) (sym (one_octet c 59 octets (eqb-true c 59 e))) more)) λ e4.
+    cond_both (c == 92) (on (Escaped Begun) depth) (on Open depth) P (λ e. (tt, λ octets step more. subst (Reads step depth) (sym (one_octet c 92 octets (eqb-true c 92 e))) more)) λ e5.
+    open_other depth c (eqb-false c 92 e5) (λ h. rw (h, e0, e1, e2, e3, e4) refl)
+
+one_quoted : (depth c : ℕ) → OneMore Quoted depth c (quoted_step depth c)
+one_quoted depth c =
+    let P : Step → Type 0 = OneMore Quoted depth c in
+    cond_both (c == 34) (on Open depth) _ P (λ e. (
+      tt,
+      λ octets step more. then_more depth (34 ∷ c ∷ octets) (quoted []) octets (record {
+        whole = ap (λ t. 34 ∷ t) (one_octet c 34 octets (eqb-true c 34 e));
+        piece = tt;
+        stop = tt;
+        room = tt;
+      }) tt more,
+    )) λ e0.
+    cond_both (c == 92) (on (QuotedEscaped Begun) depth) (on Quoted depth) P
+    (λ e. (tt, λ octets step more. subst (λ t. Reads step depth (34 ∷ t)) (sym (one_octet c 92 octets (eqb-true c 92 e))) more))
+    (λ e. (tt, λ octets step more. push_quoted step depth (plain c) octets (e0, eqb-false c 92 e) more))
+
+-- the comment that a line feed ends
+ends_comment : (step : Step) (depth c : ℕ) (octets : List ℕ) → c ≡ 10 → Reads step depth (c ∷ octets) → Reads step depth (59 ∷ c ∷ octets)
+ends_comment step depth c octets e more = then_more depth (59 ∷ c ∷ octets) (comment []) (c ∷ octets) (record { whole = refl; piece = tt; stop = e; room = tt }) tt more
+
+comment_line : (depth c : ℕ) → c ≡ 10 → (step : Step) → OneMore Open depth c step → OneMore Comment depth c step
+comment_line depth c e (On next) open_more = (open_more.0, λ octets step more. ends_comment step depth c octets e (open_more.1 octets step more))
+comment_line depth c e Ends open_more = ends_comment Ends depth c [] e open_more
+comment_line depth c e LostEscape open_more = ends_comment LostEscape depth c [] e open_more
+comment_line depth c e ClosesNothing open_more = ends_comment ClosesNothing depth c [] e open_more
+
+one_comment : (depth c : ℕ) → OneMore Comment depth c (comment_step depth c)
+one_comment depth c = cond_both (c == 10) (fed_line depth) (on Comment depth) (OneMore Comment depth c)
+    (λ e. comment_line depth c (eqb-true c 10 e) (fed_line depth) (open_line depth c (eqb-true c 10 e)))
+    (λ e. (tt, λ octets step more. push_comment step depth c octets (eqb-false c 10 e) more))
+
+one_escaped : (depth c : ℕ) (escape : Escape) (behind : Behind) → EscapeBy escape c behind → OneMore (Escaped escape) depth c (escape_step (λ e. Escaped e) Open depth behind)
+one_escaped depth c escape (Inside next) by = (by.0, λ octets step more. subst (Reads step depth) (sym (by.1 octets)) more)
+one_escaped depth c escape Whole by = (tt, λ octets step more. subst (Reads step depth) (sym (by.2 octets)) (push_bare step depth by.0 (unit_of_escape ends_item by.0 by.1) octets more))
+one_escaped depth c escape Lost by = in_escape depth (escape_text escape (c ∷ [])) by
+
+one_quoted_escaped : (depth c : ℕ) (escape : Escape) (behind : Behind) → EscapeBy escape c behind → OneMore (QuotedEscaped escape) depth c (escape_step (λ e. QuotedEscaped e) Quoted depth behind)
+one_quoted_escaped depth c escape (Inside next) by = (by.0, λ octets step more. subst (λ t. Reads step depth (34 ∷ t)) (sym (by.1 octets)) more)
+one_quoted_escaped depth c escape Whole by = (tt, λ octets step more. subst (λ t. Reads step depth (34 ∷ t)) (sym (by.2 octets)) (push_quoted step depth by.0 octets (unit_of_escape is_quote by.0 by.1) more))
+one_quoted_escaped depth c escape Lost by = in_quoted_escape depth (34 ∷ escape_text escape (c ∷ [])) [] (escape_text escape (c ∷ [])) tt refl by
+
+one_more : (mode : Mode) (depth c : ℕ) → HoldsDigits mode → OneMore mode depth c (step_in mode depth c)
+one_more Open depth c digits = one_open depth c
+one_more Quoted depth c digits = one_quoted depth c
+one_more Comment depth c digits = one_comment depth c
+one_more (Escaped escape) depth c digits = one_escaped depth c escape (machine.behind_backslash escape c) (escape_by escape c digits)
+one_more (QuotedEscaped escape) depth c digits = one_quoted_escaped depth c escape (machine.behind_backslash escape c) (escape_by escape c digits)
+
+-- ---- no octet
+
+cut_off : (escape : Escape) → AreDigits escape → IsCutOff (escape_text escape [])
+cut_off Begun digits = behind_backslash refl
+cut_off (One x) digits = behind_digit x refl digits
+cut_off (Two x y) digits = behind_two_digits x y refl digits.0 digits.1
+
+none_more : (mode : Mode) (depth : ℕ) → HoldsDigits mode → Reads (on mode depth) depth (opened mode [])
+none_more Open depth digits = runs_out depth [] refl refl
+none_more Quoted depth digits = in_quote depth (34 ∷ []) [] refl tt refl
+none_more Comment depth digits = then_more depth (59 ∷ []) (comment []) [] (record { whole = refl; piece = tt; stop = tt; room = tt }) tt (runs_out depth [] refl refl)
+none_more (Escaped escape) depth digits = in_escape depth (escape_text escape []) (refl, cut_off escape digits)
+none_more (QuotedEscaped escape) depth digits = in_quoted_escape depth (34 ∷ escape_text escape []) [] (escape_text escape []) tt refl (refl, cut_off escape digits)
+
+-- ---- all octets of a scan
+
+reads_by : (at : Spot) (c : ℕ) (rest : List ℕ) (step : Step) → OneMore at.mode at.depth c step → ((next : Spot) → HoldsDigits next.mode → Reads (scan_of next rest).step next.depth (opened next.mode (take (scan_of next rest).taken rest))) → let found : Scanned = scan_on (λ next. scan_of next rest) step in Reads found.step at.depth (opened at.mode (take found.taken (c ∷ rest)))
+reads_by at c rest (On next) one more =
+    let n : ℕ = (scan_of next rest).taken in
+    let same : suc n ≡ 1 + n = omega arith in
+    subst (λ m. Reads (scan_of next rest).step at.depth (opened at.mode (take m (c ∷ rest)))) same (one.1 (take n rest) (scan_of next rest).step (more next one.0))
+reads_by at c rest Ends one more = one
+reads_by at c rest LostEscape one more = one
+reads_by at c rest ClosesNothing one more = one
+
+pub reads : (octets : List ℕ) (at : Spot) → HoldsDigits at.mode → Reads (scan_of at octets).step at.depth (opened at.mode (take (scan_of at octets).taken octets))
+unfolding scan_of
+reads [] at digits = none_more at.mode at.depth digits
+reads (c ∷ rest) at digits = reads_by at c rest (step_of at c) (one_more at.mode at.depth c digits) (λ next more. reads rest next more)

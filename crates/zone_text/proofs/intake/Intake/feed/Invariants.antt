@@ -1,0 +1,9 @@
+use Rattle.std.proofs.Common.{ℕ, ◌+◌, ◌≤◌, length}
+use Rattle.zone_text.proofs.FedPieces.{HasFed}
+use Rattle.zone_text.proofs.intake.Intake.feed.Given as goal
+
+abbrev pub decreases-loop-self : goal.decreases-loop-self
+decreases-loop-self l = length l.rest
+
+abbrev pub invariant-loop-self : goal.invariant-loop-self
+invariant-loop-self l = HasFed l.fn.self l.self l.piece l.rest

@@ -1,0 +1,30 @@
+use Rattle.std.proofs.Common.{sym, ◌∙◌, arith}
+use Rattle.zone_text.proofs.ScanSteps.{stays, one_on, rises, one_stops, all_taken}
+use Rattle.zone_text.proofs.scan.scan.Goals as goal
+
+pub loop-index-preserved-then-not-moves : goal.loop-index-preserved-then-not-moves
+loop-index-preserved-then-not-moves c =
+    let e = stays c.loop-index.at _ (sym c.moves.ensures ∙ c.if-not-moves.true) in
+    record {
+      found = one_on c.args.start c.loop-index.at c.loop-index.at c.args.octets.now c.loop-index.index c.loop-index-test.true e c.loop-index.invariant.found;
+      shallow = omega arith;
+    }
+
+pub loop-index-preserved : goal.loop-index-preserved
+loop-index-preserved c =
+    let e = sym c.take_octet.ensures ∙ c.in-On.is in
+    let more = rises c.loop-index.at c.in-On.next _ e in
+    record {
+      found = one_on c.args.start c.loop-index.at c.in-On.next c.args.octets.now c.loop-index.index c.loop-index-test.true e c.loop-index.invariant.found;
+      shallow = omega arith;
+    }
+
+pub returns-in_default : goal.returns-in_default
+returns-in_default c = record {
+  found = one_stops c.args.start c.loop-index.at c.take_octet.result c.args.octets.now c.loop-index.index c.loop-index-test.true c.take_octet.ensures c.in_default.not-On c.loop-index.invariant.found;
+  within = omega arith;
+  moves = λ some. omega arith;
+}
+
+pub returns-clause-found : goal.returns-clause-found
+returns-clause-found c = all_taken c.args.start c.loop-index.at c.args.octets.now c.loop-index.index (omega arith) c.loop-index.invariant.found

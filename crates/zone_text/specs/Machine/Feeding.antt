@@ -1,0 +1,63 @@
+-- How the octets that a source is fed are read, entry by entry.
+use Rattle.std.specs.Prelude.{◌≡◌, ℕ, ◌+◌, ◌≤◌, ◌<◌, ◌^◌, List, [], ◌∷◌, ◌++◌, length, count_by, ◌==◌, Bool, true, false, Some, None}
+use Rattle.zone_name.specs.Common.{Labels}
+use Rattle.zone_rdata.specs.declared.fault.Fault.{Fault}
+use Rattle.zone_rdata.specs.declared.fault.Place.{Place}
+use Rattle.zone_rdata.specs.declared.record.Placed.{Placed}
+use Rattle.zone_text.specs.Decided.{Decided}
+use Rattle.zone_text.specs.Defaults.{AreDefaults}
+use Rattle.zone_text.specs.Entries.{Entry, entry_of}
+use Rattle.zone_text.specs.FileReads.{ReadEach}
+use Rattle.zone_text.specs.Machine.Scan.{beginning, scan_of}
+use Rattle.zone_text.specs.Pieces.{Piece, Cuts, text}
+use Rattle.zone_text.specs.Source.{Leave, SourceState}
+use Rattle.zone_text.specs.declared.ended.EndedEntries.{EndedEntries}
+use Rattle.zone_text.specs.declared.scan.Scanned.{Scanned}
+use Rattle.zone_text.specs.declared.scan.Spot.{Spot}
+use Rattle.zone_text.specs.declared.scan.Step.{Step}
+use Rattle.zone_text.specs.declared.scan.Step.TheVariants.{On}
+
+-- An entry was read behind others: the record that it states came behind theirs, or its fault is the last word. If it is
+-- no fault, the defaults and the line are those behind the entry.
+pub record ReadsEntry (origin : Labels) (before : List Entry) (pieces : List Piece) (old new : EndedEntries) : Type 0 where
+  pub others : List Placed
+  pub read : ReadEach origin None before (entry_of old.line pieces ∷ []) others new.decided.ending
+  pub records : new.decided.placed.items ≡ old.decided.placed.items ++ others
+  pub defaults : new.decided.ending ≡ None → AreDefaults origin (entry_of old.line pieces ∷ before) new.defaults
+  pub line : new.decided.ending ≡ None → new.line ≡ old.line + count_by (λ c. c == 10) (text pieces)
+
+-- octets are read as the entry behind others, whatever these are
+pub record ReadsOctets (octets : List ℕ) (old new : EndedEntries) : Type 0 where
+  pub reads : (origin : Labels) (before : List Entry) (pieces : List Piece) → AreDefaults origin before old.defaults → Cuts octets pieces → ReadsEntry origin before pieces old new
+  pub later : old.line ≤ new.line
+  pub near : new.line ≤ old.line + length octets
+
+-- the entries that were read and the octets behind them follow from the octets fed and the records given
+pub record Follow (origin : Labels) (ended : EndedEntries) (unfinished : List ℕ) (fed : List ℕ) (given : List Placed) : Type 0 where
+  pub decided : Decided origin fed (given ++ ended.decided.placed.items) ended.decided.ending
+  pub leave : ended.decided.ending ≡ None → Leave origin fed ended.defaults ended.line unfinished
+
+-- the scan of octets took all of them, and they lead there
+abbrev pub ScansTo : Spot → List ℕ → Step → Type 0
+ScansTo start octets step = scan_of start octets ≡ record { taken = length octets; step = step }
+
+-- the octets of the unfinished entry lead to the spot, and are dropped where a fault is decided
+pub record IsIntake (ended : EndedEntries) (at : Spot) (unfinished : List ℕ) : Type 0 where
+  pub spot : ScansTo beginning unfinished (On at)
+  pub dropped : (found : Fault × Place) → ended.decided.ending ≡ Some found → unfinished ≡ []
+  pub line : 1 ≤ ended.line
+
+-- a source as contracts see it
+abbrev pub state_of : Bool → Bool → ℕ → EndedEntries → List ℕ → SourceState
+state_of failed finished fed ended unfinished = record {
+  pending = record { failed = failed; records = ended.decided.placed.items; ending = ended.decided.ending };
+  held = record { finished = finished; fed = fed; defaults = ended.defaults; line = ended.line; unfinished = unfinished };
+}
+
+-- what a source holds: nothing of the unfinished entry once it has failed or the file has ended, and numbers that fit
+pub record IsSource (failed finished : Bool) (fed : ℕ) (ended : EndedEntries) (at : Spot) (unfinished : List ℕ) : Type 0 where
+  pub is : failed ≡ false → IsIntake ended at unfinished
+  pub line : failed ≡ false → ended.line + length unfinished ≤ fed + 1
+  pub fits : fed + 1 < 2 ^ 64
+  pub none_failed : failed ≡ true → unfinished ≡ []
+  pub none_finished : finished ≡ true → unfinished ≡ []

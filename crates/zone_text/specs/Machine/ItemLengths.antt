@@ -1,0 +1,28 @@
+-- How far a piece goes, as it is looked for from the left (RFC 1035 5.1).
+use Rattle.std.specs.Prelude.{◌≡◌, ℕ, suc, List, [], ◌∷◌, ◌==◌, Bool, true, false, if◌then◌else◌}
+use Rattle.zone_rdata.specs.Strings.{is_quote}
+use Rattle.zone_text.specs.Pieces.{Piece, comment, bare, ends_item}
+use Rattle.zone_text.specs.declared.items.Extent.{Extent}
+use Rattle.zone_text.specs.declared.items.Extent.TheVariants.{Bare, Quoted}
+
+-- what ends an item where no backslash stands before it
+abbrev pub ends_within : Extent → ℕ → Bool
+ends_within Bare c = ends_item c
+ends_within Quoted c = is_quote c
+
+-- the octets in front of the first that ends an item and stands behind no backslash
+unfoldable pub item_len : (ℕ → Bool) → Bool → List ℕ → ℕ
+item_len ends is_escaped [] = 0
+item_len ends true (c ∷ rest) = suc (item_len ends false rest)
+item_len ends false (c ∷ rest) = if c == 92 then suc (item_len ends true rest) else (if ends c then 0 else suc (item_len ends false rest))
+
+-- the text ends, or begins with an octet that ends what is before it
+abbrev pub EndsAt : (ℕ → Bool) → List ℕ → Type 0
+EndsAt ends [] = Unit {0}
+EndsAt ends (c ∷ rest) = ends c ≡ true
+
+-- a piece ends before what is behind it
+abbrev pub EndsBefore : Piece → List ℕ → Type 0
+EndsBefore (bare units) rest = EndsAt ends_item rest
+EndsBefore (comment octets) rest = EndsAt (λ c. c == 10) rest
+EndsBefore p rest = Unit {0}

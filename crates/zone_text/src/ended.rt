@@ -1,0 +1,80 @@
+//! The entries that were ended, read one by one (RFC 1035 5.1).
+ghost use Rattle.std.specs.Prelude.{◌≡◌, ◌+◌, ◌<◌, ◌≤◌, ◌^◌, ◌==◌, [], count_by, length, OnOk, Some, None};
+ghost use Rattle.zone_text.specs.Defaults.{AreDefaults};
+
+use crate::defaults::Defaults;
+use std::alloc::{AllocError, Global};
+use std::collections::VecDeque;
+use zone_name::Name;
+use zone_rdata::{Failing, Fault, Item, Place, Placed, Reading};
+
+/// What was read of the entries that were ended.
+#[derive(Drop)]
+pub(crate) struct EndedEntries {
+    /// Their records that were not given yet, and the fault.
+    pub(crate) decided: Reading,
+    /// What they leave to the entries behind them.
+    pub(crate) defaults: Defaults,
+    /// The line behind them.
+    pub(crate) line: u64,
+}
+
+/// How many line feeds the octets have.
+fn line_feeds(octets: &[u8]) -> usize
+    ensures count { result ≡ count_by (λ c. c == 10) octets.now }
+    ensures few { result ≤ length octets.now }
+{
+    octets.iter().filter(|octet| **octet == b'\n').count()
+}
+
+impl EndedEntries {
+    ghost use Rattle.zone_text.specs.Machine.Feeding.{ReadsOctets};
+
+    /// No entry yet, under the origin that is handed in with the file.
+    pub(crate) fn new(alloc: Global, origin: &Name) -> EndedEntries
+        ensures records { result.decided.placed.items ≡ [] }
+        ensures ending { result.decided.ending ≡ None }
+        ensures defaults { AreDefaults origin.now [] result.defaults }
+        ensures line { result.line ≡ 1 }
+    {
+        EndedEntries {
+            decided: Reading {
+                placed: VecDeque::new(alloc),
+                ending: None,
+            },
+            defaults: Defaults::new(origin),
+            line: 1,
+        }
+    }
+
+    /// Reads the entry behind them, which is known to be cut into pieces. `items` holds nothing that is used again.
+    pub(crate) fn read<'t>(
+        &mut self,
+        alloc: Global,
+        entry: &'t [u8],
+        items: &mut Vec<Item<'t>>,
+    ) -> Result<(), AllocError>
+        requires undecided { self.old.decided.ending ≡ None }
+        requires fits { self.old.line + length entry.now < 2 ^ 64 }
+        ensures { OnOk result (ReadsOctets entry.now self.old self.new) }
+    {
+        let place = Place::Line(self.line);
+        match self.defaults.read(alloc, entry, items) {
+            Ok(None) => {}
+            Ok(Some(rr)) => self.decided.placed.push_back(Placed { rr, place })?,
+            Err(Failing::Fault(fault)) => self.decided.ending = Some((fault, place)),
+            Err(Failing::Memory) => return Err(AllocError),
+        }
+        self.line += line_feeds(entry) as u64;
+        Ok(())
+    }
+
+    /// Decides the fault of the entry behind them.
+    pub(crate) fn refuse(&mut self, fault: Fault)
+        ensures records { self.new.decided.placed.items ≡ self.old.decided.placed.items }
+        ensures ending { self.new.decided.ending ≡ Some (record { 0 = fault; 1 = Place.Line self.old.line }) }
+        ensures line { self.new.line ≡ self.old.line }
+    {
+        self.decided.ending = Some((fault, Place::Line(self.line)));
+    }
+}

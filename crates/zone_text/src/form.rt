@@ -1,0 +1,59 @@
+ghost use Rattle.std.specs.Prelude.{◌≡◌, map};
+ghost use Rattle.zone_rdata.specs.Item.{raw};
+ghost use Rattle.zone_text.specs.Entries.{first_octet};
+ghost use Rattle.zone_text.specs.Forms.{directive, form_by};
+ghost use Rattle.zone_text.specs.Machine.Form.{form_in};
+
+use crate::items::is_blank;
+use zone_rdata::Item;
+
+/// The form of an entry (RFC 1035 5.1; `$TTL` RFC 2308 4).
+#[derive(Drop)]
+pub(crate) enum Form<'i, 't> {
+    /// No items.
+    Blank,
+    /// `$ORIGIN`, and the items behind the word.
+    SetsOrigin(&'i [Item<'t>]),
+    /// `$TTL`, and the items behind the word.
+    SetsTtl(&'i [Item<'t>]),
+    /// `$INCLUDE`, which isn't read.
+    Include,
+    /// A directive of another word.
+    Unknown,
+    /// A record that states its owner, and the items behind the owner.
+    Owned(Item<'t>, &'i [Item<'t>]),
+    /// A record that omits its owner.
+    Unowned(&'i [Item<'t>]),
+}
+
+/// The directive of a word in any case.
+fn directive_of<'i, 't>(word: Item<'t>, items: &'i [Item<'t>]) -> Form<'i, 't>
+    ensures { form_in result ≡ directive (raw word.entry) (map raw items.now) }
+{
+    let Item::Bare(word) = word else {
+        return Form::Unknown;
+    };
+    if word.eq_ignore_ascii_case(b"$origin") {
+        Form::SetsOrigin(items)
+    } else if word.eq_ignore_ascii_case(b"$ttl") {
+        Form::SetsTtl(items)
+    } else if word.eq_ignore_ascii_case(b"$include") {
+        Form::Include
+    } else {
+        Form::Unknown
+    }
+}
+
+/// The form of an entry with these items.
+pub(crate) fn form_of<'i, 't>(entry: &[u8], items: &'i [Item<'t>]) -> Form<'i, 't>
+    ensures { form_in result ≡ form_by (first_octet entry.now) (map raw items.now) }
+{
+    let [first, behind @ ..] = items else {
+        return Form::Blank;
+    };
+    match entry {
+        [b'$', ..] => directive_of(*first, behind),
+        [octet, ..] if is_blank(*octet) => Form::Unowned(items),
+        _ => Form::Owned(*first, behind),
+    }
+}

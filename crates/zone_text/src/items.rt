@@ -1,0 +1,125 @@
+ghost use Rattle.std.specs.Prelude.{◌≡◌, ◌≤◌, ◌<◌, List, [], ◌∷◌, ◌++◌, map, length, false, IfNone, IfSome, OnOk, option_map, option_to_list};
+ghost use Rattle.std.specs.List.{flat_map};
+ghost use Rattle.zone_name.specs.Common.{Octets};
+ghost use Rattle.zone_rdata.specs.Item.{raw};
+ghost use Rattle.zone_text.specs.Entries.{item_of};
+ghost use Rattle.zone_text.specs.Pieces.{Piece, Cuts, IsPiece, ends_item, is_blank, piece_text};
+ghost use Rattle.zone_text.specs.Machine.Cutting.{before_line_feed};
+ghost use Rattle.zone_text.specs.Machine.ItemLengths.{EndsBefore, ends_within, item_len};
+
+use std::alloc::AllocError;
+use zone_rdata::Item;
+
+/// Whether the octet parts items: a space, a tab or a carriage return.
+pub(crate) fn is_blank(octet: u8) -> bool
+    ensures { result ≡ is_blank octet }
+{
+    matches!(octet, b' ' | b'\t' | b'\r')
+}
+
+/// Whether the octet ends a bare item where no backslash stands before it.
+fn ends_item(octet: u8) -> bool
+    ensures { result ≡ ends_item octet }
+{
+    matches!(
+        octet,
+        b' ' | b'\t' | b'\r' | b'\n' | b'"' | b'(' | b')' | b';'
+    )
+}
+
+/// The two kinds of items.
+#[derive(Clone, Copy)]
+pub(crate) enum Extent {
+    /// Up to an octet that ends a bare item.
+    Bare,
+    /// Up to the closing quote.
+    Quoted,
+}
+
+impl Extent {
+    /// Whether the octet ends the item where no backslash stands before it.
+    fn ends_at(self, octet: u8) -> bool
+        ensures { result ≡ ends_within self octet }
+    {
+        match self {
+            Extent::Bare => ends_item(octet),
+            Extent::Quoted => octet == b'"',
+        }
+    }
+}
+
+/// The number of octets of the item at the front, without quotes.
+fn item_len(text: &[u8], extent: Extent) -> usize
+    ensures len { result ≡ item_len (ends_within extent) false text.now }
+    ensures within { result ≤ length text.now }
+{
+    let mut is_escaped = false;
+    for (index, octet) in text.iter().enumerate() {
+        if is_escaped {
+            is_escaped = false;
+        } else if *octet == b'\\' {
+            is_escaped = true;
+        } else if extent.ends_at(*octet) {
+            return index;
+        }
+    }
+    text.len()
+}
+
+/// The number of octets of the comment at the front, without its semicolon.
+fn comment_len(text: &[u8]) -> usize
+    ensures len { result ≡ length (before_line_feed text.now) }
+    ensures within { result ≤ length text.now }
+{
+    for (index, octet) in text.iter().enumerate() {
+        if *octet == b'\n' {
+            return index;
+        }
+    }
+    text.len()
+}
+
+/// The piece at the front of a text that is cut into pieces: its item, if it is one, and what is behind it. `None`: the
+/// text ends.
+fn split_piece(text: &[u8]) -> Option<(Option<Item<'_>>, &[u8])>
+    ensures end { IfNone result (text.now ≡ []) }
+    ensures found { IfSome result (λ found. (p : Piece) (rest : Octets)
+        → IsPiece p → EndsBefore p rest → text.now ≡ piece_text p ++ rest
+        → (option_to_list (option_map raw found.0) ≡ item_of p) × (found.1.now ≡ rest)) }
+    ensures shorter { IfSome result (λ found. length found.1.now < length text.now) }
+{
+    let (first, after) = text.split_first()?;
+    match *first {
+        b' ' | b'\t' | b'\r' | b'\n' | b'(' | b')' => Some((None, after)),
+        b';' => Some((None, after.split_at(comment_len(after)).1)),
+        b'"' => {
+            let (inside, closing) = after.split_at(item_len(after, Extent::Quoted));
+            let (_, rest) = closing.split_at(closing.len().min(1));
+            Some((Some(Item::Quoted(inside)), rest))
+        }
+        _ => {
+            let (item, rest) = text.split_at(item_len(text, Extent::Bare));
+            Some((Some(Item::Bare(item)), rest))
+        }
+    }
+}
+
+/// Puts the items of an entry, which is known to be cut into pieces, in place of what `items` held.
+///
+/// # Errors
+///
+/// Want of memory. `items` holds nothing that is used again.
+pub(crate) fn cut_items<'t>(entry: &'t [u8], items: &mut Vec<Item<'t>>) -> Result<(), AllocError>
+    ensures { (pieces : List Piece) → Cuts entry.now pieces
+        → OnOk result (map raw items.new.items ≡ flat_map item_of pieces) }
+{
+    items.clear();
+    let mut rest = entry;
+    while let Some((item, after)) = split_piece(rest) {
+        if let Some(item) = item {
+            items.push(item)?;
+        }
+        rest = after;
+    }
+    Ok(())
+}

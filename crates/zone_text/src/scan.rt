@@ -1,0 +1,228 @@
+//! Where the octets of a master file leave its pieces, octet by octet (RFC 1035 5.1).
+ghost use Rattle.std.specs.Prelude.{◌≡◌, ◌+◌, ◌<◌, ◌≤◌, ◌^◌, length, not};
+ghost use Rattle.zone_name.specs.Spelling.{is_digit};
+ghost use Rattle.zone_text.specs.Machine.Scan.{behind_backslash, beginning, closed, end_fault_of, ends_number, escape_step, fed_line, moves, open_step, scan_of, step_of, unclosed};
+
+mod table;
+
+use zone_rdata::Fault;
+
+/// How much of an escape was read: its backslash, and digits behind it.
+#[derive(Clone, Copy, Drop)]
+pub(crate) enum Escape {
+    /// The backslash.
+    Begun,
+    /// The backslash and one digit.
+    One(u8),
+    /// The backslash and two digits.
+    Two(u8, u8),
+}
+
+/// What is open behind the octets read so far.
+#[derive(Clone, Copy, Drop)]
+pub(crate) enum Mode {
+    /// No item, or a bare item.
+    Open,
+    /// A quoted item.
+    Quoted,
+    /// A comment.
+    Comment,
+    /// An escape outside quotes.
+    Escaped(Escape),
+    /// An escape in a quoted item.
+    QuotedEscaped(Escape),
+}
+
+/// Where the octets read so far leave the pieces.
+#[derive(Clone, Copy, Drop)]
+pub(crate) struct Spot {
+    pub(crate) mode: Mode,
+    /// The parentheses that are open.
+    pub(crate) depth: u64,
+}
+
+/// What an octet leads to.
+#[derive(Clone, Copy, Drop)]
+pub(crate) enum Step {
+    /// The entry goes on.
+    On(Spot),
+    /// The octet is a line feed that ends the entry.
+    Ends,
+    /// A backslash begins no escape.
+    LostEscape,
+    /// A `)` closes nothing.
+    ClosesNothing,
+}
+
+/// The octets taken, and what the last of them led to.
+#[derive(Clone, Copy, Drop)]
+pub(crate) struct Scanned {
+    pub(crate) taken: usize,
+    pub(crate) step: Step,
+}
+
+/// What an octet behind a backslash leads to.
+#[derive(Clone, Copy, Drop)]
+enum Behind {
+    /// The escape goes on.
+    Inside(Escape),
+    /// The octet ends it.
+    Whole,
+    /// It is none.
+    Lost,
+}
+
+impl Spot {
+    /// The beginning of an entry.
+    pub(crate) fn beginning() -> Spot
+        ensures { result ≡ beginning }
+    {
+        Spot {
+            mode: Mode::Open,
+            depth: 0,
+        }
+    }
+}
+
+/// Whether the octet may lead elsewhere. Any other leaves the spot as it is.
+#[inline(always)]
+fn moves(mode: Mode, octet: u8) -> bool
+    ensures { result ≡ moves mode octet }
+{
+    match mode {
+        Mode::Open => table::moves_open(octet),
+        Mode::Quoted => matches!(octet, b'"' | b'\\'),
+        Mode::Comment => octet == b'\n',
+        Mode::Escaped(_) | Mode::QuotedEscaped(_) => true,
+    }
+}
+
+/// Whether the octet is a digit.
+fn is_digit(octet: u8) -> bool
+    ensures { result ≡ is_digit octet }
+{
+    octet >= b'0' && octet <= b'9'
+}
+
+/// Whether the octet is a digit with which the other two make a number of at most 255.
+fn ends_number(first: u8, second: u8, octet: u8) -> bool
+    ensures { result ≡ ends_number first second octet }
+{
+    let value = 100 * u16::from(first.saturating_sub(b'0'))
+        + 10 * u16::from(second.saturating_sub(b'0'))
+        + u16::from(octet.saturating_sub(b'0'));
+    is_digit(octet) && value <= 255
+}
+
+/// What an octet leads to behind a backslash.
+fn behind_backslash(escape: Escape, octet: u8) -> Behind
+    ensures { result ≡ behind_backslash escape octet }
+{
+    match escape {
+        Escape::Begun if is_digit(octet) => Behind::Inside(Escape::One(octet)),
+        Escape::Begun if octet == b'\n' || octet == b'\r' => Behind::Lost,
+        Escape::Begun => Behind::Whole,
+        Escape::One(first) if is_digit(octet) => Behind::Inside(Escape::Two(first, octet)),
+        Escape::One(_) => Behind::Lost,
+        Escape::Two(first, second) if ends_number(first, second, octet) => Behind::Whole,
+        Escape::Two(_, _) => Behind::Lost,
+    }
+}
+
+/// What a line feed outside quotes leads to.
+fn fed_line(depth: u64) -> Step
+    ensures { result ≡ fed_line depth }
+{
+    if depth == 0 {
+        Step::Ends
+    } else {
+        Step::On(Spot {
+            mode: Mode::Open,
+            depth,
+        })
+    }
+}
+
+/// What an octet leads to outside an item and in a bare item.
+fn open_step(depth: u64, octet: u8) -> Step
+    requires { depth + 1 < 2 ^ 64 }
+    ensures { result ≡ open_step depth octet }
+{
+    let on = |mode, depth| Step::On(Spot { mode, depth });
+    match octet {
+        b'\n' => fed_line(depth),
+        b'"' => on(Mode::Quoted, depth),
+        b'(' => on(Mode::Open, depth + 1),
+        b')' if depth == 0 => Step::ClosesNothing,
+        b')' => on(Mode::Open, depth - 1),
+        b';' => on(Mode::Comment, depth),
+        b'\\' => on(Mode::Escaped(Escape::Begun), depth),
+        _ => on(Mode::Open, depth),
+    }
+}
+
+/// What an octet leads to.
+fn take_octet(at: Spot, octet: u8) -> Step
+    requires { at.depth + 1 < 2 ^ 64 }
+    ensures { result ≡ step_of at octet }
+{
+    let depth = at.depth;
+    let on = |mode| Step::On(Spot { mode, depth });
+    match (at.mode, octet) {
+        (Mode::Open, _) => open_step(depth, octet),
+        (Mode::Quoted, b'"') => on(Mode::Open),
+        (Mode::Quoted, b'\\') => on(Mode::QuotedEscaped(Escape::Begun)),
+        (Mode::Comment, b'\n') => fed_line(depth),
+        (Mode::Quoted | Mode::Comment, _) => Step::On(at),
+        (Mode::Escaped(escape), _) => match behind_backslash(escape, octet) {
+            Behind::Inside(escape) => on(Mode::Escaped(escape)),
+            Behind::Whole => on(Mode::Open),
+            Behind::Lost => Step::LostEscape,
+        },
+        (Mode::QuotedEscaped(escape), _) => match behind_backslash(escape, octet) {
+            Behind::Inside(escape) => on(Mode::QuotedEscaped(escape)),
+            Behind::Whole => on(Mode::Quoted),
+            Behind::Lost => Step::LostEscape,
+        },
+    }
+}
+
+/// Takes octets up to the end of the entry or to what breaks it, and all of them where neither comes.
+pub(crate) fn scan(octets: &[u8], start: Spot) -> Scanned
+    requires { start.depth + length octets.now + 1 < 2 ^ 64 }
+    ensures found { result ≡ scan_of start octets.now }
+    ensures within { result.taken ≤ length octets.now }
+    ensures moves { 0 < length octets.now → 0 < result.taken }
+{
+    let mut at = start;
+    for (index, octet) in octets.iter().enumerate() {
+        if !moves(at.mode, *octet) {
+            continue;
+        }
+        match take_octet(at, *octet) {
+            Step::On(next) => at = next,
+            step => {
+                return Scanned {
+                    taken: index + 1,
+                    step,
+                };
+            }
+        }
+    }
+    Scanned {
+        taken: octets.len(),
+        step: Step::On(at),
+    }
+}
+
+/// The fault with which the input's end meets the open entry. `None`: the entry is whole.
+pub(crate) fn end_fault(at: Spot) -> Option<Fault>
+    ensures { result ≡ end_fault_of at }
+{
+    match at.mode {
+        Mode::Quoted => Some(Fault::UnclosedQuote),
+        Mode::Escaped(_) | Mode::QuotedEscaped(_) => Some(Fault::BadEscape),
+        Mode::Open | Mode::Comment if at.depth > 0 => Some(Fault::UnbalancedParenthesis),
+        Mode::Open | Mode::Comment => None,
+    }
+}

@@ -1,0 +1,163 @@
+//! A source of the records of a master file that is fed in pieces.
+ghost use Rattle.std.specs.Prelude.{◌≡◌, ◌+◌, ◌<◌, ◌^◌, ◌++◌, ℕ, true, false, [], List, length, IfErr, IfSome, OnOk, OnErr};
+ghost use Rattle.zone_name.specs.Common.{Labels};
+
+use crate::intake::Intake;
+use std::alloc::Global;
+use std::marker::Model;
+use zone_name::Name;
+use zone_rdata::{Placed, Reading, RrSource, Stop};
+
+/// The records of a master file (RFC 1035 5.1) that is fed in pieces, as soon as they are decided: with the line feed that
+/// ends their entry. Contracts see what it has still to give, and what it holds beside.
+///
+/// Once it was refused memory it has failed: every later `feed`, `finish` and `next` answers `Memory`.
+#[derive(Drop)]
+pub struct TextSource {
+    intake: Intake,
+    /// The octets of all pieces that were taken.
+    fed: u64,
+    finished: bool,
+    failed: bool,
+}
+
+impl Model for TextSource {
+    ghost use Rattle.zone_text.specs.Machine.Feeding.{IsSource, state_of};
+    ghost use Rattle.zone_text.specs.Source.{SourceState};
+
+    ghost Value = { SourceState };
+
+    ghost view = { λ s. state_of s.failed s.finished s.fed s.intake.ended s.intake.unfinished.items };
+
+    ghost invariant = { λ s. IsSource s.failed s.finished s.fed s.intake.ended s.intake.at s.intake.unfinished.items };
+}
+
+impl TextSource {
+    ghost use Rattle.zone_rdata.specs.declared.record.Placed.{Placed};
+    ghost use Rattle.zone_text.specs.Source.{counted, Stands};
+
+    /// A source that was fed nothing, under the origin of the file.
+    pub fn new(alloc: Global, origin: &Name) -> TextSource
+        ensures stands { Stands origin.now result [] [] }
+        ensures going { result.held.finished ≡ false }
+        ensures nothing { result.held.unfinished ≡ [] }
+    {
+        TextSource {
+            intake: Intake::new(alloc, origin),
+            fed: 0,
+            finished: false,
+            failed: false,
+        }
+    }
+
+    /// Takes the next piece of the file, of any length. Once a fault is decided it is counted alone.
+    ///
+    /// # Errors
+    ///
+    /// Want of memory. The source has failed then, or had failed before.
+    pub fn feed(&mut self, piece: &[u8]) -> Result<(), Stop>
+        requires going { self.old.held.finished ≡ false }
+        requires fits { self.old.held.fed + length piece.now + 1 < 2 ^ 64 }
+        ensures stands { OnOk result ((origin : Labels) (fed : List ℕ) (given : List Placed)
+            → Stands origin self.old fed given → Stands origin self.new (fed ++ piece.now) given) }
+        ensures count { OnOk result (self.new.held.fed ≡ self.old.held.fed + length piece.now) }
+        ensures decided { OnOk result (IfSome self.old.pending.ending
+            (λ _. self.new ≡ counted (length piece.now) self.old)) }
+        ensures works { OnOk result (self.old.pending.failed ≡ false) }
+        ensures working { OnOk result (self.new.pending.failed ≡ false) }
+        ensures memory { IfErr result (λ stop. stop ≡ Stop.Memory) }
+        ensures failed { OnErr result (self.new.pending.failed ≡ true) }
+        ensures uncounted { OnErr result (self.new.held.fed ≡ self.old.held.fed) }
+        ensures goes_on { self.new.held.finished ≡ false }
+    {
+        if self.failed {
+            return Err(Stop::Memory);
+        }
+        match self.intake.feed(piece) {
+            Ok(()) => {
+                self.fed += piece.len() as u64;
+                Ok(())
+            }
+            Err(_) => {
+                self.intake.drop_unfinished();
+                self.failed = true;
+                Err(Stop::Memory)
+            }
+        }
+    }
+
+    /// Takes the end of the file. What the source has still to give is then the rest of what is read of the file.
+    ///
+    /// # Errors
+    ///
+    /// Want of memory. The source has failed then, or had failed before.
+    pub fn finish(&mut self) -> Result<(), Stop>
+        requires going { self.old.held.finished ≡ false }
+        ensures stands { OnOk result ((origin : Labels) (fed : List ℕ) (given : List Placed)
+            → Stands origin self.old fed given → Stands origin self.new fed given) }
+        ensures finished { OnOk result (self.new.held.finished ≡ true) }
+        ensures works { OnOk result (self.old.pending.failed ≡ false) }
+        ensures working { OnOk result (self.new.pending.failed ≡ false) }
+        ensures memory { IfErr result (λ stop. stop ≡ Stop.Memory) }
+        ensures failed { OnErr result (self.new.pending.failed ≡ true) }
+        ensures goes_on { OnErr result (self.new.held.finished ≡ false) }
+        ensures count { self.new.held.fed ≡ self.old.held.fed }
+    {
+        if self.failed {
+            return Err(Stop::Memory);
+        }
+        match self.intake.finish() {
+            Ok(()) => {
+                self.finished = true;
+                Ok(())
+            }
+            Err(_) => {
+                self.intake.drop_unfinished();
+                self.failed = true;
+                Err(Stop::Memory)
+            }
+        }
+    }
+
+    /// Whether `finish` has answered `Ok`.
+    pub fn is_finished(&self) -> bool
+        ensures { result ≡ self.now.held.finished }
+    {
+        self.finished
+    }
+
+    /// The number of octets of the file that the source keeps: those behind the last line feed that ended an entry, and
+    /// none once a fault is decided, the file has ended or the source has failed.
+    pub fn undecided(&self) -> usize
+        ensures held { result ≡ length self.now.held.unfinished }
+        ensures decided { IfSome self.now.pending.ending (λ _. result ≡ 0) }
+        ensures finished { self.now.held.finished ≡ true → result ≡ 0 }
+        ensures failed { self.now.pending.failed ≡ true → result ≡ 0 }
+    {
+        self.intake.unfinished.len()
+    }
+
+    /// The number of octets of all pieces for which `feed` answered `Ok`.
+    pub fn fed(&self) -> u64
+        ensures { result ≡ self.now.held.fed }
+    {
+        self.fed
+    }
+}
+
+impl RrSource for TextSource {
+    ghost use Rattle.zone_text.specs.Source.{Held};
+
+    ghost Beside = { Held };
+
+    ghost beside = { λ s. s.held };
+
+    ghost pending = { λ s. s.pending };
+
+    fn next(&mut self) -> Result<Option<Placed>, Stop> {
+        if self.failed {
+            return Err(Stop::Memory);
+        }
+        self.intake.ended.decided.next()
+    }
+}
