@@ -23,3 +23,6 @@ pub mod Lasting
 pub mod Ending
 pub mod Escapes
 pub mod ForGood
+pub mod PieceEnds
+pub mod ItemsLeft
+pub mod WordsLeft

@@ -112,7 +112,8 @@ impl Defaults {
             → IsRecordEntry origin before entry self.now owner (map raw items.now)
             → IfErr result (EntryFault origin before entry) }
     {
-        let (words, rest) = words_of(items)?;
+        let (words, count) = words_of(items)?;
+        let (_, rest) = items.split_at(count);
         let Some((word, rdata)) = split_bare(rest) else {
             return Err(Fault::UnknownType);
         };
