@@ -26,3 +26,5 @@ pub mod ForGood
 pub mod PieceEnds
 pub mod ItemsLeft
 pub mod WordsLeft
+pub mod Heads
+pub mod Inheriting

@@ -67,13 +67,15 @@ impl Words {
         ensures fault { (words : List Word) → HaveValues words self.now → IfErr result (λ fault.
             IsSomeAnd (word_behind words (bare text.now)) (λ word. WordFault word fault)) }
     {
-        let mut next = *self;
         if begins_with_digit(text) {
             if self.ttl.is_some() {
                 return Ok(None);
             }
-            next.ttl = Some(ttl_in(text)?);
-            return Ok(Some(next));
+            let ttl = ttl_in(text)?;
+            return Ok(Some(Words {
+                ttl: Some(ttl),
+                class: self.class,
+            }));
         }
         if self.class.is_some() {
             return Ok(None);
@@ -82,8 +84,10 @@ impl Words {
             return Ok(None);
         };
         class.known();
-        next.class = Some(class);
-        Ok(Some(next))
+        Ok(Some(Words {
+            ttl: self.ttl,
+            class: Some(class),
+        }))
     }
 }
 

@@ -9,7 +9,10 @@ returns-in-Some-clause-found c =
     record { time = time_within _ _ c.in-Some.ensures.found short; short = short }
 
 pub returns-in_default-clause-fault : goal.returns-in_default-clause-fault
-returns-in_default-clause-fault c = (refl, elim c.in_default.branch [
-  | in_default-via-in-Some+else-seconds-from w ↦ time_over _ w.in-Some.seconds w.in-Some.ensures.found (omega arith)
-  | in_default-via-in_default w ↦ λ value ttl. w.in_default.ensures.none value ttl.time
-])
+returns-in_default-clause-fault c = (
+  refl,
+  elim c.in_default.branch [
+    | in_default-via-in-Some+else-seconds-from w ↦ time_over _ w.in-Some.seconds w.in-Some.ensures.found (omega arith)
+    | in_default-via-in_default w ↦ λ value ttl. w.in_default.ensures.none value ttl.time
+  ],
+)

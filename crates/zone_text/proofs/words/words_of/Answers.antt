@@ -1,25 +1,21 @@
-use Rattle.std.proofs.Common.{rules, ◌≡◌, ◌≤◌, drop, length, ℕ, List, [], ◌∷◌, ◌++◌, map, None, IfOk, IfErr, IfSome, IfNone, IsSomeAnd, ◌+◌, ◌-◌, ◌*◌, ◌<◌, ◌/◌, ◌%◌, Bool, true, false, nat_eq, nat_lt, slice_index_or, slice_set, bit_and, bit_or, Fits, w8, w32, w64, Bor, MutBor}
-use Rattle.zone_name.specs.Common.{Octets}
-use Rattle.zone_rdata.specs.Fault.{NoValue}
-use Rattle.zone_rdata.specs.Item.{RawItem, bare, raw}
-use Rattle.zone_text.specs.EntryFault.{WordFault, WordsFault}
-use Rattle.zone_text.specs.Forms.{Word, begins_with_digit, parts_behind, word_behind}
-use Rattle.zone_text.specs.Inherited.{IsTtl}
-use Rattle.zone_text.specs.Machine.WordValues.{ArePartsOf, HaveValues}
+use Rattle.std.proofs.lemmas.Result.{err_from_is_err_and}
+use Rattle.std.proofs.Common.{refl}
+use Rattle.zone_text.proofs.WordsLeft.{read_to, read_on, read_fault, item_at}
 use Rattle.zone_text.proofs.words.words_of.Goals as goal
 
--- src/words.rt:107:13
 pub returns-in_default-clause-found : goal.returns-in_default-clause-found
-returns-in_default-clause-found c = ?
+returns-in_default-clause-found c =
+    read_to _ _ _ _ _ c.loop-index.invariant (item_at _ _ _ _ c.loop-index-test.true c.in_default.is) (λ words have. refl)
 
--- src/words.rt:109:26
 pub returns-in_err-next-clause-fault : goal.returns-in_err-next-clause-fault
-returns-in_err-next-clause-fault c = ?
+returns-in_err-next-clause-fault c =
+    let p = err_from_is_err_and c.from_residual.result c.from_residual.ensures.1 in
+    rw (p.1, p.2) (read_fault _ _ _ _ _ _ c.loop-index.invariant (item_at _ _ _ _ c.loop-index-test.true c.in-Bare.is) c.in_err-next.ensures.fault)
 
--- src/words.rt:110:13
 pub returns-in_default-2-clause-found : goal.returns-in_default-2-clause-found
-returns-in_default-2-clause-found c = ?
+returns-in_default-2-clause-found c =
+    read_to _ _ _ _ _ c.loop-index.invariant (item_at _ _ _ _ c.loop-index-test.true c.in-Bare.is) (rw c.in_default-2.is at c.in_ok-next.ensures.none)
 
--- src/words.rt:105:5
 pub loop-index-preserved : goal.loop-index-preserved
-loop-index-preserved c = ?
+loop-index-preserved c =
+    read_on _ _ _ _ _ _ c.loop-index.invariant (item_at _ _ _ _ c.loop-index-test.true c.in-Bare.is) (rw c.in-Some.is at c.in_ok-next.ensures.found)

@@ -1,12 +1,10 @@
-use Rattle.std.proofs.Common.{rules, ◌≡◌, map, None, Some, IfOk, IfErr, OnOk, OnErr, MatchResult, MatchOption, ℕ, ◌+◌, ◌-◌, ◌*◌, ◌<◌, ◌≤◌, length, ◌/◌, ◌%◌, Bool, true, false, nat_eq, nat_lt, List, [], ◌∷◌, ◌++◌, slice_index_or, slice_set, bit_and, bit_or, Fits, w8, w32, w64, Bor, MutBor}
-use Rattle.zone_name.specs.Spelling.{Spells}
-use Rattle.zone_rdata.specs.Fields.Name.{IsNameFault}
-use Rattle.zone_rdata.specs.Item.{raw}
-use Rattle.zone_text.specs.EntryFault.{DefaultTtlFault}
-use Rattle.zone_text.specs.Inherited.{IsTtl, one_bare}
-use Rattle.zone_text.specs.Machine.EntryReading.{SetsOrigin, SetsTtl, OriginFaultUnder}
+use Rattle.std.proofs.Common.{refl}
 use Rattle.zone_text.proofs.defaults.Defaults.set_origin.Goals as goal
 
--- src/directive.rt:36:5
 pub returns-clause-found : goal.returns-clause-found
-returns-clause-found c = ?
+returns-clause-found c = record {
+  text = c.in_ok-text.text.now;
+  item = c.in_ok-text.ensures.found;
+  spelled = c.in_ok-self.ensures.found;
+  others = refl;
+}

@@ -1,25 +1,22 @@
-use Rattle.std.proofs.Common.{rules, ◌≡◌, ◌≤◌, drop, length, ℕ, List, [], ◌∷◌, ◌++◌, map, None, IfOk, IfErr, IfSome, IfNone, IsSomeAnd, ◌+◌, ◌-◌, ◌*◌, ◌<◌, ◌/◌, ◌%◌, Bool, true, false, nat_eq, nat_lt, slice_index_or, slice_set, bit_and, bit_or, Fits, w8, w32, w64, Bor, MutBor}
-use Rattle.zone_name.specs.Common.{Octets}
-use Rattle.zone_rdata.specs.Fault.{NoValue}
-use Rattle.zone_rdata.specs.Item.{RawItem, bare, raw}
-use Rattle.zone_text.specs.EntryFault.{WordFault, WordsFault}
-use Rattle.zone_text.specs.Forms.{Word, begins_with_digit, parts_behind, word_behind}
-use Rattle.zone_text.specs.Inherited.{IsTtl}
-use Rattle.zone_text.specs.Machine.WordValues.{ArePartsOf, HaveValues}
+use Rattle.std.proofs.Common.{refl, sym, ◌∙◌}
+use Rattle.std.proofs.lemmas.Result.{err_from_is_err_and}
+use Rattle.zone_text.proofs.WordsLeft.{takes_ttl, takes_class, refuses_class, no_word}
 use Rattle.zone_text.proofs.words.Words.with.Goals as goal
 
--- src/words.rt:76:13
 pub returns-then-begins_with_digit-clause-found : goal.returns-then-begins_with_digit-clause-found
-returns-then-begins_with_digit-clause-found c = ?
+returns-then-begins_with_digit-clause-found c words have =
+    takes_ttl words _ _ _ _ have (sym c.begins_with_digit.ensures ∙ c.if-begins_with_digit.true) (sym c.is_some.ensures ∙ c.if-is_some.false) c.in_ok-ttl.ensures.found refl refl
 
--- src/words.rt:81:27
 pub returns-in_err-class-clause-fault : goal.returns-in_err-class-clause-fault
-returns-in_err-class-clause-fault c = ?
+returns-in_err-class-clause-fault c words have =
+    let p = err_from_is_err_and c.from_residual-in_err-class.result c.from_residual-in_err-class.ensures.1 in
+    let bad = c.in_err-class.ensures.err in
+    rw (p.1, p.2) (refuses_class words _ _ bad.1.0 _ have (sym c.begins_with_digit.ensures ∙ c.if-begins_with_digit.false) (sym c.is_some-2.ensures ∙ c.if-is_some-2.false) bad.1.1.0 bad)
 
--- src/words.rt:82:13
 pub returns-in_default-clause-none : goal.returns-in_default-clause-none
-returns-in_default-clause-none c = ?
+returns-in_default-clause-none c words have =
+    no_word words _ (sym c.begins_with_digit.ensures ∙ c.if-begins_with_digit.false) (rw c.in_default.is at c.in_ok-class.ensures.none)
 
--- src/words.rt:61:5
 pub returns-clause-found : goal.returns-clause-found
-returns-clause-found c = ?
+returns-clause-found c words have =
+    takes_class words _ _ _ c.in-Some.class have (sym c.begins_with_digit.ensures ∙ c.if-begins_with_digit.false) (sym c.is_some-2.ensures ∙ c.if-is_some-2.false) (rw c.in-Some.is at c.in_ok-class.ensures.found) c.known.ensures refl refl
