@@ -11,8 +11,8 @@ use Rattle.zone_rdata.specs.declared.item.Item.{Item}
 use Rattle.zone_text.specs.Defaults.{IsTtlOrNone}
 use Rattle.zone_text.specs.Entries.{Entry}
 use Rattle.zone_text.specs.EntryFault.{EntryFault, of_words, of_kind, WordsFault, KindFault}
-use Rattle.zone_text.specs.Forms.{parts_of, parts_behind, class_among}
-use Rattle.zone_text.specs.Inherited.{HasClass, class_in, class_word, latest, or_else, ttl_in, ttl_text}
+use Rattle.zone_text.specs.Forms.{parts_behind, class_among}
+use Rattle.zone_text.specs.Inherited.{class_in, class_word, latest, or_else, ttl_in, ttl_text}
 use Rattle.zone_text.specs.Machine.EntryReading.{IsRecordEntry}
 use Rattle.zone_text.specs.Machine.WordValues.{ArePartsOf}
 use Rattle.zone_text.specs.Records.{HasHead}

@@ -4,7 +4,7 @@ use Rattle.std.specs.List.{flat_map, AllByRecursion}
 use Rattle.std.proofs.Math.Seq.{take-append_seam, drop-append_seam}
 use Rattle.std.proofs.lemmas.Bool.{both_ways}
 use Rattle.std.proofs.lemmas.List.{append-nil, length-drop}
-use Rattle.zone_name.specs.Spelling.{Written, plain, escaped, decimal, written_text, IsUnit}
+use Rattle.zone_name.specs.Spelling.{Written, plain, escaped, decimal, written_text}
 use Rattle.zone_rdata.specs.Item.{RawItem}
 use Rattle.zone_rdata.specs.Item as raw
 use Rattle.zone_rdata.specs.Strings.{is_quote}

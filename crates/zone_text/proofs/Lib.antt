@@ -28,3 +28,5 @@ pub mod ItemsLeft
 pub mod WordsLeft
 pub mod Heads
 pub mod Inheriting
+pub mod RecordsRead
+pub mod DirectivesRead

@@ -1,11 +1,11 @@
 -- The words before a record's type, read from the left.
-use Rattle.std.proofs.Common.{◌≡◌, ℕ, suc, ◌+◌, ◌<◌, Bool, true, false, if◌then◌else◌, List, [], ◌∷◌, ◌++◌, length, get_or, drop, map, Option, Some, None, MatchOption, ◌⊎◌, inl, inr, refl, sym, ap, ◌∙◌, subst, append_assoc, add-one, drop-cons}
+use Rattle.std.proofs.Common.{◌≡◌, ℕ, ◌+◌, ◌<◌, Bool, true, false, List, [], ◌∷◌, ◌++◌, length, get_or, drop, map, Option, Some, None, MatchOption, inl, inr, refl, sym, ap, ◌∙◌, subst, append_assoc, add-one, drop-cons}
 use Rattle.std.specs.List.{AllByRecursion}
 use Rattle.std.specs.Prelude.{is_some, IsSomeAnd}
 use Rattle.std.proofs.lemmas.List.{append-nil, drop-map}
 use Rattle.zone_name.specs.Common.{NothingIs}
 use Rattle.zone_name.proofs.Pushing.{AllByRecursion-append}
-use Rattle.zone_rdata.specs.Item.{RawItem, bare, quoted, raw}
+use Rattle.zone_rdata.specs.Item.{RawItem, bare, raw}
 use Rattle.zone_rdata.specs.Words.{IsClass, IsClassWord}
 use Rattle.zone_rdata.specs.declared.fault.Fault.{Fault}
 use Rattle.zone_rdata.specs.declared.item.Item.{Item}

@@ -1,4 +1,4 @@
-use Rattle.std.proofs.Common.{◌≡◌, ◌<◌, is_ok, length, true, ap, sym, ◌∙◌, arith}
+use Rattle.std.proofs.Common.{◌<◌, length, arith}
 use Rattle.std.proofs.lemmas.List.{map-append}
 use Rattle.zone_text.proofs.ItemsLeft.{one_less, none_less, all_taken}
 use Rattle.zone_text.proofs.items.cut_items.Goals as goal

@@ -1,4 +1,4 @@
-use Rattle.std.proofs.Common.{◌≡◌, sym, ◌∙◌}
+use Rattle.std.proofs.Common.{sym, ◌∙◌}
 use Rattle.zone_text.specs.Machine.ItemLengths.{ends_within}
 use Rattle.zone_text.proofs.PieceEnds.{len_escaped, len_backslash, len_goes_on, len_ends, len_whole}
 use Rattle.zone_text.proofs.items.item_len.Goals as goal

@@ -1,6 +1,5 @@
-use Rattle.std.proofs.Common.{◌≡◌, List, map, drop, ◌∷◌, refl, sym, ◌∙◌}
+use Rattle.std.proofs.Common.{refl, sym, ◌∙◌}
 use Rattle.std.proofs.lemmas.Result.{err_from_is_err_and}
-use Rattle.zone_rdata.specs.Item.{RawItem, bare, raw}
 use Rattle.zone_text.proofs.Heads.{words_refused, kind_missing, kind_unknown, has_head, has_own_ttl, behind_words}
 use Rattle.zone_text.proofs.defaults.Defaults.head_of.Goals as goal
 
@@ -22,8 +21,7 @@ returns-in_err-kind-clause-fault c origin before entry owner is =
 
 pub returns-clause-found : goal.returns-clause-found
 returns-clause-found c origin before entry owner is =
-    let behind = behind_words c.args.items.now c.split_at.result.1.now c.in_ok-words.count _ c.split_at.ensures.back c.in-Some.ensures.found in
-    (
+    let behind = behind_words c.args.items.now c.split_at.result.1.now c.in_ok-words.count _ c.split_at.ensures.back c.in-Some.ensures.found in (
       has_head origin before entry _ owner _ _ _ _ _ _ _ is c.in_ok-words.ensures.found behind c.in_ok-kind.ensures.found c.known.ensures c.unwrap_or.ensures,
       has_own_ttl origin before entry _ owner _ _ _ is c.in_ok-words.ensures.found,
     )
