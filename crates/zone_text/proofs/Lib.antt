@@ -31,3 +31,10 @@ pub mod ScanSteps
 pub mod ScanReads
 pub mod ScanPieces
 pub mod Scanned
+pub mod PieceEnds
+pub mod ItemsLeft
+pub mod WordsLeft
+pub mod Heads
+pub mod Inheriting
+pub mod RecordsRead
+pub mod DirectivesRead
