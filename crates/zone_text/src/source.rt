@@ -8,10 +8,10 @@ use std::marker::Model;
 use zone_name::Name;
 use zone_rdata::{Placed, Reading, RrSource, Stop};
 
-/// The records of a master file (RFC 1035 5.1) that is fed in pieces, as soon as they are decided: with the line feed that
-/// ends their entry. Contracts see what it has still to give, and what it holds beside.
+/// The records of a master file (RFC 1035 5.1) that is fed in pieces. It gives a record as soon as a line feed has ended
+/// its entry. Contracts see what it has still to give and what it holds beside.
 ///
-/// Once it was refused memory it has failed: every later `feed`, `finish` and `next` answers `Memory`.
+/// Refused memory, it has failed: every later `feed`, `finish` and `next` answers `Memory`.
 #[derive(Drop)]
 pub struct TextSource {
     intake: Intake,
