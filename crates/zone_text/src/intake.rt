@@ -1,5 +1,5 @@
 //! Octets of a master file as they come in pieces: the entries that they end, and the one that they leave unfinished.
-ghost use Rattle.std.specs.Prelude.{◌≡◌, ◌+◌, ◌<◌, ◌≤◌, ◌^◌, ◌++◌, [], length, IfSome, OnOk, None};
+ghost use Rattle.std.specs.Prelude.{◌≡◌, ◌+◌, ◌<◌, ◌≤◌, ◌^◌, ◌++◌, [], length, IfSome, IsOk, OnOk, None};
 ghost use Rattle.zone_text.specs.Machine.Feeding.{Follow, FollowOn, IsIntake, reach, ReadsAll, ReadsOctets, ScansTo};
 ghost use Rattle.zone_text.specs.Machine.Scan.{beginning};
 
@@ -43,7 +43,7 @@ impl Intake {
         requires fits { reach self.old + length piece.now < 2 ^ 64 }
         ensures is { OnOk result (IsIntake self.new.ended self.new.at self.new.unfinished.items) }
         ensures near { OnOk result (reach self.new ≤ reach self.old + length piece.now) }
-        ensures settled { OnOk result (IfSome self.old.ended.decided.ending (λ _. self.new ≡ self.old)) }
+        ensures settled { IfSome self.old.ended.decided.ending (λ _. IsOk result × (self.new ≡ self.old)) }
         ensures follow { OnOk result (FollowOn self.old piece.now self.new) }
     {
         let mut items = Vec::new(self.alloc);
