@@ -1,21 +1,16 @@
 -- What a source holds at the beginning of a file and at that of an entry.
-use Rattle.std.proofs.Common.{◌≡◌, ℕ, zero, ◌+◌, ◌≤◌, List, [], ◌∷◌, ◌++◌, length, ◌==◌, Bool, true, false, Option, Some, None, refl, sym, ap, ◌∙◌, subst, arith, inl}
+use Rattle.std.proofs.Common.{◌≡◌, ℕ, ◌≤◌, List, [], ◌∷◌, length, ◌==◌, Bool, true, false, Option, Some, None, refl, sym, ◌∙◌, arith, inl}
 use Rattle.std.specs.Option.{is_some}
 use Rattle.std.proofs.lemmas.Bool.{eqb-true, eqb-false}
 use Rattle.zone_name.specs.Common.{Labels}
-use Rattle.zone_rdata.specs.declared.fault.Fault.{Fault}
-use Rattle.zone_rdata.specs.declared.fault.Place.{Place}
-use Rattle.zone_rdata.specs.declared.record.Placed.{Placed}
-use Rattle.zone_text.specs.declared.defaults.Defaults.{Defaults}
 use Rattle.zone_text.specs.declared.ended.EndedEntries.{EndedEntries}
 use Rattle.zone_text.specs.declared.scan.Spot.{Spot}
 use Rattle.zone_text.specs.declared.scan.Step.TheVariants.{On}
 use Rattle.zone_text.specs.Decided.{Decided, undecided}
 use Rattle.zone_text.specs.Defaults.{AreDefaults}
-use Rattle.zone_text.specs.Given.{Ending}
 use Rattle.zone_text.specs.Machine.Feeding.{Follow, IsIntake, ScansTo}
 use Rattle.zone_text.specs.Machine.Scan.{beginning, scan_of}
-use Rattle.zone_text.specs.Pieces.{Piece, Cuts}
+use Rattle.zone_text.specs.Pieces.{Cuts}
 use Rattle.zone_text.proofs.Left.{none_cut}
 
 -- octets of which there is none, or one

@@ -1,16 +1,15 @@
 -- What is decided of a prefix, and the octets that it leaves, are one thing.
-use Rattle.std.proofs.Common.{◌≡◌, ◌↔◌, ℕ, zero, ◌+◌, List, [], ◌∷◌, ◌++◌, None, Some, refl, sym, ap, ◌∙◌, subst, inl, inr}
+use Rattle.std.proofs.Common.{◌≡◌, ◌↔◌, ℕ, zero, List, [], ◌++◌, None, sym, ap, ◌∙◌, subst, inl, inr}
 use Rattle.std.specs.List.{flat_map}
 use Rattle.std.proofs.lemmas.List.{append-nil, append_cancel_left}
-use Rattle.zone_rdata.specs.declared.fault.Fault.{Fault}
 use Rattle.zone_rdata.specs.declared.record.Placed.{Placed}
-use Rattle.zone_text.specs.Decided.{ArePieces, Decided, decided, undecided}
-use Rattle.zone_text.specs.Entries.{Cut, Entry, and_last, cut_from, ended_entries, entries_of, numbered, open_line}
+use Rattle.zone_text.specs.Decided.{Decided, decided, undecided}
+use Rattle.zone_text.specs.Entries.{Cut, and_last, cut_from, ended_entries, entries_of, numbered, open_line}
 use Rattle.zone_text.specs.FileReads.{ReadEach}
 use Rattle.zone_text.specs.Given.{Ending}
 use Rattle.zone_text.specs.Lasting.{BreaksForGood}
 use Rattle.zone_text.specs.Machine.Lower.{Lower}
-use Rattle.zone_text.specs.Pieces.{Piece, Cuts, text}
+use Rattle.zone_text.specs.Pieces.{Piece, text}
 use Rattle.zone_text.specs.Source.{AreUnfinished}
 use Rattle.zone_text.proofs.Begun.{no_pieces, nothing_decided}
 use Rattle.zone_text.proofs.CutAgain.{joined, cut_again, cut_whole, and_last_behind}

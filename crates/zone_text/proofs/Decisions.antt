@@ -1,5 +1,5 @@
 -- What is decided of octets by what those before them left, and what is read of a file that ends there.
-use Rattle.std.proofs.Common.{◌≡◌, ℕ, zero, ◌+◌, List, [], ◌∷◌, ◌++◌, Option, Some, None, refl, sym, ap, ◌∙◌, subst, ◌⊎◌, inl, inr}
+use Rattle.std.proofs.Common.{◌≡◌, ℕ, zero, ◌+◌, List, [], ◌∷◌, ◌++◌, Some, None, refl, sym, ap, ◌∙◌, subst, inl, inr}
 use Rattle.std.specs.List.{flat_map}
 use Rattle.std.specs.Prelude.{reverse}
 use Rattle.std.proofs.lemmas.List.{append-nil}
@@ -9,7 +9,7 @@ use Rattle.zone_rdata.specs.declared.fault.Place.TheVariants.{Line}
 use Rattle.zone_rdata.specs.declared.record.Placed.{Placed}
 use Rattle.zone_text.specs.Pieces.{Piece, Cuts, text}
 use Rattle.zone_text.specs.Breaks.{Breaks}
-use Rattle.zone_text.specs.Lasting.{BreaksForGood, StaysBroken, BreaksAtEnd}
+use Rattle.zone_text.specs.Lasting.{BreaksForGood}
 use Rattle.zone_text.specs.Entries.{Cut, Entry, cut_from, and_last, entry_of, numbered, entries_of, ended_entries, open_line}
 use Rattle.zone_text.specs.FileReads.{ReadEach, FileReads, whole, broken}
 use Rattle.zone_text.specs.Given.{Ending, gives_none, gives_one, refused}
@@ -18,7 +18,7 @@ use Rattle.zone_text.proofs.Cuttings.{cut_or_broken}
 use Rattle.zone_text.proofs.Lasting.{breaks_for_good}
 use Rattle.zone_text.proofs.CutAgain.{joined, AreEnded, cut_whole}
 use Rattle.zone_text.proofs.Ending.{ended_entries_first}
-use Rattle.zone_text.proofs.Decides.{pieces_of, goes_on, ended_on, entries_on}
+use Rattle.zone_text.proofs.Decides.{pieces_of, goes_on, ended_on}
 use Rattle.zone_text.proofs.Escapes.{break_stays_or_ends}
 use Rattle.zone_text.proofs.ForGood.{ends_not_for_good}
 use Rattle.zone_text.proofs.Left.{line_feeds, reads_then, refused_before, reads_behind, numbered_then, IsSplit, cut_more, break_more, pieces_more, for_good_more, none_cut, none_more, cut_behind, ended_as_before, one_ended}

@@ -1,23 +1,20 @@
 -- An entry read behind others: what it states, or its fault.
-use Rattle.std.proofs.Common.{◌≡◌, ℕ, ◌+◌, ◌≤◌, List, [], ◌∷◌, ◌++◌, length, ◌==◌, Option, Some, None, Result, Ok, Err, refl, sym, ap, ◌∙◌, subst, arith}
-use Rattle.std.specs.List.{count_by}
+use Rattle.std.proofs.Common.{◌≡◌, ℕ, ◌+◌, ◌≤◌, List, [], ◌∷◌, ◌++◌, length, Option, Some, None, Result, Ok, Err, refl, sym, ap, ◌∙◌, arith}
 use Rattle.std.proofs.lemmas.List.{append-nil}
 use Rattle.zone_name.specs.Common.{Labels}
 use Rattle.zone_rdata.specs.Record.{Record}
 use Rattle.zone_rdata.specs.declared.fault.Failing.{Failing}
 use Rattle.zone_rdata.specs.declared.fault.Failing.TheVariants as failing
 use Rattle.zone_rdata.specs.declared.fault.Fault.{Fault}
-use Rattle.zone_rdata.specs.declared.fault.Place.{Place}
 use Rattle.zone_rdata.specs.declared.fault.Place.TheVariants.{Line}
 use Rattle.zone_rdata.specs.declared.record.Placed.{Placed}
 use Rattle.zone_text.specs.declared.defaults.Defaults.{Defaults}
 use Rattle.zone_text.specs.declared.ended.EndedEntries.{EndedEntries}
 use Rattle.zone_text.specs.Defaults.{AreDefaults}
 use Rattle.zone_text.specs.Entries.{Entry, entry_of}
-use Rattle.zone_text.specs.FileReads.{ReadEach}
-use Rattle.zone_text.specs.Given.{Ending, gives_none, gives_one, refused}
+use Rattle.zone_text.specs.Given.{gives_none, gives_one, refused}
 use Rattle.zone_text.specs.Machine.EntryReading.{AnswersEntry}
-use Rattle.zone_text.specs.Machine.Feeding.{ReadsEntry, ReadsOctets}
+use Rattle.zone_text.specs.Machine.Feeding.{ReadsOctets}
 use Rattle.zone_text.specs.Pieces.{Piece, Cuts, text}
 use Rattle.zone_text.proofs.Left.{line_feeds}
 

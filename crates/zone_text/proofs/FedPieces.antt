@@ -1,15 +1,12 @@
 -- A piece fed part by part.
-use Rattle.std.proofs.Common.{◌≡◌, ℕ, ◌+◌, ◌≤◌, List, [], ◌++◌, length, take, drop, Option, Some, None, IfSome, refl, sym, ap, ◌∙◌, subst, arith, append_assoc}
+use Rattle.std.proofs.Common.{◌≡◌, ℕ, ◌+◌, ◌≤◌, List, [], ◌++◌, length, take, true, Option, Some, None, IfSome, refl, sym, ap, ◌∙◌, subst, arith, append_assoc}
 use Rattle.std.proofs.lemmas.List.{append-nil}
-use Rattle.zone_name.specs.Common.{Labels}
 use Rattle.zone_rdata.specs.declared.fault.Fault.{Fault}
 use Rattle.zone_rdata.specs.declared.fault.Place.{Place}
-use Rattle.zone_rdata.specs.declared.record.Placed.{Placed}
 use Rattle.zone_text.specs.declared.ended.EndedEntries.{EndedEntries}
 use Rattle.zone_text.specs.declared.intake.Intake.{Intake}
 use Rattle.zone_text.specs.declared.scan.Scanned.{Scanned}
 use Rattle.zone_text.specs.declared.scan.Spot.{Spot}
-use Rattle.zone_text.specs.declared.scan.Step.{Step}
 use Rattle.zone_text.specs.Machine.Feeding.{Follow, IsIntake, ScansTo}
 use Rattle.zone_text.specs.Machine.Scan.{beginning, scan_of}
 use Rattle.zone_text.proofs.Followed.{follow_fault}
@@ -69,9 +66,9 @@ pub depth_within : (ended : EndedEntries) (at : Spot) (unfinished : List ℕ) �
 depth_within ended at unfinished is = let h = unfinished_depth beginning at unfinished (ap (λ (f : Scanned). f.step) is.spot) in omega (arith, h)
 
 -- where a fault was decided nothing changes
-pub fed_settled : (old new : Intake) (piece rest : List ℕ) → HasFed old new piece rest → IfSome old.ended.decided.ending (λ _. new ≡ old)
+pub fed_settled : (old new : Intake) (piece rest : List ℕ) → HasFed old new piece rest → IfSome old.ended.decided.ending (λ _. (true ≡ true) × (new ≡ old))
 fed_settled old new piece rest before = by old.ended.decided.ending before.settled
   where
-    by : (ending : Option (Fault × Place)) → ((found : Fault × Place) → ending ≡ Some found → new ≡ old) → IfSome ending (λ _. new ≡ old)
+    by : (ending : Option (Fault × Place)) → ((found : Fault × Place) → ending ≡ Some found → new ≡ old) → IfSome ending (λ _. (true ≡ true) × (new ≡ old))
     by None same = tt
-    by (Some found) same = same found refl
+    by (Some found) same = (refl, same found refl)

@@ -1,6 +1,6 @@
 -- What follows from octets fed and records given, part by part.
-use Rattle.std.proofs.Common.{◌≡◌, ℕ, zero, ◌+◌, ◌≤◌, List, [], ◌∷◌, ◌++◌, length, ◌==◌, Option, Some, None, MatchOption, refl, sym, ap, ◌∙◌, subst, arith, append_assoc, length-append, ◌⊎◌, inl, inr}
-use Rattle.std.specs.List.{flat_map, count_by}
+use Rattle.std.proofs.Common.{◌≡◌, ℕ, zero, ◌+◌, List, [], ◌∷◌, ◌++◌, length, Some, None, refl, sym, ap, ◌∙◌, subst, arith, append_assoc, length-append, inl}
+use Rattle.std.specs.List.{flat_map}
 use Rattle.std.specs.Prelude.{reverse}
 use Rattle.std.proofs.lemmas.List.{append-nil, flat_map_more, reverse-append}
 use Rattle.std.proofs.lemmas.List.Sums.{sum_by-append}
@@ -10,22 +10,20 @@ use Rattle.zone_rdata.specs.declared.fault.Fault.TheVariants.{BadEscape, Unbalan
 use Rattle.zone_rdata.specs.declared.fault.Place.{Place}
 use Rattle.zone_rdata.specs.declared.fault.Place.TheVariants.{Line}
 use Rattle.zone_rdata.specs.declared.record.Placed.{Placed}
-use Rattle.zone_text.specs.declared.defaults.Defaults.{Defaults}
 use Rattle.zone_text.specs.declared.ended.EndedEntries.{EndedEntries}
 use Rattle.zone_text.specs.declared.scan.Spot.{Spot}
 use Rattle.zone_text.specs.declared.scan.Step.{Step}
 use Rattle.zone_text.specs.declared.scan.Step.TheVariants.{On, Ends, LostEscape, ClosesNothing}
 use Rattle.zone_text.specs.Pieces.{Piece, Cuts, text}
-use Rattle.zone_text.specs.Breaks.{Breaks}
 use Rattle.zone_text.specs.Lasting.{BreaksForGood}
 use Rattle.zone_text.specs.Defaults.{AreDefaults}
-use Rattle.zone_text.specs.Entries.{Cut, Entry, cut_from, entry_of, numbered, ended_entries, open_line}
+use Rattle.zone_text.specs.Entries.{Entry, cut_from, entry_of, numbered}
 use Rattle.zone_text.specs.FileReads.{ReadEach, FileReads}
 use Rattle.zone_text.specs.Given.{Ending}
-use Rattle.zone_text.specs.Decided.{ArePieces, Decided, undecided}
-use Rattle.zone_text.specs.Machine.Scan.{beginning, scan_of, further, end_fault_of, IsOneEntry}
+use Rattle.zone_text.specs.Decided.{Decided}
+use Rattle.zone_text.specs.Machine.Scan.{beginning, further, end_fault_of, IsOneEntry}
 use Rattle.zone_text.specs.Machine.Feeding.{ReadsEntry, ReadsOctets, Follow, ScansTo}
-use Rattle.zone_text.specs.Source.{AreUnfinished, Leave}
+use Rattle.zone_text.specs.Source.{Leave}
 use Rattle.zone_text.proofs.CutAgain.{joined}
 use Rattle.zone_text.proofs.Left.{line_feeds, numbered_then, IsSplit, split, whole_behind, cut_more, pieces_more, ended_as_before, one_ended}
 use Rattle.zone_text.proofs.Decisions.{ReadsEnded, line_behind, reads_so_far, one_entry_more, break_decided, still_undecided, fault_stays, fault_is_read, whole_lines, last_entry, last_broken}

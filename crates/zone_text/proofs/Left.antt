@@ -1,8 +1,8 @@
 -- What octets leave of a file: the entries that line feeds have ended, and the octets behind them.
-use Rattle.std.proofs.Common.{◌≡◌, ℕ, zero, ◌+◌, List, [], ◌∷◌, ◌++◌, length, ◌==◌, Option, Some, None, refl, sym, ap, ◌∙◌, subst, arith, append_assoc, add_assoc, add-zero, ◌⊎◌, inl, inr}
+use Rattle.std.proofs.Common.{◌≡◌, ℕ, zero, ◌+◌, List, [], ◌∷◌, ◌++◌, ◌==◌, Some, None, refl, sym, ap, ◌∙◌, subst, append_assoc, add_assoc, add-zero, ◌⊎◌, inl, inr}
 use Rattle.std.specs.List.{flat_map, count_by}
 use Rattle.std.specs.Prelude.{reverse}
-use Rattle.std.proofs.lemmas.List.{append-nil, flat_map_more, reverse-append}
+use Rattle.std.proofs.lemmas.List.{append-nil, reverse-append}
 use Rattle.std.proofs.lemmas.List.Concat.{flat_map-append}
 use Rattle.std.proofs.lemmas.List.Sums.{sum_by-append}
 use Rattle.zone_rdata.specs.declared.fault.Fault.{Fault}
@@ -11,16 +11,15 @@ use Rattle.zone_rdata.specs.declared.fault.Place.TheVariants.{Line}
 use Rattle.zone_rdata.specs.declared.record.Placed.{Placed}
 use Rattle.zone_text.specs.Pieces.{Piece, Cuts, piece_text, text}
 use Rattle.zone_text.specs.Breaks.{Breaks}
-use Rattle.zone_text.specs.Lasting.{BreaksForGood, StaysBroken, BreaksAtEnd, EndInLineFeed}
-use Rattle.zone_text.specs.Entries.{Cut, Entry, cut_from, and_last, entry_of, numbered, entries_of, ended_entries, open_line}
-use Rattle.zone_text.specs.FileReads.{ReadEach, FileReads}
-use Rattle.zone_text.specs.FileReads as file
+use Rattle.zone_text.specs.Lasting.{BreaksForGood, StaysBroken, BreaksAtEnd}
+use Rattle.zone_text.specs.Entries.{Cut, Entry, cut_from, entry_of, numbered}
+use Rattle.zone_text.specs.FileReads.{ReadEach}
 use Rattle.zone_text.specs.Given.{Ending, gives_none, gives_one, refused}
-use Rattle.zone_text.specs.Decided.{ArePieces, Decided, decided, undecided}
-use Rattle.zone_text.proofs.Cuttings.{cut_not_broken, cut_or_broken}
-use Rattle.zone_text.proofs.Lasting.{cut_joined, break_joined, breaks_for_good}
-use Rattle.zone_text.proofs.CutAgain.{joined, AreEnded, cut_whole, cut_ended, again_zero, and_last_behind}
-use Rattle.zone_text.proofs.Decides.{IsParted, parted, pieces_of, goes_on, ended_on, entries_on}
+use Rattle.zone_text.specs.Decided.{ArePieces}
+use Rattle.zone_text.proofs.Cuttings.{cut_not_broken}
+use Rattle.zone_text.proofs.Lasting.{cut_joined, break_joined}
+use Rattle.zone_text.proofs.CutAgain.{joined, AreEnded, cut_ended, again_zero}
+use Rattle.zone_text.proofs.Decides.{parted}
 use Rattle.zone_text.proofs.Ending.{text_of_entries}
 use Rattle.zone_text.proofs.Escapes.{break_stays_or_ends}
 use Rattle.zone_text.proofs.ForGood.{stays_for_good, ends_not_for_good}

@@ -55,12 +55,12 @@ stands_finished origin failed finished n old new unfinished left fed given going
 }
 
 -- once a fault is decided pieces are counted alone
-pub counts_alone : (failed finished : Bool) (n more k : ℕ) (old new : Intake) → more ≡ n + k → IfSome old.ended.decided.ending (λ _. new ≡ old) → IfSome old.ended.decided.ending (λ _. state_of failed finished more new.ended new.unfinished.items ≡ counted k (state_of failed finished n old.ended old.unfinished.items))
+pub counts_alone : (failed finished : Bool) (n more k : ℕ) (old new : Intake) → more ≡ n + k → IfSome old.ended.decided.ending (λ _. (true ≡ true) × (new ≡ old)) → IfSome old.ended.decided.ending (λ _. (true ≡ true) × (state_of failed finished more new.ended new.unfinished.items ≡ counted k (state_of failed finished n old.ended old.unfinished.items)))
 counts_alone failed finished n more k old new count settled = by old.ended.decided.ending settled
   where
-    by : {A : Type 0} (ending : Option A) → IfSome ending (λ _. new ≡ old) → IfSome ending (λ _. state_of failed finished more new.ended new.unfinished.items ≡ counted k (state_of failed finished n old.ended old.unfinished.items))
+    by : {A : Type 0} (ending : Option A) → IfSome ending (λ _. (true ≡ true) × (new ≡ old)) → IfSome ending (λ _. (true ≡ true) × (state_of failed finished more new.ended new.unfinished.items ≡ counted k (state_of failed finished n old.ended old.unfinished.items)))
     by None same = tt
-    by (Some found) same = ap (λ (s : Intake). state_of failed finished more s.ended s.unfinished.items) same ∙ ap (λ m. state_of failed finished m old.ended old.unfinished.items) count
+    by (Some found) same = (refl, ap (λ (s : Intake). state_of failed finished more s.ended s.unfinished.items) same.1 ∙ ap (λ m. state_of failed finished m old.ended old.unfinished.items) count)
 
 -- ---- records that are given
 

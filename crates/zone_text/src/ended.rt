@@ -1,6 +1,7 @@
 //! The entries that were ended, read one by one (RFC 1035 5.1).
 ghost use Rattle.std.specs.Prelude.{◌≡◌, ◌+◌, ◌<◌, ◌≤◌, ◌^◌, ◌==◌, [], count_by, length, OnOk, Some, None};
 ghost use Rattle.zone_text.specs.Defaults.{AreDefaults};
+ghost use Rattle.zone_text.specs.Machine.Feeding.{ReadsOctets};
 
 use crate::defaults::Defaults;
 use std::alloc::{AllocError, Global};
@@ -28,8 +29,6 @@ fn line_feeds(octets: &[u8]) -> usize
 }
 
 impl EndedEntries {
-    ghost use Rattle.zone_text.specs.Machine.Feeding.{ReadsOctets};
-
     /// No entry yet, under the origin that is handed in with the file.
     pub(crate) fn new(alloc: Global, origin: &Name) -> EndedEntries
         ensures records { result.decided.placed.items ≡ [] }

@@ -1,9 +1,6 @@
 //! Octets of a master file as they come in pieces: the entries that they end, and the one that they leave unfinished.
-ghost use Rattle.std.specs.Prelude.{◌≡◌, ◌+◌, ◌<◌, ◌≤◌, ◌^◌, ◌++◌, [], ℕ, List, length, IfSome, OnOk, None};
-ghost use Rattle.zone_name.specs.Common.{Labels};
-ghost use Rattle.zone_rdata.specs.declared.record.Placed.{Placed};
-ghost use Rattle.zone_text.specs.FileReads.{FileReads};
-ghost use Rattle.zone_text.specs.Machine.Feeding.{Follow, IsIntake, ReadsOctets, ScansTo};
+ghost use Rattle.std.specs.Prelude.{◌≡◌, ◌+◌, ◌<◌, ◌≤◌, ◌^◌, ◌++◌, [], length, IfSome, IsOk, OnOk, None};
+ghost use Rattle.zone_text.specs.Machine.Feeding.{Follow, FollowOn, IsIntake, reach, ReadsAll, ReadsOctets, ScansTo};
 ghost use Rattle.zone_text.specs.Machine.Scan.{beginning};
 
 use crate::ended::EndedEntries;
@@ -43,13 +40,11 @@ impl Intake {
     /// Takes the octets of a piece up to a fault.
     pub(crate) fn feed(&mut self, piece: &[u8]) -> Result<(), AllocError>
         requires is { IsIntake self.old.ended self.old.at self.old.unfinished.items }
-        requires fits { self.old.ended.line + length self.old.unfinished.items + length piece.now < 2 ^ 64 }
+        requires fits { reach self.old + length piece.now < 2 ^ 64 }
         ensures is { OnOk result (IsIntake self.new.ended self.new.at self.new.unfinished.items) }
-        ensures near { OnOk result (self.new.ended.line + length self.new.unfinished.items ≤ self.old.ended.line + length self.old.unfinished.items + length piece.now) }
-        ensures settled { OnOk result (IfSome self.old.ended.decided.ending (λ _. self.new ≡ self.old)) }
-        ensures follow { OnOk result ((origin : Labels) (fed : List ℕ) (given : List Placed)
-            → Follow origin self.old.ended self.old.unfinished.items fed given
-            → Follow origin self.new.ended self.new.unfinished.items (fed ++ piece.now) given) }
+        ensures near { OnOk result (reach self.new ≤ reach self.old + length piece.now) }
+        ensures settled { IfSome self.old.ended.decided.ending (λ _. IsOk result × (self.new ≡ self.old)) }
+        ensures follow { OnOk result (FollowOn self.old piece.now self.new) }
     {
         let mut items = Vec::new(self.alloc);
         let mut rest = piece;
@@ -72,12 +67,10 @@ impl Intake {
         requires is { IsIntake self.old.ended self.old.at self.old.unfinished.items }
         requires undecided { self.old.ended.decided.ending ≡ None }
         requires scanned { ScansTo self.old.at part.now step }
-        requires fits { self.old.ended.line + length self.old.unfinished.items + length part.now < 2 ^ 64 }
+        requires fits { reach self.old + length part.now < 2 ^ 64 }
         ensures is { OnOk result (IsIntake self.new.ended self.new.at self.new.unfinished.items) }
-        ensures near { OnOk result (self.new.ended.line + length self.new.unfinished.items ≤ self.old.ended.line + length self.old.unfinished.items + length part.now) }
-        ensures follow { OnOk result ((origin : Labels) (fed : List ℕ) (given : List Placed)
-            → Follow origin self.old.ended self.old.unfinished.items fed given
-            → Follow origin self.new.ended self.new.unfinished.items (fed ++ part.now) given) }
+        ensures near { OnOk result (reach self.new ≤ reach self.old + length part.now) }
+        ensures follow { OnOk result (FollowOn self.old part.now self.new) }
     {
         match step {
             Step::On(at) => {
@@ -103,7 +96,7 @@ impl Intake {
     /// Reads the entry that these octets end: from the piece itself where it lies there whole.
     fn end_entry<'p>(&mut self, part: &'p [u8], items: &mut Vec<Item<'p>>) -> Result<(), AllocError>
         requires undecided { self.old.ended.decided.ending ≡ None }
-        requires fits { self.old.ended.line + length self.old.unfinished.items + length part.now < 2 ^ 64 }
+        requires fits { reach self.old + length part.now < 2 ^ 64 }
         ensures { OnOk result (ReadsOctets (self.old.unfinished.items ++ part.now) self.old.ended self.new.ended) }
     {
         if self.unfinished.is_empty() {
@@ -117,7 +110,7 @@ impl Intake {
     /// Reads the entry that the buffer holds.
     fn end_buffered(&mut self) -> Result<(), AllocError>
         requires undecided { self.old.ended.decided.ending ≡ None }
-        requires fits { self.old.ended.line + length self.old.unfinished.items < 2 ^ 64 }
+        requires fits { reach self.old < 2 ^ 64 }
         ensures { OnOk result (ReadsOctets self.old.unfinished.items self.old.ended self.new.ended) }
     {
         let mut items = Vec::new(self.alloc);
@@ -125,7 +118,7 @@ impl Intake {
             .read(self.alloc, self.unfinished.as_slice(), &mut items)
     }
 
-    /// Begins an entry.
+    /// Empties the buffer, at the beginning of an entry.
     pub(crate) fn drop_unfinished(&mut self)
         ensures none { self.new.unfinished.items ≡ [] }
         ensures at { self.new.at ≡ beginning }
@@ -138,13 +131,11 @@ impl Intake {
     /// Takes the end of the file.
     pub(crate) fn finish(&mut self) -> Result<(), AllocError>
         requires is { IsIntake self.old.ended self.old.at self.old.unfinished.items }
-        requires fits { self.old.ended.line + length self.old.unfinished.items < 2 ^ 64 }
+        requires fits { reach self.old < 2 ^ 64 }
         ensures none { OnOk result (self.new.unfinished.items ≡ []) }
-        ensures near { OnOk result (self.new.ended.line ≤ self.old.ended.line + length self.old.unfinished.items) }
+        ensures near { OnOk result (self.new.ended.line ≤ reach self.old) }
         ensures is { OnOk result (IsIntake self.new.ended self.new.at self.new.unfinished.items) }
-        ensures reads { OnOk result ((origin : Labels) (fed : List ℕ) (given : List Placed)
-            → Follow origin self.old.ended self.old.unfinished.items fed given
-            → FileReads origin fed (given ++ self.new.ended.decided.placed.items) self.new.ended.decided.ending) }
+        ensures reads { OnOk result (ReadsAll self.old self.new) }
     {
         if self.ended.decided.ending.is_none() {
             self.end_last()?;
@@ -157,12 +148,10 @@ impl Intake {
     fn end_last(&mut self) -> Result<(), AllocError>
         requires is { IsIntake self.old.ended self.old.at self.old.unfinished.items }
         requires undecided { self.old.ended.decided.ending ≡ None }
-        requires fits { self.old.ended.line + length self.old.unfinished.items < 2 ^ 64 }
+        requires fits { reach self.old < 2 ^ 64 }
         ensures later { OnOk result (self.old.ended.line ≤ self.new.ended.line) }
-        ensures near { OnOk result (self.new.ended.line ≤ self.old.ended.line + length self.old.unfinished.items) }
-        ensures reads { OnOk result ((origin : Labels) (fed : List ℕ) (given : List Placed)
-            → Follow origin self.old.ended self.old.unfinished.items fed given
-            → FileReads origin fed (given ++ self.new.ended.decided.placed.items) self.new.ended.decided.ending) }
+        ensures near { OnOk result (self.new.ended.line ≤ reach self.old) }
+        ensures reads { OnOk result (ReadsAll self.old self.new) }
     {
         match end_fault(self.at) {
             Some(fault) => self.ended.refuse(fault),

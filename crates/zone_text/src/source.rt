@@ -1,5 +1,5 @@
 //! A source of the records of a master file that is fed in pieces.
-ghost use Rattle.std.specs.Prelude.{◌≡◌, ◌+◌, ◌<◌, ◌^◌, ◌++◌, ℕ, true, false, [], List, length, IfErr, IfSome, OnOk, OnErr};
+ghost use Rattle.std.specs.Prelude.{◌≡◌, ◌+◌, ◌<◌, ◌^◌, ◌++◌, ℕ, true, false, [], List, length, IfErr, IfSome, IsOk, OnOk, OnErr};
 ghost use Rattle.zone_name.specs.Common.{Labels};
 
 use crate::intake::Intake;
@@ -8,10 +8,10 @@ use std::marker::Model;
 use zone_name::Name;
 use zone_rdata::{Placed, Reading, RrSource, Stop};
 
-/// The records of a master file (RFC 1035 5.1) that is fed in pieces, as soon as they are decided: with the line feed that
-/// ends their entry. Contracts see what it has still to give, and what it holds beside.
+/// The records of a master file (RFC 1035 5.1) that is fed in pieces. It gives a record as soon as a line feed has ended
+/// its entry. Contracts see what it has still to give and what it holds beside.
 ///
-/// Once it was refused memory it has failed: every later `feed`, `finish` and `next` answers `Memory`.
+/// Refused memory, it has failed: every later `feed`, `finish` and `next` answers `Memory`.
 #[derive(Drop)]
 pub struct TextSource {
     intake: Intake,
@@ -50,7 +50,8 @@ impl TextSource {
         }
     }
 
-    /// Takes the next piece of the file, of any length. Once a fault is decided it is counted alone.
+    /// Takes the next piece of the file, of any length. Once a fault is decided a piece is counted alone, which takes no
+    /// memory.
     ///
     /// # Errors
     ///
@@ -61,8 +62,8 @@ impl TextSource {
         ensures stands { OnOk result ((origin : Labels) (fed : List ℕ) (given : List Placed)
             → Stands origin self.old fed given → Stands origin self.new (fed ++ piece.now) given) }
         ensures count { OnOk result (self.new.held.fed ≡ self.old.held.fed + length piece.now) }
-        ensures decided { OnOk result (IfSome self.old.pending.ending
-            (λ _. self.new ≡ counted (length piece.now) self.old)) }
+        ensures decided { self.old.pending.failed ≡ false → IfSome self.old.pending.ending
+            (λ _. IsOk result × (self.new ≡ counted (length piece.now) self.old)) }
         ensures works { OnOk result (self.old.pending.failed ≡ false) }
         ensures working { OnOk result (self.new.pending.failed ≡ false) }
         ensures memory { IfErr result (λ stop. stop ≡ Stop.Memory) }

@@ -7,12 +7,12 @@ use Rattle.zone_rdata.specs.declared.record.Placed.{Placed}
 use Rattle.zone_text.specs.Decided.{Decided}
 use Rattle.zone_text.specs.Defaults.{AreDefaults}
 use Rattle.zone_text.specs.Entries.{Entry, entry_of}
-use Rattle.zone_text.specs.FileReads.{ReadEach}
+use Rattle.zone_text.specs.FileReads.{FileReads, ReadEach}
 use Rattle.zone_text.specs.Machine.Scan.{beginning, scan_of}
 use Rattle.zone_text.specs.Pieces.{Piece, Cuts, text}
 use Rattle.zone_text.specs.Source.{Leave, SourceState}
 use Rattle.zone_text.specs.declared.ended.EndedEntries.{EndedEntries}
-use Rattle.zone_text.specs.declared.scan.Scanned.{Scanned}
+use Rattle.zone_text.specs.declared.intake.Intake.{Intake}
 use Rattle.zone_text.specs.declared.scan.Spot.{Spot}
 use Rattle.zone_text.specs.declared.scan.Step.{Step}
 use Rattle.zone_text.specs.declared.scan.Step.TheVariants.{On}
@@ -46,6 +46,20 @@ pub record IsIntake (ended : EndedEntries) (at : Spot) (unfinished : List ℕ) :
   pub spot : ScansTo beginning unfinished (On at)
   pub dropped : (found : Fault × Place) → ended.decided.ending ≡ Some found → unfinished ≡ []
   pub line : 1 ≤ ended.line
+
+-- the line of the unfinished entry and the number of its octets so far, together
+abbrev pub reach : Intake → ℕ
+reach s = s.ended.line + length s.unfinished.items
+
+-- what follows from the octets before goes on with these
+abbrev pub FollowOn : Intake → List ℕ → Intake → Type 0
+FollowOn old part new =
+    (origin : Labels) (fed : List ℕ) (given : List Placed) → Follow origin old.ended old.unfinished.items fed given → Follow origin new.ended new.unfinished.items (fed ++ part) given
+
+-- what is read of a file that ends there
+abbrev pub ReadsAll : Intake → Intake → Type 0
+ReadsAll old new =
+    (origin : Labels) (fed : List ℕ) (given : List Placed) → Follow origin old.ended old.unfinished.items fed given → FileReads origin fed (given ++ new.ended.decided.placed.items) new.ended.decided.ending
 
 -- a source as contracts see it
 abbrev pub state_of : Bool → Bool → ℕ → EndedEntries → List ℕ → SourceState

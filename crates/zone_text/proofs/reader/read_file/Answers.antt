@@ -1,4 +1,4 @@
-use Rattle.std.proofs.Common.{[], sym, subst}
+use Rattle.std.proofs.Common.{[]}
 use Rattle.zone_text.proofs.Standing.{reads_whole}
 use Rattle.zone_text.proofs.reader.read_file.Goals as goal
 

@@ -1,4 +1,4 @@
-use Rattle.std.proofs.Common.{◌≡◌, ◌+◌, ◌<◌, ◌≤◌, ◌++◌, length, true, refl, sym, arith}
+use Rattle.std.proofs.Common.{◌≡◌, ◌+◌, length, true, refl, sym, arith}
 use Rattle.std.proofs.lemmas.List.{take-append-drop}
 use Rattle.zone_text.proofs.Begun.{none_found, none_left, some_found}
 use Rattle.zone_text.proofs.FedPieces.{fed_more, fed_all, fed_fault, fed_settled, takes_part, depth_within}

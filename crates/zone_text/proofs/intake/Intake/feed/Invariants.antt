@@ -1,4 +1,4 @@
-use Rattle.std.proofs.Common.{ℕ, ◌+◌, ◌≤◌, length}
+use Rattle.std.proofs.Common.{length}
 use Rattle.zone_text.proofs.FedPieces.{HasFed}
 use Rattle.zone_text.proofs.intake.Intake.feed.Given as goal
 

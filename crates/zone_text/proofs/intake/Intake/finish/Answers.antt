@@ -1,11 +1,8 @@
-use Rattle.std.proofs.Common.{◌≡◌, ◌≤◌, ℕ, List, ◌++◌, Option, Some, None, sym, ap, ◌∙◌, subst, arith}
-use Rattle.zone_name.specs.Common.{Labels}
-use Rattle.zone_rdata.specs.declared.record.Placed.{Placed}
+use Rattle.std.proofs.Common.{◌≤◌, sym, subst, arith}
 use Rattle.zone_text.proofs.Begun.{nothing_taken, some_found}
 use Rattle.zone_text.proofs.Followed.{end_of_fault, Reads}
 use Rattle.zone_text.proofs.intake.Intake.finish.Goals as goal
 use Rattle.zone_text.proofs.intake.Intake.finish.Goals.{then-is_none+in_ok-end_last, else-is_none}
-use Rattle.zone_text.specs.Machine.Feeding.{Follow}
 use Rattle.zone_text.specs.declared.ended.EndedEntries.{EndedEntries}
 use Rattle.zone_text.specs.declared.intake.Intake.{Intake}
 

@@ -1,4 +1,4 @@
-use Rattle.std.proofs.Common.{◌≡◌, ◌+◌, false, IfSome, length, refl, sym, subst}
+use Rattle.std.proofs.Common.{◌≡◌, ◌+◌, true, false, IfSome, length, refl, sym, subst}
 use Rattle.zone_text.proofs.Standing.{stands_more, counts_alone}
 use Rattle.zone_text.proofs.source.TextSource.feed.Goals as goal
 use Rattle.zone_text.specs.Machine.Feeding.{state_of}
@@ -13,7 +13,7 @@ returns-in-Ok-clause-stands c origin fed given stands =
     (subst (λ (s : SourceState). Stands origin s fed given) (sym c.self.view_is) stands)
 
 pub returns-in-Ok-clause-decided : goal.returns-in-Ok-clause-decided
-returns-in-Ok-clause-decided c =
+returns-in-Ok-clause-decided c works =
     let left : SourceState = state_of c.self.inside.failed c.self.inside.finished (c.self.inside.fed + length c.args.piece.now) c.feed.new.self.ended c.feed.new.self.unfinished.items in
-    subst (λ (s : SourceState). IfSome s.pending.ending (λ _. left ≡ counted (length c.args.piece.now) s)) c.self.view_is
+    subst (λ (s : SourceState). IfSome s.pending.ending (λ _. (true ≡ true) × (left ≡ counted (length c.args.piece.now) s))) c.self.view_is
     (counts_alone c.self.inside.failed c.self.inside.finished c.self.inside.fed (c.self.inside.fed + length c.args.piece.now) (length c.args.piece.now) c.self.inside.intake c.feed.new.self refl c.in-Ok.ensures.settled)

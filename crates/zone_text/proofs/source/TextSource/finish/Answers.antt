@@ -1,4 +1,4 @@
-use Rattle.std.proofs.Common.{◌≡◌, true, false, sym, subst}
+use Rattle.std.proofs.Common.{◌≡◌, false, sym, subst}
 use Rattle.zone_text.proofs.Standing.{stands_finished}
 use Rattle.zone_text.proofs.source.TextSource.finish.Goals as goal
 use Rattle.zone_text.specs.Source.{SourceState, Stands}
