@@ -15,7 +15,7 @@ use Rattle.zone_rdata.specs.Field.{Suits, is_strings, FieldValue, name, u32_valu
 use Rattle.zone_rdata.specs.Layout.{AreLaidOut, StringsLast, layout}
 use Rattle.zone_rdata.specs.Strings.{IsString}
 use Rattle.zone_rdata.specs.Record.{Data, IsRdata}
-use Rattle.zone_rdata.proofs.Fields.{AreFor, laid_out, values_back}
+use Rattle.zone_rdata.proofs.Layouts.{AreFor, laid_out, values_back}
 use Rattle.zone_rdata.proofs.Tables.{table_row}
 
 -- ---- the fields of parts

@@ -12,7 +12,7 @@ use Rattle.zone_rdata.specs.Strings.{IsString}
 use Rattle.zone_rdata.specs.Fields.Name.{BeginsWithSent}
 use Rattle.zone_rdata.specs.Fields.Strings.{AreWithLengths}
 use Rattle.zone_rdata.specs.Machine.Appending.{BeginsWithValue, BeginsWithNone, AppendsValue, AppendsPrefix}
-use Rattle.zone_rdata.proofs.Fields.{field_back}
+use Rattle.zone_rdata.proofs.Layouts.{field_back}
 use Rattle.zone_rdata.proofs.Sent.{frame_same, frame_at, frames_push, sent_once}
 use Rattle.zone_rdata.proofs.StringSteps.{AllByRecursion-append}
 

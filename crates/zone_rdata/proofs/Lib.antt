@@ -7,7 +7,11 @@ pub mod StringFields
 pub mod AddressFields
 pub mod Sent
 pub mod SentLengths
+pub mod Choices
+pub mod FieldLaws
 pub mod Fields
+pub mod AnyField
+pub mod Layouts
 pub mod Fronts
 pub mod Taken
 pub mod Wire

@@ -10,7 +10,7 @@ use Rattle.zone_rdata.specs.Item.{RawItem}
 use Rattle.zone_rdata.specs.Layout.{layout, IsData}
 use Rattle.zone_rdata.specs.Spelling.{IsCanonicalOf, States, StatesFor, in_words, in_octets}
 use Rattle.zone_rdata.specs.Strings.{IsString}
-use Rattle.zone_rdata.proofs.Fields.{spelt_hold, stated_data}
+use Rattle.zone_rdata.proofs.Layouts.{spelt_hold, stated_data}
 use Rattle.zone_rdata.proofs.Fronts.{AreLow}
 use Rattle.zone_rdata.proofs.ItemChoice.{joined_low}
 use Rattle.zone_rdata.proofs.StringSteps.{AllByRecursion-append}

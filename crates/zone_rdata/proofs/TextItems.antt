@@ -25,7 +25,7 @@ use Rattle.zone_rdata.specs.Text.{data_text, generic_text, data_items, laid_out_
 use Rattle.zone_rdata.specs.Machine.Printing.{laid_out_text}
 use Rattle.zone_rdata.specs.Fields.OneString.{string_item}
 use Rattle.zone_rdata.proofs.AddressLaws.{ipv4_plain, ipv4_printed, ipv6_plain, ipv6_printed}
-use Rattle.zone_rdata.proofs.Fields.{AreFor}
+use Rattle.zone_rdata.proofs.Layouts.{AreFor}
 use Rattle.zone_rdata.proofs.Tables.{table_row}
 use Rattle.zone_rdata.proofs.GenericLaws.{decimal-is, printed-stated, printed-text}
 use Rattle.zone_rdata.proofs.StringLaws.{printed-spells}

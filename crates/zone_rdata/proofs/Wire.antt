@@ -9,7 +9,7 @@ use Rattle.zone_rdata.specs.declared.layout.Layout.{Layout}
 use Rattle.zone_rdata.specs.Layout.{IsData, IsSized, StringsLast, AreLaidOut, fields_of, layout}
 use Rattle.zone_rdata.specs.Spelling.{IsCanonicalOf}
 use Rattle.zone_rdata.specs.Wire.{IsWireData, IsWireFault, no_value}
-use Rattle.zone_rdata.proofs.Fields.{AreFor, laid_out}
+use Rattle.zone_rdata.proofs.Layouts.{AreFor, laid_out}
 use Rattle.zone_rdata.proofs.Tables.{table_row}
 use Rattle.zone_rdata.proofs.SentLengths.{uncompressed_length}
 use Rattle.zone_rdata.proofs.Taken.{canonical-once}
