@@ -1,21 +1,18 @@
 -- A text is an address or none.
-use Rattle.std.proofs.Common.{◌≡◌, ◌≢◌, ℕ, zero, suc, ◌+◌, ◌-◌, ◌<◌, ◌≤◌, Bool, true, false, IsTrue, inl, inr, ◌⊎◌, List, [], ◌∷◌, ◌++◌, length, get_or, take, drop, replicate, Result, Ok, Err, refl, sym, ap, ◌∙◌, subst, arith, append_assoc}
-use Rattle.std.proofs.lemmas.Bool.{cases_lt, cases_eq}
+use Rattle.std.proofs.Common.{Bool, Err, IsTrue, List, Ok, Result, [], ap, append_assoc, arith, drop, false, get_or, inl, inr, length, refl, replicate, subst, suc, sym, take, true, zero, ℕ, ◌++◌, ◌+◌, ◌-◌, ◌<◌, ◌∙◌, ◌∷◌, ◌≡◌, ◌≢◌, ◌≤◌, ◌⊎◌}
+use Rattle.std.proofs.lemmas.Bool.{cases_eq, cases_lt}
 use Rattle.std.proofs.lemmas.List.{append-nil}
 use Rattle.hex.specs.Hex.{decode_sized}
 use Rattle.hex.specs.declared.error.FromHexError.{FromHexError}
-use Rattle.zone_rdata.specs.Address.{IsOctetNumber, AreNumbers, IsIpv4Address, AddressPart, IsGroup, IsLastPart, AreParts, parts_text, parts_octets, ArePartsOf, AreAround, IsIpv6Address, eight}
-use Rattle.zone_rdata.specs.Machine.AddressReading.{Lacks, IsCut, HasGapAt}
-use Rattle.zone_rdata.specs.Number.{IsDecimal}
+use Rattle.zone_rdata.specs.Address.{AddressPart, AreAround, AreNumbers, AreParts, ArePartsOf, IsGroup, IsIpv4Address, IsIpv6Address, IsLastPart, IsOctetNumber, eight, parts_octets, parts_text}
 use Rattle.zone_rdata.specs.Fields.Address.{IsAddress, of_ipv4, of_ipv6}
-use Rattle.zone_rdata.proofs.Addresses.{numbers_one, numbers_more, numbers_none, number_refused, rest_refused, last_refused, lacks_push}
-use Rattle.zone_rdata.proofs.AddressParts.{AreSomeParts, parts_cut, only_part, text_some, no_parts, parts_unique}
-use Rattle.zone_rdata.proofs.AddressGaps.{IsFirstGap, refused_without_gap, refused_at_gap, found_at_gap}
+use Rattle.zone_rdata.specs.Machine.AddressReading.{HasGapAt, IsCut, Lacks}
+use Rattle.zone_rdata.specs.Number.{IsDecimal}
+use Rattle.zone_rdata.proofs.AddressGaps.{IsFirstGap, found_at_gap, refused_at_gap, refused_without_gap}
+use Rattle.zone_rdata.proofs.AddressParts.{AreSomeParts, no_parts, only_part, parts_cut, parts_unique, text_some}
+use Rattle.zone_rdata.proofs.Addresses.{lacks_push, last_refused, number_refused, numbers_more, numbers_none, numbers_one, rest_refused}
+use Rattle.zone_rdata.proofs.Choices.{Choice}
 use Rattle.zone_rdata.proofs.GenericLaws.{decimal_or_not}
-
--- octets of the kind, or none
-abbrev pub Choice : (List ℕ → Type 0) → Type 0
-Choice P = ((octets : List ℕ) × P octets) ⊎ ((octets : List ℕ) → P octets → ⊥)
 
 -- ---- cutting
 abbrev Cuts : ℕ → List ℕ → Type 0

@@ -18,7 +18,6 @@ use Rattle.zone_rdata.specs.Item.{IsGeneric, RawItem, bare, quoted}
 use Rattle.zone_rdata.specs.Layout.{IsSized}
 use Rattle.zone_rdata.specs.Machine.Appending.{AppendsPrefix, AppendsValue, BeginsWithNone, BeginsWithValue}
 use Rattle.zone_rdata.specs.Machine.Building.{IsReal, part_field}
-use Rattle.zone_rdata.specs.Number.{plain}
 use Rattle.zone_rdata.specs.Strings.{item_text}
 use Rattle.zone_rdata.proofs.Choices.{Choice}
 use Rattle.zone_rdata.proofs.GenericLaws.{decimal-is}
@@ -62,6 +61,11 @@ pub low_take : (n : ℕ) (octets : List ℕ) → AreLow octets → AreLow (take 
 low_take zero octets low = tt
 low_take (suc n) [] low = tt
 low_take (suc n) (c ∷ octets) low = (low.0, low_take n octets low.1)
+
+pub low_drop : (n : ℕ) (octets : List ℕ) → AreLow octets → AreLow (drop n octets)
+low_drop zero octets low = low
+low_drop (suc n) [] low = tt
+low_drop (suc n) (c ∷ octets) low = low_drop n octets low.1
 
 -- ---- the laws of a kind
 

@@ -1,45 +1,21 @@
 -- Octets of the values of a layout hold those values.
-use Rattle.std.proofs.Common.{◌≡◌, ℕ, suc, ◌^◌, ◌<◌, ◌≤◌, List, [], ◌∷◌, ◌++◌, length, take, drop, refl, sym, ap, ◌∙◌, subst, arith, Option, Some, None}
+use Rattle.std.proofs.Common.{List, None, Option, Some, [], ap, drop, length, refl, subst, sym, ℕ, ◌++◌, ◌<◌, ◌∙◌, ◌∷◌, ◌≡◌, ◌≤◌}
+use Rattle.std.specs.List.{AllByRecursion}
 use Rattle.std.specs.Prelude.{MatchOption}
-use Rattle.std.specs.Int.{w16, w32, to_be_bytes, from_be_bytes}
-use Rattle.std.specs.List.{flat_map, AllByRecursion}
-use Rattle.std.proofs.lemmas.List.{take_at, drop_at, append-nil}
-use Rattle.std.proofs.lemmas.Nat.{from_be_bytes-to_be_bytes_2, from_be_bytes-to_be_bytes_4}
-use Rattle.zone_name.specs.Name.{with_length}
+use Rattle.std.proofs.lemmas.List.{drop_at}
+use Rattle.zone_rdata.specs.declared.fault.Fault.{Fault}
 use Rattle.zone_rdata.specs.declared.field.Field.{Field}
-use Rattle.zone_rdata.specs.declared.field.Field.TheVariants as fields
-use Rattle.zone_rdata.specs.Field.{FieldValue, name, u32_value, u16_value, fixed, string, strings, field_octets, octets_of, Holds, HoldEach, field_at, values_of, SpellsField, own_items, items_behind}
-use Rattle.zone_rdata.specs.Fields.Strings.{strings_of, SpellEachString}
+use Rattle.zone_rdata.specs.DataFault.{IsDataFault, IsFaultFor}
+use Rattle.zone_rdata.specs.Field.{FieldValue, HoldEach, Holds, field_at, field_octets, items_behind, octets_of, own_items, values_of}
+use Rattle.zone_rdata.specs.Generic.{StatesGeneric}
+use Rattle.zone_rdata.specs.Item.{RawItem}
 use Rattle.zone_rdata.specs.Layout.{AreLaidOut, IsData, IsLayout, StringsLast, layout}
 use Rattle.zone_rdata.specs.Machine.Appending.{AreSpelt}
-use Rattle.zone_rdata.specs.Item.{RawItem, bare}
-use Rattle.zone_rdata.specs.Spelling.{IsCanonicalOf, SpellEach, States, StatesFor, in_words, in_octets}
-use Rattle.zone_rdata.specs.DataFault.{IsDataFault, IsFaultFor}
-use Rattle.zone_rdata.specs.Generic.{StatesGeneric}
-use Rattle.zone_rdata.specs.declared.fault.Fault.{Fault}
-use Rattle.zone_rdata.specs.Strings.{IsString}
-use Rattle.zone_rdata.proofs.AddressFields.{address_fixed}
-use Rattle.zone_rdata.proofs.StringFields.{strings_back}
-use Rattle.zone_rdata.proofs.Names.{name_back}
+use Rattle.zone_rdata.specs.Spelling.{IsCanonicalOf, SpellEach, States, StatesFor, in_octets, in_words}
+use Rattle.zone_rdata.proofs.AnyField.{field_back, field_holds}
 use Rattle.zone_rdata.proofs.SentLengths.{uncompressed_length}
 use Rattle.zone_rdata.proofs.Tables.{table_row}
-
-number_back : (n : ℕ) (rest : List ℕ) → n < 2 ^ 32 → from_be_bytes w32 (take 4 (to_be_bytes w32 n ++ rest)) ≡ n
-number_back n rest short = ap (from_be_bytes w32) (take_at (to_be_bytes w32 n) rest 4 refl) ∙ from_be_bytes-to_be_bytes_4 n short
-
-two_octets_back : (n : ℕ) (rest : List ℕ) → n < 2 ^ 16 → from_be_bytes w16 (take 2 (to_be_bytes w16 n ++ rest)) ≡ n
-two_octets_back n rest short = ap (from_be_bytes w16) (take_at (to_be_bytes w16 n) rest 2 refl) ∙ from_be_bytes-to_be_bytes_2 n short
-
--- the field at the front of its octets is the value that was written
-pub field_back : (f : Field) (v : FieldValue) (rest : List ℕ) → Holds f v → (f ≡ fields.Strings → rest ≡ []) → field_at f (field_octets v ++ rest) ≡ v
-field_back fields.Name (name labels) rest h last = ap name (name_back labels rest h.each)
-field_back fields.Serial (u32_value n) rest h last = ap u32_value (number_back n rest h)
-field_back fields.Time (u32_value n) rest h last = ap u32_value (number_back n rest h)
-field_back fields.U16 (u16_value n) rest h last = ap u16_value (two_octets_back n rest h)
-field_back (fields.Octets n) (fixed octets) rest h last = ap fixed (take_at octets rest n h.size)
-field_back fields.OneString (string octets) rest h last = ap string (take_at octets rest (length octets) refl)
-field_back fields.Strings (strings many) rest h last = ap (λ (r : List ℕ). strings (strings_of (flat_map with_length many ++ r))) (last refl) ∙ ap (λ (o : List ℕ). strings (strings_of o)) (append-nil (flat_map with_length many)) ∙ ap strings (strings_back many)
-field_back f v rest h last = absurd h
+use Rattle.zone_rdata.specs.declared.field.Field.TheVariants as fields
 
 -- the first field of octets, and the fields behind it
 values_next : (f : Field) (row : List Field) (v : FieldValue) (octets : List ℕ) → Holds f v → (f ≡ fields.Strings → octets ≡ []) → values_of (f ∷ row) (field_octets v ++ octets) ≡ v ∷ values_of row octets
@@ -60,31 +36,12 @@ laid_out row values last h =
     let back : values_of row (octets_of values) ≡ values = values_back row values last h in
     record { held = subst (HoldEach row) (sym back) h; whole = ap octets_of back }
 
-strings_spelt : (items : List RawItem) (many : List (List ℕ)) → SpellEachString items many → AllByRecursion IsString many × (length many ≡ length items)
-strings_spelt [] [] h = (tt, refl)
-strings_spelt [] (octets ∷ many) h = absurd h
-strings_spelt (item ∷ items) [] h = absurd h
-strings_spelt (item ∷ items) (octets ∷ many) h = let rest = strings_spelt items many h.1 in ((h.0.string, rest.0), ap suc rest.1)
-
--- what items spell for a field, the field can hold
-spelt_holds : (origin : List (List ℕ)) (f : Field) (items : List RawItem) (v : FieldValue) → SpellsField origin f items v → Holds f v
-spelt_holds origin fields.Name (bare text ∷ []) (name labels) h = h.name
-spelt_holds origin fields.Serial (bare text ∷ []) (u32_value n) h = h.1
-spelt_holds origin fields.Time (bare text ∷ []) (u32_value n) h = h.1
-spelt_holds origin fields.U16 (bare text ∷ []) (u16_value n) h = h.1
-spelt_holds origin (fields.Octets n) (bare text ∷ []) (fixed octets) h = address_fixed n text octets h
-spelt_holds origin fields.OneString (item ∷ []) (string octets) h = h.string
-spelt_holds origin fields.Strings items (strings many) h =
-    let each = strings_spelt items many h.each in
-    record { some = omega (arith, h.some, each.1); each = each.0 }
-spelt_holds origin f items v h = absurd h
-
 pub spelt_hold : (origin : List (List ℕ)) (row : List Field) (items : List RawItem) (values : List FieldValue) → SpellEach origin row items values → HoldEach row values
 spelt_hold origin [] [] [] h = tt
 spelt_hold origin [] [] (v ∷ values) h = absurd h
 spelt_hold origin [] (i ∷ items) values h = absurd h
 spelt_hold origin (f ∷ row) items [] h = absurd h
-spelt_hold origin (f ∷ row) items (v ∷ values) h = (spelt_holds origin f (own_items f items) v h.0, spelt_hold origin row (items_behind f items) values h.1)
+spelt_hold origin (f ∷ row) items (v ∷ values) h = (field_holds origin f (own_items f items) v h.0, spelt_hold origin row (items_behind f items) values h.1)
 
 -- octets that items spell for a layout are one value of it
 spelt_laid : (origin : List (List ℕ)) (row : List Field) (items : List RawItem) (octets : List ℕ) → StringsLast row → AreSpelt origin row items octets → AreLaidOut row octets

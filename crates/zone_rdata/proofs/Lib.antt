@@ -12,7 +12,6 @@ pub mod FieldLaws
 pub mod Fields
 pub mod AnyField
 pub mod Layouts
-pub mod Fronts
 pub mod Taken
 pub mod Wire
 pub mod Items

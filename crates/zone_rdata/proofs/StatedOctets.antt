@@ -1,59 +1,21 @@
 -- What items state is octets, and so data.
-use Rattle.std.proofs.Common.{ℕ, ◌<◌, ◌^◌, List, [], ◌∷◌, Option, Some, None, refl, sym, subst, arith}
-use Rattle.std.specs.Int.{w16, w32, to_be_bytes}
-use Rattle.std.specs.List.{flat_map, AllByRecursion}
-use Rattle.zone_name.specs.Name.{IsFoldedOctet, IsLabel, with_length}
+use Rattle.std.proofs.Common.{List, None, Option, Some, [], refl, subst, sym, ℕ, ◌<◌, ◌∷◌}
+use Rattle.zone_name.proofs.Pushing.{AllByRecursion-append}
 use Rattle.zone_rdata.specs.declared.field.Field.{Field}
-use Rattle.zone_rdata.specs.declared.field.Field.TheVariants.{Name, Serial, Time, U16, Octets, OneString, Strings}
-use Rattle.zone_rdata.specs.Field.{FieldValue, name, u32_value, u16_value, fixed, string, strings, field_octets, Holds, HoldEach, octets_of}
+use Rattle.zone_rdata.specs.Field.{FieldValue, HoldEach, field_octets, octets_of}
 use Rattle.zone_rdata.specs.Item.{RawItem}
-use Rattle.zone_rdata.specs.Layout.{layout, IsData}
-use Rattle.zone_rdata.specs.Spelling.{IsCanonicalOf, States, StatesFor, in_words, in_octets}
-use Rattle.zone_rdata.specs.Strings.{IsString}
-use Rattle.zone_rdata.proofs.Layouts.{spelt_hold, stated_data}
-use Rattle.zone_rdata.proofs.Fronts.{AreLow}
+use Rattle.zone_rdata.specs.Layout.{IsData, layout}
+use Rattle.zone_rdata.specs.Spelling.{IsCanonicalOf, States, StatesFor, in_octets, in_words}
+use Rattle.zone_rdata.proofs.AnyField.{field_low}
+use Rattle.zone_rdata.proofs.FieldLaws.{AreLow}
 use Rattle.zone_rdata.proofs.ItemChoice.{joined_low}
-use Rattle.zone_rdata.proofs.StringSteps.{AllByRecursion-append}
-
-low_octets : (label : List ℕ) → AllByRecursion IsFoldedOctet label → AreLow label
-low_octets [] each = tt
-low_octets (c ∷ label) each = (each.0.octet, low_octets label each.1)
-
-low_labels : (labels : List (List ℕ)) → AllByRecursion IsLabel labels → AreLow (flat_map with_length labels)
-low_labels [] each = tt
-low_labels (label ∷ labels) each = AllByRecursion-append (λ c. c < 256) (with_length label) (flat_map with_length labels) (omega (arith, each.0.short), low_octets label each.0.each) (low_labels labels each.1)
-
-low_strings : (many : List (List ℕ)) → AllByRecursion IsString many → AreLow (flat_map with_length many)
-low_strings [] each = tt
-low_strings (text ∷ many) each = AllByRecursion-append (λ c. c < 256) (with_length text) (flat_map with_length many) (omega (arith, each.0.short), each.0.each) (low_strings many each.1)
-
-low_long : (n : ℕ) → n < 2 ^ 32 → AreLow (to_be_bytes w32 n)
-low_long n short = (omega arith, (omega arith, (omega arith, (omega arith, tt))))
-
-low_two : (n : ℕ) → n < 2 ^ 16 → AreLow (to_be_bytes w16 n)
-low_two n short = (omega arith, (omega arith, tt))
-
-low_value : (f : Field) (v : FieldValue) → Holds f v → AreLow (field_octets v)
-low_value Name (name labels) held = AllByRecursion-append (λ c. c < 256) (flat_map with_length labels) (0 ∷ []) (low_labels labels held.each) (omega arith, tt)
-low_value Name v held = absurd held
-low_value Serial (u32_value n) held = low_long n held
-low_value Serial v held = absurd held
-low_value Time (u32_value n) held = low_long n held
-low_value Time v held = absurd held
-low_value U16 (u16_value n) held = low_two n held
-low_value U16 v held = absurd held
-low_value (Octets n) (fixed octets) held = held.each
-low_value (Octets n) v held = absurd held
-low_value OneString (string octets) held = (omega (arith, held.short), held.each)
-low_value OneString v held = absurd held
-low_value Strings (strings many) held = low_strings many held.each
-low_value Strings v held = absurd held
+use Rattle.zone_rdata.proofs.Layouts.{spelt_hold, stated_data}
 
 pub low_values : (row : List Field) (values : List FieldValue) → HoldEach row values → AreLow (octets_of values)
 low_values [] [] held = tt
 low_values [] (v ∷ values) held = absurd held
 low_values (f ∷ row) [] held = absurd held
-low_values (f ∷ row) (v ∷ values) held = AllByRecursion-append (λ c. c < 256) (field_octets v) (octets_of values) (low_value f v held.0) (low_values row values held.1)
+low_values (f ∷ row) (v ∷ values) held = AllByRecursion-append (λ c. c < 256) (field_octets v) (octets_of values) (field_low f v held.0) (low_values row values held.1)
 
 low_form : (laid : Option (List Field)) (stated octets : List ℕ) → AreLow stated → IsCanonicalOf laid stated octets → AreLow octets
 low_form None stated octets low is = subst AreLow (sym is) low

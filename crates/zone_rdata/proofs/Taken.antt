@@ -7,7 +7,7 @@ use Rattle.zone_rdata.specs.Layout.{StringsLast, layout}
 use Rattle.zone_rdata.specs.Uncompressed.{AreSent, IsUncompressed}
 use Rattle.zone_rdata.specs.Machine.Appending.{BeginsWithValue, BeginsWithNone, AppendsValue}
 use Rattle.zone_rdata.proofs.Tables.{table_row}
-use Rattle.zone_rdata.proofs.Fronts.{value_once}
+use Rattle.zone_rdata.proofs.AnyField.{front_once}
 
 -- octets that are a value for each field, one behind another, and their canonical octets
 abbrev pub Reads : List Field → List ℕ → List ℕ → Type 0
@@ -43,7 +43,7 @@ from_reads (f ∷ row) octets canonical r =
 reads_once : (row : List Field) (octets a b : List ℕ) → Reads row octets a → Reads row octets b → a ≡ b
 reads_once [] octets a b x y = x.1 ∙ sym y.1
 reads_once (f ∷ row) octets a b x y =
-    let same = value_once f octets x.0 y.0 x.1.0 y.1.0 x.1.2 y.1.2 in
+    let same = front_once f octets x.0 y.0 x.1.0 y.1.0 x.1.2 y.1.2 in
     let after = reads_once row y.1.0 x.1.1 y.1.1 (subst (λ r. Reads row r x.1.1) same.1 x.1.4) y.1.4 in
     x.1.3 ∙ ap (λ v. field_octets v ++ x.1.1) same.0 ∙ ap (λ t. field_octets y.0 ++ t) after ∙ sym y.1.3
 
@@ -68,7 +68,7 @@ taken_step row octets f later rest after out new taken grows =
           let b = taken.back whole h in
           let j = b.1 in
           let n = j.1 in
-          let same = value_once f rest j.0 v n.0 after n.2 grows.begins in
+          let same = front_once f rest j.0 v n.0 after n.2 grows.begins in
           (n.1, subst (λ r. Reads later r n.1) same.1 n.4, b.2 ∙ ap (λ t. out ++ t) (n.3 ∙ ap (λ u. field_octets u ++ n.1) same.0) ∙ sym (append_assoc out (field_octets v) n.1) ∙ ap (λ t. t ++ n.1) (sym grows.written));
     }
 

@@ -1,13 +1,14 @@
 -- Values of a layout are data, and without strings they are short.
-use Rattle.std.proofs.Common.{◌≡◌, ◌≢◌, ℕ, ◌*◌, ◌≤◌, List, [], ◌∷◌, length, Some, refl, sym, ap, ◌∙◌, subst, arith, length-append, inl, inr}
+use Rattle.std.proofs.Common.{List, Some, [], ap, arith, length, length-append, subst, sym, ℕ, ◌*◌, ◌∙◌, ◌∷◌, ◌≡◌, ◌≢◌, ◌≤◌}
 use Rattle.std.specs.List.{AllByRecursion}
 use Rattle.zone_rdata.specs.declared.field.Field.{Field}
-use Rattle.zone_rdata.specs.declared.field.Field.TheVariants.{Name, Serial, Time, U16, Octets, OneString, Strings}
-use Rattle.zone_rdata.specs.Field.{FieldValue, name, u32_value, u16_value, fixed, string, field_octets, octets_of, values_of, Holds, HoldEach}
+use Rattle.zone_rdata.specs.declared.field.Field.TheVariants.{Strings}
+use Rattle.zone_rdata.specs.Field.{FieldValue, HoldEach, field_octets, octets_of, values_of}
 use Rattle.zone_rdata.specs.Layout.{IsData, IsSized, layout}
+use Rattle.zone_rdata.proofs.AnyField.{field_short}
 use Rattle.zone_rdata.proofs.Layouts.{AreFor, laid_out, values_back}
-use Rattle.zone_rdata.proofs.Tables.{table_row}
 use Rattle.zone_rdata.proofs.StatedOctets.{low_values}
+use Rattle.zone_rdata.proofs.Tables.{table_row}
 
 pub held_data : (class kind : ℕ) (row : List Field) (values : List FieldValue) → layout class kind ≡ Some row → HoldEach row values → length (octets_of values) ≤ 65535 → IsData class kind (octets_of values)
 held_data class kind row values e held short = record {
@@ -16,24 +17,12 @@ held_data class kind row values e held short = record {
   value = subst (λ laid. AreFor laid (octets_of values)) (sym e) (laid_out row values (table_row class kind row e).last held);
 }
 
--- a field that is no strings takes at most 256 octets: a name at most 255, a string its length and at most 255
-short_value : (f : Field) (v : FieldValue) → f ≢ Strings → IsSized f → Holds f v → length (field_octets v) ≤ 256
-short_value Name (name labels) other sized held = omega (arith, held.short)
-short_value Serial (u32_value n) other sized held = omega arith
-short_value Time (u32_value n) other sized held = omega arith
-short_value U16 (u16_value n) other sized held = omega arith
-short_value (Octets n) (fixed octets) other (inl four) held = omega (arith, held.size)
-short_value (Octets n) (fixed octets) other (inr sixteen) held = omega (arith, held.size)
-short_value OneString (string octets) other sized held = omega (arith, held.short)
-short_value Strings v other sized held = absurd (other refl)
-short_value f v other sized held = absurd held
-
 short_values : (row : List Field) (values : List FieldValue) → AllByRecursion (λ f. f ≢ Strings) row → AllByRecursion IsSized row → HoldEach row values → length (octets_of values) ≤ 256 * length row
 short_values [] [] others sized held = omega arith
 short_values [] (v ∷ values) others sized held = absurd held
 short_values (f ∷ row) [] others sized held = absurd held
 short_values (f ∷ row) (v ∷ values) others sized held =
-    let first = short_value f v others.0 sized.0 held.0 in
+    let first = field_short f v others.0 sized.0 held.0 in
     let rest = short_values row values others.1 sized.1 held.1 in
     omega (arith, first, rest, length-append (field_octets v) (octets_of values))
 

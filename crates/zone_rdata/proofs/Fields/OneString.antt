@@ -1,5 +1,5 @@
 -- One character-string.
-use Rattle.std.proofs.Common.{List, Some, [], add-one, ap, arith, drop, inl, inr, length, length-append, refl, subst, sym, take, ℕ, ◌++◌, ◌+◌, ◌<◌, ◌∙◌, ◌∷◌, ◌≡◌, ◌≤◌, ◌⊎◌}
+use Rattle.std.proofs.Common.{List, Some, [], add-one, ap, arith, drop, get_or, inl, inr, length, length-append, refl, subst, sym, take, ℕ, ◌++◌, ◌+◌, ◌<◌, ◌∙◌, ◌∷◌, ◌≡◌, ◌≤◌, ◌⊎◌}
 use Rattle.std.proofs.lemmas.Bool.{cases_lt}
 use Rattle.std.proofs.lemmas.List.{length-take, take_at}
 use Rattle.zone_name.specs.Name.{with_length}
@@ -32,6 +32,12 @@ part (string octets) s fits real = (record { short = fits; each = real }, omega 
 part v s fits real = absurd s
 
 -- ---- the string at the front of octets
+
+-- the first octet, and those behind it
+pub first_behind : (octets : List ℕ) → 1 ≤ length octets → octets ≡ get_or octets 0 0 ∷ drop 1 octets
+first_behind [] some = absurd (omega arith)
+first_behind (c ∷ octets) some = refl
+
 pub low_string : (c : ℕ) (behind : List ℕ) → AreLow (c ∷ behind) → c ≤ length behind → IsString (take c behind)
 low_string c behind low fits = record { short = omega (arith, length-take c behind, low.0); each = low_take c behind low.1 }
 

@@ -17,9 +17,8 @@ use Rattle.zone_rdata.specs.Machine.Appending.{AppendsPrefix, AppendsValue, Begi
 use Rattle.zone_rdata.specs.Machine.Building.{IsReal}
 use Rattle.zone_rdata.specs.Source.{after}
 use Rattle.zone_rdata.specs.Strings.{IsString, SpellsString, StringFault}
-use Rattle.zone_rdata.proofs.FieldLaws.{AreLow, AreLowItems, FieldChoice, FieldLaws, FrontChoice, appends_plain, found_front, front_of}
+use Rattle.zone_rdata.proofs.FieldLaws.{AreLow, AreLowItems, FieldChoice, FieldLaws, FrontChoice, appends_plain, found_front, front_of, low_drop}
 use Rattle.zone_rdata.proofs.Fields.OneString.{low_string}
-use Rattle.zone_rdata.proofs.Fronts.{low_drop}
 use Rattle.zone_rdata.proofs.Sent.{frame_at, frame_same, frames_push}
 use Rattle.zone_rdata.proofs.StringFields.{strings_back}
 use Rattle.zone_rdata.proofs.StringLaws.{fault-once, printed-spells, string-never_both, string-once}

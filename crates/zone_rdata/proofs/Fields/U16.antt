@@ -10,7 +10,7 @@ use Rattle.zone_rdata.specs.Field.{FieldValue, Holds, SpellsField, Suits, field_
 use Rattle.zone_rdata.specs.Fields.U16.{IsU16, SpellsU16, u16_octets}
 use Rattle.zone_rdata.specs.Item.{RawItem, bare}
 use Rattle.zone_rdata.specs.Machine.Building.{IsReal}
-use Rattle.zone_rdata.specs.Number.{IsDecimal, plain}
+use Rattle.zone_rdata.specs.Number.{IsDecimal}
 use Rattle.zone_rdata.proofs.FieldLaws.{AreLow, FieldLaws, SizedField, bare_item, bare_or_fault, below_or_not, low_at, mark_text, number_unmarked, sized_front, value_or_fault}
 use Rattle.zone_rdata.proofs.GenericLaws.{decimal-is, decimal_or_not}
 
