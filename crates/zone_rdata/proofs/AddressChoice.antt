@@ -8,6 +8,7 @@ use Rattle.zone_rdata.specs.Address.{AddressPart, AreAround, AreNumbers, ArePart
 use Rattle.zone_rdata.specs.Fields.Address.{IsAddress, of_ipv4, of_ipv6}
 use Rattle.zone_rdata.specs.Machine.AddressReading.{HasGapAt, IsCut, Lacks}
 use Rattle.zone_rdata.specs.Number.{IsDecimal}
+use Rattle.zone_rdata.proofs.AddressFields.{no_ipv4, no_ipv6}
 use Rattle.zone_rdata.proofs.AddressGaps.{IsFirstGap, found_at_gap, refused_at_gap, refused_without_gap}
 use Rattle.zone_rdata.proofs.AddressParts.{AreSomeParts, no_parts, only_part, parts_cut, parts_unique, text_some}
 use Rattle.zone_rdata.proofs.Addresses.{lacks_push, last_refused, number_refused, numbers_more, numbers_none, numbers_one, rest_refused}
@@ -196,14 +197,6 @@ pub ipv6_or_not : (text : List ℕ) → Choice (IsIpv6Address text)
 ipv6_or_not text = groups_by text (gap_or_not text)
 
 -- ---- an address of so many octets
-no_ipv4 : (n : ℕ) (text : List ℕ) → n ≡ 4 → ((octets : List ℕ) → IsIpv4Address text octets → ⊥) → (octets : List ℕ) → IsAddress n text octets → ⊥
-no_ipv4 n text e none octets (of_ipv4 d h) = none octets h
-no_ipv4 n text e none octets (of_ipv6 d h) = omega arith
-
-no_ipv6 : (n : ℕ) (text : List ℕ) → n ≡ 16 → ((octets : List ℕ) → IsIpv6Address text octets → ⊥) → (octets : List ℕ) → IsAddress n text octets → ⊥
-no_ipv6 n text e none octets (of_ipv4 d h) = omega arith
-no_ipv6 n text e none octets (of_ipv6 d h) = none octets h
-
 no_size : (n : ℕ) (text : List ℕ) → n ≢ 4 → n ≢ 16 → (octets : List ℕ) → IsAddress n text octets → ⊥
 no_size n text not_ipv4 not_ipv6 octets (of_ipv4 e h) = not_ipv4 e
 no_size n text not_ipv4 not_ipv6 octets (of_ipv6 e h) = not_ipv6 e

@@ -16,7 +16,7 @@ use Rattle.zone_rdata.specs.Layout.{layout}
 use Rattle.zone_rdata.specs.Spelling.{SpellEach, States, StatesFor, in_octets, in_words}
 use Rattle.zone_rdata.specs.Uncompressed.{IsUncompressed}
 use Rattle.zone_rdata.proofs.AnyField.{field_or_fault}
-use Rattle.zone_rdata.proofs.Bytes.{bytes_each}
+use Rattle.zone_rdata.proofs.Lists.{bytes_each}
 use Rattle.zone_rdata.proofs.Choices.{Choice}
 use Rattle.zone_rdata.proofs.FieldLaws.{AreLow, AreLowItems, FieldChoice, NameOrFault}
 use Rattle.zone_rdata.proofs.GenericLaws.{generic-or_fault}

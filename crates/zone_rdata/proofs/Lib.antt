@@ -1,12 +1,11 @@
 pub mod Tables
 pub mod Words
-pub mod Names
 pub mod Minima
-pub mod Bytes
 pub mod StringFields
 pub mod AddressFields
 pub mod Sent
 pub mod SentLengths
+pub mod Lists
 pub mod Choices
 pub mod FieldLaws
 pub mod Fields
@@ -19,7 +18,6 @@ pub mod Forms
 pub mod ItemLaws
 pub mod TimeLaws
 pub mod Values
-pub mod Faults
 pub mod Texts
 pub mod TextItems
 pub mod StringTexts

@@ -1,11 +1,12 @@
 -- Uncompressed octets, field after field.
 use Rattle.std.proofs.Common.{◌≡◌, ℕ, ◌+◌, ◌<◌, ◌≤◌, List, [], ◌∷◌, ◌++◌, length, get_or, drop, Some, refl, sym, ap, ◌∙◌, subst, arith, append_assoc}
-use Rattle.std.proofs.lemmas.List.{append-nil, drop_more, drop_all}
+use Rattle.std.proofs.lemmas.List.{append-nil, drop_all}
 use Rattle.zone_rdata.specs.declared.field.Field.{Field}
 use Rattle.zone_rdata.specs.Field.{FieldValue, field_octets, octets_of, HoldEach}
 use Rattle.zone_rdata.specs.Layout.{StringsLast, layout}
 use Rattle.zone_rdata.specs.Uncompressed.{AreSent, IsUncompressed}
 use Rattle.zone_rdata.specs.Machine.Appending.{BeginsWithValue, BeginsWithNone, AppendsValue}
+use Rattle.zone_rdata.proofs.Lists.{from_place}
 use Rattle.zone_rdata.proofs.Tables.{table_row}
 use Rattle.zone_rdata.proofs.AnyField.{front_once}
 
@@ -72,17 +73,14 @@ taken_step row octets f later rest after out new taken grows =
           (n.1, subst (λ r. Reads later r n.1) same.1 n.4, b.2 ∙ ap (λ t. out ++ t) (n.3 ∙ ap (λ u. field_octets u ++ n.1) same.0) ∙ sym (append_assoc out (field_octets v) n.1) ∙ ap (λ t. t ++ n.1) (sym grows.written));
     }
 
-here_at : (row : List Field) (i : ℕ) (f d : Field) → i < length row → f ≡ get_or row i d → drop i row ≡ f ∷ drop (i + 1) row
-here_at row i f d lt found = drop_more row i d lt ∙ ap (λ x. x ∷ drop (i + 1) row) (sym found)
-
 pub taken_more : (row : List Field) (octets : List ℕ) (i : ℕ) (f d : Field) (rest after out new : List ℕ) → i < length row → f ≡ get_or row i d → HaveTaken row octets (drop i row) rest out → AppendsValue f rest after out new → HaveTaken row octets (drop (i + 1) row) after new
 taken_more row octets i f d rest after out new lt found taken grows =
-    taken_step row octets f (drop (i + 1) row) rest after out new (subst (λ r. HaveTaken row octets r rest out) (here_at row i f d lt found) taken) grows
+    taken_step row octets f (drop (i + 1) row) rest after out new (subst (λ r. HaveTaken row octets r rest out) (from_place row i f d lt found) taken) grows
 
 pub taken_bad : (row own : List Field) (octets : List ℕ) (i : ℕ) (f d : Field) (rest out : List ℕ) → row ≡ own → StringsLast own → i < length row → f ≡ get_or row i d → HaveTaken row octets (drop i row) rest out → BeginsWithNone f rest → (canonical : List ℕ) → IsUncompressed own octets canonical → ⊥
 taken_bad row own octets i f d rest out same last lt found taken none canonical u =
     let reads = to_reads row octets canonical (subst StringsLast (sym same) last) (subst (λ r. IsUncompressed r octets canonical) (sym same) u) in
-    let b = (subst (λ r. HaveTaken row octets r rest out) (here_at row i f d lt found) taken).back canonical reads in
+    let b = (subst (λ r. HaveTaken row octets r rest out) (from_place row i f d lt found) taken).back canonical reads in
     none b.1.0 b.1.1.0 b.1.1.2
 
 nothing_later : (row : List Field) (octets : List ℕ) (i : ℕ) (rest out : List ℕ) → length row ≤ i → HaveTaken row octets (drop i row) rest out → HaveTaken row octets [] rest out

@@ -2,7 +2,7 @@
 use Rattle.std.proofs.Common.{List, None, Option, Result, Some, [], ap, append_assoc, arith, drop, get_or, inl, inr, length, map, min, refl, subst, sym, ℕ, ◌++◌, ◌+◌, ◌<◌, ◌∙◌, ◌∷◌, ◌≡◌, ◌≤◌}
 use Rattle.std.specs.List.{flat_map}
 use Rattle.std.specs.Prelude.{IfNone, IfSome, OnOk}
-use Rattle.std.proofs.lemmas.List.{append-nil, drop_all, drop_more}
+use Rattle.std.proofs.lemmas.List.{append-nil, drop_all}
 use Rattle.std.proofs.lemmas.Result.{on_ok_weaker}
 use Rattle.zone_name.specs.Name.{with_length}
 use Rattle.zone_rdata.specs.declared.fault.Failing.{Failing}
@@ -15,6 +15,7 @@ use Rattle.zone_rdata.specs.Item.{RawItem, bare, raw}
 use Rattle.zone_rdata.specs.Machine.Appending.{Appends, AppendsField, AppendsFirst, AppendsString}
 use Rattle.zone_rdata.specs.Strings.{StringFault}
 use Rattle.zone_rdata.specs.declared.field.Field.TheVariants as fields
+use Rattle.zone_rdata.proofs.Lists.{from_place}
 
 -- ---- one item
 
@@ -46,13 +47,10 @@ pub record HaveSpelt (items left : List RawItem) (old now : List ℕ) : Type 0 w
   pub leads : (many : List (List ℕ)) → SpellEachString left many → Appends (SpellEachString items) (flat_map with_length) old (now ++ flat_map with_length many)
   pub fault : (fault : Fault) → FirstStringFault left fault → FirstStringFault items fault
 
-left_at : (items : List Item) (i : ℕ) (item d : Item) → i < length items → item ≡ get_or items i d → map raw (drop i items) ≡ raw item ∷ map raw (drop (i + 1) items)
-left_at items i item d lt is = ap (map raw) (drop_more items i d lt ∙ ap (λ x. x ∷ drop (i + 1) items) (sym is))
-
 pub spelt_more : (all items : List Item) (i : ℕ) (item d : Item) (old now new : List ℕ) → i < length items → item ≡ get_or items i d → HaveSpelt (map raw all) (map raw (drop i items)) old now → AppendsString (raw item) now new → HaveSpelt (map raw all) (map raw (drop (i + 1) items)) old new
 spelt_more all items i item d old now new lt is read h =
     let left = map raw (drop (i + 1) items) in
-    let here : HaveSpelt (map raw all) (raw item ∷ left) old now = subst (λ x. HaveSpelt (map raw all) x old now) (left_at items i item d lt is) read in
+    let here : HaveSpelt (map raw all) (raw item ∷ left) old now = subst (λ x. HaveSpelt (map raw all) x old now) (ap (map raw) (from_place items i item d lt is)) read in
     record {
       leads = λ many each. subst (Appends (SpellEachString (map raw all)) (flat_map with_length) old) (sym (ap (λ o. o ++ flat_map with_length many) h.written ∙ append_assoc now (with_length h.octets) (flat_map with_length many))) (here.leads (h.octets ∷ many) (h.spelt, each));
       fault = λ fault bad. here.fault fault (inr (h.octets, h.spelt, bad));
@@ -65,7 +63,7 @@ some_first (item ∷ items) fault h = h
 
 pub spelt_bad : (all items : List Item) (i : ℕ) (item d : Item) (old now : List ℕ) (fault : Fault) → i < length items → item ≡ get_or items i d → HaveSpelt (map raw all) (map raw (drop i items)) old now → StringFault (raw item) fault → StringsFault (map raw all) fault
 spelt_bad all items i item d old now fault lt is read bad =
-    let here : HaveSpelt (map raw all) (raw item ∷ map raw (drop (i + 1) items)) old now = subst (λ x. HaveSpelt (map raw all) x old now) (left_at items i item d lt is) read in
+    let here : HaveSpelt (map raw all) (raw item ∷ map raw (drop (i + 1) items)) old now = subst (λ x. HaveSpelt (map raw all) x old now) (ap (map raw) (from_place items i item d lt is)) read in
     some_first (map raw all) fault (here.fault fault (inl bad))
 
 pub spelt_all : (all items : List Item) (i : ℕ) (old now : List ℕ) → 0 < length all → length items ≤ i → HaveSpelt (map raw all) (map raw (drop i items)) old now → Appends (SpellsStrings (map raw all)) (flat_map with_length) old now

@@ -17,7 +17,7 @@ use Rattle.zone_rdata.specs.Item.{RawItem, bare}
 use Rattle.zone_rdata.specs.Machine.Appending.{AppendsValue, BeginsWithNone, BeginsWithValue}
 use Rattle.zone_rdata.specs.Machine.Building.{IsReal}
 use Rattle.zone_rdata.proofs.FieldLaws.{AreLow, FieldChoice, FieldLaws, FrontChoice, bare_item, bare_or_fault, found_front, mark_text}
-use Rattle.zone_rdata.proofs.Names.{name_back}
+use Rattle.zone_name.proofs.Octets.{labels_of-wire_append}
 use Rattle.zone_rdata.proofs.Sent.{AreSome, HasCut, cut_more, cut_name, cut_none, folded_some, goes_on, name_by, no_first, no_room, sent_once, some_behind}
 
 only : (v : FieldValue) → Holds Name v → (labels : List (List ℕ)) × (v ≡ name labels)
@@ -169,7 +169,7 @@ laws = record {
   only = only;
   opens = opens;
   part = part;
-  back = λ labels rest h last. ap name (name_back labels rest h.each);
+  back = λ labels rest h last. ap name (labels_of-wire_append labels rest h.each);
   low = low;
   short = λ labels many fixed_size h. omega (arith, h.short);
   front = λ octets each. front_by octets (sent_or_not octets);

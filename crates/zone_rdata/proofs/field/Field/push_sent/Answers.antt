@@ -5,7 +5,7 @@ use Rattle.zone_rdata.specs.declared.field.Field.TheVariants.{Serial, Time, U16,
 use Rattle.zone_rdata.specs.Field.{u32_value, u16_value, fixed}
 use Rattle.zone_rdata.specs.Machine.Appending.{BeginsWithNone}
 use Rattle.zone_rdata.proofs.Failings.{IfErr-fault}
-use Rattle.zone_rdata.proofs.Bytes.{bytes_each}
+use Rattle.zone_rdata.proofs.Lists.{bytes_each}
 use Rattle.zone_rdata.proofs.FieldLaws.{SizedField, appends_sized, none_sized}
 use Rattle.zone_rdata.proofs.Fields.Address as address
 use Rattle.zone_rdata.proofs.Fields.Serial as serial
