@@ -20,12 +20,6 @@ pub record HaveRead (origin : List (List ℕ)) (row : List Field) (items : List 
   pub leads : (values : List FieldValue) → SpellEach origin later left values → AreSpelt origin row items (octets ++ octets_of values)
   pub fault : (fault : Fault) → FirstFieldFault origin later left fault → FirstFieldFault origin row items fault
 
-pub read_none : (origin : List (List ℕ)) (row : List Field) (items left : List RawItem) (octets : List ℕ) → left ≡ items → octets ≡ [] → HaveRead origin row items row left octets
-read_none origin row items left octets all e = record {
-  leads = λ values h. record { values = values; spelt = subst (λ is. SpellEach origin row is values) all h; written = ap (λ o. o ++ octets_of values) e };
-  fault = λ fault h. subst (λ is. FirstFieldFault origin row is fault) all h;
-}
-
 read_step : (origin : List (List ℕ)) (row : List Field) (items : List RawItem) (f : Field) (later : List Field) (left rest : List RawItem) (octets new : List ℕ) → HaveRead origin row items (f ∷ later) left octets → AppendsFirst origin f left rest octets new → HaveRead origin row items later rest new
 read_step origin row items f later left rest octets new read grows =
     let v = grows.appends.value in
