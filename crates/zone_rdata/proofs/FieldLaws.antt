@@ -121,14 +121,6 @@ pub value_or_fault : {X : Type 0} (origin : List (List ℕ)) (f : Field) (text :
 value_or_fault origin f text value own Stated spelt bad (inl found) = inl (value found.0, spelt found.0 found.1)
 value_or_fault origin f text value own Stated spelt bad (inr none) = inr (own, bad none)
 
--- a number below a bound is stated or none
-pub below_or_not : (Is : ℕ → Type 0) (bound : ℕ) → ((a b : ℕ) → Is a → Is b → a ≡ b) → Choice Is → Choice (λ n. Is n × (n < bound))
-below_or_not Is bound once (inr none) = inr (λ n h. none n h.0)
-below_or_not Is bound once (inl found) = elim (cases_lt found.0 bound) [
-  | inl short ↦ inl (found.0, (found.1, short))
-  | inr over ↦ inr (λ n h. omega (arith, h.1, once n found.0 h.0 found.1))
-]
-
 -- the mark of the generic form as a text
 abbrev pub mark : List ℕ
 mark = 92 ∷ 35 ∷ []

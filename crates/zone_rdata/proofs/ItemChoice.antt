@@ -20,7 +20,7 @@ use Rattle.zone_rdata.proofs.Lists.{bytes_each}
 use Rattle.zone_rdata.proofs.Choices.{Choice}
 use Rattle.zone_rdata.proofs.FieldLaws.{AreLow, AreLowItems, FieldChoice, NameOrFault}
 use Rattle.zone_rdata.proofs.GenericLaws.{generic-or_fault}
-use Rattle.zone_rdata.proofs.UncompressedChoice.{canonical_or_not}
+use Rattle.zone_rdata.proofs.Taken.{canonical_or_not}
 use Rattle.zone_rdata.proofs.WordChoice.{same_or_not}
 use Rattle.zone_rdata.specs.DataFault as faults
 

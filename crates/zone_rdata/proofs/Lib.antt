@@ -4,7 +4,6 @@ pub mod Minima
 pub mod StringFields
 pub mod AddressFields
 pub mod Sent
-pub mod SentLengths
 pub mod Lists
 pub mod Choices
 pub mod FieldLaws
@@ -40,8 +39,6 @@ pub mod Building
 pub mod TimeChoice
 pub mod WordChoice
 pub mod AddressChoice
-pub mod UncompressedChoice
 pub mod ItemChoice
 pub mod StatedOctets
-pub mod ValueLaws
 pub mod PrintedWords

@@ -11,7 +11,7 @@ use Rattle.zone_rdata.specs.Spelling.{IsCanonicalOf}
 use Rattle.zone_rdata.specs.Wire.{IsWireData, IsWireFault, no_value}
 use Rattle.zone_rdata.proofs.Layouts.{AreFor, laid_out}
 use Rattle.zone_rdata.proofs.Tables.{table_row}
-use Rattle.zone_rdata.proofs.SentLengths.{uncompressed_length}
+use Rattle.zone_rdata.proofs.Taken.{uncompressed_length}
 use Rattle.zone_rdata.proofs.Taken.{canonical-once}
 
 -- in a layout of the table strings stand last

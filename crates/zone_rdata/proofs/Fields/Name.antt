@@ -16,6 +16,7 @@ use Rattle.zone_rdata.specs.Fields.Name.{BeginsWithSent}
 use Rattle.zone_rdata.specs.Item.{RawItem, bare}
 use Rattle.zone_rdata.specs.Machine.Appending.{AppendsValue, BeginsWithNone, BeginsWithValue}
 use Rattle.zone_rdata.specs.Machine.Building.{IsReal}
+use Rattle.zone_rdata.proofs.Choices.{Decided, each_or_not}
 use Rattle.zone_rdata.proofs.FieldLaws.{AreLow, FieldChoice, FieldLaws, FrontChoice, bare_item, bare_or_fault, found_front, mark_text}
 use Rattle.zone_name.proofs.Octets.{labels_of-wire_append}
 use Rattle.zone_rdata.proofs.Sent.{AreSome, HasCut, cut_more, cut_name, cut_none, folded_some, goes_on, name_by, no_first, no_room, sent_once, some_behind}
@@ -67,16 +68,7 @@ front_once octets v w r s x y =
     (a.1 ∙ ap name same.0 ∙ sym b.1, same.1)
 
 -- ---- labels are a name or not
-both_by : {A B : Type 0} → A ⊎ (A → ⊥) → B ⊎ (B → ⊥) → (A × B) ⊎ (A × B → ⊥)
-both_by (inl a) (inl b) = inl (a, b)
-both_by (inl a) (inr none) = inr (λ h. none h.1)
-both_by (inr none) b = inr (λ h. none h.0)
-
-each_or_not : {X : Type 0} (P : X → Type 0) → ((x : X) → P x ⊎ (P x → ⊥)) → (xs : List X) → AllByRecursion P xs ⊎ (AllByRecursion P xs → ⊥)
-each_or_not P one [] = inl tt
-each_or_not P one (x ∷ xs) = both_by (one x) (each_or_not P one xs)
-
-octet_or_not : (c : ℕ) → IsFoldedOctet c ⊎ (IsFoldedOctet c → ⊥)
+octet_or_not : (c : ℕ) → Decided (IsFoldedOctet c)
 octet_or_not c = elim (cases_lt c 256) [
   | inr over ↦ inr (λ h. omega (arith, h.octet))
   | inl low ↦ elim (cases_eq (folded_octet c) c) [
@@ -85,7 +77,7 @@ octet_or_not c = elim (cases_lt c 256) [
   ]
 ]
 
-label_by : (label : List ℕ) → AllByRecursion IsFoldedOctet label ⊎ (AllByRecursion IsFoldedOctet label → ⊥) → IsLabel label ⊎ (IsLabel label → ⊥)
+label_by : (label : List ℕ) → Decided (AllByRecursion IsFoldedOctet label) → Decided (IsLabel label)
 label_by label (inr none) = inr (λ h. none h.each)
 label_by label (inl each) = elim (cases_lt 63 (length label)) [
   | inl long ↦ inr (λ h. omega (arith, h.short))
@@ -95,17 +87,17 @@ label_by label (inl each) = elim (cases_lt 63 (length label)) [
   ]
 ]
 
-label_or_not : (label : List ℕ) → IsLabel label ⊎ (IsLabel label → ⊥)
+label_or_not : (label : List ℕ) → Decided (IsLabel label)
 label_or_not label = label_by label (each_or_not IsFoldedOctet octet_or_not label)
 
-name_of : (labels : List (List ℕ)) → AllByRecursion IsLabel labels ⊎ (AllByRecursion IsLabel labels → ⊥) → IsName labels ⊎ (IsName labels → ⊥)
+name_of : (labels : List (List ℕ)) → Decided (AllByRecursion IsLabel labels) → Decided (IsName labels)
 name_of labels (inr none) = inr (λ h. none h.each)
 name_of labels (inl each) = elim (cases_lt 255 (length (wire labels))) [
   | inl long ↦ inr (λ h. omega (arith, h.short))
   | inr short ↦ inl (record { each = each; short = short })
 ]
 
-labels_or_not : (labels : List (List ℕ)) → IsName labels ⊎ (IsName labels → ⊥)
+labels_or_not : (labels : List (List ℕ)) → Decided (IsName labels)
 labels_or_not labels = name_of labels (each_or_not IsLabel label_or_not labels)
 
 -- ---- octets begin with a name or not
@@ -121,7 +113,7 @@ ended_labels octets rest behind tail labels own c cut e nothing b =
     let same_labels : own ≡ labels = sym b.folds ∙ ap folded (next.1 ∙ ap (λ t. cut.sent ++ t) same.0 ∙ append-nil cut.sent) ∙ cut.folds in
     subst IsName same_labels b.is_name
 
-root_by : (octets rest behind : List ℕ) (labels : List (List ℕ)) (c : ℕ) → HasCut octets labels rest → rest ≡ c ∷ behind → c ≡ 0 → IsName labels ⊎ (IsName labels → ⊥) → SentChoice octets
+root_by : (octets rest behind : List ℕ) (labels : List (List ℕ)) (c : ℕ) → HasCut octets labels rest → rest ≡ c ∷ behind → c ≡ 0 → Decided (IsName labels) → SentChoice octets
 root_by octets rest behind labels c cut e nothing (inl is) = inl (labels, (behind, cut_name octets rest labels labels c behind cut e nothing refl is))
 root_by octets rest behind labels c cut e nothing (inr none) = inr (λ own tail b. none (ended_labels octets rest behind tail labels own c cut e nothing b))
 

@@ -6,7 +6,8 @@ use Rattle.zone_rdata.specs.Field.{FieldValue, SpellsField, u32_value}
 use Rattle.zone_rdata.specs.Fields.Time.{SpellsTime}
 use Rattle.zone_rdata.specs.Item.{RawItem, bare}
 use Rattle.zone_rdata.specs.Number.{IsTime, plain}
-use Rattle.zone_rdata.proofs.FieldLaws.{FieldLaws, SizedField, bare_item, bare_or_fault, below_or_not, sized_front, value_or_fault}
+use Rattle.zone_rdata.proofs.Choices.{below_or_not}
+use Rattle.zone_rdata.proofs.FieldLaws.{FieldLaws, SizedField, bare_item, bare_or_fault, sized_front, value_or_fault}
 use Rattle.zone_rdata.proofs.GenericLaws.{decimal-is}
 use Rattle.zone_rdata.proofs.TimeChoice.{time_or_not}
 use Rattle.zone_rdata.proofs.TimeLaws.{one_time}

@@ -11,7 +11,8 @@ use Rattle.zone_rdata.specs.Fields.U16.{IsU16, SpellsU16, u16_octets}
 use Rattle.zone_rdata.specs.Item.{RawItem, bare}
 use Rattle.zone_rdata.specs.Machine.Building.{IsReal}
 use Rattle.zone_rdata.specs.Number.{IsDecimal}
-use Rattle.zone_rdata.proofs.FieldLaws.{AreLow, FieldLaws, SizedField, bare_item, bare_or_fault, below_or_not, low_at, mark_text, number_unmarked, sized_front, value_or_fault}
+use Rattle.zone_rdata.proofs.Choices.{below_or_not}
+use Rattle.zone_rdata.proofs.FieldLaws.{AreLow, FieldLaws, SizedField, bare_item, bare_or_fault, low_at, mark_text, number_unmarked, sized_front, value_or_fault}
 use Rattle.zone_rdata.proofs.GenericLaws.{decimal-is, decimal_or_not}
 
 only : (v : FieldValue) → Holds U16 v → (n : ℕ) × (v ≡ u16_value n)
