@@ -17,8 +17,8 @@ use Rattle.zone_rdata.specs.Spelling.{SpellEach, States, StatesFor, in_octets, i
 use Rattle.zone_rdata.specs.Uncompressed.{IsUncompressed}
 use Rattle.zone_rdata.proofs.AnyField.{field_or_fault}
 use Rattle.zone_rdata.proofs.Lists.{bytes_each}
-use Rattle.zone_rdata.proofs.Choices.{Choice}
-use Rattle.zone_rdata.proofs.FieldLaws.{AreLow, AreLowItems, FieldChoice, NameOrFault}
+use Rattle.zone_rdata.proofs.Choices.{Choice, Decided}
+use Rattle.zone_rdata.proofs.FieldLaws.{mark, mark_text, AreLow, AreLowItems, FieldChoice, NameOrFault}
 use Rattle.zone_rdata.proofs.GenericLaws.{generic-or_fault}
 use Rattle.zone_rdata.proofs.Taken.{canonical_or_not}
 use Rattle.zone_rdata.proofs.WordChoice.{same_or_not}
@@ -74,16 +74,15 @@ form_by origin class kind None items e marked (inl found) = inl (found.0, in_oct
 form_by origin class kind (Some row) items e marked (inl found) = canonical_item origin row items found.0 marked found.1 (canonical_or_not class kind row found.0 e (joined_low found.1.digits found.0 found.1.joined))
 
 -- the first item is the mark or not
-marked_by : (text : List ℕ) (rest : List RawItem) → (text ≡ 92 ∷ 35 ∷ []) ⊎ (text ≡ 92 ∷ 35 ∷ [] → ⊥) → IsGeneric (bare text ∷ rest) ⊎ (IsGeneric (bare text ∷ rest) → ⊥)
-marked_by text rest (inl same) = inl (rest, ap (λ t. bare t ∷ rest) same)
-marked_by text rest (inr other) = inr (λ h. let e = h.1 in let same : text ≡ 92 ∷ 35 ∷ [] = cc in other same)
-
-marked_or_not : (items : List RawItem) → IsGeneric items ⊎ (IsGeneric items → ⊥)
+marked_or_not : (items : List RawItem) → Decided (IsGeneric items)
 marked_or_not [] = inr (λ h. absurd (let e = h.1 in cc))
-marked_or_not (bare text ∷ rest) = marked_by text rest (same_or_not text (92 ∷ 35 ∷ []))
+marked_or_not (bare text ∷ rest) = elim (same_or_not text mark) [
+  | inl same ↦ inl (rest, ap (λ t. bare t ∷ rest) same)
+  | inr other ↦ inr (λ h. other (mark_text text rest h))
+]
 marked_or_not (quoted text ∷ rest) = inr (λ h. absurd (let e = h.1 in cc))
 
-outcome_by : NameOrFault → (origin : List (List ℕ)) → IsName origin → (class kind : ℕ) (items : List RawItem) → AreLowItems items → IsGeneric items ⊎ (IsGeneric items → ⊥) → Outcome origin (layout class kind) items
+outcome_by : NameOrFault → (origin : List (List ℕ)) → IsName origin → (class kind : ℕ) (items : List RawItem) → AreLowItems items → Decided (IsGeneric items) → Outcome origin (layout class kind) items
 outcome_by names origin is class kind items low (inl marked) = form_by origin class kind (layout class kind) items refl marked (generic-or_fault items marked)
 outcome_by names origin is class kind items low (inr unmarked) = words_or_fault names origin is (layout class kind) items low unmarked
 
