@@ -63,9 +63,7 @@ impl Class {
     /// What holds of every class.
     pub fn known(self)
         ensures { IsClass self }
-    {
-        let _ = self.number;
-    }
+    {}
 
     /// The number of the class.
     pub fn number(self) -> u16

@@ -68,9 +68,7 @@ impl Kind {
     /// What holds of every type.
     pub fn known(self)
         ensures { IsKind self }
-    {
-        let _ = self.number;
-    }
+    {}
 
     /// The number of the type.
     pub fn number(self) -> u16
