@@ -87,9 +87,8 @@ outcome_by names origin is class kind items low (inl marked) = form_by origin cl
 outcome_by names origin is class kind items low (inr unmarked) = words_or_fault names origin is (layout class kind) items low unmarked
 
 -- ---- data of a class and type
-data_by : (origin : List (List ℕ)) (class kind : ℕ) (items : List RawItem) → Outcome origin (layout class kind) items → ((octets : List ℕ) × States origin class kind items octets) ⊎ ((fault : Fault) × IsDataFault origin class kind items fault)
-data_by origin class kind items (inl found) = inl (found.0, record { stated = found.1 })
-data_by origin class kind items (inr bad) = inr (bad.0, record { first = bad.1 })
-
 pub data-or_fault : NameOrFault → (origin : List (List ℕ)) (class kind : ℕ) (items : List RawItem) → IsName origin → AreLowItems items → ((octets : List ℕ) × States origin class kind items octets) ⊎ ((fault : Fault) × IsDataFault origin class kind items fault)
-data-or_fault names origin class kind items is low = data_by origin class kind items (outcome_by names origin is class kind items low (marked_or_not items))
+data-or_fault names origin class kind items is low = elim (outcome_by names origin is class kind items low (marked_or_not items)) [
+  | inl found ↦ inl (found.0, record { stated = found.1 })
+  | inr bad ↦ inr (bad.0, record { first = bad.1 })
+]

@@ -12,7 +12,7 @@ use Rattle.zone_rdata.specs.Uncompressed.{IsUncompressed}
 use Rattle.zone_rdata.proofs.AnyField.{field_fault_once, field_never, field_once}
 use Rattle.zone_rdata.proofs.FieldLaws.{NameFaultOnce, NamesNever, NamesOnce}
 use Rattle.zone_rdata.proofs.GenericLaws.{generic-never_both, generic-once, generic_fault-once}
-use Rattle.zone_rdata.proofs.Taken.{canonical-once}
+use Rattle.zone_rdata.proofs.Taken.{canonical_same}
 use Rattle.zone_rdata.specs.DataFault as faults
 
 -- ---- items in words
@@ -56,11 +56,7 @@ words_fault_once names once origin row items _ _ (too_long _ _ _) (too_long _ _ 
 
 -- octets have at most one canonical form in the layout
 abbrev CanonicalOnce : Option (List Field) → Type 0
-CanonicalOnce laid = (row : List Field) (octets a b : List ℕ) → laid ≡ Some row → IsUncompressed row octets a → IsUncompressed row octets b → a ≡ b
-
-canonical_same : (laid : Option (List Field)) (stated a b : List ℕ) → CanonicalOnce laid → IsCanonicalOf laid stated a → IsCanonicalOf laid stated b → a ≡ b
-canonical_same None stated a b once x y = x ∙ sym y
-canonical_same (Some row) stated a b once x y = once row stated a b refl x y
+CanonicalOnce laid = (stated a b : List ℕ) → IsCanonicalOf laid stated a → IsCanonicalOf laid stated b → a ≡ b
 
 same_row : (laid : Option (List Field)) (a b : List Field) → laid ≡ Some a → laid ≡ Some b → a ≡ b
 same_row laid a b x y = let e : Some a ≡ Some b = sym x ∙ y in cc
@@ -72,7 +68,7 @@ for_once names origin laid items a b once (in_words row vs e unmarked h is short
 for_once names origin laid items a b once (in_words row vs e unmarked h is short) (in_octets stated marked form canonical) = absurd (unmarked marked)
 for_once names origin laid items a b once (in_octets stated marked form canonical) (in_words row vs e unmarked h is short) = absurd (unmarked marked)
 for_once names origin laid items a b once (in_octets stated marked form canonical) (in_octets stated' marked' form' canonical') =
-    canonical_same laid stated a b once canonical (subst (λ o. IsCanonicalOf laid o b) (generic-once items stated' stated form' form) canonical')
+    once stated a b canonical (subst (λ o. IsCanonicalOf laid o b) (generic-once items stated' stated form' form) canonical')
 
 form_never : (laid : Option (List Field)) (items : List RawItem) (stated octets : List ℕ) (fault : Fault) → StatesGeneric items stated → IsCanonicalOf laid stated octets → IsFormFault laid items fault → ⊥
 form_never laid items stated octets _ form canonical (malformed fault bad) = generic-never_both items stated fault form bad
@@ -112,7 +108,7 @@ for_fault_once names once origin laid items _ _ (opaque_words e unmarked) (opaqu
 -- ---- data of a class and type
 
 pub data-once : NamesOnce → (origin : List (List ℕ)) (class kind : ℕ) (items : List RawItem) (a b : List ℕ) → States origin class kind items a → States origin class kind items b → a ≡ b
-data-once names origin class kind items a b x y = for_once names origin (layout class kind) items a b (canonical-once class kind) x.stated y.stated
+data-once names origin class kind items a b x y = for_once names origin (layout class kind) items a b (λ stated v w. canonical_same class kind (layout class kind) stated v w refl) x.stated y.stated
 
 pub data-never_both : NamesOnce → NamesNever → (origin : List (List ℕ)) (class kind : ℕ) (items : List RawItem) (octets : List ℕ) (fault : Fault) → States origin class kind items octets → IsDataFault origin class kind items fault → ⊥
 data-never_both once names origin class kind items octets fault x y = for_never once names origin (layout class kind) items octets fault x.stated y.first

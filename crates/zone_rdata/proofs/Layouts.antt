@@ -1,12 +1,14 @@
 -- Values of a layout are data: their octets hold them, are octets, and without strings few.
-use Rattle.std.proofs.Common.{List, Option, Some, [], ap, drop, length, refl, subst, sym, ℕ, ◌++◌, ◌<◌, ◌∙◌, ◌∷◌, ◌≡◌, ◌≤◌, arith, length-append, ◌*◌, ◌≢◌}
+use Rattle.std.proofs.Common.{List, Option, Some, [], ap, drop, length, refl, subst, sym, ℕ, ◌++◌, ◌<◌, ◌∙◌, ◌∷◌, ◌≡◌, ◌≤◌, arith, length-append, ◌*◌, ◌≢◌, None}
 use Rattle.std.specs.List.{AllByRecursion}
 use Rattle.std.specs.Prelude.{MatchOption}
 use Rattle.std.proofs.lemmas.List.{drop_at}
 use Rattle.zone_rdata.specs.declared.field.Field.{Field}
 use Rattle.zone_rdata.specs.Field.{FieldValue, HoldEach, Holds, field_at, field_octets, octets_of, values_of}
 use Rattle.zone_rdata.specs.Layout.{AreLaidOut, IsData, StringsLast, layout, IsSized}
+use Rattle.zone_rdata.specs.Spelling.{IsCanonicalOf}
 use Rattle.zone_rdata.proofs.AnyField.{field_back, field_short, field_low}
+use Rattle.zone_rdata.proofs.Taken.{uncompressed_length}
 use Rattle.zone_rdata.proofs.Tables.{table_row}
 use Rattle.zone_rdata.specs.declared.field.Field.TheVariants.{Strings}
 use Rattle.zone_name.proofs.Pushing.{AllByRecursion-append}
@@ -34,6 +36,15 @@ laid_out row values last h =
 -- data for a layout, if there is one: octets that are one value
 abbrev pub AreFor : Option (List Field) → List ℕ → Type 0
 AreFor laid octets = MatchOption laid (Unit {0}) (λ fields. AreLaidOut fields octets)
+
+-- the canonical octets of what is stated are data, and as many
+pub canonical_laid : (class kind : ℕ) (laid : Option (List Field)) (octets canonical : List ℕ) → laid ≡ layout class kind → IsCanonicalOf laid octets canonical → AreFor laid canonical
+canonical_laid class kind None octets canonical e is = tt
+canonical_laid class kind (Some row) octets canonical e is = subst (AreLaidOut row) (sym is.whole) (laid_out row is.values (table_row class kind row (sym e)).last is.held)
+
+pub canonical_length : (laid : Option (List Field)) (octets canonical : List ℕ) → IsCanonicalOf laid octets canonical → length canonical ≡ length octets
+canonical_length None octets canonical is = ap length is
+canonical_length (Some row) octets canonical is = uncompressed_length row octets canonical is
 
 pub low_values : (row : List Field) (values : List FieldValue) → HoldEach row values → AreLow (octets_of values)
 low_values [] [] held = tt

@@ -1,21 +1,18 @@
 -- What items state is data.
-use Rattle.std.proofs.Common.{List, None, Option, Some, [], length, refl, subst, sym, ℕ, ◌<◌, ◌∙◌, ◌∷◌, ◌≡◌, ◌≤◌}
+use Rattle.std.proofs.Common.{List, None, Option, Some, [], length, refl, subst, sym, ℕ, ◌<◌, ◌∷◌, ◌≡◌, ◌≤◌}
 use Rattle.std.specs.List.{AllByRecursion}
 use Rattle.zone_rdata.specs.declared.fault.Fault.{Fault}
 use Rattle.zone_rdata.specs.declared.field.Field.{Field}
 use Rattle.zone_rdata.specs.DataFault.{IsDataFault, IsFaultFor}
 use Rattle.zone_rdata.specs.Field.{FieldValue, HoldEach, items_behind, own_items}
-use Rattle.zone_rdata.specs.Generic.{StatesGeneric}
 use Rattle.zone_rdata.specs.Item.{RawItem}
-use Rattle.zone_rdata.specs.Layout.{AreLaidOut, IsData, IsLayout, StringsLast, layout}
-use Rattle.zone_rdata.specs.Machine.Appending.{AreSpelt}
+use Rattle.zone_rdata.specs.Layout.{AreLaidOut, IsData, layout}
 use Rattle.zone_rdata.specs.Spelling.{IsCanonicalOf, SpellEach, States, StatesFor, in_octets, in_words}
 use Rattle.zone_rdata.proofs.AnyField.{field_holds}
-use Rattle.zone_rdata.proofs.Taken.{uncompressed_length}
 use Rattle.zone_rdata.proofs.Tables.{table_row}
 use Rattle.zone_rdata.proofs.FieldLaws.{AreLow}
 use Rattle.zone_rdata.proofs.ItemChoice.{joined_low}
-use Rattle.zone_rdata.proofs.Layouts.{AreFor, laid_out, low_values}
+use Rattle.zone_rdata.proofs.Layouts.{AreFor, canonical_laid, canonical_length, laid_out, low_values}
 
 pub spelt_hold : (origin : List (List ℕ)) (row : List Field) (items : List RawItem) (values : List FieldValue) → SpellEach origin row items values → HoldEach row values
 spelt_hold origin [] [] [] h = tt
@@ -24,33 +21,25 @@ spelt_hold origin [] (i ∷ items) values h = absurd h
 spelt_hold origin (f ∷ row) items [] h = absurd h
 spelt_hold origin (f ∷ row) items (v ∷ values) h = (field_holds origin f (own_items f items) v h.0, spelt_hold origin row (items_behind f items) values h.1)
 
--- octets that items spell for a layout are one value of it
-spelt_laid : (origin : List (List ℕ)) (row : List Field) (items : List RawItem) (octets : List ℕ) → StringsLast row → AreSpelt origin row items octets → AreLaidOut row octets
-spelt_laid origin row items octets last spelt =
-    subst (AreLaidOut row) (sym spelt.written) (laid_out row spelt.values last (spelt_hold origin row items spelt.values spelt.spelt))
-
 -- the octets that items state for a layout of the table are data
-pub stated_laid : (origin : List (List ℕ)) (laid : Option (List Field)) (items : List RawItem) (octets : List ℕ) → ((row : List Field) → laid ≡ Some row → IsLayout row) → StatesFor origin laid items octets → AreFor laid octets
-stated_laid origin None items octets table stated = tt
-stated_laid origin (Some row) items octets table (in_words own values e words spelt written short) =
+stated_laid : (origin : List (List ℕ)) (class kind : ℕ) (laid : Option (List Field)) (items : List RawItem) (octets : List ℕ) → laid ≡ layout class kind → StatesFor origin laid items octets → AreFor laid octets
+stated_laid origin class kind None items octets e stated = tt
+stated_laid origin class kind (Some row) items octets e (in_words own values is words spelt written short) =
     let same : own ≡ row = cc in
-    subst (λ r. AreLaidOut r octets) same (spelt_laid origin own items octets (subst StringsLast (sym same) (table row refl).last) (record { values = values; spelt = spelt; written = written }))
-stated_laid origin (Some row) items octets table (in_octets stated marked form canonical) =
-    subst (AreLaidOut row) (sym canonical.whole) (laid_out row canonical.values (table row refl).last canonical.held)
+    subst (AreLaidOut row) (sym written) (laid_out row values (table_row class kind row (sym e)).last (subst (λ r. HoldEach r values) same (spelt_hold origin own items values spelt)))
+stated_laid origin class kind (Some row) items octets e (in_octets stated marked form canonical) = canonical_laid class kind (Some row) stated octets e canonical
 
-short_form : (laid : Option (List Field)) (items : List RawItem) (stated octets : List ℕ) → StatesGeneric items stated → IsCanonicalOf laid stated octets → length octets ≤ 65535
-short_form None items stated octets form e = rw e form.short
-short_form (Some row) items stated octets form canonical = rw (uncompressed_length row stated octets canonical) form.short
-
-pub stated_short : (origin : List (List ℕ)) (laid : Option (List Field)) (items : List RawItem) (octets : List ℕ) → StatesFor origin laid items octets → length octets ≤ 65535
+stated_short : (origin : List (List ℕ)) (laid : Option (List Field)) (items : List RawItem) (octets : List ℕ) → StatesFor origin laid items octets → length octets ≤ 65535
 stated_short origin laid items octets (in_words own values e words spelt written short) = short
-stated_short origin laid items octets (in_octets stated marked form canonical) = short_form laid items stated octets form canonical
+stated_short origin laid items octets (in_octets stated marked form canonical) = rw (canonical_length laid stated octets canonical) form.short
 
 -- what items state for the layout of a class and type is their data
 pub stated_data : (origin : List (List ℕ)) (class kind : ℕ) (laid : Option (List Field)) (items : List RawItem) (octets : List ℕ) → laid ≡ layout class kind → StatesFor origin laid items octets → AllByRecursion (λ c. c < 256) octets → IsData class kind octets
-stated_data origin class kind laid items octets e stated each =
-    let table : (row : List Field) → laid ≡ Some row → IsLayout row = λ row is. table_row class kind row (sym e ∙ is) in
-    record { short = stated_short origin laid items octets stated; each = each; value = subst (λ l. AreFor l octets) e (stated_laid origin laid items octets table stated) }
+stated_data origin class kind laid items octets e stated each = record {
+  short = stated_short origin laid items octets stated;
+  each = each;
+  value = subst (λ l. AreFor l octets) e (stated_laid origin class kind laid items octets e stated);
+}
 
 pub states_for : (origin : List (List ℕ)) (class kind : ℕ) (laid : Option (List Field)) (items : List RawItem) (octets : List ℕ) → laid ≡ layout class kind → StatesFor origin laid items octets → States origin class kind items octets
 states_for origin class kind laid items octets e stated = record { stated = subst (λ l. StatesFor origin l items octets) e stated }

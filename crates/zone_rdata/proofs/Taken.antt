@@ -1,9 +1,10 @@
 -- Uncompressed octets, field after field.
-use Rattle.std.proofs.Common.{◌≡◌, ℕ, ◌+◌, ◌<◌, ◌≤◌, List, [], ◌∷◌, ◌++◌, length, get_or, drop, Some, refl, sym, ap, ◌∙◌, subst, arith, append_assoc, inl, inr, length-append}
+use Rattle.std.proofs.Common.{Option, None, ◌≡◌, ℕ, ◌+◌, ◌<◌, ◌≤◌, List, [], ◌∷◌, ◌++◌, length, get_or, drop, Some, refl, sym, ap, ◌∙◌, subst, arith, append_assoc, inl, inr, length-append}
 use Rattle.std.proofs.lemmas.List.{append-nil, drop_all, length-map}
 use Rattle.zone_rdata.specs.declared.field.Field.{Field}
 use Rattle.zone_rdata.specs.Field.{FieldValue, field_octets, octets_of, HoldEach, name, IsSent}
 use Rattle.zone_rdata.specs.Layout.{StringsLast, layout}
+use Rattle.zone_rdata.specs.Spelling.{IsCanonicalOf}
 use Rattle.zone_rdata.specs.Uncompressed.{AreSent, IsUncompressed}
 use Rattle.zone_rdata.specs.Machine.Appending.{BeginsWithValue, BeginsWithNone, AppendsValue}
 use Rattle.zone_rdata.proofs.Lists.{from_place}
@@ -57,6 +58,10 @@ pub canonical-once : (class kind : ℕ) (row : List Field) (octets a b : List �
 canonical-once class kind row octets a b e x y =
     let last = (table_row class kind row e).last in
     reads_once row octets a b (to_reads row octets a last x) (to_reads row octets b last y)
+
+pub canonical_same : (class kind : ℕ) (laid : Option (List Field)) (octets a b : List ℕ) → laid ≡ layout class kind → IsCanonicalOf laid octets a → IsCanonicalOf laid octets b → a ≡ b
+canonical_same class kind None octets a b e x y = x ∙ sym y
+canonical_same class kind (Some row) octets a b e x y = canonical-once class kind row octets a b (sym e) x y
 
 -- the fields up to a place were read, and whatever the others read goes on from there
 pub record HaveTaken (row : List Field) (octets : List ℕ) (later : List Field) (rest out : List ℕ) : Type 0 where
