@@ -60,16 +60,15 @@ decimal_or_not (c ∷ text) = elim (each_or_not (λ d. is_digit d ≡ true) (λ 
   | inr none ↦ inr (λ n h. none h.digits)
 ]
 
-length_by : (text : List ℕ) → Choice (IsDecimal text) → ((n : ℕ) × StatesLength (bare text) n × (n ≤ 65535)) ⊎ ((fault : Fault) × LengthFault (bare text) fault)
-length_by text (inl found) = elim (cases_lt 65535 found.0) [
-  | inl over ↦ inr (RdataTooLong, beyond found.0 found.1 over)
-  | inr short ↦ inl (found.0, found.1, short)
-]
-length_by text (inr none) = inr (BadGeneric, no_number none)
-
 length_or_fault : (item : RawItem) → ((n : ℕ) × StatesLength item n × (n ≤ 65535)) ⊎ ((fault : Fault) × LengthFault item fault)
-length_or_fault (bare text) = length_by text (decimal_or_not text)
 length_or_fault (quoted text) = inr (BadGeneric, no_number (λ n h. h))
+length_or_fault (bare text) = elim (decimal_or_not text) [
+  | inr none ↦ inr (BadGeneric, no_number none)
+  | inl found ↦ elim (cases_lt 65535 found.0) [
+    | inl over ↦ inr (RdataTooLong, beyond found.0 found.1 over)
+    | inr short ↦ inl (found.0, found.1, short)
+  ]
+]
 
 -- ---- items join to octets or to none
 joins_by : (text : List ℕ) (items : List RawItem) (found : Result (List ℕ) FromHexError) → decode_of text ≡ found → Choice (JoinTo items) → Choice (JoinTo (bare text ∷ items))

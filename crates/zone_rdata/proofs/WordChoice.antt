@@ -65,12 +65,11 @@ stored_by : (word : List ℕ) (n : ℕ) (meta : Bool) → is_meta n ≡ meta →
 stored_by word n true e x short = inr (MetaType, for_queries n x short (λ kind. false≢true (sym kind.stored ∙ e)))
 stored_by word n false e x short = inl (n, (x, record { short = short; stored = e }))
 
-verdict_by : (word : List ℕ) → Choice (IsKindWord word) → ((n : ℕ) × (IsKindWord word n × IsKind n)) ⊎ ((fault : Fault) × IsWordFault word fault)
-verdict_by word (inr none) = inr (UnknownType, nameless none)
-verdict_by word (inl found) = elim (cases_lt found.0 65536) [
-  | inl short ↦ stored_by word found.0 (is_meta found.0) refl found.1 short
-  | inr over ↦ inr (UnknownType, beyond found.0 found.1 over)
-]
-
 pub kind_or_word_fault : (word : List ℕ) → ((n : ℕ) × (IsKindWord word n × IsKind n)) ⊎ ((fault : Fault) × IsWordFault word fault)
-kind_or_word_fault word = verdict_by word (kind_or_not word)
+kind_or_word_fault word = elim (kind_or_not word) [
+  | inr none ↦ inr (UnknownType, nameless none)
+  | inl found ↦ elim (cases_lt found.0 65536) [
+    | inl short ↦ stored_by word found.0 (is_meta found.0) refl found.1 short
+    | inr over ↦ inr (UnknownType, beyond found.0 found.1 over)
+  ]
+]

@@ -4,9 +4,7 @@ use Rattle.std.specs.List.{AllByRecursion, flat_map}
 use Rattle.std.proofs.lemmas.Bool.{cases_eq, cases_lt}
 use Rattle.std.proofs.lemmas.List.{append-nil, length-drop}
 use Rattle.zone_name.specs.Name.{IsFoldedOctet, IsLabel, IsName, folded, folded_label, folded_octet, wire, with_length}
-use Rattle.zone_name.specs.Spelling.{FirstFault, Spells}
 use Rattle.zone_name.specs.Text.{label_text, name_text, octet_text}
-use Rattle.zone_name.specs.declared.fault.NameFault.{NameFault}
 use Rattle.zone_name.proofs.Pushing.{AllByRecursion-append}
 use Rattle.zone_rdata.specs.declared.field.Field.TheVariants.{Name}
 use Rattle.zone_rdata.specs.Builder.{FitsString}
@@ -17,7 +15,7 @@ use Rattle.zone_rdata.specs.Item.{RawItem, bare}
 use Rattle.zone_rdata.specs.Machine.Appending.{AppendsValue, BeginsWithNone, BeginsWithValue}
 use Rattle.zone_rdata.specs.Machine.Building.{IsReal}
 use Rattle.zone_rdata.proofs.Choices.{Decided, each_or_not}
-use Rattle.zone_rdata.proofs.FieldLaws.{AreLow, FieldChoice, FieldLaws, FrontChoice, bare_item, bare_or_fault, found_front, mark_text}
+use Rattle.zone_rdata.proofs.FieldLaws.{AreLow, FieldLaws, FrontChoice, bare_item, bare_or_fault, found_front, mark_text}
 use Rattle.zone_name.proofs.Octets.{labels_of-wire_append}
 use Rattle.zone_rdata.proofs.Sent.{AreSome, HasCut, cut_more, cut_name, cut_none, folded_some, goes_on, name_by, no_first, no_room, sent_once, some_behind}
 
@@ -77,28 +75,26 @@ octet_or_not c = elim (cases_lt c 256) [
   ]
 ]
 
-label_by : (label : List ℕ) → Decided (AllByRecursion IsFoldedOctet label) → Decided (IsLabel label)
-label_by label (inr none) = inr (λ h. none h.each)
-label_by label (inl each) = elim (cases_lt 63 (length label)) [
-  | inl long ↦ inr (λ h. omega (arith, h.short))
-  | inr short ↦ elim (cases_lt 0 (length label)) [
-    | inl some ↦ inl (record { some = some; short = short; each = each })
-    | inr empty ↦ inr (λ h. omega (arith, h.some))
+label_or_not : (label : List ℕ) → Decided (IsLabel label)
+label_or_not label = elim (each_or_not IsFoldedOctet octet_or_not label) [
+  | inr none ↦ inr (λ h. none h.each)
+  | inl each ↦ elim (cases_lt 63 (length label)) [
+    | inl long ↦ inr (λ h. omega (arith, h.short))
+    | inr short ↦ elim (cases_lt 0 (length label)) [
+      | inl some ↦ inl (record { some = some; short = short; each = each })
+      | inr empty ↦ inr (λ h. omega (arith, h.some))
+    ]
   ]
 ]
 
-label_or_not : (label : List ℕ) → Decided (IsLabel label)
-label_or_not label = label_by label (each_or_not IsFoldedOctet octet_or_not label)
-
-name_of : (labels : List (List ℕ)) → Decided (AllByRecursion IsLabel labels) → Decided (IsName labels)
-name_of labels (inr none) = inr (λ h. none h.each)
-name_of labels (inl each) = elim (cases_lt 255 (length (wire labels))) [
-  | inl long ↦ inr (λ h. omega (arith, h.short))
-  | inr short ↦ inl (record { each = each; short = short })
-]
-
 labels_or_not : (labels : List (List ℕ)) → Decided (IsName labels)
-labels_or_not labels = name_of labels (each_or_not IsLabel label_or_not labels)
+labels_or_not labels = elim (each_or_not IsLabel label_or_not labels) [
+  | inr none ↦ inr (λ h. none h.each)
+  | inl each ↦ elim (cases_lt 255 (length (wire labels))) [
+    | inl long ↦ inr (λ h. omega (arith, h.short))
+    | inr short ↦ inl (record { each = each; short = short })
+  ]
+]
 
 -- ---- octets begin with a name or not
 abbrev SentChoice : List ℕ → Type 0
@@ -132,9 +128,11 @@ sent_by octets (c ∷ behind) labels (suc fuel) enough cut = elim (cases_lt 0 c)
 sent_or_not : (octets : List ℕ) → SentChoice octets
 sent_or_not octets = sent_by octets octets [] (length octets) (omega arith) (cut_none octets [] refl)
 
-front_by : (octets : List ℕ) → SentChoice octets → FrontChoice Name octets
-front_by octets (inl found) = found_front Name octets found.1.0 (wire found.0) (appends_name octets found.1.0 [] (wire found.0) found.0 found.1.1 refl)
-front_by octets (inr none) = inr (none_name octets none)
+front : (octets : List ℕ) → FrontChoice Name octets
+front octets = elim (sent_or_not octets) [
+  | inl found ↦ found_front Name octets found.1.0 (wire found.0) (appends_name octets found.1.0 [] (wire found.0) found.0 found.1.1 refl)
+  | inr none ↦ inr (none_name octets none)
+]
 
 -- ---- its text
 dot_last : (label : List ℕ) (labels : List (List ℕ)) → (front : List ℕ) × (name_text (label ∷ labels) ≡ front ++ 46 ∷ [])
@@ -152,10 +150,6 @@ name_unmarked : (labels : List (List ℕ)) → name_text labels ≡ 92 ∷ 35 �
 name_unmarked [] e = omega (arith, ap length e)
 name_unmarked (label ∷ labels) e = let dot = dot_last label labels in no_mark dot.0 (sym dot.1 ∙ e)
 
-spelt_or_fault : (origin : List (List ℕ)) (text : List ℕ) → ((labels : List (List ℕ)) × Spells (Some origin) text labels) ⊎ ((fault : NameFault) × FirstFault (Some origin) text fault) → FieldChoice origin Name (bare text ∷ [])
-spelt_or_fault origin text (inl found) = inl (name found.0, found.1)
-spelt_or_fault origin text (inr bad) = inr (fault_of bad.0, (bad.0, bad.1, refl))
-
 pub laws : FieldLaws Name name bare_item
 laws = record {
   only = only;
@@ -164,11 +158,14 @@ laws = record {
   back = λ labels rest h last. ap name (labels_of-wire_append labels rest h.each);
   low = low;
   short = λ labels many fixed_size h. omega (arith, h.short);
-  front = λ octets each. front_by octets (sent_or_not octets);
+  front = λ octets each. front octets;
   holds = λ origin text labels h. h.name;
   once = λ names origin text a b h k. names (Some origin) text a b h k;
   never = λ names origin text labels fault h bad. names (Some origin) text labels bad.0 h bad.1;
-  or_fault = λ names origin is. bare_or_fault origin Name (λ e. cc) (λ e. cc) (λ text each. spelt_or_fault origin text (names (Some origin) text is each));
+  or_fault = λ names origin is. bare_or_fault origin Name (λ e. cc) (λ e. cc) (λ text each. elim (names (Some origin) text is each) [
+    | inl found ↦ inl (name found.0, found.1)
+    | inr bad ↦ inr (fault_of bad.0, (bad.0, bad.1, refl))
+  ]);
   printed = λ names origin labels rest fixed_size h last. (names (Some origin) labels h, refl);
   unmarked = λ labels rest fixed_size h g. name_unmarked labels (mark_text (name_text labels) rest g);
 }

@@ -1,9 +1,8 @@
 -- One character-string.
-use Rattle.std.proofs.Common.{List, Some, [], add-one, ap, arith, drop, get_or, inl, inr, length, length-append, refl, subst, sym, take, ℕ, ◌++◌, ◌+◌, ◌<◌, ◌∙◌, ◌∷◌, ◌≡◌, ◌≤◌, ◌⊎◌}
+use Rattle.std.proofs.Common.{List, Some, [], add-one, ap, arith, drop, get_or, inl, inr, length, length-append, refl, subst, sym, take, ℕ, ◌++◌, ◌+◌, ◌<◌, ◌∙◌, ◌∷◌, ◌≡◌, ◌≤◌}
 use Rattle.std.proofs.lemmas.Bool.{cases_lt}
 use Rattle.std.proofs.lemmas.List.{length-take, take_at}
 use Rattle.zone_name.specs.Name.{with_length}
-use Rattle.zone_rdata.specs.declared.fault.Fault.{Fault}
 use Rattle.zone_rdata.specs.declared.fault.Fault.TheVariants.{BadRdata}
 use Rattle.zone_rdata.specs.declared.field.Field.TheVariants.{OneString}
 use Rattle.zone_rdata.specs.Builder.{FitsString}
@@ -11,7 +10,7 @@ use Rattle.zone_rdata.specs.Field.{FieldValue, Holds, SpellsField, Suits, field_
 use Rattle.zone_rdata.specs.Item.{RawItem}
 use Rattle.zone_rdata.specs.Machine.Appending.{AppendsPrefix, AppendsValue, BeginsWithNone, BeginsWithValue}
 use Rattle.zone_rdata.specs.Machine.Building.{IsReal}
-use Rattle.zone_rdata.specs.Strings.{IsString, SpellsString, StringFault}
+use Rattle.zone_rdata.specs.Strings.{IsString}
 use Rattle.zone_rdata.proofs.FieldLaws.{AreLow, AreLowItems, FieldChoice, FieldLaws, FrontChoice, appends_plain, found_front, front_of, low_take}
 use Rattle.zone_rdata.proofs.StringLaws.{printed-spells, string-never_both, string-once}
 use Rattle.zone_rdata.proofs.Strings.{string-or_fault}
@@ -73,11 +72,7 @@ front (c ∷ behind) low = elim (cases_lt (length (c ∷ behind)) (c + 1)) [
 
 spelt_or_fault : (origin : List (List ℕ)) (items : List RawItem) → AreLowItems items → FieldChoice origin OneString (take 1 items)
 spelt_or_fault origin [] low = inr (BadRdata, refl)
-spelt_or_fault origin (item ∷ items) low = by_string (string-or_fault item low.0)
-  where
-    by_string : ((octets : List ℕ) × SpellsString item octets) ⊎ ((fault : Fault) × StringFault item fault) → FieldChoice origin OneString (item ∷ [])
-    by_string (inl found) = inl (string found.0, found.1)
-    by_string (inr bad) = inr (bad.0, bad.1)
+spelt_or_fault origin (item ∷ items) low = elim (string-or_fault item low.0) [ inl found ↦ inl (string found.0, found.1) | inr bad ↦ inr (bad.0, bad.1) ]
 
 pub laws : FieldLaws OneString string one_item
 laws = record {
