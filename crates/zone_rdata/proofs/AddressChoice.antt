@@ -1,21 +1,19 @@
 -- A text is an address or none.
-use Rattle.std.proofs.Common.{◌≡◌, ◌≢◌, ℕ, zero, suc, ◌+◌, ◌-◌, ◌<◌, ◌≤◌, Bool, true, false, IsTrue, inl, inr, ◌⊎◌, List, [], ◌∷◌, ◌++◌, length, get_or, take, drop, replicate, Result, Ok, Err, refl, sym, ap, ◌∙◌, subst, arith, append_assoc}
-use Rattle.std.proofs.lemmas.Bool.{cases_lt, cases_eq}
+use Rattle.std.proofs.Common.{Bool, Err, IsTrue, List, Ok, Result, [], ap, append_assoc, arith, drop, false, get_or, inl, inr, length, refl, replicate, subst, suc, sym, take, true, zero, ℕ, ◌++◌, ◌+◌, ◌-◌, ◌<◌, ◌∙◌, ◌∷◌, ◌≡◌, ◌≢◌, ◌≤◌, ◌⊎◌}
+use Rattle.std.proofs.lemmas.Bool.{cases_eq, cases_lt}
 use Rattle.std.proofs.lemmas.List.{append-nil}
 use Rattle.hex.specs.Hex.{decode_sized}
 use Rattle.hex.specs.declared.error.FromHexError.{FromHexError}
-use Rattle.zone_rdata.specs.Address.{IsOctetNumber, AreNumbers, IsIpv4Address, AddressPart, IsGroup, IsLastPart, AreParts, parts_text, parts_octets, ArePartsOf, AreAround, IsIpv6Address, eight}
-use Rattle.zone_rdata.specs.Machine.AddressReading.{Lacks, IsCut, HasGapAt}
-use Rattle.zone_rdata.specs.Number.{IsDecimal}
+use Rattle.zone_rdata.specs.Address.{AddressPart, AreAround, AreNumbers, AreParts, ArePartsOf, IsGroup, IsIpv4Address, IsIpv6Address, IsLastPart, IsOctetNumber, eight, parts_octets, parts_text}
 use Rattle.zone_rdata.specs.Fields.Address.{IsAddress, of_ipv4, of_ipv6}
-use Rattle.zone_rdata.proofs.Addresses.{numbers_one, numbers_more, numbers_none, number_refused, rest_refused, last_refused, lacks_push}
-use Rattle.zone_rdata.proofs.AddressParts.{AreSomeParts, parts_cut, only_part, text_some, no_parts, parts_unique}
-use Rattle.zone_rdata.proofs.AddressGaps.{IsFirstGap, refused_without_gap, refused_at_gap, found_at_gap}
+use Rattle.zone_rdata.specs.Machine.AddressReading.{HasGapAt, IsCut, Lacks}
+use Rattle.zone_rdata.specs.Number.{IsDecimal}
+use Rattle.zone_rdata.proofs.AddressFields.{no_ipv4, no_ipv6}
+use Rattle.zone_rdata.proofs.AddressGaps.{IsFirstGap, found_at_gap, refused_at_gap, refused_without_gap}
+use Rattle.zone_rdata.proofs.AddressParts.{AreSomeParts, no_parts, only_part, parts_cut, parts_unique, text_some}
+use Rattle.zone_rdata.proofs.Addresses.{lacks_push, last_refused, number_refused, numbers_more, numbers_none, numbers_one, rest_refused}
+use Rattle.zone_rdata.proofs.Choices.{Choice, below_or_not, choice_as}
 use Rattle.zone_rdata.proofs.GenericLaws.{decimal_or_not}
-
--- octets of the kind, or none
-abbrev pub Choice : (List ℕ → Type 0) → Type 0
-Choice P = ((octets : List ℕ) × P octets) ⊎ ((octets : List ℕ) → P octets → ⊥)
 
 -- ---- cutting
 abbrev Cuts : ℕ → List ℕ → Type 0
@@ -33,21 +31,10 @@ cut_or_lacks c (d ∷ text) = elim (cases_eq d c) [
 ]
 
 -- ---- numbers parted by dots
-octet_by : (text : List ℕ) → ((n : ℕ) × IsDecimal text n) ⊎ ((n : ℕ) → IsDecimal text n → ⊥) → ((n : ℕ) × IsOctetNumber text n) ⊎ ((n : ℕ) → IsOctetNumber text n → ⊥)
-octet_by text (inr none) = inr (λ n h. none n h.number)
-octet_by text (inl found) = elim (cases_lt 255 found.0) [
-  | inl over ↦ inr (λ n h. omega (arith, h.number.value, found.1.value, h.short))
-  | inr short ↦ inl (found.0, record { number = found.1; short = short })
-]
+octet_or_not : (text : List ℕ) → Choice (IsOctetNumber text)
+octet_or_not text = choice_as (λ n. n) (λ n h. record { number = h.0; short = omega (arith, h.1) }) (λ none n h. none n (h.number, omega (arith, h.short))) (below_or_not (IsDecimal text) 256 (λ a b h k. h.value ∙ sym k.value) (decimal_or_not text))
 
-octet_or_not : (text : List ℕ) → ((n : ℕ) × IsOctetNumber text n) ⊎ ((n : ℕ) → IsOctetNumber text n → ⊥)
-octet_or_not text = octet_by text (decimal_or_not text)
-
-one_by : (text : List ℕ) → ((n : ℕ) × IsOctetNumber text n) ⊎ ((n : ℕ) → IsOctetNumber text n → ⊥) → Choice (AreNumbers 1 text)
-one_by text (inl found) = inl (found.0 ∷ [], numbers_one text found.0 found.1)
-one_by text (inr none) = inr (last_refused text none)
-
-more_by : (count : ℕ) (text front rest : List ℕ) → IsCut 46 text front rest → ((n : ℕ) × IsOctetNumber front n) ⊎ ((n : ℕ) → IsOctetNumber front n → ⊥) → Choice (AreNumbers (suc count) rest) → Choice (AreNumbers (suc (suc count)) text)
+more_by : (count : ℕ) (text front rest : List ℕ) → IsCut 46 text front rest → Choice (IsOctetNumber front) → Choice (AreNumbers (suc count) rest) → Choice (AreNumbers (suc (suc count)) text)
 more_by count text front rest cut (inr none) others = inr (number_refused text front rest cut none count)
 more_by count text front rest cut (inl found) (inr none) = inr (rest_refused count text front rest cut none)
 more_by count text front rest cut (inl found) (inl others) = inl (found.0 ∷ others.0, numbers_more count text front rest others.0 found.0 cut found.1 others.1)
@@ -57,7 +44,7 @@ numbers_by count text (inr lacks) others = inr (numbers_none text lacks count)
 numbers_by count text (inl cut) others = more_by count text cut.0 cut.1.0 cut.1.1 (octet_or_not cut.0) (others cut.1.0)
 
 numbers_or_not : (count : ℕ) (text : List ℕ) → Choice (AreNumbers (suc count) text)
-numbers_or_not zero text = one_by text (octet_or_not text)
+numbers_or_not zero text = choice_as (λ n. n ∷ []) (numbers_one text) (last_refused text) (octet_or_not text)
 numbers_or_not (suc count) text = numbers_by count text (cut_or_lacks 46 text) (λ rest. numbers_or_not count rest)
 
 pub ipv4_or_not : (text : List ℕ) → Choice (IsIpv4Address text)
@@ -131,13 +118,9 @@ some_or_not : (ends : Bool) (text group : List ℕ) → Lacks 58 group → Choic
 some_or_not ends [] group lacks = subst (λ t. Choice (AreSomeParts ends t)) (sym (append-nil group)) (end_by ends group lacks (last_or_not ends group))
 some_or_not ends (c ∷ text) group lacks = octet_next ends group text c lacks (cases_eq c 58) (some_or_not ends text (group ++ c ∷ [])) (some_or_not ends text [] tt)
 
-parts_by : (ends : Bool) (c : ℕ) (text : List ℕ) → Choice (AreSomeParts ends (c ∷ text)) → Choice (ArePartsOf ends (c ∷ text))
-parts_by ends c text (inl found) = inl (found.0, found.1.are)
-parts_by ends c text (inr none) = inr (λ octets h. none octets (text_some ends (c ∷ text) octets h.parts (omega arith) h.each h.parted h.value))
-
 parts_or_not : (ends : Bool) (text : List ℕ) → Choice (ArePartsOf ends text)
 parts_or_not ends [] = inl ([], no_parts ends)
-parts_or_not ends (c ∷ text) = parts_by ends c text (some_or_not ends (c ∷ text) [] tt)
+parts_or_not ends (c ∷ text) = choice_as (λ octets. octets) (λ octets h. h.are) (λ none octets h. none octets (text_some ends (c ∷ text) octets h.parts (omega arith) h.each h.parted h.value)) (some_or_not ends (c ∷ text) [] tt)
 
 -- ---- the first gap
 abbrev Gaps : List ℕ → Type 0
@@ -180,10 +163,6 @@ around_by front back (inr none) others = inr (λ octets h. none h.before h.front
 around_by front back (inl found) (inr none) = inr (λ octets h. none h.after h.back_parts)
 around_by front back (inl found) (inl others) = room_by front back found.0 others.0 found.1 others.1
 
-gap_by : (text : List ℕ) (at : ℕ) → at + 2 ≤ length text → IsFirstGap text at → Choice (AreAround (take at text) (drop (at + 2) text)) → Choice (IsIpv6Address text)
-gap_by text at inside first (inl found) = inl (found.0, found_at_gap text (drop (at + 2) text) at refl inside first.here found.0 found.1)
-gap_by text at inside first (inr none) = inr (refused_at_gap text (drop (at + 2) text) at refl first none)
-
 eight_by : (text : List ℕ) → ((k : ℕ) → HasGapAt text k → ⊥) → Choice (ArePartsOf true text) → Choice (IsIpv6Address text)
 eight_by text no_gap (inr none) = inr (refused_without_gap text no_gap (λ octets are len. none octets are))
 eight_by text no_gap (inl found) = elim (cases_eq (length found.0) 16) [
@@ -191,39 +170,25 @@ eight_by text no_gap (inl found) = elim (cases_eq (length found.0) 16) [
   | inr other ↦ inr (refused_without_gap text no_gap (λ octets are len. other (ap length (parts_unique true text found.0 octets found.1 are) ∙ len)))
 ]
 
-groups_by : (text : List ℕ) → Gaps text → Choice (IsIpv6Address text)
-groups_by text (inl found) = gap_by text found.0 found.1.0 found.1.1 (around_by (take found.0 text) (drop (found.0 + 2) text) (parts_or_not false (take found.0 text)) (parts_or_not true (drop (found.0 + 2) text)))
-groups_by text (inr none) = eight_by text none (parts_or_not true text)
-
 pub ipv6_or_not : (text : List ℕ) → Choice (IsIpv6Address text)
-ipv6_or_not text = groups_by text (gap_or_not text)
+ipv6_or_not text = elim (gap_or_not text) [
+  | inl found ↦
+      let front = take found.0 text in
+      let back = drop (found.0 + 2) text in
+      choice_as (λ octets. octets) (found_at_gap text back found.0 refl found.1.0 found.1.1.here) (refused_at_gap text back found.0 refl found.1.1) (around_by front back (parts_or_not false front) (parts_or_not true back))
+  | inr none ↦ eight_by text none (parts_or_not true text)
+]
 
 -- ---- an address of so many octets
-no_ipv4 : (n : ℕ) (text : List ℕ) → n ≡ 4 → ((octets : List ℕ) → IsIpv4Address text octets → ⊥) → (octets : List ℕ) → IsAddress n text octets → ⊥
-no_ipv4 n text e none octets (of_ipv4 d h) = none octets h
-no_ipv4 n text e none octets (of_ipv6 d h) = omega arith
-
-no_ipv6 : (n : ℕ) (text : List ℕ) → n ≡ 16 → ((octets : List ℕ) → IsIpv6Address text octets → ⊥) → (octets : List ℕ) → IsAddress n text octets → ⊥
-no_ipv6 n text e none octets (of_ipv4 d h) = omega arith
-no_ipv6 n text e none octets (of_ipv6 d h) = none octets h
-
 no_size : (n : ℕ) (text : List ℕ) → n ≢ 4 → n ≢ 16 → (octets : List ℕ) → IsAddress n text octets → ⊥
 no_size n text not_ipv4 not_ipv6 octets (of_ipv4 e h) = not_ipv4 e
 no_size n text not_ipv4 not_ipv6 octets (of_ipv6 e h) = not_ipv6 e
 
-address_ipv4 : (n : ℕ) (text : List ℕ) → n ≡ 4 → Choice (IsIpv4Address text) → Choice (IsAddress n text)
-address_ipv4 n text e (inl found) = inl (found.0, of_ipv4 e found.1)
-address_ipv4 n text e (inr none) = inr (no_ipv4 n text e none)
-
-address_ipv6 : (n : ℕ) (text : List ℕ) → n ≡ 16 → Choice (IsIpv6Address text) → Choice (IsAddress n text)
-address_ipv6 n text e (inl found) = inl (found.0, of_ipv6 e found.1)
-address_ipv6 n text e (inr none) = inr (no_ipv6 n text e none)
-
 pub address_or_not : (n : ℕ) (text : List ℕ) → Choice (IsAddress n text)
 address_or_not n text = elim (cases_eq n 4) [
-  | inl four ↦ address_ipv4 n text four (ipv4_or_not text)
+  | inl four ↦ choice_as (λ octets. octets) (λ octets. of_ipv4 four) (no_ipv4 n text four) (ipv4_or_not text)
   | inr not_ipv4 ↦ elim (cases_eq n 16) [
-    | inl sixteen ↦ address_ipv6 n text sixteen (ipv6_or_not text)
+    | inl sixteen ↦ choice_as (λ octets. octets) (λ octets. of_ipv6 sixteen) (no_ipv6 n text sixteen) (ipv6_or_not text)
     | inr not_ipv6 ↦ inr (no_size n text not_ipv4 not_ipv6)
   ]
 ]

@@ -13,11 +13,11 @@ pub address_fixed : (n : ℕ) (text octets : List ℕ) → IsAddress n text octe
 address_fixed n text octets (of_ipv4 e h) = record { size = ipv4_count text octets h ∙ sym e; each = ipv4_bytes text octets h }
 address_fixed n text octets (of_ipv6 e h) = record { size = ipv6_count text octets h ∙ sym e; each = ipv6_bytes text octets h }
 
-no_ipv4 : (n : ℕ) (text : List ℕ) → n ≡ 4 → ((octets : List ℕ) → IsIpv4Address text octets → ⊥) → (octets : List ℕ) → IsAddress n text octets → ⊥
+pub no_ipv4 : (n : ℕ) (text : List ℕ) → n ≡ 4 → ((octets : List ℕ) → IsIpv4Address text octets → ⊥) → (octets : List ℕ) → IsAddress n text octets → ⊥
 no_ipv4 n text is none octets (of_ipv4 e h) = none octets h
 no_ipv4 n text is none octets (of_ipv6 e h) = absurd (omega arith)
 
-no_ipv6 : (n : ℕ) (text : List ℕ) → n ≡ 16 → ((octets : List ℕ) → IsIpv6Address text octets → ⊥) → (octets : List ℕ) → IsAddress n text octets → ⊥
+pub no_ipv6 : (n : ℕ) (text : List ℕ) → n ≡ 16 → ((octets : List ℕ) → IsIpv6Address text octets → ⊥) → (octets : List ℕ) → IsAddress n text octets → ⊥
 no_ipv6 n text is none octets (of_ipv4 e h) = absurd (omega arith)
 no_ipv6 n text is none octets (of_ipv6 e h) = none octets h
 

@@ -4,7 +4,7 @@ use Rattle.std.specs.List.{AllByRecursion, AllZip}
 use Rattle.std.proofs.lemmas.List.{length-replicate}
 use Rattle.hex.proofs.HexLemmas.{decode_of-ok, decode_sized-ok, decode_sized-twice}
 use Rattle.zone_rdata.specs.Address.{IsOctetNumber, IsIpv4Address, AddressPart, IsGroup, IsLastPart, AreParts, parts_octets, ArePartsOf, IsIpv6Address, eight, fewer}
-use Rattle.zone_rdata.proofs.Bytes.{bytes_each}
+use Rattle.zone_rdata.proofs.Lists.{bytes_each}
 
 abbrev AreBytes : List ℕ → Type 0
 AreBytes octets = AllByRecursion (λ c. c < 256) octets

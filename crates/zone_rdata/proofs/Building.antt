@@ -1,22 +1,22 @@
 -- Data that is made part by part.
-use Rattle.std.proofs.Common.{◌≡◌, ◌≢◌, ℕ, zero, suc, ◌+◌, ◌-◌, ◌<◌, ◌≤◌, Bool, true, false, IsTrue, ◌↔◌, List, [], ◌∷◌, ◌++◌, length, get_or, Option, Some, None, refl, sym, ap, ◌∙◌, subst, arith, add-one, length-append}
-use Rattle.std.specs.List.{flat_map, AllByRecursion}
+use Rattle.std.proofs.Common.{Bool, IsTrue, List, None, Option, Some, [], add-one, ap, arith, false, get_or, length, length-append, refl, subst, suc, sym, true, zero, ℕ, ◌++◌, ◌+◌, ◌-◌, ◌<◌, ◌↔◌, ◌∙◌, ◌∷◌, ◌≡◌, ◌≢◌, ◌≤◌}
+use Rattle.std.specs.List.{AllByRecursion, flat_map}
 use Rattle.std.proofs.lemmas.List.{append-nil}
 use Rattle.std.proofs.lemmas.List.Concat.{flat_map-append}
 use Rattle.zone_name.specs.Name.{with_length}
 use Rattle.zone_rdata.specs.declared.fault.Fault.{Fault}
 use Rattle.zone_rdata.specs.declared.fault.Fault.TheVariants.{BadRdata}
 use Rattle.zone_rdata.specs.declared.field.Field.{Field}
-use Rattle.zone_rdata.specs.declared.field.Field.TheVariants as fields
-use Rattle.zone_rdata.specs.Builder.{Built, IsOpaque, IsNext, FitsString, Pushes, IsPushFault, misplaced, long_string, too_long, IsWhole, ends_with_strings, part_at}
-use Rattle.zone_rdata.specs.Machine.Building.{over_string, over_data}
-use Rattle.zone_rdata.specs.Machine.Building.{part_field, more_fields, part_fields, parts_of, ArePushedParts, IsBuilt, IsReal, IsOver, Grows, least_of}
-use Rattle.zone_rdata.specs.Field.{Suits, is_strings, FieldValue, name, u32_value, u16_value, fixed, string, strings, field_octets, octets_of, Holds, HoldEach, values_of}
+use Rattle.zone_rdata.specs.Builder.{Built, FitsString, IsNext, IsOpaque, IsPushFault, IsWhole, Pushes, ends_with_strings, long_string, misplaced, part_at, too_long}
+use Rattle.zone_rdata.specs.Field.{FieldValue, HoldEach, Holds, Suits, field_octets, fixed, is_strings, octets_of, string, strings, values_of}
 use Rattle.zone_rdata.specs.Layout.{AreLaidOut, StringsLast, layout}
-use Rattle.zone_rdata.specs.Strings.{IsString}
+use Rattle.zone_rdata.specs.Machine.Building.{ArePushedParts, Grows, IsBuilt, IsOver, IsReal, least_of, more_fields, over_data, over_string, part_field, part_fields, parts_of}
 use Rattle.zone_rdata.specs.Record.{Data, IsRdata}
-use Rattle.zone_rdata.proofs.Fields.{AreFor, laid_out, values_back}
+use Rattle.zone_rdata.specs.Strings.{IsString}
+use Rattle.zone_rdata.proofs.AnyField.{field_part}
+use Rattle.zone_rdata.proofs.Layouts.{AreFor, laid_out, values_back}
 use Rattle.zone_rdata.proofs.Tables.{table_row}
+use Rattle.zone_rdata.specs.declared.field.Field.TheVariants as fields
 
 -- ---- the fields of parts
 
@@ -90,26 +90,6 @@ hold_push [] (w ∷ values) f v each h = absurd each
 hold_push (g ∷ row) [] f v each h = absurd each
 hold_push (g ∷ row) (w ∷ values) f v each h = (each.0, hold_push row values f v each.1 h)
 
-holds_part : (f : Field) (v : FieldValue) → Suits (Some f) v → FitsString v → IsReal v → Holds (part_field f) v
-holds_part fields.Name (name labels) s t r = r
-holds_part fields.Serial (u32_value n) s t r = r
-holds_part fields.Time (u32_value n) s t r = r
-holds_part fields.U16 (u16_value n) s t r = r
-holds_part (fields.Octets n) (fixed octets) s t r = record { size = s.0; each = r }
-holds_part fields.OneString (string octets) s t r = record { short = t; each = r }
-holds_part fields.Strings (string octets) s t r = record { short = t; each = r }
-holds_part f v s t r = absurd s
-
-some_octets : (f : Field) (v : FieldValue) → Suits (Some f) v → 0 < length (field_octets v)
-some_octets fields.Name (name labels) s = omega (arith, length-append (flat_map with_length labels) (0 ∷ []))
-some_octets fields.Serial (u32_value n) s = omega arith
-some_octets fields.Time (u32_value n) s = omega arith
-some_octets fields.U16 (u16_value n) s = omega arith
-some_octets (fields.Octets n) (fixed octets) s = omega (arith, s.0, s.1)
-some_octets fields.OneString (string octets) s = omega arith
-some_octets fields.Strings (string octets) s = omega arith
-some_octets f v s = absurd s
-
 some_field : (o : Option Field) (v : FieldValue) → Suits o v → (f : Field) × (o ≡ Some f) × Suits (Some f) v
 some_field (Some f) v s = (f, refl, s)
 some_field None v s = absurd s
@@ -142,7 +122,8 @@ pub pushed_part : (laid : Option (List Field)) (count : ℕ) (octets : List ℕ)
 pushed_part None count octets part held next fits real = pushed_opaque count octets part held next
 pushed_part (Some row) count octets part held next fits real =
     let f = some_field (part_at row count) part next in
-    pushed_field row f.0 count octets part held f.1 (holds_part f.0 part f.2 fits real) (some_octets f.0 part f.2)
+    let own = field_part f.0 part f.2 fits real in
+    pushed_field row f.0 count octets part held f.1 own.0 own.1
 
 -- ---- all parts
 pub record WholeParts (row : List Field) (octets : List ℕ) : Type 0 where

@@ -1,9 +1,9 @@
 -- Decimal digits read one after the other, under a cap.
-use Rattle.std.proofs.Common.{◌≡◌, ℕ, zero, suc, ◌+◌, ◌-◌, ◌*◌, ◌<◌, min, true, false, List, [], ◌∷◌, ◌++◌, length, get_or, refl, sym, ◌∙◌, arith}
+use Rattle.std.proofs.Common.{◌≡◌, ℕ, ◌+◌, ◌-◌, ◌*◌, min, true, List, [], ◌∷◌, ◌++◌, refl}
 use Rattle.std.specs.Prelude.{fold}
 use Rattle.std.specs.List.{AllByRecursion}
 use Rattle.zone_name.specs.Spelling.{is_digit}
-use Rattle.zone_rdata.specs.Number.{decimal_value, IsDecimal}
+use Rattle.zone_rdata.specs.Number.{decimal_value}
 
 -- digits so far, and their number under the cap
 pub record ReadsDigits (cap : ℕ) (text : List ℕ) (n : ℕ) : Type 0 where
@@ -17,12 +17,3 @@ value_push (d ∷ digits) c start = value_push digits c (start * 10 + (d - 48))
 pub digits_push : (digits : List ℕ) (c : ℕ) → AllByRecursion (λ c. is_digit c ≡ true) digits → is_digit c ≡ true → AllByRecursion (λ c. is_digit c ≡ true) (digits ++ c ∷ [])
 digits_push [] c each h = (h, tt)
 digits_push (d ∷ digits) c each h = (each.0, digits_push digits c each.1 h)
-
--- an octet that is no digit stands in no number
-digit_at : (text : List ℕ) (i : ℕ) → i < length text → AllByRecursion (λ c. is_digit c ≡ true) text → is_digit (get_or text i 0) ≡ true
-digit_at [] i lt each = absurd (omega arith)
-digit_at (c ∷ text) zero lt each = each.0
-digit_at (c ∷ text) (suc i) lt each = digit_at text i (omega arith) each.1
-
-pub no_decimal : (text : List ℕ) (i n : ℕ) → i < length text → is_digit (get_or text i 0) ≡ false → IsDecimal text n → ⊥
-no_decimal text i n lt test dec = let yes = digit_at text i lt dec.digits in cc (sym yes ∙ test)

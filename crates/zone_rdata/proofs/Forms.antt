@@ -16,13 +16,13 @@ use Rattle.zone_rdata.specs.Layout.{fields_of}
 use Rattle.zone_rdata.specs.Machine.Appending.{AreSpelt}
 use Rattle.zone_rdata.specs.Spelling.{IsCanonicalOf, StatesFor, in_words, in_octets}
 use Rattle.zone_rdata.specs.Uncompressed.{IsUncompressed}
-use Rattle.zone_rdata.proofs.Faults.{fault_more}
+use Rattle.zone_rdata.proofs.Failings.{IfErr-fault}
 
 -- octets in the generic form that are no value of the layout
 pub form_value : {T : Type 0} (laid : Option Layout) (own : Layout) (items : List RawItem) (stated octets : List ℕ) (r : Result T Failing) → laid ≡ Some own → StatesGeneric items stated → octets ≡ stated → IfErr r (IfFault (λ f. (f ≡ BadRdata) × ((canonical : List ℕ) → IsUncompressed (fields_of own) octets canonical → ⊥))) → IfErr r (IfFault (IsFormFault (option_map fields_of laid) items))
 form_value laid own items stated octets r e form is h =
     let laid_is : option_map fields_of laid ≡ Some (fields_of own) = ap (option_map fields_of) e in
-    fault_more r _ _ (λ fault bad. subst (IsFormFault (option_map fields_of laid) items) (sym bad.0) (no_value (fields_of own) stated laid_is form (λ canonical u. bad.1 canonical (subst (λ o. IsUncompressed (fields_of own) o canonical) (sym is) u)))) h
+    IfErr-fault r _ _ (λ fault bad. subst (IsFormFault (option_map fields_of laid) items) (sym bad.0) (no_value (fields_of own) stated laid_is form (λ canonical u. bad.1 canonical (subst (λ o. IsUncompressed (fields_of own) o canonical) (sym is) u)))) h
 
 -- octets in the generic form
 pub in_form_found : (origin : List (List ℕ)) (laid : Option (List Field)) (items : List RawItem) (b : Bool) (octets : List ℕ) → b ≡ true → (IsTrue b ↔ IsGeneric items) → (stated : List ℕ) × StatesGeneric items stated × IsCanonicalOf laid stated octets → StatesFor origin laid items octets

@@ -1,6 +1,6 @@
 -- The generic form: digits that join to octets, item after item.
 use Rattle.std.proofs.Common.{◌≡◌, ◌≢◌, ℕ, ◌+◌, ◌-◌, ◌/◌, ◌<◌, ◌≤◌, min, List, [], ◌∷◌, ◌++◌, length, get_or, take, drop, map, length-drop, Ok, refl, sym, ap, ◌∙◌, subst, arith, append_assoc, length-append}
-use Rattle.std.proofs.lemmas.List.{drop_more, drop_all, take_all, append-nil}
+use Rattle.std.proofs.lemmas.List.{drop_all, take_all, append-nil}
 use Rattle.hex.specs.Hex.{decode_of}
 use Rattle.hex.proofs.HexLemmas.{decode_of-ok, decode_of-same}
 use Rattle.zone_rdata.specs.declared.fault.Fault.{Fault}
@@ -10,6 +10,7 @@ use Rattle.zone_rdata.specs.Item.{RawItem, bare, quoted, raw, generic_mark, IsGe
 use Rattle.zone_rdata.specs.Number.{IsDecimal}
 use Rattle.zone_rdata.specs.Generic.{StatesLength, JoinTo, StatesGeneric, LengthFault, no_number, beyond, GenericFault, no_length, long_length, bad_digits}
 use Rattle.zone_rdata.specs.Machine.Appending.{AppendsDigits}
+use Rattle.zone_rdata.proofs.Lists.{from_place}
 
 -- two digits for each octet
 pub half_length : (text front : List ℕ) → decode_of text ≡ Ok front → length front ≡ length text / 2
@@ -40,18 +41,14 @@ joined_step items rest text octets front new joined e grown = record {
       (j.1, j.4, b.2 ∙ ap (λ t. octets ++ t) (j.3 ∙ ap (λ t. t ++ j.1) fronts) ∙ sym (append_assoc octets front j.1) ∙ ap (λ t. t ++ j.1) (sym grown));
 }
 
--- the item at a place, and those behind it
-pub items_at : (items : List Item) (i : ℕ) (item d : Item) → i < length items → item ≡ get_or items i d → map raw (drop i items) ≡ raw item ∷ map raw (drop (i + 1) items)
-items_at items i item d lt found = ap (map raw) (drop_more items i d lt ∙ ap (λ x. x ∷ drop (i + 1) items) (sym found))
-
 pub joined_more : (items : List Item) (i : ℕ) (item d : Item) (text octets new : List ℕ) → i < length items → item ≡ get_or items i d → raw item ≡ bare text → HaveJoined (map raw items) (map raw (drop i items)) octets → AppendsDigits text octets new → HaveJoined (map raw items) (map raw (drop (i + 1) items)) new
 joined_more items i item d text octets new lt found is joined grows =
-    let here : map raw (drop i items) ≡ bare text ∷ map raw (drop (i + 1) items) = items_at items i item d lt found ∙ ap (λ x. x ∷ map raw (drop (i + 1) items)) is in
+    let here : map raw (drop i items) ≡ bare text ∷ map raw (drop (i + 1) items) = ap (map raw) (from_place items i item d lt found) ∙ ap (λ x. x ∷ map raw (drop (i + 1) items)) is in
     joined_step (map raw items) (map raw (drop (i + 1) items)) text octets grows.octets new (subst (λ r. HaveJoined (map raw items) r octets) here joined) grows.stands grows.written
 
 next_front : (items : List Item) (i : ℕ) (item d : Item) (text octets : List ℕ) → i < length items → item ≡ get_or items i d → raw item ≡ bare text → HaveJoined (map raw items) (map raw (drop i items)) octets → (whole : List ℕ) → JoinTo (map raw items) whole → (front : List ℕ) × (rest : List ℕ) × (decode_of text ≡ Ok front) × (whole ≡ octets ++ (front ++ rest))
 next_front items i item d text octets lt found is joined whole h =
-    let here : map raw (drop i items) ≡ bare text ∷ map raw (drop (i + 1) items) = items_at items i item d lt found ∙ ap (λ x. x ∷ map raw (drop (i + 1) items)) is in
+    let here : map raw (drop i items) ≡ bare text ∷ map raw (drop (i + 1) items) = ap (map raw) (from_place items i item d lt found) ∙ ap (λ x. x ∷ map raw (drop (i + 1) items)) is in
     let b = joined.back whole h in
     let j = subst (λ r. JoinTo r b.0) here b.1 in
     (j.0, j.1, j.2, b.2 ∙ ap (λ t. octets ++ t) j.3)

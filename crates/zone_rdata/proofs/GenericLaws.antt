@@ -1,8 +1,8 @@
 -- The laws of the generic form.
-use Rattle.std.proofs.Common.{◌≡◌, ℕ, zero, suc, ◌+◌, ◌/◌, ◌%◌, ◌<◌, ◌≤◌, ◌^◌, Bool, true, false, List, [], ◌∷◌, ◌++◌, length, map, Result, Ok, Err, ◌⊎◌, inl, inr, refl, sym, ap, ◌∙◌, subst, arith, length-append}
+use Rattle.std.proofs.Common.{◌≡◌, ℕ, zero, suc, ◌+◌, ◌/◌, ◌%◌, ◌<◌, ◌≤◌, ◌^◌, true, List, [], ◌∷◌, ◌++◌, length, map, Result, Ok, Err, ◌⊎◌, inl, inr, refl, sym, ap, ◌∙◌, subst, arith, length-append}
 use Rattle.std.specs.Prelude.{decimal}
 use Rattle.std.specs.List.{AllByRecursion, join_with_byte}
-use Rattle.std.proofs.lemmas.Bool.{cases_lt, cases_eq, false≢true}
+use Rattle.std.proofs.lemmas.Bool.{cases_lt, cases_eq}
 use Rattle.std.proofs.lemmas.Bool.Decides.{nat_tests}
 use Rattle.std.proofs.lemmas.Fmt.{decimal_digit, decimal_by_steps}
 use Rattle.std.proofs.lemmas.List.{append-nil}
@@ -17,6 +17,7 @@ use Rattle.zone_rdata.specs.Number.{IsDecimal, decimal_value}
 use Rattle.zone_rdata.specs.Generic.{StatesLength, IsGenericForm, JoinTo, StatesGeneric, LengthFault, no_number, beyond, GenericFault, no_length, long_length, bad_digits, digit_items, generic_items}
 use Rattle.zone_rdata.specs.Strings.{item_text}
 use Rattle.zone_rdata.specs.Text.{generic_text}
+use Rattle.zone_rdata.proofs.Choices.{Choice, each_or_not, true_or_not}
 use Rattle.zone_rdata.proofs.Decimal.{value_push, digits_push}
 use Rattle.zone_rdata.proofs.GenericForm.{JoinTo-once, StatesLength-once, form_faults, form_missing, form_states}
 
@@ -52,49 +53,35 @@ generic_fault-once items _ _ (bad_digits m more form' short bad) (long_length n 
 generic_fault-once items _ _ (bad_digits n digits form short bad) (bad_digits _ _ _ _ _) = refl
 
 -- ---- a text is a decimal number or none
-abbrev AreDigits : List ℕ → Type 0
-AreDigits text = AllByRecursion (λ c. is_digit c ≡ true) text
-
-digit_by : (c : ℕ) (text : List ℕ) (b : Bool) → is_digit c ≡ b → AreDigits text ⊎ (AreDigits text → ⊥) → AreDigits (c ∷ text) ⊎ (AreDigits (c ∷ text) → ⊥)
-digit_by c text true e (inl each) = inl (e, each)
-digit_by c text true e (inr none) = inr (λ h. none h.1)
-digit_by c text false e rest = inr (λ h. false≢true (sym e ∙ h.0))
-
-digits_or_not : (text : List ℕ) → AreDigits text ⊎ (AreDigits text → ⊥)
-digits_or_not [] = inl tt
-digits_or_not (c ∷ text) = digit_by c text (is_digit c) refl (digits_or_not text)
-
-decimal_by : (text : List ℕ) → 0 < length text → AreDigits text ⊎ (AreDigits text → ⊥) → ((n : ℕ) × IsDecimal text n) ⊎ ((n : ℕ) → IsDecimal text n → ⊥)
-decimal_by text some (inl each) = inl (decimal_value text, record { some = some; digits = each; value = refl })
-decimal_by text some (inr none) = inr (λ n h. none h.digits)
-
-pub decimal_or_not : (text : List ℕ) → ((n : ℕ) × IsDecimal text n) ⊎ ((n : ℕ) → IsDecimal text n → ⊥)
+pub decimal_or_not : (text : List ℕ) → Choice (IsDecimal text)
 decimal_or_not [] = inr (λ n h. absurd (omega (arith, h.some)))
-decimal_or_not (c ∷ text) = decimal_by (c ∷ text) (omega arith) (digits_or_not (c ∷ text))
-
-length_by : (text : List ℕ) → ((n : ℕ) × IsDecimal text n) ⊎ ((n : ℕ) → IsDecimal text n → ⊥) → ((n : ℕ) × StatesLength (bare text) n × (n ≤ 65535)) ⊎ ((fault : Fault) × LengthFault (bare text) fault)
-length_by text (inl found) = elim (cases_lt 65535 found.0) [
-  | inl over ↦ inr (RdataTooLong, beyond found.0 found.1 over)
-  | inr short ↦ inl (found.0, found.1, short)
+decimal_or_not (c ∷ text) = elim (each_or_not (λ d. is_digit d ≡ true) (λ d. true_or_not (is_digit d)) (c ∷ text)) [
+  | inl each ↦ inl (decimal_value (c ∷ text), record { some = omega arith; digits = each; value = refl })
+  | inr none ↦ inr (λ n h. none h.digits)
 ]
-length_by text (inr none) = inr (BadGeneric, no_number none)
 
 length_or_fault : (item : RawItem) → ((n : ℕ) × StatesLength item n × (n ≤ 65535)) ⊎ ((fault : Fault) × LengthFault item fault)
-length_or_fault (bare text) = length_by text (decimal_or_not text)
 length_or_fault (quoted text) = inr (BadGeneric, no_number (λ n h. h))
+length_or_fault (bare text) = elim (decimal_or_not text) [
+  | inr none ↦ inr (BadGeneric, no_number none)
+  | inl found ↦ elim (cases_lt 65535 found.0) [
+    | inl over ↦ inr (RdataTooLong, beyond found.0 found.1 over)
+    | inr short ↦ inl (found.0, found.1, short)
+  ]
+]
 
 -- ---- items join to octets or to none
-joins_by : (text : List ℕ) (items : List RawItem) (found : Result (List ℕ) FromHexError) → decode_of text ≡ found → ((octets : List ℕ) × JoinTo items octets) ⊎ ((octets : List ℕ) → JoinTo items octets → ⊥) → ((octets : List ℕ) × JoinTo (bare text ∷ items) octets) ⊎ ((octets : List ℕ) → JoinTo (bare text ∷ items) octets → ⊥)
+joins_by : (text : List ℕ) (items : List RawItem) (found : Result (List ℕ) FromHexError) → decode_of text ≡ found → Choice (JoinTo items) → Choice (JoinTo (bare text ∷ items))
 joins_by text items (Ok front) e (inl rest) = inl (front ++ rest.0, (front, rest.0, e, refl, rest.1))
 joins_by text items (Ok front) e (inr none) = inr (λ octets h. none h.1 h.4)
 joins_by text items (Err error) e rest = inr (λ octets h. absurd (let f : Err error ≡ Ok h.0 = sym e ∙ h.2 in cc))
 
-joins_or_not : (items : List RawItem) → ((octets : List ℕ) × JoinTo items octets) ⊎ ((octets : List ℕ) → JoinTo items octets → ⊥)
+joins_or_not : (items : List RawItem) → Choice (JoinTo items)
 joins_or_not [] = inl ([], refl)
 joins_or_not (bare text ∷ items) = joins_by text items (decode_of text) refl (joins_or_not items)
 joins_or_not (quoted text ∷ items) = inr (λ octets h. h)
 
-digits_by : (items digits : List RawItem) (item : RawItem) (n : ℕ) → items ≡ generic_mark ∷ item ∷ digits → StatesLength item n → n ≤ 65535 → ((octets : List ℕ) × JoinTo digits octets) ⊎ ((octets : List ℕ) → JoinTo digits octets → ⊥) → ((octets : List ℕ) × StatesGeneric items octets) ⊎ ((fault : Fault) × GenericFault items fault)
+digits_by : (items digits : List RawItem) (item : RawItem) (n : ℕ) → items ≡ generic_mark ∷ item ∷ digits → StatesLength item n → n ≤ 65535 → Choice (JoinTo digits) → ((octets : List ℕ) × StatesGeneric items octets) ⊎ ((fault : Fault) × GenericFault items fault)
 digits_by items digits item n e states short (inl joined) = elim (cases_eq (length joined.0) n) [
   | inl count ↦ inl (joined.0, form_states items digits item joined.0 n e states short joined.1 count)
   | inr other ↦ inr (BadGeneric, bad_digits n digits (record { item = item; parts = e; states = states }) short (λ octets h count. other (ap length (JoinTo-once digits joined.0 octets joined.1 h) ∙ count)))

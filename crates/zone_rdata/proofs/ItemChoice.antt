@@ -1,115 +1,28 @@
 -- Items state a value or have a first fault.
-use Rattle.std.proofs.Common.{◌≡◌, ◌≢◌, ℕ, ◌<◌, List, [], ◌∷◌, length, Option, Some, None, ◌⊎◌, inl, inr, refl, sym, ap, subst, arith}
-use Rattle.std.specs.Prelude.{IfSome}
-use Rattle.std.specs.List.{AllByRecursion}
+use Rattle.std.proofs.Common.{List, None, Option, Some, [], ap, inl, inr, length, refl, subst, sym, ℕ, ◌<◌, ◌∷◌, ◌≡◌, ◌⊎◌}
 use Rattle.std.proofs.lemmas.Bool.{cases_lt}
 use Rattle.hex.proofs.HexLemmas.{decode_of-ok}
 use Rattle.zone_name.specs.Name.{IsName}
-use Rattle.zone_name.specs.Spelling.{Spells, FirstFault}
-use Rattle.zone_name.specs.declared.fault.NameFault.{NameFault}
+use Rattle.zone_name.proofs.Pushing.{AllByRecursion-append}
 use Rattle.zone_rdata.specs.declared.fault.Fault.{Fault}
-use Rattle.zone_rdata.specs.declared.fault.Fault.TheVariants.{BadRdata, BadGeneric, BadNumber, RdataTooLong}
+use Rattle.zone_rdata.specs.declared.fault.Fault.TheVariants.{BadGeneric, BadRdata, RdataTooLong}
 use Rattle.zone_rdata.specs.declared.field.Field.{Field}
-use Rattle.zone_rdata.specs.declared.field.Field.TheVariants.{Name, Serial, Time, U16, Octets, OneString, Strings}
-use Rattle.zone_rdata.specs.DataFault as faults
-use Rattle.zone_rdata.specs.DataFault.{FirstFieldFault, IsFormFault, IsFaultFor, IsDataFault, unspelt, too_long, malformed, no_value, in_form, opaque_words}
-use Rattle.zone_rdata.specs.Field.{IsFieldFault, FieldValue, name, u32_value, u16_value, fixed, string, strings, octets_of, SpellsField, own_items, items_behind}
-use Rattle.zone_rdata.specs.Fault.{fault_of}
-use Rattle.zone_rdata.specs.Fields.Strings.{SpellEachString, FirstStringFault}
-use Rattle.zone_rdata.specs.Generic.{JoinTo, StatesGeneric, GenericFault}
-use Rattle.zone_rdata.specs.Item.{RawItem, bare, quoted, IsGeneric}
+use Rattle.zone_rdata.specs.declared.field.Field.TheVariants.{Strings}
+use Rattle.zone_rdata.specs.DataFault.{FirstFieldFault, IsDataFault, IsFaultFor, in_form, malformed, no_value, opaque_words, too_long, unspelt}
+use Rattle.zone_rdata.specs.Field.{FieldValue, items_behind, octets_of, own_items}
+use Rattle.zone_rdata.specs.Generic.{GenericFault, JoinTo, StatesGeneric}
+use Rattle.zone_rdata.specs.Item.{IsGeneric, RawItem, bare, quoted}
 use Rattle.zone_rdata.specs.Layout.{layout}
-use Rattle.zone_rdata.specs.Number.{IsDecimal, IsTime}
-use Rattle.zone_rdata.specs.Fields.Address.{IsAddress}
-use Rattle.zone_rdata.specs.Spelling.{SpellEach, States, StatesFor, in_words, in_octets}
-use Rattle.zone_rdata.specs.Strings.{item_text, SpellsString, StringFault}
+use Rattle.zone_rdata.specs.Spelling.{SpellEach, States, StatesFor, in_octets, in_words}
 use Rattle.zone_rdata.specs.Uncompressed.{IsUncompressed}
-use Rattle.zone_rdata.proofs.AddressChoice.{Choice, address_or_not}
-use Rattle.zone_rdata.proofs.Bytes.{bytes_each}
-use Rattle.zone_rdata.proofs.Fronts.{AreLow}
-use Rattle.zone_rdata.proofs.GenericLaws.{decimal_or_not, generic-or_fault}
-use Rattle.zone_rdata.proofs.StringLaws.{string-or_fault}
-use Rattle.zone_rdata.proofs.StringSteps.{AllByRecursion-append}
-use Rattle.zone_rdata.proofs.TimeChoice.{time_or_not}
-use Rattle.zone_rdata.proofs.TimeLaws.{one_time}
-use Rattle.zone_rdata.proofs.UncompressedChoice.{canonical_or_not}
+use Rattle.zone_rdata.proofs.AnyField.{field_or_fault}
+use Rattle.zone_rdata.proofs.Lists.{bytes_each}
+use Rattle.zone_rdata.proofs.Choices.{Choice, Decided}
+use Rattle.zone_rdata.proofs.FieldLaws.{mark, mark_text, AreLow, AreLowItems, FieldChoice, NameOrFault}
+use Rattle.zone_rdata.proofs.GenericLaws.{generic-or_fault}
+use Rattle.zone_rdata.proofs.Taken.{canonical_or_not}
 use Rattle.zone_rdata.proofs.WordChoice.{same_or_not}
-
--- a text of octets spells a name under an origin or has a first fault
-abbrev pub NameOrFault : Type 0
-NameOrFault = (origin : Option (List (List ℕ))) (text : List ℕ) → IfSome origin IsName → AllByRecursion (λ c. c < 256) text → ((labels : List (List ℕ)) × Spells origin text labels) ⊎ ((fault : NameFault) × FirstFault origin text fault)
-
--- ---- one field
-abbrev FieldChoice : List (List ℕ) → Field → List RawItem → Type 0
-FieldChoice origin f items = ((value : FieldValue) × SpellsField origin f items value) ⊎ ((fault : Fault) × IsFieldFault origin f items fault)
-
-name_field : (origin : List (List ℕ)) (text : List ℕ) → ((labels : List (List ℕ)) × Spells (Some origin) text labels) ⊎ ((fault : NameFault) × FirstFault (Some origin) text fault) → FieldChoice origin Name (bare text ∷ [])
-name_field origin text (inl found) = inl (name found.0, found.1)
-name_field origin text (inr bad) = inr (fault_of bad.0, (bad.0, bad.1, refl))
-
-serial_field : (origin : List (List ℕ)) (text : List ℕ) → ((n : ℕ) × IsDecimal text n) ⊎ ((n : ℕ) → IsDecimal text n → ⊥) → FieldChoice origin Serial (bare text ∷ [])
-serial_field origin text (inr none) = inr (BadNumber, (refl, λ n h. none n h.0))
-serial_field origin text (inl found) = elim (cases_lt found.0 4294967296) [
-  | inl short ↦ inl (u32_value found.0, (found.1, short))
-  | inr over ↦ inr (BadNumber, (refl, λ n h. omega (arith, h.1, h.0.value, found.1.value)))
-]
-
-time_field : (origin : List (List ℕ)) (text : List ℕ) → ((n : ℕ) × IsTime text n) ⊎ ((n : ℕ) → IsTime text n → ⊥) → FieldChoice origin Time (bare text ∷ [])
-time_field origin text (inr none) = inr (BadNumber, (refl, λ n h. none n h.0))
-time_field origin text (inl found) = elim (cases_lt found.0 4294967296) [
-  | inl short ↦ inl (u32_value found.0, (found.1, short))
-  | inr over ↦ inr (BadNumber, (refl, λ n h. omega (arith, h.1, one_time text n found.0 h.0 found.1)))
-]
-
-two_field : (origin : List (List ℕ)) (text : List ℕ) → ((n : ℕ) × IsDecimal text n) ⊎ ((n : ℕ) → IsDecimal text n → ⊥) → FieldChoice origin U16 (bare text ∷ [])
-two_field origin text (inr none) = inr (BadNumber, (refl, λ n h. none n h.0))
-two_field origin text (inl found) = elim (cases_lt found.0 65536) [
-  | inl short ↦ inl (u16_value found.0, (found.1, short))
-  | inr over ↦ inr (BadNumber, (refl, λ n h. omega (arith, h.1, h.0.value, found.1.value)))
-]
-
-address_field : (origin : List (List ℕ)) (n : ℕ) (text : List ℕ) → Choice (IsAddress n text) → FieldChoice origin (Octets n) (bare text ∷ [])
-address_field origin n text (inl found) = inl (fixed found.0, found.1)
-address_field origin n text (inr none) = inr (BadRdata, (refl, none))
-
-string_field : (origin : List (List ℕ)) (item : RawItem) → ((octets : List ℕ) × SpellsString item octets) ⊎ ((fault : Fault) × StringFault item fault) → FieldChoice origin OneString (item ∷ [])
-string_field origin item (inl found) = inl (string found.0, found.1)
-string_field origin item (inr bad) = inr (bad.0, bad.1)
-
-abbrev pub AreLowItems : List RawItem → Type 0
-AreLowItems items = AllByRecursion (λ item. AllByRecursion (λ c. c < 256) (item_text item)) items
-
-abbrev StringsChoice : List RawItem → Type 0
-StringsChoice items = ((many : List (List ℕ)) × SpellEachString items many) ⊎ ((fault : Fault) × FirstStringFault items fault)
-
-next_string : (item : RawItem) (items : List RawItem) → ((octets : List ℕ) × SpellsString item octets) ⊎ ((fault : Fault) × StringFault item fault) → StringsChoice items → StringsChoice (item ∷ items)
-next_string item items (inr bad) rest = inr (bad.0, inl bad.1)
-next_string item items (inl found) (inl more) = inl (found.0 ∷ more.0, (found.1, more.1))
-next_string item items (inl found) (inr bad) = inr (bad.0, inr (found.0, found.1, bad.1))
-
-strings_by : (items : List RawItem) → AreLowItems items → StringsChoice items
-strings_by [] low = inl ([], tt)
-strings_by (item ∷ items) low = next_string item items (string-or_fault item low.0) (strings_by items low.1)
-
-strings_field : (origin : List (List ℕ)) (item : RawItem) (items : List RawItem) → StringsChoice (item ∷ items) → FieldChoice origin Strings (item ∷ items)
-strings_field origin item items (inl found) = inl (strings found.0, record { some = omega arith; each = found.1 })
-strings_field origin item items (inr bad) = inr (bad.0, bad.1)
-
-bare_field : NameOrFault → (origin : List (List ℕ)) → IsName origin → (f : Field) (item : RawItem) → f ≢ Strings → AreLow (item_text item) → FieldChoice origin f (item ∷ [])
-bare_field names origin is OneString item other low = string_field origin item (string-or_fault item low)
-bare_field names origin is Strings item other low = absurd (other refl)
-bare_field names origin is Name (bare text) other low = name_field origin text (names (Some origin) text is low)
-bare_field names origin is Serial (bare text) other low = serial_field origin text (decimal_or_not text)
-bare_field names origin is Time (bare text) other low = time_field origin text (time_or_not text)
-bare_field names origin is U16 (bare text) other low = two_field origin text (decimal_or_not text)
-bare_field names origin is (Octets n) (bare text) other low = address_field origin n text (address_or_not n text)
-bare_field names origin is f (quoted text) other low = inr (BadRdata, refl)
-
-field_or_fault : NameOrFault → (origin : List (List ℕ)) → IsName origin → (f : Field) (items : List RawItem) → AreLowItems items → FieldChoice origin f (own_items f items)
-field_or_fault names origin is Strings [] low = inr (BadRdata, refl)
-field_or_fault names origin is Strings (item ∷ items) low = strings_field origin item items (strings_by (item ∷ items) low)
-field_or_fault names origin is f [] low = inr (BadRdata, refl)
-field_or_fault names origin is f (item ∷ items) low = bare_field names origin is f item (λ e. cc) low.0
+use Rattle.zone_rdata.specs.DataFault as faults
 
 low_behind : (f : Field) (items : List RawItem) → AreLowItems items → AreLowItems (items_behind f items)
 low_behind Strings items low = tt
@@ -161,23 +74,21 @@ form_by origin class kind None items e marked (inl found) = inl (found.0, in_oct
 form_by origin class kind (Some row) items e marked (inl found) = canonical_item origin row items found.0 marked found.1 (canonical_or_not class kind row found.0 e (joined_low found.1.digits found.0 found.1.joined))
 
 -- the first item is the mark or not
-marked_by : (text : List ℕ) (rest : List RawItem) → (text ≡ 92 ∷ 35 ∷ []) ⊎ (text ≡ 92 ∷ 35 ∷ [] → ⊥) → IsGeneric (bare text ∷ rest) ⊎ (IsGeneric (bare text ∷ rest) → ⊥)
-marked_by text rest (inl same) = inl (rest, ap (λ t. bare t ∷ rest) same)
-marked_by text rest (inr other) = inr (λ h. let e = h.1 in let same : text ≡ 92 ∷ 35 ∷ [] = cc in other same)
-
-marked_or_not : (items : List RawItem) → IsGeneric items ⊎ (IsGeneric items → ⊥)
+marked_or_not : (items : List RawItem) → Decided (IsGeneric items)
 marked_or_not [] = inr (λ h. absurd (let e = h.1 in cc))
-marked_or_not (bare text ∷ rest) = marked_by text rest (same_or_not text (92 ∷ 35 ∷ []))
+marked_or_not (bare text ∷ rest) = elim (same_or_not text mark) [
+  | inl same ↦ inl (rest, ap (λ t. bare t ∷ rest) same)
+  | inr other ↦ inr (λ h. other (mark_text text rest h))
+]
 marked_or_not (quoted text ∷ rest) = inr (λ h. absurd (let e = h.1 in cc))
 
-outcome_by : NameOrFault → (origin : List (List ℕ)) → IsName origin → (class kind : ℕ) (items : List RawItem) → AreLowItems items → IsGeneric items ⊎ (IsGeneric items → ⊥) → Outcome origin (layout class kind) items
+outcome_by : NameOrFault → (origin : List (List ℕ)) → IsName origin → (class kind : ℕ) (items : List RawItem) → AreLowItems items → Decided (IsGeneric items) → Outcome origin (layout class kind) items
 outcome_by names origin is class kind items low (inl marked) = form_by origin class kind (layout class kind) items refl marked (generic-or_fault items marked)
 outcome_by names origin is class kind items low (inr unmarked) = words_or_fault names origin is (layout class kind) items low unmarked
 
 -- ---- data of a class and type
-data_by : (origin : List (List ℕ)) (class kind : ℕ) (items : List RawItem) → Outcome origin (layout class kind) items → ((octets : List ℕ) × States origin class kind items octets) ⊎ ((fault : Fault) × IsDataFault origin class kind items fault)
-data_by origin class kind items (inl found) = inl (found.0, record { stated = found.1 })
-data_by origin class kind items (inr bad) = inr (bad.0, record { first = bad.1 })
-
 pub data-or_fault : NameOrFault → (origin : List (List ℕ)) (class kind : ℕ) (items : List RawItem) → IsName origin → AreLowItems items → ((octets : List ℕ) × States origin class kind items octets) ⊎ ((fault : Fault) × IsDataFault origin class kind items fault)
-data-or_fault names origin class kind items is low = data_by origin class kind items (outcome_by names origin is class kind items low (marked_or_not items))
+data-or_fault names origin class kind items is low = elim (outcome_by names origin is class kind items low (marked_or_not items)) [
+  | inl found ↦ inl (found.0, record { stated = found.1 })
+  | inr bad ↦ inr (bad.0, record { first = bad.1 })
+]

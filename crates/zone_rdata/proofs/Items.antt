@@ -2,7 +2,7 @@
 use Rattle.std.proofs.Common.{◌≡◌, ℕ, ◌+◌, ◌-◌, ◌<◌, ◌≤◌, List, [], ◌∷◌, ◌++◌, length, get_or, take, drop, map, refl, sym, ap, ◌∙◌, subst, arith, append_assoc, Bor, Bool, IsTrue, ◌↔◌, inl, inr}
 use Rattle.std.specs.Str.{bytes_eq}
 use Rattle.std.proofs.lemmas.Slice.Eq.{bytes_eq-Decides}
-use Rattle.std.proofs.lemmas.List.{append-nil, length-drop, take_all, drop_more, drop_all, drop-drop}
+use Rattle.std.proofs.lemmas.List.{append-nil, length-drop, take_all, drop_all, drop-drop}
 use Rattle.zone_rdata.specs.declared.fault.Fault.{Fault}
 use Rattle.zone_rdata.specs.declared.fault.Fault.TheVariants.{BadRdata, RdataTooLong}
 use Rattle.zone_rdata.specs.declared.item.Item.{Item}
@@ -13,17 +13,12 @@ use Rattle.zone_rdata.specs.Field.{IsFieldFault, FieldValue, field_octets, octet
 use Rattle.zone_rdata.specs.Item.{RawItem, bare, raw, generic_mark, IsGeneric}
 use Rattle.zone_rdata.specs.Machine.Appending.{AppendsFirst, AreSpelt}
 use Rattle.zone_rdata.specs.Spelling.{SpellEach}
+use Rattle.zone_rdata.proofs.Lists.{from_place}
 
 -- some fields were read, and what the items that are left are for the other fields, all items are for all fields
 pub record HaveRead (origin : List (List ℕ)) (row : List Field) (items : List RawItem) (later : List Field) (left : List RawItem) (octets : List ℕ) : Type 0 where
   pub leads : (values : List FieldValue) → SpellEach origin later left values → AreSpelt origin row items (octets ++ octets_of values)
   pub fault : (fault : Fault) → FirstFieldFault origin later left fault → FirstFieldFault origin row items fault
-
-pub read_none : (origin : List (List ℕ)) (row : List Field) (items left : List RawItem) (octets : List ℕ) → left ≡ items → octets ≡ [] → HaveRead origin row items row left octets
-read_none origin row items left octets all e = record {
-  leads = λ values h. record { values = values; spelt = subst (λ is. SpellEach origin row is values) all h; written = ap (λ o. o ++ octets_of values) e };
-  fault = λ fault h. subst (λ is. FirstFieldFault origin row is fault) all h;
-}
 
 read_step : (origin : List (List ℕ)) (row : List Field) (items : List RawItem) (f : Field) (later : List Field) (left rest : List RawItem) (octets new : List ℕ) → HaveRead origin row items (f ∷ later) left octets → AppendsFirst origin f left rest octets new → HaveRead origin row items later rest new
 read_step origin row items f later left rest octets new read grows =
@@ -35,9 +30,6 @@ read_step origin row items f later left rest octets new read grows =
       fault = λ fault h. read.fault fault (inr (v, grows.appends.stated, subst (λ is. FirstFieldFault origin later is fault) grows.behind h));
     }
 
-here_at : (row : List Field) (i : ℕ) (f d : Field) → i < length row → f ≡ get_or row i d → drop i row ≡ f ∷ drop (i + 1) row
-here_at row i f d lt found = drop_more row i d lt ∙ ap (λ x. x ∷ drop (i + 1) row) (sym found)
-
 -- a slice up to the end
 slice_end : (items : List Item) (place : ℕ) → take (length items - place) (drop place items) ≡ drop place items
 slice_end items place = take_all (length items - place) (drop place items) (let l = length-drop place items in omega (arith, l))
@@ -46,7 +38,7 @@ pub read_more : (origin : List (List ℕ)) (row : List Field) (items : List Item
 read_more origin row items i place n f d octets new lt found read sliced =
     let grows = subst (λ rest. AppendsFirst origin f (map raw rest) (map raw (drop n rest)) octets new) (slice_end items place) sliced in
     let left = map raw (drop place items) in
-    let here : HaveRead origin row (map raw items) (f ∷ drop (i + 1) row) left octets = subst (λ r. HaveRead origin row (map raw items) r left octets) (here_at row i f d lt found) read in
+    let here : HaveRead origin row (map raw items) (f ∷ drop (i + 1) row) left octets = subst (λ r. HaveRead origin row (map raw items) r left octets) (from_place row i f d lt found) read in
     subst (λ rest. HaveRead origin row (map raw items) (drop (i + 1) row) (map raw rest) new) (drop-drop n place items) (read_step origin row (map raw items) f (drop (i + 1) row) left (map raw (drop n (drop place items))) octets new here grows)
 
 -- the items of the next field spell no value of it
@@ -54,7 +46,7 @@ pub read_bad : (origin : List (List ℕ)) (row own : List Field) (items : List I
 read_bad origin row own items i place f d octets fault same lt found read sliced =
     let bad = subst (λ rest. IsFieldFault origin f (own_items f (map raw rest)) fault) (slice_end items place) sliced in
     let left = map raw (drop place items) in
-    let here : HaveRead origin row (map raw items) (f ∷ drop (i + 1) row) left octets = subst (λ r. HaveRead origin row (map raw items) r left octets) (here_at row i f d lt found) read in
+    let here : HaveRead origin row (map raw items) (f ∷ drop (i + 1) row) left octets = subst (λ r. HaveRead origin row (map raw items) r left octets) (from_place row i f d lt found) read in
     subst (λ r. IsWordsFault origin r (map raw items) fault) same (unspelt fault (here.fault fault (inl bad)))
 
 nothing_later : (origin : List (List ℕ)) (row : List Field) (items : List RawItem) (i : ℕ) (left : List RawItem) (octets : List ℕ) → length row ≤ i → HaveRead origin row items (drop i row) left octets → HaveRead origin row items [] left octets

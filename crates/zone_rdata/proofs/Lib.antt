@@ -1,14 +1,15 @@
 pub mod Tables
 pub mod Words
-pub mod Names
 pub mod Minima
-pub mod Bytes
 pub mod StringFields
 pub mod AddressFields
 pub mod Sent
-pub mod SentLengths
+pub mod Lists
+pub mod Choices
+pub mod FieldLaws
 pub mod Fields
-pub mod Fronts
+pub mod AnyField
+pub mod Layouts
 pub mod Taken
 pub mod Wire
 pub mod Items
@@ -16,7 +17,6 @@ pub mod Forms
 pub mod ItemLaws
 pub mod TimeLaws
 pub mod Values
-pub mod Faults
 pub mod Texts
 pub mod TextItems
 pub mod StringTexts
@@ -39,8 +39,6 @@ pub mod Building
 pub mod TimeChoice
 pub mod WordChoice
 pub mod AddressChoice
-pub mod UncompressedChoice
 pub mod ItemChoice
 pub mod StatedOctets
-pub mod ValueLaws
 pub mod PrintedWords

@@ -1,11 +1,11 @@
 -- The last number of data, field after field.
 use Rattle.std.proofs.Common.{◌≡◌, ℕ, ◌+◌, ◌<◌, List, ◌∷◌, length, get_or, drop, sym, ap, ◌∙◌, subst, Option, None}
-use Rattle.std.proofs.lemmas.List.{drop_more}
 use Rattle.zone_rdata.specs.declared.field.Field.{Field}
 use Rattle.zone_rdata.specs.Field.{field_at, values_of}
 use Rattle.zone_rdata.specs.Layout.{AreLaidOut}
 use Rattle.zone_rdata.specs.Minimum.{number_in, last_number}
 use Rattle.zone_rdata.specs.Machine.Printing.{after_field}
+use Rattle.zone_rdata.proofs.Lists.{from_place}
 use Rattle.zone_rdata.proofs.Texts.{first_field}
 
 -- the fields up to a place are passed: the rest is laid out, and leads to the last number of the whole
@@ -15,7 +15,7 @@ pub record HaveWalked (row : List Field) (whole : List ℕ) (i : ℕ) (rest : Li
 
 pub walked_more : (row : List Field) (whole rest after : List ℕ) (i : ℕ) (last next : Option ℕ) (f d : Field) → i < length row → f ≡ get_or row i d → HaveWalked row whole i rest last → next ≡ number_in (field_at f rest) → after ≡ after_field f rest → HaveWalked row whole (i + 1) after next
 walked_more row whole rest after i last next f d lt at walked is goes =
-    let here : drop i row ≡ f ∷ drop (i + 1) row = drop_more row i d lt ∙ ap (λ x. x ∷ drop (i + 1) row) (sym at) in
+    let here : drop i row ≡ f ∷ drop (i + 1) row = from_place row i f d lt at in
     let laid = first_field f (drop (i + 1) row) rest (subst (λ r. AreLaidOut r rest) here walked.laid) in
     let left : last_number (number_in (field_at f rest)) (values_of (drop (i + 1) row) (after_field f rest)) ≡ last_number None (values_of row whole) = subst (λ r. last_number last (values_of r rest) ≡ last_number None (values_of row whole)) here walked.left in
     record {

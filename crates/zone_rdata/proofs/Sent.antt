@@ -29,14 +29,6 @@ frame_same x y a b e =
     let tails : x ++ a ≡ y ++ b = cc in
     append_same x y a b counts tails
 
-pub frames_same : (many more : List (List ℕ)) → flat_map with_length many ≡ flat_map with_length more → many ≡ more
-frames_same [] [] e = refl
-frames_same [] (y ∷ more) e = absurd (omega (arith, ap length e))
-frames_same (x ∷ many) [] e = absurd (omega (arith, ap length e))
-frames_same (x ∷ many) (y ∷ more) e =
-    let cut = frame_same x y (flat_map with_length many) (flat_map with_length more) e in
-    ap (λ h. h ∷ many) cut.0 ∙ ap (λ t. y ∷ t) (frames_same many more cut.1)
-
 -- octets up to a place, where the number there and so many octets are one with_length
 pub frame_at : (c : ℕ) (behind : List ℕ) → c ≤ length behind → c ∷ behind ≡ with_length (take c behind) ++ drop c behind
 frame_at c behind fits =

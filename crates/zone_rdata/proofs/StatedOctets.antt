@@ -1,59 +1,51 @@
--- What items state is octets, and so data.
-use Rattle.std.proofs.Common.{ℕ, ◌<◌, ◌^◌, List, [], ◌∷◌, Option, Some, None, refl, sym, subst, arith}
-use Rattle.std.specs.Int.{w16, w32, to_be_bytes}
-use Rattle.std.specs.List.{flat_map, AllByRecursion}
-use Rattle.zone_name.specs.Name.{IsFoldedOctet, IsLabel, with_length}
+-- What items state is data.
+use Rattle.std.proofs.Common.{List, None, Option, Some, [], length, refl, subst, sym, ℕ, ◌<◌, ◌∷◌, ◌≡◌, ◌≤◌}
+use Rattle.std.specs.List.{AllByRecursion}
+use Rattle.zone_rdata.specs.declared.fault.Fault.{Fault}
 use Rattle.zone_rdata.specs.declared.field.Field.{Field}
-use Rattle.zone_rdata.specs.declared.field.Field.TheVariants.{Name, Serial, Time, U16, Octets, OneString, Strings}
-use Rattle.zone_rdata.specs.Field.{FieldValue, name, u32_value, u16_value, fixed, string, strings, field_octets, Holds, HoldEach, octets_of}
+use Rattle.zone_rdata.specs.DataFault.{IsDataFault, IsFaultFor}
+use Rattle.zone_rdata.specs.Field.{FieldValue, HoldEach, items_behind, own_items}
 use Rattle.zone_rdata.specs.Item.{RawItem}
-use Rattle.zone_rdata.specs.Layout.{layout, IsData}
-use Rattle.zone_rdata.specs.Spelling.{IsCanonicalOf, States, StatesFor, in_words, in_octets}
-use Rattle.zone_rdata.specs.Strings.{IsString}
-use Rattle.zone_rdata.proofs.Fields.{spelt_hold, stated_data}
-use Rattle.zone_rdata.proofs.Fronts.{AreLow}
+use Rattle.zone_rdata.specs.Layout.{AreLaidOut, IsData, layout}
+use Rattle.zone_rdata.specs.Spelling.{IsCanonicalOf, SpellEach, States, StatesFor, in_octets, in_words}
+use Rattle.zone_rdata.proofs.AnyField.{field_holds}
+use Rattle.zone_rdata.proofs.Tables.{table_row}
+use Rattle.zone_rdata.proofs.FieldLaws.{AreLow}
 use Rattle.zone_rdata.proofs.ItemChoice.{joined_low}
-use Rattle.zone_rdata.proofs.StringSteps.{AllByRecursion-append}
+use Rattle.zone_rdata.proofs.Layouts.{AreFor, canonical_laid, canonical_length, laid_out, low_values}
 
-low_octets : (label : List ℕ) → AllByRecursion IsFoldedOctet label → AreLow label
-low_octets [] each = tt
-low_octets (c ∷ label) each = (each.0.octet, low_octets label each.1)
+pub spelt_hold : (origin : List (List ℕ)) (row : List Field) (items : List RawItem) (values : List FieldValue) → SpellEach origin row items values → HoldEach row values
+spelt_hold origin [] [] [] h = tt
+spelt_hold origin [] [] (v ∷ values) h = absurd h
+spelt_hold origin [] (i ∷ items) values h = absurd h
+spelt_hold origin (f ∷ row) items [] h = absurd h
+spelt_hold origin (f ∷ row) items (v ∷ values) h = (field_holds origin f (own_items f items) v h.0, spelt_hold origin row (items_behind f items) values h.1)
 
-low_labels : (labels : List (List ℕ)) → AllByRecursion IsLabel labels → AreLow (flat_map with_length labels)
-low_labels [] each = tt
-low_labels (label ∷ labels) each = AllByRecursion-append (λ c. c < 256) (with_length label) (flat_map with_length labels) (omega (arith, each.0.short), low_octets label each.0.each) (low_labels labels each.1)
+-- the octets that items state for a layout of the table are data
+stated_laid : (origin : List (List ℕ)) (class kind : ℕ) (laid : Option (List Field)) (items : List RawItem) (octets : List ℕ) → laid ≡ layout class kind → StatesFor origin laid items octets → AreFor laid octets
+stated_laid origin class kind None items octets e stated = tt
+stated_laid origin class kind (Some row) items octets e (in_words own values is words spelt written short) =
+    let same : own ≡ row = cc in
+    subst (AreLaidOut row) (sym written) (laid_out row values (table_row class kind row (sym e)).last (subst (λ r. HoldEach r values) same (spelt_hold origin own items values spelt)))
+stated_laid origin class kind (Some row) items octets e (in_octets stated marked form canonical) = canonical_laid class kind (Some row) stated octets e canonical
 
-low_strings : (many : List (List ℕ)) → AllByRecursion IsString many → AreLow (flat_map with_length many)
-low_strings [] each = tt
-low_strings (text ∷ many) each = AllByRecursion-append (λ c. c < 256) (with_length text) (flat_map with_length many) (omega (arith, each.0.short), each.0.each) (low_strings many each.1)
+stated_short : (origin : List (List ℕ)) (laid : Option (List Field)) (items : List RawItem) (octets : List ℕ) → StatesFor origin laid items octets → length octets ≤ 65535
+stated_short origin laid items octets (in_words own values e words spelt written short) = short
+stated_short origin laid items octets (in_octets stated marked form canonical) = rw (canonical_length laid stated octets canonical) form.short
 
-low_long : (n : ℕ) → n < 2 ^ 32 → AreLow (to_be_bytes w32 n)
-low_long n short = (omega arith, (omega arith, (omega arith, (omega arith, tt))))
+-- what items state for the layout of a class and type is their data
+pub stated_data : (origin : List (List ℕ)) (class kind : ℕ) (laid : Option (List Field)) (items : List RawItem) (octets : List ℕ) → laid ≡ layout class kind → StatesFor origin laid items octets → AllByRecursion (λ c. c < 256) octets → IsData class kind octets
+stated_data origin class kind laid items octets e stated each = record {
+  short = stated_short origin laid items octets stated;
+  each = each;
+  value = subst (λ l. AreFor l octets) e (stated_laid origin class kind laid items octets e stated);
+}
 
-low_two : (n : ℕ) → n < 2 ^ 16 → AreLow (to_be_bytes w16 n)
-low_two n short = (omega arith, (omega arith, tt))
+pub states_for : (origin : List (List ℕ)) (class kind : ℕ) (laid : Option (List Field)) (items : List RawItem) (octets : List ℕ) → laid ≡ layout class kind → StatesFor origin laid items octets → States origin class kind items octets
+states_for origin class kind laid items octets e stated = record { stated = subst (λ l. StatesFor origin l items octets) e stated }
 
-low_value : (f : Field) (v : FieldValue) → Holds f v → AreLow (field_octets v)
-low_value Name (name labels) held = AllByRecursion-append (λ c. c < 256) (flat_map with_length labels) (0 ∷ []) (low_labels labels held.each) (omega arith, tt)
-low_value Name v held = absurd held
-low_value Serial (u32_value n) held = low_long n held
-low_value Serial v held = absurd held
-low_value Time (u32_value n) held = low_long n held
-low_value Time v held = absurd held
-low_value U16 (u16_value n) held = low_two n held
-low_value U16 v held = absurd held
-low_value (Octets n) (fixed octets) held = held.each
-low_value (Octets n) v held = absurd held
-low_value OneString (string octets) held = (omega (arith, held.short), held.each)
-low_value OneString v held = absurd held
-low_value Strings (strings many) held = low_strings many held.each
-low_value Strings v held = absurd held
-
-pub low_values : (row : List Field) (values : List FieldValue) → HoldEach row values → AreLow (octets_of values)
-low_values [] [] held = tt
-low_values [] (v ∷ values) held = absurd held
-low_values (f ∷ row) [] held = absurd held
-low_values (f ∷ row) (v ∷ values) held = AllByRecursion-append (λ c. c < 256) (field_octets v) (octets_of values) (low_value f v held.0) (low_values row values held.1)
+pub first_for : (origin : List (List ℕ)) (class kind : ℕ) (laid : Option (List Field)) (items : List RawItem) (fault : Fault) → laid ≡ layout class kind → IsFaultFor origin laid items fault → IsDataFault origin class kind items fault
+first_for origin class kind laid items fault e first = record { first = subst (λ l. IsFaultFor origin l items fault) e first }
 
 low_form : (laid : Option (List Field)) (stated octets : List ℕ) → AreLow stated → IsCanonicalOf laid stated octets → AreLow octets
 low_form None stated octets low is = subst AreLow (sym is) low

@@ -9,7 +9,7 @@ use Rattle.zone_rdata.specs.Strings.{IsString}
 use Rattle.zone_rdata.specs.Machine.Printing.{BeginsWithField, after_field}
 use Rattle.zone_rdata.specs.declared.field.Field.{Field}
 use Rattle.zone_rdata.specs.declared.field.Field.TheVariants as fields
-use Rattle.zone_rdata.proofs.Names.{length-frames}
+use Rattle.zone_name.proofs.Octets.{length-frames}
 
 -- one string cut off the front
 string_cut : (text more : List ℕ) (m : ℕ) → strings_by (suc m) (with_length text ++ more) ≡ text ∷ strings_by m more

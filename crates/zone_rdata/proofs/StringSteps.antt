@@ -1,11 +1,10 @@
 -- The octets of a string as the code reads them, unit by unit.
 use Rattle.std.proofs.Common.{◌≡◌, ℕ, ◌<◌, ◌≤◌, List, [], ◌∷◌, ◌++◌, length, sym, ap, ◌∙◌, subst, arith, append_assoc, length-append}
-use Rattle.std.specs.List.{AllByRecursion}
-use Rattle.std.proofs.lemmas.List.{append-nil, flat_map_more, map_push, length-map}
+use Rattle.std.proofs.lemmas.List.{flat_map_more, map_push, length-map}
 use Rattle.zone_name.specs.Spelling.{Written, text_of, octet_of, IsUnit, no_octet, IsBadEscape, BeginsWithUnit, written_text, written_octets}
 use Rattle.zone_rdata.specs.declared.fault.Fault.TheVariants.{BadEscape, StringTooLong}
 use Rattle.zone_rdata.specs.Item.{RawItem}
-use Rattle.zone_rdata.specs.Strings.{ReachesUnit, SpellsString, StringFault, bad_escape, long_string, item_text}
+use Rattle.zone_rdata.specs.Strings.{ReachesUnit, StringFault, bad_escape, long_string, item_text}
 pub use Rattle.zone_name.proofs.Pushing.{AllByRecursion-append}
 
 -- the octets of the units up to a place of an item's text
@@ -13,9 +12,6 @@ pub record HasRead (item : RawItem) (octets rest : List ℕ) : Type 0 where
   pub before : List Written
   pub reaches : ReachesUnit (item_text item) before rest
   pub value : octets ≡ written_octets before
-
-pub read_none : (item : RawItem) (text octets : List ℕ) → text ≡ item_text item → octets ≡ [] → HasRead item octets text
-read_none item text octets is none = record { before = []; reaches = record { units = tt; room = omega arith; parts = sym is }; value = none }
 
 -- as many octets as units
 read_length : (item : RawItem) (octets rest : List ℕ) (read : HasRead item octets rest) → length octets ≡ length read.before
@@ -30,15 +26,6 @@ read_more item octets rest after new c read begins room grown = record {
     parts = read.reaches.parts ∙ ap (λ t. written_text read.before ++ t) begins.parts ∙ sym (append_assoc (written_text read.before) (text_of begins.unit) after) ∙ ap (λ t. t ++ after) (flat_map_more text_of [] read.before begins.unit);
   };
   value = grown ∙ ap (λ t. t ++ c ∷ []) read.value ∙ ap (λ t. written_octets read.before ++ t ∷ []) (sym begins.value) ∙ sym (map_push octet_of read.before begins.unit);
-}
-
-pub read_all : (item : RawItem) (octets rest : List ℕ) → HasRead item octets rest → rest ≡ [] → AllByRecursion (λ c. c < 256) octets → SpellsString item octets
-read_all item octets rest read none each = record {
-  units = read.before;
-  each = read.reaches.units;
-  text = read.reaches.parts ∙ ap (λ t. written_text read.before ++ t) none ∙ append-nil (written_text read.before);
-  value = read.value;
-  string = record { short = omega (arith, read_length item octets rest read, read.reaches.room); each = each };
 }
 
 pub read_bad : (item : RawItem) (octets rest : List ℕ) → HasRead item octets rest → IsBadEscape rest → StringFault item BadEscape

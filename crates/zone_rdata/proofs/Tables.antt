@@ -59,14 +59,6 @@ pub each_mnemonic : (p : ℕ → List ℕ → Bool) (rows : List Named) → list
 each_mnemonic p rows all n word e =
     mnemonic_by p n word (find (λ row. n == row.number) rows) (λ row found. (found_each (λ row. p row.number row.mnemonic) (λ row. n == row.number) rows row all found, found_passes (λ row. n == row.number) rows row found)) e
 
--- the mnemonic of a number is that of the row found
-pub mnemonic_found : (R : Type 0) (names : R → Named) (rows : List R) (n : ℕ) (found : Option R) → found ≡ find (λ row. n == (names row).number) rows → option_map (λ row. (names row).mnemonic) found ≡ mnemonic_among (map names rows) n
-mnemonic_found R names rows n found e = by found e ∙ ap (option_map (λ row. row.mnemonic)) (sym (find_mapped names (λ row. n == row.number) rows))
-  where
-    by : (found : Option R) → found ≡ find (λ row. n == (names row).number) rows → option_map (λ row. (names row).mnemonic) found ≡ option_map (λ row. row.mnemonic) (option_map names (find (λ row. n == (names row).number) rows))
-    by None e = ap (λ o. option_map (λ (row : Named). row.mnemonic) (option_map names o)) e
-    by (Some row) e = ap (λ o. option_map (λ (row : Named). row.mnemonic) (option_map names o)) e
-
 -- rows whose numbers ascend from above one are above it
 found_above : (low : ℕ) (rows : List Named) (q : Named → Bool) (x : Named) → ascend low rows ≡ true → find q rows ≡ Some x → low < x.number
 found_above low [] q x up e = absurd cc

@@ -1,13 +1,19 @@
 -- Uncompressed octets, field after field.
-use Rattle.std.proofs.Common.{◌≡◌, ℕ, ◌+◌, ◌<◌, ◌≤◌, List, [], ◌∷◌, ◌++◌, length, get_or, drop, Some, refl, sym, ap, ◌∙◌, subst, arith, append_assoc}
-use Rattle.std.proofs.lemmas.List.{append-nil, drop_more, drop_all}
+use Rattle.std.proofs.Common.{Option, None, ◌≡◌, ℕ, ◌+◌, ◌<◌, ◌≤◌, List, [], ◌∷◌, ◌++◌, length, get_or, drop, Some, refl, sym, ap, ◌∙◌, subst, arith, append_assoc, inl, inr, length-append}
+use Rattle.std.proofs.lemmas.List.{append-nil, drop_all, length-map}
 use Rattle.zone_rdata.specs.declared.field.Field.{Field}
-use Rattle.zone_rdata.specs.Field.{FieldValue, field_octets, octets_of, HoldEach}
+use Rattle.zone_rdata.specs.Field.{FieldValue, field_octets, octets_of, HoldEach, name, IsSent}
 use Rattle.zone_rdata.specs.Layout.{StringsLast, layout}
+use Rattle.zone_rdata.specs.Spelling.{IsCanonicalOf}
 use Rattle.zone_rdata.specs.Uncompressed.{AreSent, IsUncompressed}
 use Rattle.zone_rdata.specs.Machine.Appending.{BeginsWithValue, BeginsWithNone, AppendsValue}
+use Rattle.zone_rdata.proofs.Lists.{from_place}
 use Rattle.zone_rdata.proofs.Tables.{table_row}
-use Rattle.zone_rdata.proofs.Fronts.{value_once}
+use Rattle.zone_rdata.proofs.AnyField.{front_once, front_or_none}
+use Rattle.zone_rdata.proofs.Choices.{Choice, choice_as}
+use Rattle.zone_rdata.proofs.FieldLaws.{AreLow, FrontChoice}
+use Rattle.std.specs.List.{flat_map}
+use Rattle.zone_name.specs.Name.{folded_octet, folded_label, folded, with_length}
 
 -- octets that are a value for each field, one behind another, and their canonical octets
 abbrev pub Reads : List Field → List ℕ → List ℕ → Type 0
@@ -43,7 +49,7 @@ from_reads (f ∷ row) octets canonical r =
 reads_once : (row : List Field) (octets a b : List ℕ) → Reads row octets a → Reads row octets b → a ≡ b
 reads_once [] octets a b x y = x.1 ∙ sym y.1
 reads_once (f ∷ row) octets a b x y =
-    let same = value_once f octets x.0 y.0 x.1.0 y.1.0 x.1.2 y.1.2 in
+    let same = front_once f octets x.0 y.0 x.1.0 y.1.0 x.1.2 y.1.2 in
     let after = reads_once row y.1.0 x.1.1 y.1.1 (subst (λ r. Reads row r x.1.1) same.1 x.1.4) y.1.4 in
     x.1.3 ∙ ap (λ v. field_octets v ++ x.1.1) same.0 ∙ ap (λ t. field_octets y.0 ++ t) after ∙ sym y.1.3
 
@@ -52,6 +58,10 @@ pub canonical-once : (class kind : ℕ) (row : List Field) (octets a b : List �
 canonical-once class kind row octets a b e x y =
     let last = (table_row class kind row e).last in
     reads_once row octets a b (to_reads row octets a last x) (to_reads row octets b last y)
+
+pub canonical_same : (class kind : ℕ) (laid : Option (List Field)) (octets a b : List ℕ) → laid ≡ layout class kind → IsCanonicalOf laid octets a → IsCanonicalOf laid octets b → a ≡ b
+canonical_same class kind None octets a b e x y = x ∙ sym y
+canonical_same class kind (Some row) octets a b e x y = canonical-once class kind row octets a b (sym e) x y
 
 -- the fields up to a place were read, and whatever the others read goes on from there
 pub record HaveTaken (row : List Field) (octets : List ℕ) (later : List Field) (rest out : List ℕ) : Type 0 where
@@ -68,21 +78,18 @@ taken_step row octets f later rest after out new taken grows =
           let b = taken.back whole h in
           let j = b.1 in
           let n = j.1 in
-          let same = value_once f rest j.0 v n.0 after n.2 grows.begins in
+          let same = front_once f rest j.0 v n.0 after n.2 grows.begins in
           (n.1, subst (λ r. Reads later r n.1) same.1 n.4, b.2 ∙ ap (λ t. out ++ t) (n.3 ∙ ap (λ u. field_octets u ++ n.1) same.0) ∙ sym (append_assoc out (field_octets v) n.1) ∙ ap (λ t. t ++ n.1) (sym grows.written));
     }
 
-here_at : (row : List Field) (i : ℕ) (f d : Field) → i < length row → f ≡ get_or row i d → drop i row ≡ f ∷ drop (i + 1) row
-here_at row i f d lt found = drop_more row i d lt ∙ ap (λ x. x ∷ drop (i + 1) row) (sym found)
-
 pub taken_more : (row : List Field) (octets : List ℕ) (i : ℕ) (f d : Field) (rest after out new : List ℕ) → i < length row → f ≡ get_or row i d → HaveTaken row octets (drop i row) rest out → AppendsValue f rest after out new → HaveTaken row octets (drop (i + 1) row) after new
 taken_more row octets i f d rest after out new lt found taken grows =
-    taken_step row octets f (drop (i + 1) row) rest after out new (subst (λ r. HaveTaken row octets r rest out) (here_at row i f d lt found) taken) grows
+    taken_step row octets f (drop (i + 1) row) rest after out new (subst (λ r. HaveTaken row octets r rest out) (from_place row i f d lt found) taken) grows
 
 pub taken_bad : (row own : List Field) (octets : List ℕ) (i : ℕ) (f d : Field) (rest out : List ℕ) → row ≡ own → StringsLast own → i < length row → f ≡ get_or row i d → HaveTaken row octets (drop i row) rest out → BeginsWithNone f rest → (canonical : List ℕ) → IsUncompressed own octets canonical → ⊥
 taken_bad row own octets i f d rest out same last lt found taken none canonical u =
     let reads = to_reads row octets canonical (subst StringsLast (sym same) last) (subst (λ r. IsUncompressed r octets canonical) (sym same) u) in
-    let b = (subst (λ r. HaveTaken row octets r rest out) (here_at row i f d lt found) taken).back canonical reads in
+    let b = (subst (λ r. HaveTaken row octets r rest out) (from_place row i f d lt found) taken).back canonical reads in
     none b.1.0 b.1.1.0 b.1.1.2
 
 nothing_later : (row : List Field) (octets : List ℕ) (i : ℕ) (rest out : List ℕ) → length row ≤ i → HaveTaken row octets (drop i row) rest out → HaveTaken row octets [] rest out
@@ -102,3 +109,45 @@ taken_over row own octets i rest out same last past taken some canonical u =
     let reads = to_reads row octets canonical (subst StringsLast (sym same) last) (subst (λ r. IsUncompressed r octets canonical) (sym same) u) in
     let b = (nothing_later row octets i rest out past taken).back canonical reads in
     omega (arith, ap length b.1.0)
+
+-- ---- as many octets are kept as are sent
+length_frames_folded : (sent : List (List ℕ)) → length (flat_map with_length (folded sent)) ≡ length (flat_map with_length sent)
+length_frames_folded [] = refl
+length_frames_folded (label ∷ sent) = omega (arith, length-append (folded_label label) (flat_map with_length (folded sent)), length-append label (flat_map with_length sent), length-map label folded_octet, length_frames_folded sent)
+
+sent_length : (v : FieldValue) (front : List ℕ) → IsSent v front → length (field_octets v) ≡ length front
+sent_length (name labels) front s = omega (arith, ap length s.2, ap (λ ls. length (flat_map with_length ls)) s.1, length_frames_folded s.0, length-append (flat_map with_length s.0) (0 ∷ []), length-append (flat_map with_length labels) (0 ∷ []))
+sent_length v front s = ap length (sym s)
+
+are_sent_length : (values : List FieldValue) (octets : List ℕ) → AreSent values octets → length (octets_of values) ≡ length octets
+are_sent_length [] octets s = ap length (sym s)
+are_sent_length (v ∷ values) octets s = omega (arith, sent_length v s.0 s.2, are_sent_length values s.1 s.4, ap length s.3, length-append s.0 s.1, length-append (field_octets v) (octets_of values))
+
+pub uncompressed_length : (fields : List Field) (octets canonical : List ℕ) → IsUncompressed fields octets canonical → length canonical ≡ length octets
+uncompressed_length fields octets canonical u = ap length u.whole ∙ are_sent_length u.values octets u.sent
+
+-- ---- octets have a canonical form in a layout or none
+low_behind : (front rest : List ℕ) → AreLow (front ++ rest) → AreLow rest
+low_behind [] rest low = low
+low_behind (c ∷ front) rest low = low_behind front rest low.1
+
+after_value : (f : Field) (row : List Field) (octets : List ℕ) (value : FieldValue) (rest : List ℕ) → BeginsWithValue f octets value rest → Choice (Reads row rest) → Choice (Reads (f ∷ row) octets)
+after_value f row octets value rest begins (inl found) = inl (field_octets value ++ found.0, (value, (rest, found.0, begins, refl, found.1)))
+after_value f row octets value rest begins (inr none) = inr (λ canonical h. none h.1.1 (subst (λ r. Reads row r h.1.1) (front_once f octets h.0 value h.1.0 rest h.1.2 begins).1 h.1.4))
+
+first_value : (f : Field) (row : List Field) (octets : List ℕ) → AreLow octets → FrontChoice f octets → ((rest : List ℕ) → AreLow rest → Choice (Reads row rest)) → Choice (Reads (f ∷ row) octets)
+first_value f row octets low (inr none) others = inr (λ canonical h. none h.0 h.1.0 h.1.2)
+first_value f row octets low (inl found) others =
+    let begins = found.1.1 in
+    after_value f row octets found.0 found.1.0 begins (others found.1.0 (low_behind begins.front found.1.0 (subst AreLow begins.parts low)))
+
+nothing_left : (octets : List ℕ) → Choice (Reads [] octets)
+nothing_left [] = inl ([], (refl, refl))
+nothing_left (c ∷ octets) = inr (λ canonical h. absurd (omega (arith, ap length h.0)))
+
+reads_or_not : (row : List Field) (octets : List ℕ) → AreLow octets → Choice (Reads row octets)
+reads_or_not [] octets low = nothing_left octets
+reads_or_not (f ∷ row) octets low = first_value f row octets low (front_or_none f octets low) (λ rest below. reads_or_not row rest below)
+
+pub canonical_or_not : (class kind : ℕ) (row : List Field) (octets : List ℕ) → layout class kind ≡ Some row → AreLow octets → Choice (IsUncompressed row octets)
+canonical_or_not class kind row octets e low = choice_as (λ canonical. canonical) (from_reads row octets) (λ none canonical u. none canonical (to_reads row octets canonical (table_row class kind row e).last u)) (reads_or_not row octets low)

@@ -2,13 +2,14 @@
 use Rattle.std.proofs.Common.{◌≡◌, ℕ, zero, suc, ◌+◌, ◌<◌, List, [], ◌∷◌, ◌++◌, length, get_or, take, drop, map, refl, sym, ap, ◌∙◌, subst, arith, append_assoc, codes, decimal, Some, ◌/◌, ◌%◌}
 use Rattle.std.specs.Prelude.{slice_index, Result, Ok, Err, OnOk, IsOk}
 use Rattle.hex.specs.Hex.{lower_digits, encode_with, encode_lower}
-use Rattle.std.specs.List.{flat_map, AllByRecursion, join_with_byte}
-use Rattle.std.proofs.lemmas.List.{take_at, drop_at, drop_more, append-nil, take_more}
+use Rattle.std.specs.List.{flat_map, join_with_byte}
+use Rattle.std.proofs.lemmas.List.{take_at, drop_at, append-nil, take_more}
 use Rattle.zone_rdata.specs.declared.field.Field.{Field}
 use Rattle.zone_rdata.specs.Field.{field_octets, octets_of, field_at, values_of, field_text}
 use Rattle.zone_rdata.specs.Layout.{AreLaidOut}
 use Rattle.zone_rdata.specs.Machine.Printing.{BeginsWithField, after_field, spaced, generic_head, laid_out_text}
 use Rattle.zone_rdata.specs.Text.{generic_text}
+use Rattle.zone_rdata.proofs.Lists.{from_place}
 
 -- octets of a layout begin with its first field, and go on with the others
 pub first_field : (f : Field) (row : List Field) (octets : List ℕ) → AreLaidOut (f ∷ row) octets → BeginsWithField f octets × AreLaidOut row (after_field f octets)
@@ -45,7 +46,7 @@ pub record HavePrinted (row : List Field) (whole : List ℕ) (i : ℕ) (rest tex
 
 pub printed_more : (row : List Field) (whole rest text after : List ℕ) (i : ℕ) (f d : Field) → i < length row → f ≡ get_or row i d → HavePrinted row whole i rest text → after ≡ after_field f rest → HavePrinted row whole (i + 1) after (text ++ (spaced i [] ++ field_text (field_at f rest)))
 printed_more row whole rest text after i f d lt at so_far is =
-    let here : drop i row ≡ f ∷ drop (i + 1) row = drop_more row i d lt ∙ ap (λ x. x ∷ drop (i + 1) row) (sym at) in
+    let here : drop i row ≡ f ∷ drop (i + 1) row = from_place row i f d lt at in
     let laid = first_field f (drop (i + 1) row) rest (subst (λ r. AreLaidOut r rest) here so_far.laid) in
     let own = field_text (field_at f rest) in
     let others = map field_text (values_of (drop (i + 1) row) (after_field f rest)) in
@@ -80,9 +81,3 @@ hex_started = refl
 pub at_is_ok : {T E : Type 0} (r : Result T E) (P : Type 0) → IsOk r → OnOk r P → P
 at_is_ok (Ok x) P h p = p
 at_is_ok (Err e) P h p = absurd cc
-
--- the field at a place is sized, and the rest begins with it
-pub each_at : {X : Type 0} (P : X → Type 0) (l : List X) (i : ℕ) (d : X) → i < length l → AllByRecursion P l → P (get_or l i d)
-each_at P [] i d lt each = absurd (omega arith)
-each_at P (x ∷ l) zero d lt each = each.0
-each_at P (x ∷ l) (suc i) d lt each = each_at P l i d (omega arith) each.1

@@ -1,9 +1,10 @@
 -- A text states a time or none.
-use Rattle.std.proofs.Common.{◌≡◌, ℕ, ◌<◌, Bool, true, false, List, [], ◌∷◌, ◌++◌, length, Option, Some, None, ◌⊎◌, inl, inr, refl, sym, ap, ◌∙◌, subst, arith, append_assoc}
+use Rattle.std.proofs.Common.{◌≡◌, ℕ, ◌<◌, Bool, true, false, List, [], ◌∷◌, ◌++◌, length, Option, Some, None, inl, inr, refl, sym, ap, ◌∙◌, subst, arith, append_assoc}
 use Rattle.std.specs.List.{AllByRecursion, flat_map, sum_by}
 use Rattle.std.proofs.lemmas.List.{append-nil}
 use Rattle.zone_name.specs.Spelling.{is_digit}
 use Rattle.zone_rdata.specs.Number.{Group, IsTimeGroup, group_text, group_seconds, unit_seconds, IsDecimal, IsTime, plain, grouped}
+use Rattle.zone_rdata.proofs.Choices.{Choice, Decided}
 use Rattle.zone_rdata.proofs.Decimal.{digits_push}
 use Rattle.zone_rdata.proofs.GenericLaws.{decimal_or_not}
 use Rattle.zone_rdata.proofs.Times.{AreDigits, run_split, no_run, run_nil, unit_no_digit}
@@ -14,9 +15,6 @@ record AreGroups (text : List ℕ) : Type 0 where
   pub each : AllByRecursion IsTimeGroup groups
   pub parts : text ≡ flat_map group_text groups
 
-abbrev Choice : List ℕ → Type 0
-Choice text = AreGroups text ⊎ (AreGroups text → ⊥)
-
 -- a group's text before others
 first_text : (g : Group) (groups : List Group) → flat_map group_text (g ∷ groups) ≡ g.digits ++ g.letter ∷ flat_map group_text groups
 first_text g groups = append_assoc g.digits (g.letter ∷ []) (flat_map group_text groups)
@@ -26,7 +24,7 @@ no_unit_by : (digits : List ℕ) (groups : List Group) → AreDigits digits → 
 no_unit_by digits [] all some each e = omega (arith, ap length e)
 no_unit_by digits (g ∷ groups) all some each e = no_run g.digits g.letter (flat_map group_text groups) digits all (unit_no_digit g.letter g.unit each.0.lasts) (sym (e ∙ first_text g groups))
 
-end_by : (digits : List ℕ) → AreDigits digits → Choice (digits ++ [])
+end_by : (digits : List ℕ) → AreDigits digits → Decided (AreGroups (digits ++ []))
 end_by [] all = inl (record { groups = []; each = tt; parts = refl })
 end_by (d ∷ digits) all = inr (λ h. no_unit_by (d ∷ digits) h.groups all (omega arith) h.each (sym (append-nil (d ∷ digits)) ∙ h.parts))
 
@@ -51,7 +49,7 @@ first_group_by digits rest c (g ∷ groups) all no_digit each e =
 first_group : (digits rest : List ℕ) (c : ℕ) → AreDigits digits → is_digit c ≡ false → AreGroups (digits ++ c ∷ rest) → FirstGroup digits c rest
 first_group digits rest c all no_digit h = first_group_by digits rest c h.groups all no_digit h.each h.parts
 
-unit_by : (digits rest : List ℕ) (c : ℕ) (unit : Option ℕ) → AreDigits digits → 0 < length digits → is_digit c ≡ false → unit_seconds c ≡ unit → Choice rest → Choice (digits ++ c ∷ rest)
+unit_by : (digits rest : List ℕ) (c : ℕ) (unit : Option ℕ) → AreDigits digits → 0 < length digits → is_digit c ≡ false → unit_seconds c ≡ unit → Decided (AreGroups rest) → Decided (AreGroups (digits ++ c ∷ rest))
 unit_by digits rest c None all some no_digit e choice = inr (λ h.
     let first = first_group digits rest c all no_digit h in
     let clash : None ≡ Some first.unit = sym e ∙ first.lasts in
@@ -65,15 +63,15 @@ unit_by digits rest c (Some unit) all some no_digit e (inl found) =
       parts = ap (λ t. digits ++ c ∷ t) found.parts ∙ sym (first_text g found.groups);
     })
 
-letter_by : (digits rest : List ℕ) (c : ℕ) → AreDigits digits → is_digit c ≡ false → Choice rest → Choice (digits ++ c ∷ rest)
+letter_by : (digits rest : List ℕ) (c : ℕ) → AreDigits digits → is_digit c ≡ false → Decided (AreGroups rest) → Decided (AreGroups (digits ++ c ∷ rest))
 letter_by [] rest c all no_digit choice = inr (λ h. absurd (let first = first_group [] rest c tt no_digit h in omega (arith, first.some)))
 letter_by (d ∷ digits) rest c all no_digit choice = unit_by (d ∷ digits) rest c (unit_seconds c) all (omega arith) no_digit refl choice
 
-octet_by : (digits rest : List ℕ) (c : ℕ) (b : Bool) → AreDigits digits → is_digit c ≡ b → (AreDigits (digits ++ c ∷ []) → Choice ((digits ++ c ∷ []) ++ rest)) → Choice rest → Choice (digits ++ c ∷ rest)
-octet_by digits rest c true all e goes choice = subst Choice (append_assoc digits (c ∷ []) rest) (goes (digits_push digits c all e))
+octet_by : (digits rest : List ℕ) (c : ℕ) (b : Bool) → AreDigits digits → is_digit c ≡ b → (AreDigits (digits ++ c ∷ []) → Decided (AreGroups ((digits ++ c ∷ []) ++ rest))) → Decided (AreGroups rest) → Decided (AreGroups (digits ++ c ∷ rest))
+octet_by digits rest c true all e goes choice = subst (λ t. Decided (AreGroups t)) (append_assoc digits (c ∷ []) rest) (goes (digits_push digits c all e))
 octet_by digits rest c false all e goes choice = letter_by digits rest c all e choice
 
-groups_or_not : (text digits : List ℕ) → AreDigits digits → Choice (digits ++ text)
+groups_or_not : (text digits : List ℕ) → AreDigits digits → Decided (AreGroups (digits ++ text))
 groups_or_not [] digits all = end_by digits all
 groups_or_not (c ∷ text) digits all = octet_by digits text c (is_digit c) all refl (groups_or_not text (digits ++ c ∷ [])) (groups_or_not text [] tt)
 
@@ -85,7 +83,7 @@ grouped_by : (text : List ℕ) → ((n : ℕ) → IsDecimal text n → ⊥) → 
 grouped_by text none no_groups n (plain h) = none n h
 grouped_by text none no_groups n (grouped groups some each parts sums) = no_groups (record { groups = groups; each = each; parts = parts })
 
-time_by : (c : ℕ) (text : List ℕ) → ((n : ℕ) × IsDecimal (c ∷ text) n) ⊎ ((n : ℕ) → IsDecimal (c ∷ text) n → ⊥) → Choice (c ∷ text) → ((n : ℕ) × IsTime (c ∷ text) n) ⊎ ((n : ℕ) → IsTime (c ∷ text) n → ⊥)
+time_by : (c : ℕ) (text : List ℕ) → Choice (IsDecimal (c ∷ text)) → Decided (AreGroups (c ∷ text)) → Choice (IsTime (c ∷ text))
 time_by c text (inl found) choice = inl (found.0, plain found.1)
 time_by c text (inr none) (inl are) = inl (sum_by group_seconds are.groups, grouped are.groups (some_groups c text are.groups are.parts) are.each are.parts refl)
 time_by c text (inr none) (inr no_groups) = inr (grouped_by (c ∷ text) none no_groups)
@@ -95,6 +93,6 @@ no_time n (plain h) = omega (arith, h.some)
 no_time n (grouped [] some each parts sums) = omega arith
 no_time n (grouped (g ∷ groups) some each parts sums) = run_nil g.digits g.letter (flat_map group_text groups) (sym (first_text g groups) ∙ sym parts)
 
-pub time_or_not : (text : List ℕ) → ((n : ℕ) × IsTime text n) ⊎ ((n : ℕ) → IsTime text n → ⊥)
+pub time_or_not : (text : List ℕ) → Choice (IsTime text)
 time_or_not [] = inr no_time
 time_or_not (c ∷ text) = time_by c text (decimal_or_not (c ∷ text)) (groups_or_not (c ∷ text) [] tt)

@@ -1,5 +1,5 @@
 -- Times read octet by octet, and that a text has one reading.
-use Rattle.std.proofs.Common.{◌≡◌, ℕ, ◌+◌, ◌-◌, ◌*◌, ◌<◌, ◌≤◌, min, true, false, List, [], ◌∷◌, ◌++◌, length, Option, Some, None, refl, sym, ap, ◌∙◌, subst, arith, append_assoc, length-append, inl, inr, IsTrue, zero-add, take, drop, get_or}
+use Rattle.std.proofs.Common.{◌≡◌, ℕ, ◌+◌, ◌*◌, ◌<◌, ◌≤◌, min, true, false, List, [], ◌∷◌, ◌++◌, length, Option, Some, None, refl, sym, ap, ◌∙◌, subst, arith, append_assoc, length-append, inl, inr, IsTrue, zero-add, take, drop, get_or}
 use Rattle.std.specs.Prelude.{IfNone}
 use Rattle.std.specs.List.{AllByRecursion, flat_map, sum_by}
 use Rattle.std.proofs.lemmas.List.{append-nil, take-append-drop, drop_more, take_all}
@@ -8,7 +8,6 @@ use Rattle.std.proofs.lemmas.Bool.{cases_lt}
 use Rattle.std.proofs.lemmas.Bool.Decides.{nat_tests}
 use Rattle.std.proofs.lemmas.List.Sums.{sum_by-append}
 use Rattle.std.proofs.Math.Nat.{le-mul_of_pos_right, min-eq_left, min-eq_right, mul-le-mul_right}
-use Rattle.zone_rdata.proofs.Decimal.{value_push, digits_push}
 use Rattle.zone_name.specs.Spelling.{is_digit}
 use Rattle.zone_rdata.specs.declared.time.Progress.{Progress}
 use Rattle.zone_rdata.specs.Number.{Group, IsTimeGroup, group_text, group_seconds, decimal_value, unit_seconds, IsTime, plain, grouped}
@@ -75,22 +74,6 @@ stops text rest c n p no_digit none reads (plain h) = no_run text c rest (text +
 stops text rest c n p no_digit none reads (grouped groups some each parts sums) =
     let cut : flat_map group_text reads.groups ++ (reads.digits ++ c ∷ rest) ≡ flat_map group_text groups = sym (append_assoc (flat_map group_text reads.groups) reads.digits (c ∷ rest)) ∙ ap (λ t. t ++ c ∷ rest) (sym reads.parts) ∙ parts in
     groups_run reads.groups groups reads.digits c rest reads.each each reads.last no_digit (λ opens u e. none (let k = ap length reads.parts in let l = length-append (flat_map group_text reads.groups) reads.digits in omega arith) (reads.opened.1 opens) u e) cut
-
--- the digits grow
-pub more_digits : (text : List ℕ) (c : ℕ) (p next : Progress) → is_digit c ≡ true → next.total ≡ p.total → next.grouped ≡ p.grouped → next.number ≡ min 4294967296 (p.number * 10 + (c - 48)) → next.open ≡ true → Reads text p → Reads (text ++ c ∷ []) next
-more_digits text c p next digit total groups number opens reads =
-    let value = value_push reads.digits c 0 in
-    record {
-      groups = reads.groups;
-      digits = reads.digits ++ c ∷ [];
-      parts = ap (λ t. t ++ c ∷ []) reads.parts ∙ append_assoc (flat_map group_text reads.groups) reads.digits (c ∷ []);
-      each = reads.each;
-      last = digits_push reads.digits c reads.last digit;
-      total = total ∙ reads.total;
-      number = rw value (let a = reads.number in omega arith);
-      grouped = (λ h. reads.grouped.0 (sym groups ∙ h), λ h. groups ∙ reads.grouped.1 h);
-      opened = (λ h. let l = length-append reads.digits (c ∷ []) in omega arith, λ h. opens);
-    }
 
 capped_sum : (C T N u : ℕ) → 0 < u → min C (min C T + min C N * u) ≡ min C (T + N * u)
 capped_sum C T N u some = elim (cases_lt C N) [

@@ -1,18 +1,17 @@
 -- Data from uncompressed octets.
-use Rattle.std.proofs.Common.{◌≡◌, ℕ, ◌<◌, ◌≤◌, List, length, Option, Some, None, sym, ap, ◌∙◌, subst, arith}
+use Rattle.std.proofs.Common.{◌≡◌, ℕ, ◌<◌, ◌≤◌, List, length, Option, Some, None, sym, subst, arith}
 use Rattle.std.specs.Prelude.{IfSome, option_map}
 use Rattle.std.specs.List.{AllByRecursion}
 use Rattle.zone_rdata.specs.declared.fault.Fault.{Fault}
 use Rattle.zone_rdata.specs.declared.fault.Fault.TheVariants.{BadRdata}
 use Rattle.zone_rdata.specs.declared.field.Field.{Field}
 use Rattle.zone_rdata.specs.declared.layout.Layout.{Layout}
-use Rattle.zone_rdata.specs.Layout.{IsData, IsSized, StringsLast, AreLaidOut, fields_of, layout}
+use Rattle.zone_rdata.specs.Layout.{IsData, IsSized, StringsLast, fields_of, layout}
 use Rattle.zone_rdata.specs.Spelling.{IsCanonicalOf}
 use Rattle.zone_rdata.specs.Wire.{IsWireData, IsWireFault, no_value}
-use Rattle.zone_rdata.proofs.Fields.{AreFor, laid_out}
+use Rattle.zone_rdata.proofs.Layouts.{AreFor, canonical_laid, canonical_length}
 use Rattle.zone_rdata.proofs.Tables.{table_row}
-use Rattle.zone_rdata.proofs.SentLengths.{uncompressed_length}
-use Rattle.zone_rdata.proofs.Taken.{canonical-once}
+use Rattle.zone_rdata.proofs.Taken.{canonical_same}
 
 -- in a layout of the table strings stand last
 pub table_last : (class kind : ℕ) (laid : Option Layout) → option_map fields_of laid ≡ layout class kind → IfSome laid (λ l. StringsLast (fields_of l))
@@ -24,14 +23,6 @@ pub table_sized : (class kind : ℕ) (laid : Option Layout) → option_map field
 table_sized class kind None e = tt
 table_sized class kind (Some l) e = (table_row class kind (fields_of l) (sym e)).sized
 
-canonical_laid : (class kind : ℕ) (laid : Option (List Field)) (octets canonical : List ℕ) → laid ≡ layout class kind → IsCanonicalOf laid octets canonical → AreFor laid canonical
-canonical_laid class kind None octets canonical e is = tt
-canonical_laid class kind (Some row) octets canonical e is = subst (AreLaidOut row) (sym is.whole) (laid_out row is.values (table_row class kind row (sym e)).last is.held)
-
-canonical_length : (laid : Option (List Field)) (octets canonical : List ℕ) → IsCanonicalOf laid octets canonical → length canonical ≡ length octets
-canonical_length None octets canonical is = ap length is
-canonical_length (Some row) octets canonical is = uncompressed_length row octets canonical is
-
 pub canonical_data : (class kind : ℕ) (laid : Option (List Field)) (octets canonical : List ℕ) → laid ≡ layout class kind → IsCanonicalOf laid octets canonical → length octets ≤ 65535 → AllByRecursion (λ c. c < 256) canonical → IsData class kind canonical
 canonical_data class kind laid octets canonical e is short each = record {
   short = omega (arith, canonical_length laid octets canonical is);
@@ -42,12 +33,8 @@ canonical_data class kind laid octets canonical e is short each = record {
 pub canonical_is : (class kind : ℕ) (laid : Option (List Field)) (octets canonical : List ℕ) → laid ≡ layout class kind → IsCanonicalOf laid octets canonical → IsCanonicalOf (layout class kind) octets canonical
 canonical_is class kind laid octets canonical e is = subst (λ l. IsCanonicalOf l octets canonical) e is
 
-only_by : (class kind : ℕ) (laid : Option (List Field)) (octets a b : List ℕ) → laid ≡ layout class kind → IsCanonicalOf laid octets a → IsCanonicalOf laid octets b → a ≡ b
-only_by class kind None octets a b e x y = x ∙ sym y
-only_by class kind (Some row) octets a b e x y = canonical-once class kind row octets a b (sym e) x y
-
 pub canonical_only : (class kind : ℕ) (laid : Option (List Field)) (octets a b : List ℕ) → laid ≡ layout class kind → IsCanonicalOf laid octets a → IsCanonicalOf (layout class kind) octets b → a ≡ b
-canonical_only class kind laid octets a b e x y = only_by class kind laid octets a b e x (subst (λ l. IsCanonicalOf l octets b) (sym e) y)
+canonical_only class kind laid octets a b e x y = canonical_same class kind laid octets a b e x (subst (λ l. IsCanonicalOf l octets b) (sym e) y)
 
 pub wire_fault : (class kind : ℕ) (laid : Option (List Field)) (octets : List ℕ) (fault : Fault) → laid ≡ layout class kind → length octets ≤ 65535 → (fault ≡ BadRdata) × ((canonical : List ℕ) → IsCanonicalOf laid octets canonical → ⊥) → IsWireFault (layout class kind) octets fault
 wire_fault class kind laid octets fault e short bad =

@@ -10,19 +10,16 @@ use Rattle.zone_rdata.specs.Table.{Named, classes, type_names, ascend}
 use Rattle.zone_rdata.specs.Words.{IsKind, is_meta, IsMnemonic, IsNumbered, IsWordAmong, by_mnemonic, by_number, IsClassWord, IsKindWord, IsWordFault, nameless, beyond, for_queries}
 use Rattle.zone_rdata.specs.declared.fault.Fault.{Fault}
 use Rattle.zone_rdata.specs.declared.fault.Fault.TheVariants.{UnknownType, MetaType}
+use Rattle.zone_rdata.proofs.Choices.{Choice, Decided, choice_as, true_or_not}
 use Rattle.zone_rdata.proofs.GenericLaws.{decimal_or_not}
 use Rattle.zone_rdata.proofs.Tables.{row_is, no_row}
 
 -- two texts are equal or not
-same_by : (a b : List ℕ) (t : Bool) → bytes_eq a b ≡ t → (a ≡ b) ⊎ (a ≡ b → ⊥)
-same_by a b true e = inl ((bytes_eq-Decides a b).0 e)
-same_by a b false e = inr (λ h. false≢true (sym e ∙ (bytes_eq-Decides a b).1 h))
-
-pub same_or_not : (a b : List ℕ) → (a ≡ b) ⊎ (a ≡ b → ⊥)
-same_or_not a b = same_by a b (bytes_eq a b) refl
+pub same_or_not : (a b : List ℕ) → Decided (a ≡ b)
+same_or_not a b = elim (true_or_not (bytes_eq a b)) [ inl same ↦ inl ((bytes_eq-Decides a b).0 same) | inr other ↦ inr (λ h. other ((bytes_eq-Decides a b).1 h)) ]
 
 -- ---- a mnemonic
-mnemonic_by : (rows : List Named) → ascend 0 rows ≡ true → (word : List ℕ) (found : Option Named) → find (λ row. bytes_eq (folded_label word) (folded_label row.mnemonic)) rows ≡ found → ((n : ℕ) × IsMnemonic rows word n) ⊎ ((n : ℕ) → IsMnemonic rows word n → ⊥)
+mnemonic_by : (rows : List Named) → ascend 0 rows ≡ true → (word : List ℕ) (found : Option Named) → find (λ row. bytes_eq (folded_label word) (folded_label row.mnemonic)) rows ≡ found → Choice (IsMnemonic rows word)
 mnemonic_by rows up word None e = inr (no_row rows word e)
 mnemonic_by rows up word (Some row) e = inl (row.number, row_is rows up word row e)
 
@@ -36,43 +33,43 @@ take_is name word n x = ap (take (length name)) x.parts ∙ take_at x.front x.di
 drop_is : (name word : List ℕ) (n : ℕ) (x : IsNumbered name word n) → drop (length name) word ≡ x.digits
 drop_is name word n x = ap (drop (length name)) x.parts ∙ drop_at x.front x.digits (length name) (front_is name word n x)
 
-numbered_by : (name word : List ℕ) → (folded_label (take (length name) word) ≡ folded_label name) ⊎ (folded_label (take (length name) word) ≡ folded_label name → ⊥) → ((n : ℕ) × IsDecimal (drop (length name) word) n) ⊎ ((n : ℕ) → IsDecimal (drop (length name) word) n → ⊥) → ((n : ℕ) × IsNumbered name word n) ⊎ ((n : ℕ) → IsNumbered name word n → ⊥)
-numbered_by name word (inr other) digits = inr (λ n x. other (ap folded_label (take_is name word n x) ∙ x.named))
-numbered_by name word (inl same) (inr none) = inr (λ n x. none n (subst (λ t. IsDecimal t n) (sym (drop_is name word n x)) x.number))
-numbered_by name word (inl same) (inl found) = inl (found.0, record { front = take (length name) word; digits = drop (length name) word; parts = sym (take-append-drop (length name) word); named = same; number = found.1 })
-
-numbered_or_not : (name word : List ℕ) → ((n : ℕ) × IsNumbered name word n) ⊎ ((n : ℕ) → IsNumbered name word n → ⊥)
-numbered_or_not name word = numbered_by name word (same_or_not (folded_label (take (length name) word)) (folded_label name)) (decimal_or_not (drop (length name) word))
+numbered_or_not : (name word : List ℕ) → Choice (IsNumbered name word)
+numbered_or_not name word =
+    let front = take (length name) word in
+    let digits = drop (length name) word in
+    elim (same_or_not (folded_label front) (folded_label name)) [
+      | inr other ↦ inr (λ n x. other (ap folded_label (take_is name word n x) ∙ x.named))
+      | inl same ↦ choice_as (λ n. n) (λ n h. record { front = front; digits = digits; parts = sym (take-append-drop (length name) word); named = same; number = h }) (λ none n x. none n (subst (λ t. IsDecimal t n) (sym (drop_is name word n x)) x.number)) (decimal_or_not digits)
+    ]
 
 -- ---- words
 no_word : (rows : List Named) (name word : List ℕ) → ((n : ℕ) → IsMnemonic rows word n → ⊥) → ((n : ℕ) → IsNumbered name word n → ⊥) → (n : ℕ) → IsWordAmong rows name word n → ⊥
 no_word rows name word none none' n (by_mnemonic x) = none n x
 no_word rows name word none none' n (by_number x) = none' n x
 
-word_by : (rows : List Named) (name word : List ℕ) → ((n : ℕ) × IsMnemonic rows word n) ⊎ ((n : ℕ) → IsMnemonic rows word n → ⊥) → ((n : ℕ) × IsNumbered name word n) ⊎ ((n : ℕ) → IsNumbered name word n → ⊥) → ((n : ℕ) × IsWordAmong rows name word n) ⊎ ((n : ℕ) → IsWordAmong rows name word n → ⊥)
+word_by : (rows : List Named) (name word : List ℕ) → Choice (IsMnemonic rows word) → Choice (IsNumbered name word) → Choice (IsWordAmong rows name word)
 word_by rows name word (inl found) numbered = inl (found.0, by_mnemonic found.1)
 word_by rows name word (inr none) (inl found) = inl (found.0, by_number found.1)
 word_by rows name word (inr none) (inr none') = inr (no_word rows name word none none')
 
-word_or_not : (rows : List Named) (name : List ℕ) → ascend 0 rows ≡ true → (word : List ℕ) → ((n : ℕ) × IsWordAmong rows name word n) ⊎ ((n : ℕ) → IsWordAmong rows name word n → ⊥)
+word_or_not : (rows : List Named) (name : List ℕ) → ascend 0 rows ≡ true → (word : List ℕ) → Choice (IsWordAmong rows name word)
 word_or_not rows name up word = word_by rows name word (mnemonic_by rows up word (find (λ row. bytes_eq (folded_label word) (folded_label row.mnemonic)) rows) refl) (numbered_or_not name word)
 
-pub class_or_not : (word : List ℕ) → ((n : ℕ) × IsClassWord word n) ⊎ ((n : ℕ) → IsClassWord word n → ⊥)
+pub class_or_not : (word : List ℕ) → Choice (IsClassWord word)
 class_or_not word = word_or_not classes (codes "CLASS") refl word
 
-pub kind_or_not : (word : List ℕ) → ((n : ℕ) × IsKindWord word n) ⊎ ((n : ℕ) → IsKindWord word n → ⊥)
+pub kind_or_not : (word : List ℕ) → Choice (IsKindWord word)
 kind_or_not word = word_or_not type_names (codes "TYPE") refl word
 
 stored_by : (word : List ℕ) (n : ℕ) (meta : Bool) → is_meta n ≡ meta → IsKindWord word n → n < 65536 → ((n : ℕ) × (IsKindWord word n × IsKind n)) ⊎ ((fault : Fault) × IsWordFault word fault)
 stored_by word n true e x short = inr (MetaType, for_queries n x short (λ kind. false≢true (sym kind.stored ∙ e)))
 stored_by word n false e x short = inl (n, (x, record { short = short; stored = e }))
 
-verdict_by : (word : List ℕ) → ((n : ℕ) × IsKindWord word n) ⊎ ((n : ℕ) → IsKindWord word n → ⊥) → ((n : ℕ) × (IsKindWord word n × IsKind n)) ⊎ ((fault : Fault) × IsWordFault word fault)
-verdict_by word (inr none) = inr (UnknownType, nameless none)
-verdict_by word (inl found) = elim (cases_lt found.0 65536) [
-  | inl short ↦ stored_by word found.0 (is_meta found.0) refl found.1 short
-  | inr over ↦ inr (UnknownType, beyond found.0 found.1 over)
-]
-
 pub kind_or_word_fault : (word : List ℕ) → ((n : ℕ) × (IsKindWord word n × IsKind n)) ⊎ ((fault : Fault) × IsWordFault word fault)
-kind_or_word_fault word = verdict_by word (kind_or_not word)
+kind_or_word_fault word = elim (kind_or_not word) [
+  | inr none ↦ inr (UnknownType, nameless none)
+  | inl found ↦ elim (cases_lt found.0 65536) [
+    | inl short ↦ stored_by word found.0 (is_meta found.0) refl found.1 short
+    | inr over ↦ inr (UnknownType, beyond found.0 found.1 over)
+  ]
+]

@@ -3,7 +3,7 @@ ghost use Rattle.zone_name.specs.Common.{NothingIs};
 ghost use Rattle.zone_rdata.specs.Words.{IsClass, IsClassWord, class_text};
 
 use crate::fault::Fault;
-use crate::table::{CLASSES, mnemonic_of};
+use crate::table::{CLASSES, row_of};
 use crate::word::{number_of_word, push_numbered};
 use std::marker::Model;
 use zone_name::Sink;
@@ -63,9 +63,7 @@ impl Class {
     /// What holds of every class.
     pub fn known(self)
         ensures { IsClass self }
-    {
-        let _ = self.number;
-    }
+    {}
 
     /// The number of the class.
     pub fn number(self) -> u16
@@ -84,8 +82,8 @@ impl Class {
         ensures ok { OnOk result (S.takes out.old (class_text self) out.new) }
         ensures err { OnErr result (S.takes out.old [] out.new) }
     {
-        match mnemonic_of(CLASSES, self.number) {
-            Some(word) => out.push(word),
+        match row_of(CLASSES, self.number) {
+            Some(row) => out.push(row.mnemonic),
             None => push_numbered(b"CLASS", self.number, out),
         }
     }

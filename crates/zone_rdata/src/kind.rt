@@ -1,11 +1,10 @@
-ghost use Rattle.std.specs.Prelude.{[], ◌≡◌, ◌↔◌, ◌<◌, ℕ, IsTrue, IfSome, IfNone, IfOk, IfErr, OnOk, OnErr, option_copied, ◌≤◌};
-ghost use Rattle.zone_rdata.specs.Words.{laid_out_mnemonic, IsKind, IsKindWord, kind_text, IsWordFault};
-ghost use Rattle.zone_rdata.specs.Layout.{layout};
+ghost use Rattle.std.specs.Prelude.{[], ◌≡◌, ◌↔◌, ◌<◌, ℕ, IsTrue, IfSome, IfNone, IfOk, IfErr, OnOk, OnErr, ◌≤◌};
+ghost use Rattle.zone_rdata.specs.Words.{IsKind, IsKindWord, kind_text, IsWordFault};
 
 use crate::class::Class;
 use crate::fault::Fault;
-use crate::layout::layout_of;
-use crate::table::{TYPES, mnemonic_of};
+use crate::layout::row_in;
+use crate::table::TYPES;
 use crate::word::{number_of_word, push_numbered};
 use std::marker::Model;
 use zone_name::Sink;
@@ -69,9 +68,7 @@ impl Kind {
     /// What holds of every type.
     pub fn known(self)
         ensures { IsKind self }
-    {
-        let _ = self.number;
-    }
+    {}
 
     /// The number of the type.
     pub fn number(self) -> u16
@@ -88,13 +85,6 @@ impl Kind {
         matches!(self.number, SOA)
     }
 
-    /// The mnemonic, where the type has a layout in the class.
-    fn printed_mnemonic(self, class: Class) -> Option<&'static [u8]>
-        ensures { option_copied result ≡ laid_out_mnemonic (layout class self) self }
-    {
-        layout_of(class, self).and_then(|_| mnemonic_of(TYPES, self.number))
-    }
-
     /// Appends the word that is printed in the class.
     ///
     /// # Errors
@@ -104,8 +94,8 @@ impl Kind {
         ensures ok { OnOk result (S.takes out.old (kind_text class self) out.new) }
         ensures err { OnErr result (S.takes out.old [] out.new) }
     {
-        match self.printed_mnemonic(class) {
-            Some(word) => out.push(word),
+        match row_in(class, self) {
+            Some(row) => out.push(row.mnemonic),
             None => push_numbered(b"TYPE", self.number, out),
         }
     }

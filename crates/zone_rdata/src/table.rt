@@ -1,7 +1,7 @@
 //! The types and the classes that have a mnemonic, a row each (RFC 1035 3.2.2, 3.2.4).
-ghost use Rattle.std.specs.Prelude.{◌≡◌, ◌==◌, map, option_copied};
+ghost use Rattle.std.specs.Prelude.{◌≡◌, ◌==◌, option_copied};
 ghost use Rattle.std.specs.List.{find};
-ghost use Rattle.zone_rdata.specs.Table.{Named, mnemonic_among};
+ghost use Rattle.zone_rdata.specs.Table.{Named};
 
 use crate::field::Field;
 
@@ -164,12 +164,4 @@ pub(crate) fn row_of<R: Row>(rows: &[R], number: u16) -> Option<&R>
         }
     }
     None
-}
-
-/// The mnemonic of a number.
-pub(crate) fn mnemonic_of<R: Row>(rows: &[R], number: u16) -> Option<&'static [u8]>
-    ensures { option_copied result ≡ mnemonic_among (map R.names rows.now) number }
-{
-    let row = row_of(rows, number)?;
-    Some(row.mnemonic())
 }

@@ -13,7 +13,7 @@ pub(crate) fn push_u16(text: &[u8], octets: &mut Vec<u8>) -> Result<(), Failing>
     ensures found { OnOk result (Appends (SpellsU16 text.now) (to_be_bytes w16) octets.old.items octets.new.items) }
     ensures fault { IfErr result (IfFault (NoValue Fault.BadNumber (SpellsU16 text.now))) }
 {
-    let number = at_most(65535, decimal_of(text))?;
+    let number = at_most(u32::from(u16::MAX), decimal_of(text))?;
     octets.extend_from_slice(&u16_octets_of(number as u16))?;
     Ok(())
 }

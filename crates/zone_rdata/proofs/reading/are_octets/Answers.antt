@@ -1,5 +1,5 @@
 use Rattle.std.proofs.Common.{arith}
-use Rattle.zone_rdata.proofs.Bytes.{bytes_each}
+use Rattle.zone_rdata.proofs.Lists.{bytes_each}
 use Rattle.zone_rdata.proofs.reading.are_octets.Goals as goal
 
 pub returns : goal.returns

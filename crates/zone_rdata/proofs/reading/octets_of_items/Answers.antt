@@ -1,13 +1,13 @@
 use Rattle.std.proofs.Common.{drop, map, refl, ap, arith}
 use Rattle.std.proofs.lemmas.List.{drop_all, length-drop, length-map}
 use Rattle.zone_rdata.specs.Item.{raw}
-use Rattle.zone_rdata.proofs.Faults.{fault_handed}
+use Rattle.zone_rdata.proofs.Failings.{if_fault_passed}
 use Rattle.zone_rdata.proofs.Items.{read_more, read_bad, read_over, read_all, read_long}
 use Rattle.zone_rdata.proofs.reading.octets_of_items.Goals as goal
 
 pub returns-in_err-place-clause-fault : goal.returns-in_err-place-clause-fault
 returns-in_err-place-clause-fault c =
-    fault_handed c.from_residual.result c.in_err-place.field-0.0 _ _ c.from_residual.ensures.1
+    if_fault_passed c.from_residual.result c.in_err-place.field-0.0 _ _ c.from_residual.ensures.1
     (λ fault bad. read_bad _ _ _ c.args.items.now c.loop-field.field-index c.loop-field.place _ _ _ fault c.fields-field-items.ensures c.loop-field-test.true refl c.loop-field.invariant.1 bad)
     c.in_err-place.ensures.fault
 

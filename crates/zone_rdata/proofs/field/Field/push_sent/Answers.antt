@@ -1,10 +1,27 @@
-use Rattle.std.proofs.Common.{sym, subst, arith}
+use Rattle.std.proofs.Common.{◌≡◌, ◌⊎◌, ℕ, inl, inr, sym, subst, arith}
 use Rattle.std.proofs.lemmas.Result.{IfOk-weaker}
-use Rattle.zone_rdata.specs.Machine.Appending.{AppendsValue, BeginsWithNone}
+use Rattle.zone_rdata.specs.declared.field.Field.{Field}
+use Rattle.zone_rdata.specs.declared.field.Field.TheVariants.{Serial, Time, U16, Octets}
+use Rattle.zone_rdata.specs.Field.{u32_value, u16_value, fixed}
+use Rattle.zone_rdata.specs.Machine.Appending.{BeginsWithNone}
 use Rattle.zone_rdata.proofs.Failings.{IfErr-fault}
-use Rattle.zone_rdata.proofs.Bytes.{bytes_each}
-use Rattle.zone_rdata.proofs.Fronts.{appends_long, appends_two, appends_fixed, none_long, none_two, none_fixed}
+use Rattle.zone_rdata.proofs.Lists.{bytes_each}
+use Rattle.zone_rdata.proofs.FieldLaws.{SizedField, appends_sized, none_sized}
+use Rattle.zone_rdata.proofs.Fields.Address as address
+use Rattle.zone_rdata.proofs.Fields.Serial as serial
+use Rattle.zone_rdata.proofs.Fields.Time as time
+use Rattle.zone_rdata.proofs.Fields.U16 as u16
 use Rattle.zone_rdata.proofs.field.Field.push_sent.Goals as goal
+
+number_of_32 : (f : Field) → (f ≡ Serial) ⊎ (f ≡ Time) → SizedField f u32_value 4
+number_of_32 f (inl e) = subst (λ g. SizedField g u32_value 4) (sym e) serial.sized
+number_of_32 f (inr e) = subst (λ g. SizedField g u32_value 4) (sym e) time.sized
+
+number_of_16 : (f : Field) → f ≡ U16 → SizedField f u16_value 2
+number_of_16 f e = subst (λ g. SizedField g u16_value 2) (sym e) u16.sized
+
+octets_of_address : (f : Field) (n : ℕ) → f ≡ Octets n → SizedField f fixed n
+octets_of_address f n e = subst (λ g. SizedField g fixed n) (sym e) (address.sized n)
 
 pub returns-in-Name-clause-fault : goal.returns-in-Name-clause-fault
 returns-in-Name-clause-fault c =
@@ -12,27 +29,27 @@ returns-in-Name-clause-fault c =
 
 pub returns-in-Serial-clause-found : goal.returns-in-Serial-clause-found
 returns-in-Serial-clause-found c =
-    IfOk-weaker c.push_prefix.result _ _ (λ rest grows. appends_long c.args.self c.args.octets.now rest.now c.args.canonical.now.items _ c.in-Serial.is (bytes_each c.args.octets.now (λ i. omega (arith, c.type_inv.octets i))) grows) c.push_prefix.ensures.found
+    IfOk-weaker c.push_prefix.result _ _ (λ rest grows. appends_sized c.args.self 4 (number_of_32 c.args.self c.in-Serial.is) c.args.octets.now rest.now c.args.canonical.now.items _ (bytes_each c.args.octets.now (λ i. omega (arith, c.type_inv.octets i))) grows) c.push_prefix.ensures.found
 
 pub returns-in-Serial-clause-fault : goal.returns-in-Serial-clause-fault
 returns-in-Serial-clause-fault c =
-    IfErr-fault c.push_prefix.result _ _ (λ fault bad. (bad.0, none_long c.args.self c.args.octets.now c.in-Serial.is bad.1)) c.push_prefix.ensures.fault
+    IfErr-fault c.push_prefix.result _ _ (λ fault bad. (bad.0, none_sized c.args.self 4 (number_of_32 c.args.self c.in-Serial.is) c.args.octets.now bad.1)) c.push_prefix.ensures.fault
 
 pub returns-in-U16-clause-found : goal.returns-in-U16-clause-found
 returns-in-U16-clause-found c =
-    IfOk-weaker c.push_prefix-in-U16.result _ _ (λ rest grows. subst (λ f. AppendsValue f c.args.octets.now rest.now c.args.canonical.now.items c.push_prefix-in-U16.new.canonical.items) (sym c.in-U16.is) (appends_two c.args.octets.now rest.now c.args.canonical.now.items _ (bytes_each c.args.octets.now (λ i. omega (arith, c.type_inv.octets i))) grows)) c.push_prefix-in-U16.ensures.found
+    IfOk-weaker c.push_prefix-in-U16.result _ _ (λ rest grows. appends_sized c.args.self 2 (number_of_16 c.args.self c.in-U16.is) c.args.octets.now rest.now c.args.canonical.now.items _ (bytes_each c.args.octets.now (λ i. omega (arith, c.type_inv.octets i))) grows) c.push_prefix-in-U16.ensures.found
 
 pub returns-in-U16-clause-fault : goal.returns-in-U16-clause-fault
 returns-in-U16-clause-fault c =
-    IfErr-fault c.push_prefix-in-U16.result _ _ (λ fault bad. (bad.0, subst (λ f. BeginsWithNone f c.args.octets.now) (sym c.in-U16.is) (none_two c.args.octets.now bad.1))) c.push_prefix-in-U16.ensures.fault
+    IfErr-fault c.push_prefix-in-U16.result _ _ (λ fault bad. (bad.0, none_sized c.args.self 2 (number_of_16 c.args.self c.in-U16.is) c.args.octets.now bad.1)) c.push_prefix-in-U16.ensures.fault
 
 pub returns-in-Octets-clause-found : goal.returns-in-Octets-clause-found
 returns-in-Octets-clause-found c =
-    IfOk-weaker c.push_prefix-in-Octets.result _ _ (λ rest grows. subst (λ f. AppendsValue f c.args.octets.now rest.now c.args.canonical.now.items c.push_prefix-in-Octets.new.canonical.items) (sym c.in-Octets.is) (appends_fixed c.in-Octets.count c.args.octets.now rest.now c.args.canonical.now.items _ (bytes_each c.args.octets.now (λ i. omega (arith, c.type_inv.octets i))) grows)) c.push_prefix-in-Octets.ensures.found
+    IfOk-weaker c.push_prefix-in-Octets.result _ _ (λ rest grows. appends_sized c.args.self c.in-Octets.count (octets_of_address c.args.self c.in-Octets.count c.in-Octets.is) c.args.octets.now rest.now c.args.canonical.now.items _ (bytes_each c.args.octets.now (λ i. omega (arith, c.type_inv.octets i))) grows) c.push_prefix-in-Octets.ensures.found
 
 pub returns-in-Octets-clause-fault : goal.returns-in-Octets-clause-fault
 returns-in-Octets-clause-fault c =
-    IfErr-fault c.push_prefix-in-Octets.result _ _ (λ fault bad. (bad.0, subst (λ f. BeginsWithNone f c.args.octets.now) (sym c.in-Octets.is) (none_fixed c.in-Octets.count c.args.octets.now bad.1))) c.push_prefix-in-Octets.ensures.fault
+    IfErr-fault c.push_prefix-in-Octets.result _ _ (λ fault bad. (bad.0, none_sized c.args.self c.in-Octets.count (octets_of_address c.args.self c.in-Octets.count c.in-Octets.is) c.args.octets.now bad.1)) c.push_prefix-in-Octets.ensures.fault
 
 pub returns-in-OneString-clause-fault : goal.returns-in-OneString-clause-fault
 returns-in-OneString-clause-fault c =

@@ -1,8 +1,8 @@
 use Rattle.std.proofs.Common.{◌+◌, get_or, drop, ap, arith}
 use Rattle.std.proofs.lemmas.Result.{IfOk-weaker}
 use Rattle.zone_rdata.proofs.Failings.{IfErr-fault}
-use Rattle.zone_rdata.proofs.Bytes.{bytes_each}
-use Rattle.zone_rdata.proofs.Fronts.{appends_string, none_string, first_behind}
+use Rattle.zone_rdata.proofs.Lists.{bytes_each}
+use Rattle.zone_rdata.proofs.Fields.OneString.{appends_string, none_string, first_behind}
 use Rattle.zone_rdata.proofs.field.string.push_sent_string.Goals as goal
 
 pub returns-in-len1-up-clause-found : goal.returns-in-len1-up-clause-found

@@ -1,7 +1,7 @@
 use Rattle.std.proofs.Common.{arith}
 use Rattle.std.proofs.lemmas.Bool.{false≢true}
 use Rattle.std.proofs.lemmas.Bool.Decides.{nat_tests}
-use Rattle.zone_rdata.proofs.Fronts.{framed_empty, framed_short, framed_more}
+use Rattle.zone_rdata.proofs.Fields.Strings.{framed_empty, framed_short, framed_more}
 use Rattle.zone_rdata.proofs.field.strings.are_strings.Goals as goal
 
 pub returns-then-is_empty : goal.returns-then-is_empty

@@ -1,5 +1,5 @@
 use Rattle.std.proofs.Common.{length}
-use Rattle.zone_rdata.proofs.Fronts.{Framed}
+use Rattle.zone_rdata.proofs.Fields.Strings.{Framed}
 use Rattle.zone_rdata.proofs.field.strings.are_strings.Given as goal
 
 abbrev pub invariant-loop-first : goal.invariant-loop-first

@@ -1,7 +1,7 @@
 use Rattle.std.proofs.Common.{arith}
 use Rattle.std.proofs.lemmas.Result.{IfOk-weaker}
 use Rattle.zone_rdata.proofs.Failings.{IfErr-fault}
-use Rattle.zone_rdata.proofs.Fronts.{appends_strings}
+use Rattle.zone_rdata.proofs.Fields.Strings.{appends_strings}
 use Rattle.zone_rdata.proofs.field.strings.push_sent_strings.Goals as goal
 
 pub returns-clause-found : goal.returns-clause-found

@@ -1,4 +1,4 @@
-use Rattle.zone_rdata.proofs.ValueLaws.{equal_values}
+use Rattle.zone_rdata.proofs.Layouts.{equal_values}
 use Rattle.zone_rdata.proofs.laws.value.equal_octets_are_equal_values.Goals as goal
 
 pub returns : goal.returns

@@ -1,4 +1,4 @@
-use Rattle.zone_rdata.proofs.ValueLaws.{got_back}
+use Rattle.zone_rdata.proofs.Layouts.{got_back}
 use Rattle.zone_rdata.proofs.laws.value.values_are_got_back.Goals as goal
 
 pub returns : goal.returns

@@ -1,6 +1,6 @@
 use Rattle.std.proofs.Common.{subst}
 use Rattle.zone_name.specs.Common.{AreOctets}
-use Rattle.zone_rdata.proofs.Fields.{stated_data, states_for, first_for}
+use Rattle.zone_rdata.proofs.StatedOctets.{stated_data, states_for, first_for}
 use Rattle.zone_rdata.proofs.Wire.{table_last}
 use Rattle.zone_rdata.proofs.Forms.{only_memory}
 use Rattle.zone_rdata.proofs.rdata.Rdata.from_items.Goals as goal

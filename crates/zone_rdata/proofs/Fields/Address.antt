@@ -1,0 +1,82 @@
+-- An address of a fixed number of octets.
+use Rattle.std.proofs.Common.{List, Some, [], ap, arith, inl, inr, length, refl, subst, sym, ℕ, ◌<◌, ◌==◌, ◌∙◌, ◌∷◌, ◌≡◌, ◌≤◌, ◌⊎◌}
+use Rattle.std.specs.List.{AllByRecursion}
+use Rattle.std.specs.Prelude.{if◌then◌else◌}
+use Rattle.std.proofs.lemmas.List.{take_at}
+use Rattle.zone_rdata.specs.declared.fault.Fault.TheVariants.{BadRdata}
+use Rattle.zone_rdata.specs.declared.field.Field.TheVariants.{Octets}
+use Rattle.zone_rdata.specs.Address.{IsAddressOctet, IsIpv4Address, IsIpv6Address, ipv4_text, ipv6_text}
+use Rattle.zone_rdata.specs.Builder.{FitsString}
+use Rattle.zone_rdata.specs.Field.{FieldValue, Holds, SpellsField, Suits, field_octets, fixed}
+use Rattle.zone_rdata.specs.Fields.Address.{AreFixed, IsAddress, address_text, of_ipv4, of_ipv6}
+use Rattle.zone_rdata.specs.Item.{RawItem, bare}
+use Rattle.zone_rdata.specs.Machine.Building.{IsReal}
+use Rattle.zone_rdata.proofs.AddressChoice.{address_or_not}
+use Rattle.zone_rdata.proofs.AddressFields.{address_fixed}
+use Rattle.zone_rdata.proofs.AddressGaps.{groups_unique}
+use Rattle.zone_rdata.proofs.AddressLaws.{ipv4_plain, ipv4_printed, ipv6_plain, ipv6_printed}
+use Rattle.zone_rdata.proofs.Addresses.{numbers_unique}
+use Rattle.zone_rdata.proofs.FieldLaws.{FieldLaws, SizedField, bare_item, bare_or_fault, mark, mark_text, sized_front, value_or_fault}
+
+only : (n : ℕ) (v : FieldValue) → Holds (Octets n) v → (octets : List ℕ) × (v ≡ fixed octets)
+only n (fixed octets) h = (octets, refl)
+only n v h = absurd h
+
+opens : (n : ℕ) (origin : List (List ℕ)) (items : List RawItem) (v : FieldValue) → SpellsField origin (Octets n) items v → (text octets : List ℕ) × (items ≡ bare text ∷ []) × (v ≡ fixed octets)
+opens n origin (bare text ∷ []) (fixed octets) h = (text, octets, refl, refl)
+opens n origin items v h = absurd h
+
+pub sized : (n : ℕ) → SizedField (Octets n) fixed n
+sized n = record { plain = λ e. cc; single = λ e. cc; only = only n; size = λ octets h. h.size; read = λ octets low size. (octets, record { size = size; each = low }, refl) }
+
+part : (n : ℕ) (v : FieldValue) → Suits (Some (Octets n)) v → FitsString v → IsReal v → Holds (Octets n) v × (0 < length (field_octets v))
+part n (fixed octets) s fits real = (record { size = s.0; each = real }, omega (arith, s.0, s.1))
+part n v s fits real = absurd s
+
+short : (n : ℕ) (octets : List ℕ) → (n ≡ 4) ⊎ (n ≡ 16) → AreFixed n octets → length octets ≤ 256
+short n octets (inl four) h = omega (arith, h.size)
+short n octets (inr sixteen) h = omega (arith, h.size)
+
+once : (n : ℕ) (text a b : List ℕ) → IsAddress n text a → IsAddress n text b → a ≡ b
+once n text a b (of_ipv4 e h) (of_ipv4 d k) = numbers_unique 3 text a b h k
+once n text a b (of_ipv4 e h) (of_ipv6 d k) = absurd (omega arith)
+once n text a b (of_ipv6 e h) (of_ipv4 d k) = absurd (omega arith)
+once n text a b (of_ipv6 e h) (of_ipv6 d k) = groups_unique text a b h k
+
+text_of_ipv4 : (octets : List ℕ) → length octets ≡ 4 → address_text octets ≡ ipv4_text octets
+text_of_ipv4 octets e = ap (λ (n : ℕ). if n == 4 then ipv4_text octets else ipv6_text octets) e
+
+text_of_ipv6 : (octets : List ℕ) → length octets ≡ 16 → address_text octets ≡ ipv6_text octets
+text_of_ipv6 octets e = ap (λ (n : ℕ). if n == 4 then ipv4_text octets else ipv6_text octets) e
+
+printed : (n : ℕ) (octets : List ℕ) → (n ≡ 4) ⊎ (n ≡ 16) → AreFixed n octets → IsAddress n (address_text octets) octets
+printed n octets (inl e) h = of_ipv4 e (subst (λ t. IsIpv4Address t octets) (sym (text_of_ipv4 octets (h.size ∙ e))) (ipv4_printed octets (h.size ∙ e) h.each))
+printed n octets (inr e) h = of_ipv6 e (subst (λ t. IsIpv6Address t octets) (sym (text_of_ipv6 octets (h.size ∙ e))) (ipv6_printed octets (h.size ∙ e) h.each))
+
+no_backslash : IsAddressOctet 92 → ⊥
+no_backslash (inl h) = omega (arith, h.1)
+no_backslash (inr (inl h)) = omega (arith, h.0)
+no_backslash (inr (inr (inl h))) = omega (arith, h)
+no_backslash (inr (inr (inr h))) = omega (arith, h)
+
+unmarked : (n : ℕ) (octets : List ℕ) → (n ≡ 4) ⊎ (n ≡ 16) → AreFixed n octets → address_text octets ≡ mark → ⊥
+unmarked n octets (inl is) h e = no_backslash (subst (AllByRecursion IsAddressOctet) (sym (text_of_ipv4 octets (h.size ∙ is)) ∙ e) (ipv4_plain octets (h.size ∙ is) h.each)).0
+unmarked n octets (inr is) h e = no_backslash (subst (AllByRecursion IsAddressOctet) (sym (text_of_ipv6 octets (h.size ∙ is)) ∙ e) (ipv6_plain octets (h.size ∙ is) h.each)).0
+
+pub laws : (n : ℕ) → FieldLaws (Octets n) fixed bare_item
+laws n = record {
+  only = only n;
+  opens = opens n;
+  part = part n;
+  back = λ octets rest h last. ap fixed (take_at octets rest n h.size);
+  low = λ octets h. h.each;
+  short = λ octets many fixed_size h. short n octets fixed_size h;
+  front = sized_front (Octets n) n (sized n);
+  holds = λ origin text octets h. address_fixed n text octets h;
+  once = λ names origin text a b h k. once n text a b h k;
+  never = λ names origin text octets fault h bad. bad.1 octets h;
+  or_fault = λ names origin is. bare_or_fault origin (Octets n) (λ e. cc) (λ e. cc) (λ text each.
+      value_or_fault origin (Octets n) text fixed BadRdata (IsAddress n text) (λ octets h. h) (λ none. (refl, none)) (address_or_not n text));
+  printed = λ names origin octets rest fixed_size h last. (printed n octets fixed_size h, refl);
+  unmarked = λ octets rest fixed_size h g. unmarked n octets fixed_size h (mark_text (address_text octets) rest g);
+}

@@ -1,0 +1,171 @@
+-- A domain name.
+use Rattle.std.proofs.Common.{List, Some, [], ap, append_assoc, arith, drop, get_or, inl, inr, length, length-append, refl, subst, suc, sym, take, zero, ℕ, ◌++◌, ◌<◌, ◌∙◌, ◌∷◌, ◌≡◌, ◌≤◌, ◌⊎◌}
+use Rattle.std.specs.List.{AllByRecursion, flat_map}
+use Rattle.std.proofs.lemmas.Bool.{cases_eq, cases_lt}
+use Rattle.std.proofs.lemmas.List.{append-nil, length-drop}
+use Rattle.zone_name.specs.Name.{IsFoldedOctet, IsLabel, IsName, folded, folded_label, folded_octet, wire, with_length}
+use Rattle.zone_name.specs.Text.{label_text, name_text, octet_text}
+use Rattle.zone_name.proofs.Pushing.{AllByRecursion-append}
+use Rattle.zone_rdata.specs.declared.field.Field.TheVariants.{Name}
+use Rattle.zone_rdata.specs.Builder.{FitsString}
+use Rattle.zone_rdata.specs.Fault.{fault_of}
+use Rattle.zone_rdata.specs.Field.{FieldValue, Holds, SpellsField, Suits, field_octets, name}
+use Rattle.zone_rdata.specs.Fields.Name.{BeginsWithSent}
+use Rattle.zone_rdata.specs.Item.{RawItem, bare}
+use Rattle.zone_rdata.specs.Machine.Appending.{AppendsValue, BeginsWithNone, BeginsWithValue}
+use Rattle.zone_rdata.specs.Machine.Building.{IsReal}
+use Rattle.zone_rdata.proofs.Choices.{Decided, each_or_not}
+use Rattle.zone_rdata.proofs.FieldLaws.{AreLow, FieldLaws, FrontChoice, bare_item, bare_or_fault, found_front, mark_text}
+use Rattle.zone_name.proofs.Octets.{labels_of-wire_append}
+use Rattle.zone_rdata.proofs.Sent.{AreSome, HasCut, cut_more, cut_name, cut_none, folded_some, goes_on, name_by, no_first, no_room, sent_once, some_behind}
+
+only : (v : FieldValue) → Holds Name v → (labels : List (List ℕ)) × (v ≡ name labels)
+only (name labels) h = (labels, refl)
+only v h = absurd h
+
+opens : (origin : List (List ℕ)) (items : List RawItem) (v : FieldValue) → SpellsField origin Name items v → (text : List ℕ) × (labels : List (List ℕ)) × (items ≡ bare text ∷ []) × (v ≡ name labels)
+opens origin (bare text ∷ []) (name labels) h = (text, labels, refl, refl)
+opens origin items v h = absurd h
+
+part : (v : FieldValue) → Suits (Some Name) v → FitsString v → IsReal v → Holds Name v × (0 < length (field_octets v))
+part (name labels) s fits real = (real, omega (arith, length-append (flat_map with_length labels) (0 ∷ [])))
+part v s fits real = absurd s
+
+-- ---- its octets
+low_octets : (label : List ℕ) → AllByRecursion IsFoldedOctet label → AreLow label
+low_octets [] each = tt
+low_octets (c ∷ label) each = (each.0.octet, low_octets label each.1)
+
+low_labels : (labels : List (List ℕ)) → AllByRecursion IsLabel labels → AreLow (flat_map with_length labels)
+low_labels [] each = tt
+low_labels (label ∷ labels) each = AllByRecursion-append (λ c. c < 256) (with_length label) (flat_map with_length labels) (omega (arith, each.0.short), low_octets label each.0.each) (low_labels labels each.1)
+
+low : (labels : List (List ℕ)) → IsName labels → AreLow (wire labels)
+low labels h = AllByRecursion-append (λ c. c < 256) (flat_map with_length labels) (0 ∷ []) (low_labels labels h.each) (omega arith, tt)
+
+-- ---- the name at the front of octets
+pub appends_name : (octets rest old new : List ℕ) (labels : List (List ℕ)) → BeginsWithSent octets labels rest → new ≡ old ++ wire labels → AppendsValue Name octets rest old new
+appends_name octets rest old new labels b grown = record {
+  value = name labels;
+  begins = record { held = b.is_name; front = wire b.sent; sent = (b.sent, b.folds, refl); parts = b.parts; last = λ e. absurd cc };
+  written = grown;
+}
+
+as_sent : (octets : List ℕ) (v : FieldValue) (rest : List ℕ) → BeginsWithValue Name octets v rest → (labels : List (List ℕ)) × (v ≡ name labels) × BeginsWithSent octets labels rest
+as_sent octets (name labels) rest b = (labels, refl, record { is_name = b.held; sent = b.sent.0; folds = b.sent.1; parts = b.parts ∙ ap (λ t. t ++ rest) b.sent.2 })
+as_sent octets v rest b = absurd b.held
+
+pub none_name : (octets : List ℕ) → ((labels : List (List ℕ)) (rest : List ℕ) → BeginsWithSent octets labels rest → ⊥) → BeginsWithNone Name octets
+none_name octets none v rest b = let s = as_sent octets v rest b in none s.0 rest s.2
+
+pub front_once : (octets : List ℕ) (v w : FieldValue) (r s : List ℕ) → BeginsWithValue Name octets v r → BeginsWithValue Name octets w s → (v ≡ w) × (r ≡ s)
+front_once octets v w r s x y =
+    let a = as_sent octets v r x in
+    let b = as_sent octets w s y in
+    let same = sent_once octets r s a.0 b.0 a.2 b.2 in
+    (a.1 ∙ ap name same.0 ∙ sym b.1, same.1)
+
+-- ---- labels are a name or not
+octet_or_not : (c : ℕ) → Decided (IsFoldedOctet c)
+octet_or_not c = elim (cases_lt c 256) [
+  | inr over ↦ inr (λ h. omega (arith, h.octet))
+  | inl low ↦ elim (cases_eq (folded_octet c) c) [
+    | inl same ↦ inl (record { octet = low; lower = same })
+    | inr other ↦ inr (λ h. other h.lower)
+  ]
+]
+
+label_or_not : (label : List ℕ) → Decided (IsLabel label)
+label_or_not label = elim (each_or_not IsFoldedOctet octet_or_not label) [
+  | inr none ↦ inr (λ h. none h.each)
+  | inl each ↦ elim (cases_lt 63 (length label)) [
+    | inl long ↦ inr (λ h. omega (arith, h.short))
+    | inr short ↦ elim (cases_lt 0 (length label)) [
+      | inl some ↦ inl (record { some = some; short = short; each = each })
+      | inr empty ↦ inr (λ h. omega (arith, h.some))
+    ]
+  ]
+]
+
+labels_or_not : (labels : List (List ℕ)) → Decided (IsName labels)
+labels_or_not labels = elim (each_or_not IsLabel label_or_not labels) [
+  | inr none ↦ inr (λ h. none h.each)
+  | inl each ↦ elim (cases_lt 255 (length (wire labels))) [
+    | inl long ↦ inr (λ h. omega (arith, h.short))
+    | inr short ↦ inl (record { each = each; short = short })
+  ]
+]
+
+-- ---- octets begin with a name or not
+abbrev SentChoice : List ℕ → Type 0
+SentChoice octets = ((labels : List (List ℕ)) × ((rest : List ℕ) × BeginsWithSent octets labels rest)) ⊎ ((labels : List (List ℕ)) (rest : List ℕ) → BeginsWithSent octets labels rest → ⊥)
+
+-- a name that ends here has the labels that were cut off
+ended_labels : (octets rest behind tail : List ℕ) (labels own : List (List ℕ)) (c : ℕ) → (cut : HasCut octets labels rest) → rest ≡ c ∷ behind → c ≡ 0 → BeginsWithSent octets own tail → IsName labels
+ended_labels octets rest behind tail labels own c cut e nothing b =
+    let next = goes_on octets rest tail labels own cut b in
+    let some = folded_some b.sent (subst (AllByRecursion IsLabel) (sym b.folds) b.is_name.each) in
+    let same = name_by next.0 behind tail (some_behind cut.sent next.0 (subst AreSome next.1 some)) (sym (e ∙ ap (λ n. n ∷ behind) nothing) ∙ next.2) in
+    let same_labels : own ≡ labels = sym b.folds ∙ ap folded (next.1 ∙ ap (λ t. cut.sent ++ t) same.0 ∙ append-nil cut.sent) ∙ cut.folds in
+    subst IsName same_labels b.is_name
+
+root_by : (octets rest behind : List ℕ) (labels : List (List ℕ)) (c : ℕ) → HasCut octets labels rest → rest ≡ c ∷ behind → c ≡ 0 → Decided (IsName labels) → SentChoice octets
+root_by octets rest behind labels c cut e nothing (inl is) = inl (labels, (behind, cut_name octets rest labels labels c behind cut e nothing refl is))
+root_by octets rest behind labels c cut e nothing (inr none) = inr (λ own tail b. none (ended_labels octets rest behind tail labels own c cut e nothing b))
+
+sent_by : (octets rest : List ℕ) (labels : List (List ℕ)) (fuel : ℕ) → length rest ≤ fuel → HasCut octets labels rest → SentChoice octets
+sent_by octets [] labels fuel enough cut = inr (no_first octets [] labels cut refl)
+sent_by octets (c ∷ behind) labels zero enough cut = absurd (omega arith)
+sent_by octets (c ∷ behind) labels (suc fuel) enough cut = elim (cases_lt 0 c) [
+  | inr nothing ↦ root_by octets (c ∷ behind) behind labels c cut refl (omega arith) (labels_or_not labels)
+  | inl some ↦ elim (cases_lt (length behind) c) [
+    | inl few ↦ inr (no_room octets (c ∷ behind) labels c behind cut refl some few)
+    | inr fits ↦
+        sent_by octets (drop c behind) (labels ++ folded_label (take c behind) ∷ []) fuel (omega (arith, length-drop c behind)) (cut_more octets (c ∷ behind) labels (labels ++ folded_label (take c behind) ∷ []) c behind (take c behind) (drop c behind) cut refl some fits refl refl refl)
+  ]
+]
+
+sent_or_not : (octets : List ℕ) → SentChoice octets
+sent_or_not octets = sent_by octets octets [] (length octets) (omega arith) (cut_none octets [] refl)
+
+front : (octets : List ℕ) → FrontChoice Name octets
+front octets = elim (sent_or_not octets) [
+  | inl found ↦ found_front Name octets found.1.0 (wire found.0) (appends_name octets found.1.0 [] (wire found.0) found.0 found.1.1 refl)
+  | inr none ↦ inr (none_name octets none)
+]
+
+-- ---- its text
+dot_last : (label : List ℕ) (labels : List (List ℕ)) → (front : List ℕ) × (name_text (label ∷ labels) ≡ front ++ 46 ∷ [])
+dot_last label [] = (flat_map octet_text label, append-nil (label_text label))
+dot_last label (next ∷ labels) =
+    let more = dot_last next labels in
+    (label_text label ++ more.0, ap (λ t. label_text label ++ t) more.1 ∙ sym (append_assoc (label_text label) more.0 (46 ∷ [])))
+
+no_mark : (front : List ℕ) → front ++ 46 ∷ [] ≡ 92 ∷ 35 ∷ [] → ⊥
+no_mark [] e = omega (arith, ap length e)
+no_mark (a ∷ []) e = omega (arith, ap (λ t. get_or t 1 0) e)
+no_mark (a ∷ b ∷ front) e = omega (arith, ap length e, length-append front (46 ∷ []))
+
+name_unmarked : (labels : List (List ℕ)) → name_text labels ≡ 92 ∷ 35 ∷ [] → ⊥
+name_unmarked [] e = omega (arith, ap length e)
+name_unmarked (label ∷ labels) e = let dot = dot_last label labels in no_mark dot.0 (sym dot.1 ∙ e)
+
+pub laws : FieldLaws Name name bare_item
+laws = record {
+  only = only;
+  opens = opens;
+  part = part;
+  back = λ labels rest h last. ap name (labels_of-wire_append labels rest h.each);
+  low = low;
+  short = λ labels many fixed_size h. omega (arith, h.short);
+  front = λ octets each. front octets;
+  holds = λ origin text labels h. h.name;
+  once = λ names origin text a b h k. names (Some origin) text a b h k;
+  never = λ names origin text labels fault h bad. names (Some origin) text labels bad.0 h bad.1;
+  or_fault = λ names origin is. bare_or_fault origin Name (λ e. cc) (λ e. cc) (λ text each. elim (names (Some origin) text is each) [
+    | inl found ↦ inl (name found.0, found.1)
+    | inr bad ↦ inr (fault_of bad.0, (bad.0, bad.1, refl))
+  ]);
+  printed = λ names origin labels rest fixed_size h last. (names (Some origin) labels h, refl);
+  unmarked = λ labels rest fixed_size h g. name_unmarked labels (mark_text (name_text labels) rest g);
+}

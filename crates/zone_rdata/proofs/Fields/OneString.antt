@@ -1,0 +1,92 @@
+-- One character-string.
+use Rattle.std.proofs.Common.{List, Some, [], add-one, ap, arith, drop, get_or, inl, inr, length, length-append, refl, subst, sym, take, ℕ, ◌++◌, ◌+◌, ◌<◌, ◌∙◌, ◌∷◌, ◌≡◌, ◌≤◌}
+use Rattle.std.proofs.lemmas.Bool.{cases_lt}
+use Rattle.std.proofs.lemmas.List.{length-take, take_at}
+use Rattle.zone_name.specs.Name.{with_length}
+use Rattle.zone_rdata.specs.declared.fault.Fault.TheVariants.{BadRdata}
+use Rattle.zone_rdata.specs.declared.field.Field.TheVariants.{OneString}
+use Rattle.zone_rdata.specs.Builder.{FitsString}
+use Rattle.zone_rdata.specs.Field.{FieldValue, Holds, SpellsField, Suits, field_octets, string}
+use Rattle.zone_rdata.specs.Item.{RawItem}
+use Rattle.zone_rdata.specs.Machine.Appending.{AppendsPrefix, AppendsValue, BeginsWithNone, BeginsWithValue}
+use Rattle.zone_rdata.specs.Machine.Building.{IsReal}
+use Rattle.zone_rdata.specs.Strings.{IsString}
+use Rattle.zone_rdata.proofs.FieldLaws.{AreLow, AreLowItems, FieldChoice, FieldLaws, FrontChoice, appends_plain, found_front, front_of, low_take}
+use Rattle.zone_rdata.proofs.StringLaws.{printed-spells, string-never_both, string-once}
+use Rattle.zone_rdata.proofs.Strings.{string-or_fault}
+
+only : (v : FieldValue) → Holds OneString v → (octets : List ℕ) × (v ≡ string octets)
+only (string octets) h = (octets, refl)
+only v h = absurd h
+
+abbrev pub one_item : RawItem → List RawItem
+one_item item = item ∷ []
+
+opens : (origin : List (List ℕ)) (items : List RawItem) (v : FieldValue) → SpellsField origin OneString items v → (item : RawItem) × (octets : List ℕ) × (items ≡ item ∷ []) × (v ≡ string octets)
+opens origin (item ∷ []) (string octets) h = (item, octets, refl, refl)
+opens origin items v h = absurd h
+
+part : (v : FieldValue) → Suits (Some OneString) v → FitsString v → IsReal v → Holds OneString v × (0 < length (field_octets v))
+part (string octets) s fits real = (record { short = fits; each = real }, omega arith)
+part v s fits real = absurd s
+
+-- ---- the string at the front of octets
+
+-- the first octet, and those behind it
+pub first_behind : (octets : List ℕ) → 1 ≤ length octets → octets ≡ get_or octets 0 0 ∷ drop 1 octets
+first_behind [] some = absurd (omega arith)
+first_behind (c ∷ octets) some = refl
+
+pub low_string : (c : ℕ) (behind : List ℕ) → AreLow (c ∷ behind) → c ≤ length behind → IsString (take c behind)
+low_string c behind low fits = record { short = omega (arith, length-take c behind, low.0); each = low_take c behind low.1 }
+
+front_frame : (c : ℕ) (behind : List ℕ) → c ≤ length behind → take (c + 1) (c ∷ behind) ≡ with_length (take c behind)
+front_frame c behind fits = rw add-one (ap (λ n. n ∷ take c behind) (let count : c ≡ length (take c behind) = omega (arith, length-take c behind) in count))
+
+pub appends_string : (octets rest old new : List ℕ) (c count : ℕ) (behind : List ℕ) → AreLow octets → octets ≡ c ∷ behind → count ≡ c + 1 → AppendsPrefix count octets rest old new → AppendsValue OneString octets rest old new
+appends_string octets rest old new c count behind low e same grows =
+    let fits : c ≤ length behind = omega (arith, grows.fits, ap length e) in
+    let is : take count octets ≡ with_length (take c behind) = ap (λ n. take n octets) same ∙ ap (take (c + 1)) e ∙ front_frame c behind fits in
+    appends_plain OneString octets rest old new count (string (take c behind)) (λ h. cc) (low_string c behind (subst AreLow e low) fits) is (λ h. absurd cc) grows
+
+as_string : (octets : List ℕ) (v : FieldValue) (rest : List ℕ) → BeginsWithValue OneString octets v rest → (text : List ℕ) × (octets ≡ with_length text ++ rest)
+as_string octets (string text) rest b = (text, b.parts ∙ ap (λ t. t ++ rest) b.sent)
+as_string octets v rest b = absurd b.held
+
+pub none_string : (octets : List ℕ) (c count : ℕ) (behind : List ℕ) → octets ≡ c ∷ behind → count ≡ c + 1 → length octets < count → BeginsWithNone OneString octets
+none_string octets c count behind e same few v rest b =
+    let s = as_string octets v rest b in
+    let shape : c ∷ behind ≡ length s.0 ∷ (s.0 ++ rest) = sym e ∙ s.1 in
+    let first : c ≡ length s.0 = cc in
+    omega (arith, ap length e, ap length s.1, length-append s.0 rest)
+
+pub none_nil : (octets : List ℕ) → length octets ≡ 0 → BeginsWithNone OneString octets
+none_nil octets none v rest b = let s = as_string octets v rest b in omega (arith, ap length s.1)
+
+front : (octets : List ℕ) → AreLow octets → FrontChoice OneString octets
+front [] low = inr (none_nil [] refl)
+front (c ∷ behind) low = elim (cases_lt (length (c ∷ behind)) (c + 1)) [
+  | inl few ↦ inr (none_string (c ∷ behind) c (c + 1) behind refl refl few)
+  | inr fits ↦ found_front OneString (c ∷ behind) (drop (c + 1) (c ∷ behind)) (take (c + 1) (c ∷ behind)) (appends_string (c ∷ behind) (drop (c + 1) (c ∷ behind)) [] (take (c + 1) (c ∷ behind)) c (c + 1) behind low refl refl (front_of (c + 1) (c ∷ behind) fits))
+]
+
+spelt_or_fault : (origin : List (List ℕ)) (items : List RawItem) → AreLowItems items → FieldChoice origin OneString (take 1 items)
+spelt_or_fault origin [] low = inr (BadRdata, refl)
+spelt_or_fault origin (item ∷ items) low = elim (string-or_fault item low.0) [ inl found ↦ inl (string found.0, found.1) | inr bad ↦ inr (bad.0, bad.1) ]
+
+pub laws : FieldLaws OneString string one_item
+laws = record {
+  only = only;
+  opens = opens;
+  part = part;
+  back = λ octets rest h last. ap string (take_at octets rest (length octets) refl);
+  low = λ octets h. (omega (arith, h.short), h.each);
+  short = λ octets many fixed_size h. omega (arith, h.short);
+  front = front;
+  holds = λ origin item octets h. h.string;
+  once = λ names origin item a b h k. string-once item a b h k;
+  never = λ names origin item octets fault h bad. string-never_both item octets fault h bad;
+  or_fault = λ names origin is. spelt_or_fault origin;
+  printed = λ names origin octets rest fixed_size h last. (printed-spells octets h, refl);
+  unmarked = λ octets rest fixed_size h g. cc g.1;
+}

@@ -1,0 +1,222 @@
+-- One or more character-strings, up to the end of the data.
+use Rattle.std.proofs.Common.{List, Some, [], ap, append_assoc, arith, drop, inl, inr, length, length-append, map, refl, subst, suc, sym, take, zero, ℕ, ◌++◌, ◌<◌, ◌∙◌, ◌∷◌, ◌≡◌, ◌≤◌, ◌⊎◌}
+use Rattle.std.specs.List.{AllByRecursion, flat_map}
+use Rattle.std.proofs.lemmas.Bool.{cases_lt}
+use Rattle.std.proofs.lemmas.List.{append-nil, drop_all, length-drop, length-map, take_all}
+use Rattle.zone_name.specs.Name.{with_length}
+use Rattle.zone_name.proofs.Pushing.{AllByRecursion-append}
+use Rattle.zone_rdata.specs.declared.fault.Fault.{Fault}
+use Rattle.zone_rdata.specs.declared.fault.Fault.TheVariants.{BadRdata}
+use Rattle.zone_rdata.specs.declared.field.Field.TheVariants.{OneString, Strings}
+use Rattle.zone_rdata.specs.Builder.{FitsString}
+use Rattle.zone_rdata.specs.Field.{FieldValue, Holds, SpellsField, Suits, field_octets, string, strings}
+use Rattle.zone_rdata.specs.Fields.OneString.{string_item}
+use Rattle.zone_rdata.specs.Fields.Strings.{AreStrings, AreWithLengths, FirstStringFault, SpellEachString, SpellsStrings, StringsFault, strings_of}
+use Rattle.zone_rdata.specs.Item.{IsGeneric, RawItem}
+use Rattle.zone_rdata.specs.Machine.Appending.{AppendsPrefix, AppendsValue, BeginsWithNone, BeginsWithValue}
+use Rattle.zone_rdata.specs.Machine.Building.{IsReal}
+use Rattle.zone_rdata.specs.Source.{after}
+use Rattle.zone_rdata.specs.Strings.{IsString, SpellsString, StringFault}
+use Rattle.zone_rdata.proofs.FieldLaws.{AreLow, AreLowItems, FieldChoice, FieldLaws, FrontChoice, appends_plain, found_front, front_of, low_drop}
+use Rattle.zone_rdata.proofs.Fields.OneString.{low_string}
+use Rattle.zone_rdata.proofs.Sent.{frame_at, frame_same, frames_push}
+use Rattle.zone_rdata.proofs.StringFields.{strings_back}
+use Rattle.zone_rdata.proofs.StringLaws.{fault-once, printed-spells, string-never_both, string-once}
+use Rattle.zone_rdata.proofs.Strings.{string-or_fault}
+
+only : (v : FieldValue) → Holds Strings v → (many : List (List ℕ)) × (v ≡ strings many)
+only (strings many) h = (many, refl)
+only v h = absurd h
+
+abbrev pub all_items : List RawItem → List RawItem
+all_items items = items
+
+opens : (origin : List (List ℕ)) (items : List RawItem) (v : FieldValue) → SpellsField origin Strings items v → (all : List RawItem) × (many : List (List ℕ)) × (items ≡ all) × (v ≡ strings many)
+opens origin items (strings many) h = (items, many, refl, refl)
+opens origin items v h = absurd h
+
+part : (v : FieldValue) → Suits (Some Strings) v → FitsString v → IsReal v → Holds OneString v × (0 < length (field_octets v))
+part (string octets) s fits real = (record { short = fits; each = real }, omega arith)
+part v s fits real = absurd s
+
+-- ---- its octets
+low_each : (many : List (List ℕ)) → AllByRecursion IsString many → AreLow (flat_map with_length many)
+low_each [] each = tt
+low_each (text ∷ many) each = AllByRecursion-append (λ c. c < 256) (with_length text) (flat_map with_length many) (omega (arith, each.0.short), each.0.each) (low_each many each.1)
+
+back : (many : List (List ℕ)) (rest : List ℕ) → rest ≡ [] → strings_of (flat_map with_length many ++ rest) ≡ many
+back many rest last = ap (λ (r : List ℕ). strings_of (flat_map with_length many ++ r)) last ∙ ap strings_of (append-nil (flat_map with_length many)) ∙ strings_back many
+
+-- ---- strings up to the end of octets
+pub appends_strings : (octets rest old new : List ℕ) → AreWithLengths octets → AppendsPrefix (length octets) octets rest old new → AppendsValue Strings octets rest old new
+appends_strings octets rest old new framed grows =
+    let is : take (length octets) octets ≡ flat_map with_length framed.0 = take_all (length octets) octets (omega arith) ∙ framed.2 in
+    appends_plain Strings octets rest old new (length octets) (strings framed.0) (λ e. cc) framed.1 is (λ e. grows.behind ∙ drop_all (length octets) octets (omega arith)) grows
+
+as_strings : (octets : List ℕ) (v : FieldValue) (rest : List ℕ) → BeginsWithValue Strings octets v rest → AreWithLengths octets
+as_strings octets (strings many) rest b = (many, b.held, b.parts ∙ ap (λ r. b.front ++ r) (b.last refl) ∙ append-nil b.front ∙ b.sent)
+as_strings octets v rest b = absurd b.held
+
+pub none_strings : (octets : List ℕ) → (AreWithLengths octets → ⊥) → BeginsWithNone Strings octets
+none_strings octets none v rest b = none (as_strings octets v rest b)
+
+pub record Framed (octets rest : List ℕ) : Type 0 where
+  pub many : List (List ℕ)
+  pub each : AllByRecursion IsString many
+  pub parts : octets ≡ flat_map with_length many ++ rest
+  pub low : AreLow rest
+
+pub framed_none : (octets : List ℕ) → AreLow octets → Framed octets octets
+framed_none octets low = record { many = []; each = tt; parts = refl; low = low }
+
+pub framed_more : (octets rest : List ℕ) (c count : ℕ) (behind after : List ℕ) → Framed octets rest → rest ≡ c ∷ behind → count ≡ c → count ≤ length behind → after ≡ drop count behind → Framed octets after
+framed_more octets rest c count behind after so_far e same fits is =
+    let here : rest ≡ count ∷ behind = e ∙ ap (λ n. n ∷ behind) (sym same) in
+    let low = subst AreLow here so_far.low in
+    let text = take count behind in
+    record {
+      many = so_far.many ++ text ∷ [];
+      each = AllByRecursion-append IsString so_far.many (text ∷ []) so_far.each (low_string count behind low fits, tt);
+      parts = so_far.parts ∙ ap (λ t. flat_map with_length so_far.many ++ t) (here ∙ frame_at count behind fits ∙ ap (λ t. with_length text ++ t) (sym is)) ∙ frames_push so_far.many text after;
+      low = subst AreLow (sym is) (low_drop count behind low.1);
+    }
+
+some_frames : (many : List (List ℕ)) → 0 < length (flat_map with_length many) → 0 < length many
+some_frames [] h = absurd (omega arith)
+some_frames (x ∷ many) h = omega arith
+
+frames_some : (many : List (List ℕ)) → 0 < length many → 0 < length (flat_map with_length many)
+frames_some [] h = absurd (omega arith)
+frames_some (x ∷ many) h = omega arith
+
+pub framed_all : (octets rest : List ℕ) → 0 < length octets → Framed octets rest → length rest ≡ 0 → AreWithLengths octets
+framed_all octets rest some so_far none =
+    (so_far.many, record { some = some_frames so_far.many (omega (arith, ap length so_far.parts, length-append (flat_map with_length so_far.many) rest)); each = so_far.each }, so_far.parts ∙ (nothing so_far.many rest none))
+  where
+    nothing : (many : List (List ℕ)) (rest : List ℕ) → length rest ≡ 0 → flat_map with_length many ++ rest ≡ flat_map with_length many
+    nothing many [] e = append-nil (flat_map with_length many)
+    nothing many (c ∷ rest) e = absurd (omega arith)
+
+pub framed_empty : (octets : List ℕ) → length octets ≡ 0 → AreWithLengths octets → ⊥
+framed_empty octets none framed = omega (arith, ap length framed.2, frames_some framed.0 framed.1.some)
+
+strings_first : (many whole : List (List ℕ)) (rest : List ℕ) → flat_map with_length many ++ rest ≡ flat_map with_length whole → (more : List (List ℕ)) × (rest ≡ flat_map with_length more)
+strings_first [] whole rest e = (whole, e)
+strings_first (x ∷ many) [] rest e = absurd (omega (arith, ap length e))
+strings_first (x ∷ many) (y ∷ whole) rest e =
+    let cut = frame_same x y (flat_map with_length many ++ rest) (flat_map with_length whole) (sym (append_assoc (with_length x) (flat_map with_length many) rest) ∙ e) in
+    strings_first many whole rest cut.1
+
+short_by : (more : List (List ℕ)) (c : ℕ) (behind : List ℕ) → c ∷ behind ≡ flat_map with_length more → length behind < c → ⊥
+short_by [] c behind e few = absurd (omega (arith, ap length e))
+short_by (x ∷ more) c behind e few =
+    let first : c ≡ length x = cc in
+    omega (arith, ap length e, length-append x (flat_map with_length more))
+
+pub framed_short : (octets rest : List ℕ) (c count : ℕ) (behind : List ℕ) → Framed octets rest → rest ≡ c ∷ behind → count ≡ c → length behind < count → AreWithLengths octets → ⊥
+framed_short octets rest c count behind so_far e same few framed =
+    let next = strings_first so_far.many framed.0 rest (sym so_far.parts ∙ framed.2) in
+    short_by next.0 c behind (sym e ∙ next.1) (omega arith)
+
+framed_by : (octets rest : List ℕ) (fuel : ℕ) → 0 < length octets → length rest ≤ fuel → Framed octets rest → AreWithLengths octets ⊎ (AreWithLengths octets → ⊥)
+framed_by octets [] fuel some enough framed = inl (framed_all octets [] some framed refl)
+framed_by octets (c ∷ behind) zero some enough framed = absurd (omega arith)
+framed_by octets (c ∷ behind) (suc fuel) some enough framed = elim (cases_lt (length behind) c) [
+  | inl few ↦ inr (framed_short octets (c ∷ behind) c c behind framed refl refl few)
+  | inr fits ↦ framed_by octets (drop c behind) fuel some (omega (arith, length-drop c behind)) (framed_more octets (c ∷ behind) c c behind (drop c behind) framed refl refl fits refl)
+]
+
+framed_or_not : (octets : List ℕ) → AreLow octets → AreWithLengths octets ⊎ (AreWithLengths octets → ⊥)
+framed_or_not [] low = inr (framed_empty [] refl)
+framed_or_not (c ∷ octets) low = framed_by (c ∷ octets) (c ∷ octets) (length (c ∷ octets)) (omega arith) (omega arith) (framed_none (c ∷ octets) low)
+
+front : (octets : List ℕ) → AreWithLengths octets ⊎ (AreWithLengths octets → ⊥) → FrontChoice Strings octets
+front octets (inl framed) = found_front Strings octets (drop (length octets) octets) (take (length octets) octets) (appends_strings octets (drop (length octets) octets) [] (take (length octets) octets) framed (front_of (length octets) octets (omega arith)))
+front octets (inr none) = inr (none_strings octets none)
+
+-- ---- the items that spell strings
+each_held : (items : List RawItem) (many : List (List ℕ)) → SpellEachString items many → AllByRecursion IsString many × (length many ≡ length items)
+each_held [] [] h = (tt, refl)
+each_held [] (octets ∷ many) h = absurd h
+each_held (item ∷ items) [] h = absurd h
+each_held (item ∷ items) (octets ∷ many) h = let rest = each_held items many h.1 in ((h.0.string, rest.0), ap suc rest.1)
+
+each_once : (items : List RawItem) (a b : List (List ℕ)) → SpellEachString items a → SpellEachString items b → a ≡ b
+each_once [] [] [] h k = refl
+each_once [] [] (y ∷ b) h k = absurd k
+each_once [] (x ∷ a) b h k = absurd h
+each_once (item ∷ items) [] b h k = absurd h
+each_once (item ∷ items) (x ∷ a) [] h k = absurd k
+each_once (item ∷ items) (x ∷ a) (y ∷ b) h k = ap (λ z. z ∷ a) (string-once item x y h.0 k.0) ∙ ap (λ z. y ∷ z) (each_once items a b h.1 k.1)
+
+each_never : (items : List RawItem) (many : List (List ℕ)) (fault : Fault) → SpellEachString items many → FirstStringFault items fault → ⊥
+each_never [] many fault h bad = bad
+each_never (item ∷ items) [] fault h bad = h
+each_never (item ∷ items) (octets ∷ many) fault h (inl bad) = string-never_both item octets fault h.0 bad
+each_never (item ∷ items) (octets ∷ many) fault h (inr more) = each_never items many fault h.1 more.2
+
+never : (items : List RawItem) (many : List (List ℕ)) (fault : Fault) → SpellsStrings items many → StringsFault items fault → ⊥
+never [] many fault h bad = omega (arith, h.some)
+never (item ∷ items) many fault h bad = each_never (item ∷ items) many fault h.each bad
+
+first_once : (items : List RawItem) (a b : Fault) → FirstStringFault items a → FirstStringFault items b → a ≡ b
+first_once [] a b x y = absurd x
+first_once (item ∷ items) a b (inl x) (inl y) = fault-once item a b x y
+first_once (item ∷ items) a b (inl x) (inr y) = absurd (string-never_both item y.0 a y.1 x)
+first_once (item ∷ items) a b (inr x) (inl y) = absurd (string-never_both item x.0 b x.1 y)
+first_once (item ∷ items) a b (inr x) (inr y) = first_once items a b x.2 y.2
+
+pub fault_once : (items : List RawItem) (a b : Fault) → StringsFault items a → StringsFault items b → a ≡ b
+fault_once [] a b x y = x ∙ sym y
+fault_once (item ∷ items) a b x y = first_once (item ∷ items) a b x y
+
+abbrev StringsChoice : List RawItem → Type 0
+StringsChoice items = ((many : List (List ℕ)) × SpellEachString items many) ⊎ ((fault : Fault) × FirstStringFault items fault)
+
+next_string : (item : RawItem) (items : List RawItem) → ((octets : List ℕ) × SpellsString item octets) ⊎ ((fault : Fault) × StringFault item fault) → StringsChoice items → StringsChoice (item ∷ items)
+next_string item items (inr bad) rest = inr (bad.0, inl bad.1)
+next_string item items (inl found) (inl more) = inl (found.0 ∷ more.0, (found.1, more.1))
+next_string item items (inl found) (inr bad) = inr (bad.0, inr (found.0, found.1, bad.1))
+
+each_or_fault : (items : List RawItem) → AreLowItems items → StringsChoice items
+each_or_fault [] low = inl ([], tt)
+each_or_fault (item ∷ items) low = next_string item items (string-or_fault item low.0) (each_or_fault items low.1)
+
+spelt_by : (origin : List (List ℕ)) (item : RawItem) (items : List RawItem) → StringsChoice (item ∷ items) → FieldChoice origin Strings (item ∷ items)
+spelt_by origin item items (inl found) = inl (strings found.0, record { some = omega arith; each = found.1 })
+spelt_by origin item items (inr bad) = inr (bad.0, bad.1)
+
+spelt_or_fault : (origin : List (List ℕ)) (items : List RawItem) → AreLowItems items → FieldChoice origin Strings items
+spelt_or_fault origin [] low = inr (BadRdata, refl)
+spelt_or_fault origin (item ∷ items) low = spelt_by origin item items (each_or_fault (item ∷ items) low)
+
+-- ---- the items that are printed
+each_printed : (many : List (List ℕ)) → AllByRecursion IsString many → SpellEachString (map string_item many) many
+each_printed [] each = tt
+each_printed (octets ∷ many) each = (printed-spells octets each.0, each_printed many each.1)
+
+printed : (many : List (List ℕ)) (rest : List RawItem) → AreStrings many → rest ≡ [] → SpellsStrings (map string_item many ++ rest) many × ([] ≡ rest)
+printed many rest h last =
+    let items : map string_item many ++ rest ≡ map string_item many = ap (λ r. map string_item many ++ r) last ∙ append-nil (map string_item many) in
+    (subst (λ all. SpellsStrings all many) (sym items) (record { some = omega (arith, h.some, length-map many string_item); each = each_printed many h.each }), sym last)
+
+unmarked : (many : List (List ℕ)) (rest : List RawItem) → AreStrings many → IsGeneric (map string_item many ++ rest) → ⊥
+unmarked [] rest h g = omega (arith, h.some)
+unmarked (octets ∷ many) rest h g = cc g.1
+
+pub laws : FieldLaws Strings strings all_items
+laws = record {
+  only = only;
+  opens = opens;
+  part = part;
+  back = λ many rest h last. ap strings (back many rest (last refl));
+  low = λ many h. low_each many h.each;
+  short = λ many none fixed_size h. absurd (none refl);
+  front = λ octets low. front octets (framed_or_not octets low);
+  holds = λ origin items many h. let each = each_held items many h.each in record { some = omega (arith, h.some, each.1); each = each.0 };
+  once = λ names origin items a b h k. each_once items a b h.each k.each;
+  never = λ names origin. never;
+  or_fault = λ names origin is. spelt_or_fault origin;
+  printed = λ names origin many rest fixed_size h last. printed many rest h (last refl);
+  unmarked = λ many rest fixed_size. unmarked many rest;
+}

@@ -1,0 +1,39 @@
+-- A number of seconds, in octets a number of 32 bits, written in digits or as a time.
+use Rattle.std.proofs.Common.{List, [], arith, refl, ℕ, ◌∷◌, ◌≡◌}
+use Rattle.zone_rdata.specs.declared.fault.Fault.TheVariants.{BadNumber}
+use Rattle.zone_rdata.specs.declared.field.Field.TheVariants.{Time}
+use Rattle.zone_rdata.specs.Field.{FieldValue, SpellsField, u32_value}
+use Rattle.zone_rdata.specs.Fields.Time.{SpellsTime}
+use Rattle.zone_rdata.specs.Item.{RawItem, bare}
+use Rattle.zone_rdata.specs.Number.{IsTime, plain}
+use Rattle.zone_rdata.proofs.Choices.{below_or_not}
+use Rattle.zone_rdata.proofs.FieldLaws.{FieldLaws, SizedField, bare_item, bare_or_fault, sized_front, value_or_fault}
+use Rattle.zone_rdata.proofs.GenericLaws.{decimal-is}
+use Rattle.zone_rdata.proofs.TimeChoice.{time_or_not}
+use Rattle.zone_rdata.proofs.TimeLaws.{one_time}
+use Rattle.zone_rdata.proofs.Fields.Serial as serial
+
+pub sized : SizedField Time u32_value 4
+sized = record { plain = λ e. cc; single = λ e. cc; only = serial.sized.only; size = serial.sized.size; read = serial.sized.read }
+
+opens : (origin : List (List ℕ)) (items : List RawItem) (v : FieldValue) → SpellsField origin Time items v → (text : List ℕ) × (n : ℕ) × (items ≡ bare text ∷ []) × (v ≡ u32_value n)
+opens origin (bare text ∷ []) (u32_value n) h = (text, n, refl, refl)
+opens origin items v h = absurd h
+
+pub laws : FieldLaws Time u32_value bare_item
+laws = record {
+  only = serial.laws.only;
+  opens = opens;
+  part = serial.laws.part;
+  back = λ n rest h last. serial.laws.back n rest h (λ e. absurd cc);
+  low = serial.laws.low;
+  short = λ n many fixed_size h. omega arith;
+  front = sized_front Time 4 sized;
+  holds = λ origin text n h. h.1;
+  once = λ names origin text a b h k. one_time text a b h.0 k.0;
+  never = λ names origin text n fault h bad. bad.1 n h;
+  or_fault = λ names origin is. bare_or_fault origin Time (λ e. cc) (λ e. cc) (λ text each.
+      value_or_fault origin Time text u32_value BadNumber (SpellsTime text) (λ n h. h) (λ none. (refl, none)) (below_or_not (IsTime text) 4294967296 (one_time text) (time_or_not text)));
+  printed = λ names origin n rest fixed_size h last. ((plain (decimal-is n (omega arith)), h), refl);
+  unmarked = serial.laws.unmarked;
+}
