@@ -4,6 +4,7 @@ pub mod Carrying
 pub mod Computing
 pub mod Fielding
 pub mod Frames
+pub mod MessageFaults
 pub mod Messages
 pub mod Naming
 pub mod Places

@@ -2,6 +2,7 @@ pub mod Answers
 pub mod Examples
 pub mod Frames
 pub mod Message
+pub mod MessageFault
 pub mod Name
 pub mod Stream
 pub mod Transfer
