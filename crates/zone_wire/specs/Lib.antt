@@ -1,4 +1,5 @@
 pub mod Answers
+pub mod DataFault
 pub mod Examples
 pub mod Frames
 pub mod Message
