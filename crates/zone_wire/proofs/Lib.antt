@@ -17,6 +17,8 @@ pub mod ReadStreams
 pub mod Sectioning
 pub mod Streams
 pub mod Transfers
+pub mod Verdicts
 pub mod Visits
+pub mod WalkLaws
 pub mod Walking
 pub mod WholeWalks
