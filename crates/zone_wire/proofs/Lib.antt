@@ -1,10 +1,12 @@
 pub mod Accepting
+pub mod AnswerFaults
 pub mod Answering
 pub mod Carrying
 pub mod Computing
 pub mod DataFaults
 pub mod Fielding
 pub mod Frames
+pub mod GivenAnswers
 pub mod MessageFaults
 pub mod Messages
 pub mod Naming
