@@ -15,7 +15,7 @@ use Rattle.zone_wire.specs.Machine.Answers.{agrees, same_record, Answered, answe
 use Rattle.zone_wire.specs.Message.{QuestionAt, Sections, IsMessage}
 use Rattle.zone_wire.specs.Machine.Sections.{sections_of}
 use Rattle.zone_wire.specs.Machine.Stream.{has_first_id, ask_for_zone, message_of, unless_refused, followed_by, records_of, ending_of}
-use Rattle.zone_wire.specs.Stream.{StreamReads}
+use Rattle.zone_wire.specs.Machine.Stream.{FindsReading}
 use Rattle.zone_wire.specs.Transfer.{StatedMessage, AreStatedMessages, AsksFor, frame, StreamStates}
 use Rattle.zone_wire.proofs.Answering.{OpensWith, zone_agrees, is_soa, InOrder, all_read, answers_are_read, differ, records_same}
 use Rattle.zone_wire.proofs.Sectioning.{and_then_ok, sections_read}
@@ -114,7 +114,7 @@ handed_transfer opening others closing each soa =
     ap (λ x. opening ∷ x) (filter-append test others (closing ∷ []) ∙ ap (λ x. x ++ filter test (closing ∷ [])) (others_kept others each) ∙ ap (λ x. others ++ x) none ∙ append-nil others)
 
 -- a transfer is read as its records
-pub transfer_is_read : (stream : List ℕ) (placed : List Placed) → StreamStates stream placed → StreamReads stream placed None
+pub transfer_is_read : (stream : List ℕ) (placed : List Placed) → StreamStates stream placed → FindsReading stream placed None
 transfer_is_read stream placed s =
     let all : List Placed = s.opening ∷ (s.others ++ s.closing ∷ []) in
     let order : InOrder s.opening.rr [] all = ((refl, s.soa), rest_in_order s.opening.rr s.opening s.closing [] s.others s.same refl s.no_soa) in

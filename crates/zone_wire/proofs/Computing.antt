@@ -9,7 +9,7 @@ use Rattle.zone_wire.specs.Machine.Answers.{Answered}
 use Rattle.zone_wire.specs.Message.{u16_at}
 use Rattle.zone_wire.specs.Machine.Stream.{records_of, ending_of}
 use Rattle.zone_wire.specs.Answers.{handed_on}
-use Rattle.zone_wire.specs.Stream.{StreamReads}
+use Rattle.zone_wire.specs.Machine.Stream.{FindsReading}
 use Rattle.zone_wire.specs.Transfer.{frame}
 use Rattle.zone_wire.specs.Name.{Found, IsNameAt}
 use Rattle.zone_wire.specs.Machine.Finding.{named, outcome}
@@ -41,5 +41,5 @@ all_short [] e = tt
 all_short (octets ∷ messages) e = let parts = and_parts (nat_le (length octets) 65535) (list_all (λ octets. nat_le (length octets) 65535) messages) e in (leb-true (length octets) 65535 parts.0, all_short messages parts.1)
 
 -- what a stream is read as, by computing
-pub reads : (messages : List (List ℕ)) (rest : List ℕ) (answered : Answered (Fault × Place)) → list_all (λ octets. nat_le (length octets) 65535) messages ≡ true → nat_lt (length rest) (2 + u16_at rest 0) ≡ true → records_of [] [] messages ≡ answered → StreamReads (flat_map frame messages ++ rest) (handed_on answered.placed) (ending_of (length messages + 1) answered rest)
+pub reads : (messages : List (List ℕ)) (rest : List ℕ) (answered : Answered (Fault × Place)) → list_all (λ octets. nat_le (length octets) 65535) messages ≡ true → nat_lt (length rest) (2 + u16_at rest 0) ≡ true → records_of [] [] messages ≡ answered → FindsReading (flat_map frame messages ++ rest) (handed_on answered.placed) (ending_of (length messages + 1) answered rest)
 reads messages rest answered short cut e = record { messages = messages; rest = rest; framed = record { whole = refl; short = all_short messages short; cut = ltb-true _ _ cut }; stated = ap (λ a. handed_on a.placed) (sym e); ends = ap (λ a. ending_of (length messages + 1) a rest) (sym e) }

@@ -7,6 +7,7 @@ pub mod DataFaults
 pub mod Fielding
 pub mod Frames
 pub mod GivenAnswers
+pub mod GivenMessages
 pub mod MessageFaults
 pub mod Messages
 pub mod Naming

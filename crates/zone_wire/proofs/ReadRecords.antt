@@ -23,7 +23,7 @@ use Rattle.zone_wire.specs.Message.{u16_at, QuestionAt, RecordAt, IsRecordAt, Ar
 use Rattle.zone_wire.specs.Machine.Sections.{sections_of}
 use Rattle.zone_wire.specs.Answers.{questions_of, handed_on}
 use Rattle.zone_wire.specs.Machine.Stream.{has_first_id, message_of, unless_refused, followed_by, records_of}
-use Rattle.zone_wire.specs.Stream.{StreamReads}
+use Rattle.zone_wire.specs.Machine.Stream.{FindsReading}
 use Rattle.zone_wire.specs.Transfer.{octets_between, StandsAt, StandEach, AreFieldsAt, ttl_of, compressible, frame}
 use Rattle.zone_wire.proofs.Accepting.{all_append}
 use Rattle.zone_wire.proofs.ReadAnswers.{unequal, answer_shown}
@@ -201,7 +201,7 @@ module _ (are_data : HeldAreData) (are_short : UnstrungAreShort) where
       (records_fit messages (before ++ s ∷ []) (placed ++ answered.placed) short.1 each.1))
 
   -- what a stream is read as
-  pub read_is_records : (stream : List ℕ) (placed : List Placed) (ending : Option (Fault × Place)) → Bytes stream → StreamReads stream placed ending → Fit placed
+  pub read_is_records : (stream : List ℕ) (placed : List Placed) (ending : Option (Fault × Place)) → Bytes stream → FindsReading stream placed ending → Fit placed
   read_is_records stream placed ending each r =
       let bytes : AllByRecursion Bytes r.messages = message_bytes r.messages (front_bytes (flat_map frame r.messages) r.rest (subst Bytes r.framed.whole each)) in
       subst Fit (sym r.stated) (handed_fit _ (records_fit r.messages [] [] r.framed.short bytes))

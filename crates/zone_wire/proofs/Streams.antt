@@ -12,17 +12,17 @@ use Rattle.zone_wire.specs.Message.{Sections}
 use Rattle.zone_wire.specs.Frames.{IsFramed}
 use Rattle.zone_wire.specs.Machine.Stream.{unless_refused, followed_by, message_of, records_of, ending_of}
 use Rattle.zone_wire.specs.Answers.{questions_of, handed_on}
-use Rattle.zone_wire.specs.Stream.{StreamReads, Decided}
+use Rattle.zone_wire.specs.Machine.Stream.{FindsReading, FindsDecision}
 use Rattle.zone_wire.proofs.Frames.{framed_unique, framed_extends, framing}
 
-pub one_reading : (stream : List ℕ) (placed other : List Placed) (ending late : Option (Fault × Place)) → StreamReads stream placed ending → StreamReads stream other late → (placed ≡ other) × (ending ≡ late)
+pub one_reading : (stream : List ℕ) (placed other : List Placed) (ending late : Option (Fault × Place)) → FindsReading stream placed ending → FindsReading stream other late → (placed ≡ other) × (ending ≡ late)
 one_reading stream placed other ending late is too =
     let same = framed_unique stream is.messages too.messages is.rest too.rest is.framed too.framed in
     let answered = ap (records_of [] []) same.0 in
     let ends = ap (λ m. ending_of (length m + 1) (records_of [] [] m) is.rest) same.0 ∙ ap (ending_of (length too.messages + 1) (records_of [] [] too.messages)) same.1 in
     (is.stated ∙ ap (λ a. handed_on a.placed) answered ∙ sym too.stated, is.ends ∙ ends ∙ sym too.ends)
 
-pub one_decision : (stream : List ℕ) (placed other : List Placed) (ending late : Option (Fault × Place)) → Decided stream placed ending → Decided stream other late → (placed ≡ other) × (ending ≡ late)
+pub one_decision : (stream : List ℕ) (placed other : List Placed) (ending late : Option (Fault × Place)) → FindsDecision stream placed ending → FindsDecision stream other late → (placed ≡ other) × (ending ≡ late)
 one_decision stream placed other ending late is too =
     let same = framed_unique stream is.messages too.messages is.rest too.rest is.framed too.framed in
     let answered = ap (records_of [] []) same.0 in
@@ -90,27 +90,27 @@ ending_stays a b number rest e x h = ap (λ y. ending_of number y rest) (x.stays
     ending_is None k = cc
     ending_is (Some f) k = k
 
-pub records_stay : (stream more : List ℕ) (placed other : List Placed) (ending late : Option (Fault × Place)) → Decided stream placed ending → Decided (stream ++ more) other late → (rest : List Placed) × (other ≡ placed ++ rest)
+pub records_stay : (stream more : List ℕ) (placed other : List Placed) (ending late : Option (Fault × Place)) → FindsDecision stream placed ending → FindsDecision (stream ++ more) other late → (rest : List Placed) × (other ≡ placed ++ rest)
 records_stay stream more placed other ending late is too =
     handed_on_extends _ _ placed other (messages_extend stream more is.messages too.messages is.rest too.rest is.framed too.framed) is.stated too.stated
 
-pub fault_stays : (stream more : List ℕ) (placed other : List Placed) (e : Fault × Place) (late : Option (Fault × Place)) → Decided stream placed (Some e) → Decided (stream ++ more) other late → (other ≡ placed) × (late ≡ Some e)
+pub fault_stays : (stream more : List ℕ) (placed other : List Placed) (e : Fault × Place) (late : Option (Fault × Place)) → FindsDecision stream placed (Some e) → FindsDecision (stream ++ more) other late → (other ≡ placed) × (late ≡ Some e)
 fault_stays stream more placed other e late is too =
     let x = messages_extend stream more is.messages too.messages is.rest too.rest is.framed too.framed in
     (handed_on_stays _ _ placed other e x (sym is.ends) is.stated too.stated, too.ends ∙ ap (λ a. a.fault) (x.stays e (sym is.ends)) ∙ sym is.ends)
 
-pub records_are_read : (stream more : List ℕ) (placed other : List Placed) (ending late : Option (Fault × Place)) → Decided stream placed ending → StreamReads (stream ++ more) other late → (rest : List Placed) × (other ≡ placed ++ rest)
+pub records_are_read : (stream more : List ℕ) (placed other : List Placed) (ending late : Option (Fault × Place)) → FindsDecision stream placed ending → FindsReading (stream ++ more) other late → (rest : List Placed) × (other ≡ placed ++ rest)
 records_are_read stream more placed other ending late is too =
     handed_on_extends _ _ placed other (messages_extend stream more is.messages too.messages is.rest too.rest is.framed too.framed) is.stated too.stated
 
-pub fault_is_read : (stream more : List ℕ) (placed other : List Placed) (e : Fault × Place) (late : Option (Fault × Place)) → Decided stream placed (Some e) → StreamReads (stream ++ more) other late → (other ≡ placed) × (late ≡ Some e)
+pub fault_is_read : (stream more : List ℕ) (placed other : List Placed) (e : Fault × Place) (late : Option (Fault × Place)) → FindsDecision stream placed (Some e) → FindsReading (stream ++ more) other late → (other ≡ placed) × (late ≡ Some e)
 fault_is_read stream more placed other e late is too =
     let x = messages_extend stream more is.messages too.messages is.rest too.rest is.framed too.framed in
     (handed_on_stays _ _ placed other e x (sym is.ends) is.stated too.stated, too.ends ∙ ending_stays _ _ (length too.messages + 1) too.rest e x (sym is.ends))
 
 -- each stream has a reading, and something is decided for it
-pub some_reading : (stream : List ℕ) → ((i : ℕ) → get_or stream i 0 < 256) → (placed : List Placed) × (ending : Option (Fault × Place)) × StreamReads stream placed ending
+pub some_reading : (stream : List ℕ) → ((i : ℕ) → get_or stream i 0 < 256) → (placed : List Placed) × (ending : Option (Fault × Place)) × FindsReading stream placed ending
 some_reading stream each = let f = framing stream each in (_, _, record { messages = f.messages; rest = f.rest; framed = f.framed; stated = refl; ends = refl })
 
-pub some_decision : (stream : List ℕ) → ((i : ℕ) → get_or stream i 0 < 256) → (placed : List Placed) × (ending : Option (Fault × Place)) × Decided stream placed ending
+pub some_decision : (stream : List ℕ) → ((i : ℕ) → get_or stream i 0 < 256) → (placed : List Placed) × (ending : Option (Fault × Place)) × FindsDecision stream placed ending
 some_decision stream each = let f = framing stream each in (_, _, record { messages = f.messages; rest = f.rest; framed = f.framed; stated = refl; ends = refl })
