@@ -197,17 +197,22 @@ fault_of_message : (before : List StatedMessage) (octets : List ℕ) (e : Fault 
 unfolding message_of
 fault_of_message before octets e s is h = and_then_ok (sections_of octets) s _ (sections_read octets s is) ∙ h
 
-fault_of_structure : (before : List StatedMessage) (octets : List ℕ) (fault : Fault) (offset : ℕ) → MessageFault octets fault offset → message_of (sections_in before) (placed_in before) octets ≡ Err (fault, offset)
+pub fault_of_structure : (before : List StatedMessage) (octets : List ℕ) (fault : Fault) (offset : ℕ) → MessageFault octets fault offset → message_of (sections_in before) (placed_in before) octets ≡ Err (fault, offset)
 unfolding message_of
 fault_of_structure before octets fault offset is = and_then_err (sections_of octets) (fault, offset) _ (sections_refuse octets fault offset is)
 
+pub id_fault_of : (before : List StatedMessage) (octets : List ℕ) (s : Sections) → IsMessage octets s → (HasFirstId before s → ⊥) → message_of (sections_in before) (placed_in before) octets ≡ Err (IdMismatch, 0)
+id_fault_of before octets s is none = fault_of_message before octets (IdMismatch, 0) s is (and_then_err (has_first_id (sections_in before) s) (IdMismatch, 0) _ (id_refused before s none))
+
+pub questions_fault_of : (before : List StatedMessage) (octets : List ℕ) (s : Sections) → IsMessage octets s → HasFirstId before s → (AskBehind before s → ⊥) → message_of (sections_in before) (placed_in before) octets ≡ Err (BadQuestion, 12)
+questions_fault_of before octets s is id none =
+    fault_of_message before octets (BadQuestion, 12) s is
+    (and_then_ok (has_first_id (sections_in before) s) s _ (id_kept before s id) ∙ ask_refused (asked_in before) (placed_in before) s s.questions none)
+
 pub fault_read : (before : List StatedMessage) (octets : List ℕ) (messages : List (List ℕ)) (here : List Placed) (fault : Fault) (offset : ℕ) → Bytes octets → length octets ≤ 65535 → FaultBehind before octets here fault offset → records_of (sections_in before) (placed_in before) (octets ∷ messages) ≡ finds here (Some (fault, Message (length before + 1) offset))
 fault_read before octets messages here fault offset each few (of_structure f o is) = fault_first before octets messages (f, o) (fault_of_structure before octets f o is)
-fault_read before octets messages here fault offset each few (of_id s is none) =
-    fault_first before octets messages (IdMismatch, 0) (fault_of_message before octets (IdMismatch, 0) s is (and_then_err (has_first_id (sections_in before) s) (IdMismatch, 0) _ (id_refused before s none)))
-fault_read before octets messages here fault offset each few (of_questions s is id none) =
-    fault_first before octets messages (BadQuestion, 12) (fault_of_message before octets (BadQuestion, 12) s is
-    (and_then_ok (has_first_id (sections_in before) s) s _ (id_kept before s id) ∙ ask_refused (asked_in before) (placed_in before) s s.questions none))
+fault_read before octets messages here fault offset each few (of_id s is none) = fault_first before octets messages (IdMismatch, 0) (id_fault_of before octets s is none)
+fault_read before octets messages here fault offset each few (of_questions s is id none) = fault_first before octets messages (BadQuestion, 12) (questions_fault_of before octets s is id none)
 fault_read before octets messages here fault offset each few (of_answers s placed f o is next) =
     let number : ℕ = length (sections_in before) + 1 in
     let given : answers_behind before octets s ≡ found placed (Some (f, o)) = answers_same before octets s ∙ fault_given (length before + 1) octets (asked_in before ++ s.questions) (placed_in before) s.answers placed f o each few (each_stands octets is.message.past_questions is.message.past_answers s.answers is.message.answers) next in

@@ -11,6 +11,8 @@ pub mod GivenMessages
 pub mod MessageFaults
 pub mod Messages
 pub mod Naming
+pub mod OneFault
+pub mod OneReading
 pub mod Places
 pub mod ReadAnswers
 pub mod ReadFields
