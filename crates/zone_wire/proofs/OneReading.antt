@@ -16,6 +16,7 @@ use Rattle.zone_wire.specs.Stream.{octets_in, sections_in, asked_in, placed_in, 
 use Rattle.zone_wire.specs.Transfer.{StatedMessage, StatesRecord, StateEach}
 use Rattle.zone_wire.proofs.GivenAnswers.{Stands, each_stands, Give}
 use Rattle.zone_wire.proofs.GivenMessages.{message_kept, fault_of_structure, id_fault_of, questions_fault_of}
+use Rattle.zone_wire.proofs.MessageFaults.{err_same, some_same}
 use Rattle.zone_wire.proofs.OneFault.{answer_one, answer_not_both}
 use Rattle.zone_wire.proofs.Transfers.{placed_same, record_unique}
 
@@ -87,20 +88,21 @@ module _ (number : ℕ) (octets : List ℕ) (questions : List QuestionAt) where
       let x = gives_nothing before placed stop is in
       let y = gives_nothing before other late too in
       (x.0 ∙ sym y.0, x.1 ∙ sym y.1)
-  give_one (a ∷ answers) before placed other stop late at is too = by (first_gives before a answers placed stop is) (first_gives before a answers other late too)
+  give_one (a ∷ answers) before placed other stop late at is too =
+      by (λ p xs ys. give_one answers (before ++ p ∷ []) xs ys stop late at.1) (first_gives before a answers placed stop is) (first_gives before a answers other late too)
     where
       within : a.end ≤ length octets
       within = at.0.1.inside
 
-      by : FirstGives number octets questions before a answers placed stop → FirstGives number octets questions before a answers other late → (placed ≡ other) × (stop ≡ late)
-      by (inl x) (inl y) =
+      by : ((p : Placed) (xs ys : List Placed) → Give number octets questions (before ++ p ∷ []) answers xs stop → Give number octets questions (before ++ p ∷ []) answers ys late → (xs ≡ ys) × (stop ≡ late)) → FirstGives number octets questions before a answers placed stop → FirstGives number octets questions before a answers other late → (placed ≡ other) × (stop ≡ late)
+      by others (inl x) (inl y) =
           let same : x.p ≡ y.p = placed_same x.p y.p (record_unique octets a x.p.rr y.p.rr within x.states y.states) (x.place ∙ sym y.place) in
           let moved : Give number octets questions (before ++ y.p ∷ []) answers x.others stop = subst (λ (p : Placed). Give number octets questions (before ++ p ∷ []) answers x.others stop) same x.rest in
-          let rest = give_one answers (before ++ y.p ∷ []) x.others y.others stop late at.1 moved y.rest in
+          let rest = others y.p x.others y.others moved y.rest in
           (x.is ∙ ap (λ p. p ∷ x.others) same ∙ ap (λ o. y.p ∷ o) rest.0 ∙ sym y.is, rest.1)
-      by (inl x) (inr y) = absurd (answer_not_both octets questions before a within y.fault x.p.rr y.has x.states x.stands)
-      by (inr x) (inl y) = absurd (answer_not_both octets questions before a within x.fault y.p.rr x.has y.states y.stands)
-      by (inr x) (inr y) = (x.nothing ∙ sym y.nothing, x.is ∙ ap (λ f. Some (f, a.offset)) (answer_one octets questions before a within x.fault y.fault x.has y.has) ∙ sym y.is)
+      by others (inl x) (inr y) = absurd (answer_not_both octets questions before a within y.fault x.p.rr y.has x.states x.stands)
+      by others (inr x) (inl y) = absurd (answer_not_both octets questions before a within x.fault y.p.rr x.has y.states y.stands)
+      by others (inr x) (inr y) = (x.nothing ∙ sym y.nothing, x.is ∙ ap (λ f. Some (f, a.offset)) (answer_one octets questions before a within x.fault y.fault x.has y.has) ∙ sym y.is)
 
 -- a message that is refused before its answers, or by them
 abbrev EarlyFault : List StatedMessage → List ℕ → List Placed → Fault → ℕ → Type 0
@@ -139,21 +141,18 @@ module _ (before : List StatedMessage) (octets : List ℕ) where
   pub fault_one : (here other : List Placed) (f g : Fault) (o n : ℕ) → FaultBehind before octets here f o → FaultBehind before octets other g n → (here ≡ other) × (f ≡ g) × (o ≡ n)
   fault_one here other f g o n is too = by (fault_split before octets here f o is) (fault_split before octets other g n too)
     where
-      pair : (f, o) ≡ (g, n) → (f ≡ g) × (o ≡ n)
+      pair : (let x : Fault × ℕ = (f, o) in x) ≡ (g, n) → (f ≡ g) × (o ≡ n)
       pair e = (ap (λ (x : Fault × ℕ). x.0) e, ap (λ (x : Fault × ℕ). x.1) e)
 
       by : EarlyFault before octets here f o ⊎ LateFault before octets here f o → EarlyFault before octets other g n ⊎ LateFault before octets other g n → (here ≡ other) × (f ≡ g) × (o ≡ n)
       by (inl x) (inl y) =
-          let e = x.1 in
-          let k = y.1 in
-          let same : (f, o) ≡ (g, n) = cc in
+          let same = err_same (f, o) (g, n) (sym x.1 ∙ y.1) in
           (x.0 ∙ sym y.0, (pair same).0, (pair same).1)
       by (inl x) (inr y) = let e = x.1 in let k = message_kept before octets y.s y.is in cc
       by (inr x) (inl y) = let e = y.1 in let k = message_kept before octets x.s x.is in cc
       by (inr x) (inr y) =
           let same = give_behind x.s y.s here other (Some (f, o)) (Some (g, n)) x.is y.is x.has y.has in
-          let stops = same.1 in
-          let both : (f, o) ≡ (g, n) = cc in
+          let both = some_same (f, o) (g, n) same.1 in
           (same.0, (pair both).0, (pair both).1)
 
   pub read_not_refused : (s : Sections) (placed here : List Placed) (f : Fault) (o : ℕ) → IsMessageBehind before octets s → GiveBehind s placed None → FaultBehind before octets here f o → ⊥
@@ -223,14 +222,14 @@ first_read before octets messages placed None r = all_read_first before octets m
 first_read before octets messages placed (Some e) r = up_to_first before octets messages placed e r.parts r.octets r.rest r.here r.fault r.offset r.read r.next r.whole r.stated r.place
 
 nothing_read : (before : List StatedMessage) (placed : List Placed) (ending : Option (Fault × Place)) → ReadBehind before [] placed ending → (placed ≡ []) × (ending ≡ None)
-nothing_read before placed None r = by r.parts r.whole r.stated
+nothing_read before placed None r = (by r.parts r.whole r.stated, refl)
   where
-    by : (parts : List StatedMessage) → [] ≡ octets_in parts → placed ≡ placed_in parts → (placed ≡ []) × (None ≡ None)
-    by [] e stated = (stated, refl)
+    by : (parts : List StatedMessage) → [] ≡ octets_in parts → placed ≡ placed_in parts → placed ≡ []
+    by [] e stated = stated
     by (p ∷ parts) e stated = cc
-nothing_read before placed (Some e) r = by r.parts r.whole
+nothing_read before placed (Some e) r = absurd (by r.parts r.whole)
   where
-    by : (parts : List StatedMessage) → [] ≡ octets_in parts ++ r.octets ∷ r.rest → (placed ≡ []) × (Some e ≡ None)
+    by : (parts : List StatedMessage) → [] ≡ octets_in parts ++ r.octets ∷ r.rest → ⊥
     by [] h = cc
     by (p ∷ parts) h = cc
 
@@ -245,28 +244,29 @@ pub read_goes_on : (messages after : List (List ℕ)) (before : List StatedMessa
 read_goes_on [] after before placed other ending late is too =
     let nothing = nothing_read before placed ending is in
     record { more = other; goes_on = ap (λ x. x ++ other) (sym nothing.0); stays = λ e h. let none = nothing.1 in cc }
-read_goes_on (octets ∷ messages) after before placed other ending late is too = by (first_read before octets messages placed ending is) (first_read before octets (messages ++ after) other late too)
+read_goes_on (octets ∷ messages) after before placed other ending late is too =
+    by (λ p xs ys. read_goes_on messages after (before ++ p ∷ []) xs ys ending late) (first_read before octets messages placed ending is) (first_read before octets (messages ++ after) other late too)
   where
-    by : FirstRead before octets messages placed ending → FirstRead before octets (messages ++ after) other late → GoesOn placed ending other late
-    by (inl x) (inl y) =
+    by : ((p : StatedMessage) (xs ys : List Placed) → ReadBehind (before ++ p ∷ []) messages xs ending → ReadBehind (before ++ p ∷ []) (messages ++ after) ys late → GoesOn xs ending ys late) → FirstRead before octets messages placed ending → FirstRead before octets (messages ++ after) other late → GoesOn placed ending other late
+    by others (inl x) (inl y) =
         let same : x.p ≡ y.p = one_read before x.p y.p (x.same ∙ sym y.same) x.read y.read in
         let moved : ReadBehind (before ++ y.p ∷ []) messages x.others ending = subst (λ (p : StatedMessage). ReadBehind (before ++ p ∷ []) messages x.others ending) same x.rest in
-        let rest = read_goes_on messages after (before ++ y.p ∷ []) x.others y.others ending late moved y.rest in
+        let rest = others y.p x.others y.others moved y.rest in
         let front : y.p.placed ≡ x.p.placed = ap (λ (p : StatedMessage). p.placed) (sym same) in
         record {
           more = rest.more;
           goes_on = y.is ∙ ap (λ z. z ++ y.others) front ∙ ap (λ z. x.p.placed ++ z) rest.goes_on ∙ sym (append_assoc x.p.placed x.others rest.more) ∙ ap (λ z. z ++ rest.more) (sym x.is);
           stays = λ e h. let s = rest.stays e h in (y.is ∙ ap (λ z. z ++ y.others) front ∙ ap (λ z. x.p.placed ++ z) s.0 ∙ sym x.is, s.1);
         }
-    by (inl x) (inr y) =
+    by others (inl x) (inr y) =
         let m : IsMessageBehind before octets x.p.sections = subst (λ o. IsMessageBehind before o x.p.sections) x.same x.read.message in
         let states : StateEach (length before + 1) octets x.p.sections.answers x.p.placed = subst (λ o. StateEach (length before + 1) o x.p.sections.answers x.p.placed) x.same x.read.stated in
         absurd (read_not_refused before octets x.p.sections x.p.placed y.here y.fault y.offset m (states, x.read.order) y.has)
-    by (inr x) (inl y) =
+    by others (inr x) (inl y) =
         let m : IsMessageBehind before octets y.p.sections = subst (λ o. IsMessageBehind before o y.p.sections) y.same y.read.message in
         let states : StateEach (length before + 1) octets y.p.sections.answers y.p.placed = subst (λ o. StateEach (length before + 1) o y.p.sections.answers y.p.placed) y.same y.read.stated in
         absurd (read_not_refused before octets y.p.sections y.p.placed x.here x.fault x.offset m (states, y.read.order) x.has)
-    by (inr x) (inr y) =
+    by others (inr x) (inr y) =
         let one = fault_one before octets x.here y.here x.fault y.fault x.offset y.offset x.has y.has in
         let same : other ≡ placed = y.is ∙ sym one.0 ∙ sym x.is in
         let ends : late ≡ ending = y.place ∙ ap (λ (f : Fault). Some (f, Message (length before + 1) y.offset)) (sym one.1) ∙ ap (λ n. Some (x.fault, Message (length before + 1) n)) (sym one.2) ∙ sym x.place in
