@@ -42,13 +42,13 @@ message_is_read id zone before placed octets s is same each asked ask opens =
     ∙ questions_agree zone (questions_of before) placed s s.questions asked opens ask
 
 -- records in order, in two parts
-in_order_parts : (zone : Record) (before xs ys : List Placed) → InOrder zone before (xs ++ ys) → InOrder zone before xs × InOrder zone (before ++ xs) ys
+pub in_order_parts : (zone : Record) (before xs ys : List Placed) → InOrder zone before (xs ++ ys) → InOrder zone before xs × InOrder zone (before ++ xs) ys
 in_order_parts zone before [] ys order = (tt, subst (λ (b : List Placed). InOrder zone b ys) (sym (append-nil before)) order)
 in_order_parts zone before (x ∷ xs) ys order =
     let rest = in_order_parts zone (before ++ x ∷ []) xs ys order.1 in
     ((order.0, rest.0), subst (λ (b : List Placed). InOrder zone b ys) (append_assoc before (x ∷ []) xs) rest.1)
 
-opens_more : (zone : Record) (before here : List Placed) → OpensWith zone before → InOrder zone before here → OpensWith zone (before ++ here)
+pub opens_more : (zone : Record) (before here : List Placed) → OpensWith zone before → InOrder zone before here → OpensWith zone (before ++ here)
 opens_more zone [] [] opens order = tt
 opens_more zone [] (p ∷ here) opens order = order.0.0
 opens_more zone (opening ∷ before) here opens order = opens
@@ -87,7 +87,7 @@ any_append (x ∷ xs) ys = ap (λ b. is_soa x || b) (any_append xs ys) ∙ or_as
     or_assoc false b c = refl
 
 -- an SOA, records that are none, and the SOA again are in order
-rest_in_order : (zone : Record) (opening closing : Placed) (done others : List Placed) → closing.rr ≡ opening.rr → list_any is_soa done ≡ false → AllByRecursion (λ (p : Placed). p.rr.kind ≢ 6) others → InOrder zone (opening ∷ done) (others ++ closing ∷ [])
+pub rest_in_order : (zone : Record) (opening closing : Placed) (done others : List Placed) → closing.rr ≡ opening.rr → list_any is_soa done ≡ false → AllByRecursion (λ (p : Placed). p.rr.kind ≢ 6) others → InOrder zone (opening ∷ done) (others ++ closing ∷ [])
 rest_in_order zone opening closing done [] same none each =
     let again : not (same_record closing.rr opening.rr) ≡ false = ap not (records_same closing.rr opening.rr same) in
     ((none, and_right (is_soa closing) (not (same_record closing.rr opening.rr)) again), tt)
@@ -103,7 +103,7 @@ pub framed_parts : (parts : List StatedMessage) → flat_map (λ p. frame p.octe
 framed_parts [] = refl
 framed_parts (p ∷ parts) = ap (λ x. frame p.octets ++ x) (framed_parts parts)
 
-short_parts : (id : ℕ) (zone : Record) (number : ℕ) (parts : List StatedMessage) → AreStatedMessages id zone number parts → AllByRecursion (λ octets. length octets ≤ 65535) (octets_of_parts parts)
+pub short_parts : (id : ℕ) (zone : Record) (number : ℕ) (parts : List StatedMessage) → AreStatedMessages id zone number parts → AllByRecursion (λ octets. length octets ≤ 65535) (octets_of_parts parts)
 short_parts id zone number [] are = tt
 short_parts id zone number (p ∷ parts) are = (are.0.short, short_parts id zone (number + 1) parts are.1)
 

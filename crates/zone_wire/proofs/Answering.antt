@@ -74,7 +74,7 @@ abbrev pub InOrder : Record → List Placed → List Placed → Type 0
 InOrder zone before [] = ⊤
 InOrder zone before (p ∷ placed) = Follows zone before p × InOrder zone (before ++ p ∷ []) placed
 
-order_is_kept : (zone : Record) (questions : List QuestionAt) (before : List Placed) (p : Placed) → AllByRecursion (AsksFor zone) questions → Follows zone before p → order_fault questions before p.rr ≡ None
+pub order_is_kept : (zone : Record) (questions : List QuestionAt) (before : List Placed) (p : Placed) → AllByRecursion (AsksFor zone) questions → Follows zone before p → order_fault questions before p.rr ≡ None
 order_is_kept zone questions [] p ask follows =
     cond-false _ _ _ (ap not (eq-eqb p.rr.kind 6 (ap (λ (r : Record). r.kind) follows.0 ∙ follows.1)))
     ∙ cond-true _ _ _ (zone_agrees zone questions [] p.rr.owner p.rr.class ask tt (ap (λ (r : Record). r.owner) follows.0) (ap (λ (r : Record). r.class) follows.0))

@@ -8,6 +8,8 @@ pub mod Fielding
 pub mod Frames
 pub mod GivenAnswers
 pub mod GivenMessages
+pub mod GivenStreams
+pub mod GivenTransfers
 pub mod MessageFaults
 pub mod Messages
 pub mod Naming

@@ -129,7 +129,7 @@ filter_fit test (p ∷ placed) fits = by (test p) (filter_fit test placed fits.1
     by true rest = (fits.0, rest)
     by false rest = rest
 
-handed_fit : (placed : List Placed) → Fit placed → Fit (handed_on placed)
+pub handed_fit : (placed : List Placed) → Fit placed → Fit (handed_on placed)
 handed_fit [] fits = tt
 handed_fit (opening ∷ others) fits = (fits.0, filter_fit _ others fits.1)
 
