@@ -1,6 +1,6 @@
 -- What a stream is read as is what is found in it, and records.
-use Rattle.std.proofs.Common.{◌≡◌, ◌≢◌, ℕ, ◌+◌, ◌<◌, ◌≤◌, List, [], ◌∷◌, ◌++◌, length, refl, ap, sym, ◌∙◌, subst, Bool, true, false, arith}
-use Rattle.std.specs.Prelude.{get_or, Option, Some, None, MatchOption}
+use Rattle.std.proofs.Common.{◌≡◌, ℕ, ◌+◌, ◌≤◌, List, [], ◌∷◌, ◌++◌, length, refl, ap, sym, ◌∙◌, subst, Bool, true, false}
+use Rattle.std.specs.Prelude.{Option, Some, None, MatchOption}
 use Rattle.std.specs.List.{flat_map, AllByRecursion}
 use Rattle.std.proofs.lemmas.Bool.{cond-true, cond-false}
 use Rattle.std.proofs.lemmas.List.{append-nil}
@@ -10,7 +10,6 @@ use Rattle.zone_rdata.specs.declared.fault.Place.{Place}
 use Rattle.zone_rdata.specs.declared.fault.Place.TheVariants.{Message}
 use Rattle.zone_rdata.specs.declared.record.Placed.{Placed}
 use Rattle.zone_wire.specs.Answers.{is_closed, handed_on}
-use Rattle.zone_wire.specs.Machine.Answers.{Answered}
 use Rattle.zone_wire.specs.Machine.Stream.{records_of, end_fault, ending_of, FindsReading, FindsDecision}
 use Rattle.zone_wire.specs.Message.{RecordAt}
 use Rattle.zone_wire.specs.Stream.{octets_in, placed_in, AreRead, FaultBehind, of_structure, of_id, of_questions, of_answers, ReadBehind, StreamEnd, in_frame, unclosed, closed, StreamReads, Decided}

@@ -1,9 +1,8 @@
 -- Messages are read in one way, and more messages only go on.
 use Rattle.std.proofs.Common.{◌≡◌, ℕ, ◌+◌, ◌≤◌, List, [], ◌∷◌, ◌++◌, length, refl, ap, sym, ◌∙◌, subst, inl, inr, arith, append_assoc, length-append}
-use Rattle.std.specs.Prelude.{◌⊎◌, Option, Some, None, Result, Ok, Err}
+use Rattle.std.specs.Prelude.{◌⊎◌, Option, Some, None, Err}
 use Rattle.std.specs.List.{AllByRecursion}
 use Rattle.std.proofs.lemmas.List.{append-nil}
-use Rattle.zone_rdata.specs.Record.{Record}
 use Rattle.zone_rdata.specs.declared.fault.Fault.{Fault}
 use Rattle.zone_rdata.specs.declared.fault.Place.{Place}
 use Rattle.zone_rdata.specs.declared.fault.Place.TheVariants.{Message}
@@ -12,7 +11,7 @@ use Rattle.zone_wire.specs.AnswerFault.{AnswerFault, FirstAnswerFault}
 use Rattle.zone_wire.specs.Answers.{StandsBehind, StandInOrder}
 use Rattle.zone_wire.specs.Machine.Stream.{message_of}
 use Rattle.zone_wire.specs.Message.{QuestionAt, RecordAt, Sections}
-use Rattle.zone_wire.specs.Stream.{octets_in, sections_in, asked_in, placed_in, IsMessageBehind, IsReadBehind, AreRead, FaultBehind, of_structure, of_id, of_questions, of_answers, AllRead, ReadUpTo, ReadBehind}
+use Rattle.zone_wire.specs.Stream.{octets_in, sections_in, asked_in, placed_in, IsMessageBehind, IsReadBehind, AreRead, FaultBehind, of_structure, of_id, of_questions, of_answers, ReadBehind}
 use Rattle.zone_wire.specs.Transfer.{StatedMessage, StatesRecord, StateEach}
 use Rattle.zone_wire.proofs.GivenAnswers.{Stands, each_stands, Give}
 use Rattle.zone_wire.proofs.GivenMessages.{message_kept, fault_of_structure, id_fault_of, questions_fault_of}
