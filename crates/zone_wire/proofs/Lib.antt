@@ -1,4 +1,5 @@
 pub mod Accepting
+pub mod AlikeMessages
 pub mod AnswerFaults
 pub mod Answering
 pub mod Carrying
