@@ -7,7 +7,7 @@ use Rattle.zone_rdata.specs.Record.{Record}
 use Rattle.zone_rdata.specs.declared.fault.Fault.{Fault}
 use Rattle.zone_rdata.specs.declared.record.Placed.{Placed}
 use Rattle.zone_wire.specs.AnswerFault.{OrderFault, closed, no_soa, other_zone, other_soa, AnswerFault, own, of_order, FirstAnswerFault}
-use Rattle.zone_wire.specs.Answers.{zone_of, AgreeWith, is_closed, StandsBehind, opens, follows, StandInOrder}
+use Rattle.zone_wire.specs.Answers.{Zone, zone_of, AgreeWith, is_closed, StandsBehind, opens, follows, StandInOrder}
 use Rattle.zone_wire.specs.Message.{QuestionAt, RecordAt, Sections}
 use Rattle.zone_wire.specs.Stream.{sections_in, asked_in, placed_in, HasFirstId, AsksIn, AskBehind, IsMessageBehind, IsReadBehind, FaultBehind, of_structure, of_id, of_questions, of_answers, first_id, opening_of, AreAlike}
 use Rattle.zone_wire.specs.Transfer.{StatedMessage, StateEach}
@@ -145,3 +145,49 @@ fault_alike before other octets here fault offset is (of_structure f o has) = of
 fault_alike before other octets here fault offset is (of_id s m none) = of_id s m (λ has. none (id_alike other before (alike_other before other is) s has))
 fault_alike before other octets here fault offset is (of_questions s m id none) = of_questions s m (id_alike before other is s id) (λ asks. none (asks_alike other before (alike_other before other is) s asks))
 fault_alike before other octets here fault offset is (of_answers s placed f o m next) = of_answers s placed f o (message_alike before other is octets s m) (first_fault_alike before other is octets s placed f o next)
+
+-- the zone stays that which is fixed
+zone_same : (name : List (List ℕ)) (class : ℕ) (z : Zone) → name ≡ z.name → class ≡ z.class → (let y : Zone = record { name = name; class = class } in y) ≡ z
+zone_same name class z n c = ap (λ x. let y : Zone = record { name = x; class = class } in y) n ∙ ap (λ x. let y : Zone = record { name = z.name; class = x } in y) c
+
+zone_stays : (asked more : List QuestionAt) (placed here : List Placed) (z : Zone) → zone_of asked placed ≡ Some z → AllByRecursion (AsksIn (Some z)) more → zone_of (asked ++ more) (placed ++ here) ≡ Some z
+zone_stays (q ∷ asked) more placed here z e asks = e
+zone_stays [] [] [] here z e asks = cc
+zone_stays [] [] (p ∷ placed) here z e asks = e
+zone_stays [] (q ∷ more) placed here z e asks = ap Some (zone_same q.name q.class z asks.0.agrees.0 asks.0.agrees.1)
+
+zone_none : (asked : List QuestionAt) (placed : List Placed) → zone_of asked placed ≡ None → (asked ≡ []) × (placed ≡ [])
+zone_none [] [] e = (refl, refl)
+zone_none [] (p ∷ placed) e = cc
+zone_none (q ∷ asked) placed e = cc
+
+zone_grows : (asked other more : List QuestionAt) (placed late here : List Placed) (zone : Option Zone) → zone_of asked placed ≡ zone → zone_of other late ≡ zone → AllByRecursion (AsksIn zone) more → zone_of (asked ++ more) (placed ++ here) ≡ zone_of (other ++ more) (late ++ here)
+zone_grows asked other more placed late here (Some z) e k asks = zone_stays asked more placed here z e asks ∙ sym (zone_stays other more late here z k asks)
+zone_grows asked other more placed late here None e k asks =
+    let x = zone_none asked placed e in
+    let y = zone_none other late k in
+    ap (λ q. zone_of (q ++ more) (placed ++ here)) (x.0 ∙ sym y.0) ∙ ap (λ p. zone_of (other ++ more) (p ++ here)) (x.1 ∙ sym y.1)
+
+id_grows : (before other : List StatedMessage) (p : StatedMessage) → first_id before ≡ first_id other → first_id (before ++ p ∷ []) ≡ first_id (other ++ p ∷ [])
+id_grows [] [] p e = refl
+id_grows [] (y ∷ ys) p e = cc
+id_grows (x ∷ xs) [] p e = cc
+id_grows (x ∷ xs) (y ∷ ys) p e = e
+
+asked_more : (before : List StatedMessage) (p : StatedMessage) → asked_in before ++ p.sections.questions ≡ asked_in (before ++ p ∷ [])
+asked_more before p = sym (asked_grow before p.sections) ∙ ap (flat_map (λ (t : Sections). t.questions)) (sections_grow before p)
+
+-- messages that are alike stay so behind one more
+pub alike_grows : (before other : List StatedMessage) (p : StatedMessage) → AreAlike before other → IsReadBehind before p → AreAlike (before ++ p ∷ []) (other ++ p ∷ [])
+alike_grows before other p is read =
+    let questions = p.sections.questions in
+    let records = alike_behind (asked_in before ++ questions) (asked_in other ++ questions) (placed_in before) (placed_in other) p.placed (alike_answers before other is questions) in
+    record {
+      count = length-append before (p ∷ []) ∙ ap (λ n. n + 1) is.count ∙ sym (length-append other (p ∷ []));
+      id = id_grows before other p is.id;
+      zone = sym (ap (λ q. zone_of q (placed_in (before ++ p ∷ []))) (asked_more before p)) ∙ sym (ap (zone_of (asked_in before ++ questions)) (placed_grow before p))
+          ∙ zone_grows (asked_in before) (asked_in other) questions (placed_in before) (placed_in other) p.placed (zone_of (asked_in before) (placed_in before)) refl (sym is.zone) read.message.asks
+          ∙ ap (zone_of (asked_in other ++ questions)) (placed_grow other p) ∙ ap (λ q. zone_of q (placed_in (other ++ p ∷ []))) (asked_more other p);
+      opening = sym (ap opening_of (placed_grow before p)) ∙ records.opening ∙ ap opening_of (placed_grow other p);
+      closing = sym (ap is_closed (placed_grow before p)) ∙ records.closing ∙ ap is_closed (placed_grow other p);
+    }

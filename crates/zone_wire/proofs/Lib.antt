@@ -6,6 +6,7 @@ pub mod Carrying
 pub mod Computing
 pub mod DataFaults
 pub mod Fielding
+pub mod FrameLaws
 pub mod Frames
 pub mod GivenAnswers
 pub mod GivenMessages
