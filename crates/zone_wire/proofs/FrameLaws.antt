@@ -1,7 +1,7 @@
 -- Frame by frame.
-use Rattle.std.proofs.Common.{◌≡◌, ℕ, ◌+◌, ◌<◌, ◌≤◌, List, [], ◌∷◌, ◌++◌, length, refl, ap, sym, ◌∙◌, subst, inl, inr, append_assoc, lit<}
-use Rattle.std.specs.Prelude.{get_or, ◌⊎◌, Option, Some, None}
-use Rattle.std.specs.List.{flat_map, AllByRecursion}
+use Rattle.std.proofs.Common.{◌≡◌, ℕ, ◌+◌, ◌≤◌, List, [], ◌∷◌, ◌++◌, length, refl, ap, sym, ◌∙◌, subst, inl, inr, append_assoc, lit<}
+use Rattle.std.specs.Prelude.{◌⊎◌, Option, Some, None}
+use Rattle.std.specs.List.{flat_map}
 use Rattle.std.proofs.lemmas.List.{append-nil}
 use Rattle.std.proofs.lemmas.List.Concat.{flat_map-append}
 use Rattle.zone_name.specs.Common.{IsVerdict}
@@ -11,9 +11,8 @@ use Rattle.zone_rdata.specs.declared.fault.Place.TheVariants.{Message}
 use Rattle.zone_rdata.specs.declared.record.Placed.{Placed}
 use Rattle.zone_wire.specs.Answers.{handed_on}
 use Rattle.zone_wire.specs.Frames.{IsFramed}
-use Rattle.zone_wire.specs.Machine.Stream.{records_of}
-use Rattle.zone_wire.specs.Stream.{octets_in, sections_in, placed_in, IsReadBehind, AreRead, FaultBehind, ReadBehind, Decided}
-use Rattle.zone_wire.specs.Transfer.{StatedMessage, StateEach, frame}
+use Rattle.zone_wire.specs.Stream.{octets_in, placed_in, IsReadBehind, AreRead, FaultBehind, Decided}
+use Rattle.zone_wire.specs.Transfer.{StatedMessage, frame}
 use Rattle.zone_wire.proofs.Accepting.{all_append}
 use Rattle.zone_wire.proofs.AnswerFaults.{Bytes}
 use Rattle.zone_wire.proofs.GivenMessages.{records_show}
