@@ -1,6 +1,6 @@
 -- The faults of answers are those at which their records stop being read.
 use Rattle.std.proofs.Common.{◌≡◌, ◌≢◌, ℕ, ◌+◌, ◌<◌, ◌≤◌, List, [], ◌∷◌, length, refl, ap, sym, ◌∙◌, subst, Bool, true, false, nat_eq, inl, inr, arith}
-use Rattle.std.specs.Prelude.{get_or, ◌==◌, ◌&&◌, ◌⊎◌, not, Option, Some, None, Result, Ok, Err, if◌then◌else◌}
+use Rattle.std.specs.Prelude.{◌==◌, ◌&&◌, ◌⊎◌, not, Option, Some, None, Result, Ok, Err, if◌then◌else◌}
 use Rattle.std.specs.List.{list_any}
 use Rattle.std.proofs.lemmas.Bool.{cond-true, cond-false, and_parts, and_from, and_cases, eqb-true, eq-eqb, not-true, not-false, false_from_ne_true, true_from_ne_false}
 use Rattle.zone_rdata.specs.Record.{Record}
@@ -20,9 +20,7 @@ use Rattle.zone_wire.proofs.DataFaults.{data_faults, data_refuses}
 use Rattle.zone_wire.proofs.MessageFaults.{err_same, some_same, stops, and_then_err, faulted, unequal_by, differs}
 use Rattle.zone_wire.proofs.ReadAnswers.{each_other, record_shown, agree_parts, records_equal}
 use Rattle.zone_wire.proofs.ReadRecords.{no_class_parts, record_fits}
-
-abbrev pub Bytes : List ℕ → Type 0
-Bytes octets = (k : ℕ) → get_or octets k 0 < 256
+use Rattle.zone_wire.proofs.ReadStreams.{Bytes}
 
 -- a test that refuses, or the rest does
 refused_or : {X : Type 0} (test : Bool) (fault other : Fault) (rest : Result X Fault) → (if test then Err fault else rest) ≡ Err other → ((test ≡ true) × (fault ≡ other)) ⊎ ((test ≡ false) × (rest ≡ Err other))

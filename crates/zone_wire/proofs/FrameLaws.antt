@@ -14,8 +14,8 @@ use Rattle.zone_wire.specs.Frames.{IsFramed}
 use Rattle.zone_wire.specs.Stream.{octets_in, placed_in, IsReadBehind, AreRead, FaultBehind, Decided}
 use Rattle.zone_wire.specs.Transfer.{StatedMessage, frame}
 use Rattle.zone_wire.proofs.Accepting.{all_append}
-use Rattle.zone_wire.proofs.AnswerFaults.{Bytes}
-use Rattle.zone_wire.proofs.GivenMessages.{records_show}
+use Rattle.zone_wire.proofs.ReadStreams.{Bytes}
+use Rattle.zone_wire.proofs.GivenMessages.{placed_grow, records_show}
 use Rattle.zone_wire.proofs.OneReading.{FirstRead, first_read, fault_one, one_read, read_not_refused}
 
 -- octets joined behind octets: their frames behind those before, where the rest begins them
@@ -41,16 +41,13 @@ octets_more : (before : List StatedMessage) (p : StatedMessage) → octets_in be
 octets_more [] p = refl
 octets_more (q ∷ before) p = ap (λ x. q.octets ∷ x) (octets_more before p)
 
-placed_more : (before : List StatedMessage) (p : StatedMessage) → placed_in before ++ p.placed ≡ placed_in (before ++ p ∷ [])
-placed_more before p = ap (λ x. placed_in before ++ x) (sym (append-nil p.placed)) ∙ sym (flat_map-append (λ (q : StatedMessage). q.placed) before (p ∷ []))
-
 pub frame_read : (stream : List ℕ) (before : List StatedMessage) (p : StatedMessage) → IsFramed stream (octets_in before) [] → AreRead [] before → length p.octets ≤ 65535 → IsReadBehind before p → Decided (stream ++ frame p.octets) (handed_on (placed_in before ++ p.placed)) None
 frame_read stream before p framed are few is = record {
   messages = octets_in before ++ p.octets ∷ [];
   rest = [];
   framed = frame_behind stream p.octets (octets_in before) few framed;
   all = placed_in before ++ p.placed;
-  read = record { parts = before ++ p ∷ []; read = are_read_more [] before p are is; whole = octets_more before p; stated = placed_more before p };
+  read = record { parts = before ++ p ∷ []; read = are_read_more [] before p are is; whole = octets_more before p; stated = placed_grow before p };
   stated = refl;
 }
 

@@ -18,10 +18,11 @@ use Rattle.zone_wire.specs.Message.{QuestionAt, Sections, IsMessage}
 use Rattle.zone_wire.specs.MessageFault.{MessageFault}
 use Rattle.zone_wire.specs.Stream.{octets_in, sections_in, asked_in, placed_in, HasFirstId, AsksIn, AskBehind, IsMessageBehind, IsReadBehind, AreRead, FaultBehind, of_structure, of_id, of_questions, of_answers, ReadBehind}
 use Rattle.zone_wire.specs.Transfer.{StatedMessage}
-use Rattle.zone_wire.proofs.AnswerFaults.{Bytes, agrees_by, agrees_true}
+use Rattle.zone_wire.proofs.AnswerFaults.{agrees_by, agrees_true}
 use Rattle.zone_wire.proofs.GivenAnswers.{each_stands, Give, answers_give, answers_given, fault_given, found}
 use Rattle.zone_wire.proofs.MessageFaults.{err_same, stops, and_then_err, fails, sections_fault, sections_refuse}
 use Rattle.zone_wire.proofs.ReadSections.{leads, passes, ok_same, sections_shown}
+use Rattle.zone_wire.proofs.ReadStreams.{Bytes}
 use Rattle.zone_wire.proofs.Sectioning.{and_then_ok, sections_read}
 
 -- the ID of a message behind others
