@@ -20,7 +20,7 @@ use Rattle.zone_wire.proofs.DataFaults.{data_faults, data_refuses}
 use Rattle.zone_wire.proofs.MessageFaults.{err_same, some_same, stops, and_then_err, faulted, unequal_by, differs}
 use Rattle.zone_wire.proofs.ReadAnswers.{each_other, record_shown, agree_parts, records_equal}
 use Rattle.zone_wire.proofs.ReadRecords.{no_class_parts, record_fits}
-use Rattle.zone_wire.proofs.ReadStreams.{Bytes}
+pub use Rattle.zone_wire.proofs.ReadStreams.{Bytes}
 
 -- a test that refuses, or the rest does
 refused_or : {X : Type 0} (test : Bool) (fault other : Fault) (rest : Result X Fault) → (if test then Err fault else rest) ≡ Err other → ((test ≡ true) × (fault ≡ other)) ⊎ ((test ≡ false) × (rest ≡ Err other))
