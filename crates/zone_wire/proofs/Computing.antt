@@ -1,18 +1,24 @@
 -- Names and walks that compute.
 use Rattle.std.proofs.Common.{◌≡◌, ℕ, zero, suc, ◌+◌, ◌<◌, ◌≤◌, ◌++◌, length, nat_le, Bool, true, ◌&&◌, nat_lt, List, [], ◌∷◌, lit<, refl, ap, sym}
-use Rattle.std.specs.Prelude.{get_or}
+use Rattle.std.specs.Prelude.{get_or, Option}
 use Rattle.std.specs.List.{flat_map, AllByRecursion, list_all}
 use Rattle.std.proofs.lemmas.Bool.{and_parts, ltb-true, leb-true}
 use Rattle.zone_rdata.specs.declared.fault.Fault.{Fault}
 use Rattle.zone_rdata.specs.declared.fault.Place.{Place}
-use Rattle.zone_wire.specs.Answers.{Answered}
+use Rattle.zone_wire.specs.Machine.Answers.{Answered}
 use Rattle.zone_wire.specs.Message.{u16_at}
-use Rattle.zone_wire.specs.Stream.{records_of, handed_on, ending_of, StreamReads}
+use Rattle.zone_wire.specs.Machine.Stream.{records_of, ending_of}
+use Rattle.zone_wire.specs.Answers.{handed_on}
+use Rattle.zone_wire.specs.Stream.{StreamReads}
 use Rattle.zone_wire.specs.Transfer.{frame}
 use Rattle.zone_wire.specs.Name.{Found, IsNameAt}
-use Rattle.zone_wire.specs.Finding.{named, outcome}
-use Rattle.zone_wire.specs.Walk.{walk}
+use Rattle.zone_wire.specs.Machine.Finding.{named, outcome}
+use Rattle.zone_wire.specs.Machine.Walk.{walk}
+use Rattle.zone_wire.specs.Examples.{behind_zeros, WalkEnds}
+use Rattle.zone_wire.specs.Walk.{ending}
+use Rattle.zone_wire.proofs.GivenStreams.{stream_shows}
 use Rattle.zone_wire.proofs.Walking.{walk_names}
+use Rattle.zone_wire.proofs.WholeWalks.{walk_is}
 
 abbrev pub all_octets : List ℕ → Bool
 all_octets [] = true
@@ -27,10 +33,16 @@ octets_below (c ∷ octets) e (suc k) = octets_below octets (and_parts (nat_lt c
 pub name_computes : (message : List ℕ) (offset : ℕ) (found : Found) → all_octets message ≡ true → outcome message (walk message offset) ≡ named found → IsNameAt message offset found
 name_computes message offset found octets e = walk_names message offset found (octets_below message octets) e
 
+-- a walk that ends so by computing
+pub walk_computes : (octets : List ℕ) (offset : ℕ) (fault : Option Fault) (places : ℕ) → ending (walk (behind_zeros octets) offset) ≡ fault → length (walk (behind_zeros octets) offset) ≡ places → WalkEnds octets offset fault places
+walk_computes octets offset fault places ends count = record { visits = walk (behind_zeros octets) offset; walk = walk_is (behind_zeros octets) offset _ refl; ends = ends; count = count }
+
 all_short : (messages : List (List ℕ)) → list_all (λ octets. nat_le (length octets) 65535) messages ≡ true → AllByRecursion (λ octets. length octets ≤ 65535) messages
 all_short [] e = tt
 all_short (octets ∷ messages) e = let parts = and_parts (nat_le (length octets) 65535) (list_all (λ octets. nat_le (length octets) 65535) messages) e in (leb-true (length octets) 65535 parts.0, all_short messages parts.1)
 
 -- what a stream is read as, by computing
-pub reads : (messages : List (List ℕ)) (rest : List ℕ) (answered : Answered (Fault × Place)) → list_all (λ octets. nat_le (length octets) 65535) messages ≡ true → nat_lt (length rest) (2 + u16_at rest 0) ≡ true → records_of [] [] messages ≡ answered → StreamReads (flat_map frame messages ++ rest) (handed_on answered.placed) (ending_of (length messages + 1) answered rest)
-reads messages rest answered short cut e = record { messages = messages; rest = rest; framed = record { whole = refl; short = all_short messages short; cut = ltb-true _ _ cut }; stated = ap (λ a. handed_on a.placed) (sym e); ends = ap (λ a. ending_of (length messages + 1) a rest) (sym e) }
+pub reads : (messages : List (List ℕ)) (rest : List ℕ) (answered : Answered (Fault × Place)) → list_all (λ octets. nat_le (length octets) 65535) messages ≡ true → nat_lt (length rest) (2 + u16_at rest 0) ≡ true → all_octets (flat_map frame messages ++ rest) ≡ true → records_of [] [] messages ≡ answered → StreamReads (flat_map frame messages ++ rest) (handed_on answered.placed) (ending_of (length messages + 1) answered rest)
+reads messages rest answered short cut octets e =
+    stream_shows (flat_map frame messages ++ rest) (octets_below (flat_map frame messages ++ rest) octets) _ _
+    (record { messages = messages; rest = rest; framed = record { whole = refl; short = all_short messages short; cut = ltb-true _ _ cut }; stated = ap (λ a. handed_on a.placed) (sym e); ends = ap (λ a. ending_of (length messages + 1) a rest) (sym e) })

@@ -16,12 +16,12 @@ use Rattle.zone_rdata.specs.Strings.{IsString}
 use Rattle.zone_rdata.specs.declared.fault.Fault.{Fault}
 use Rattle.zone_rdata.specs.declared.field.Field.{Field}
 use Rattle.zone_rdata.specs.declared.field.Field.TheVariants.{Name, Serial, Time, U16, Octets, OneString, Strings}
-use Rattle.zone_wire.specs.Data.{name_before, sized_before, strings_before, value_at, values_at, data_at}
+use Rattle.zone_wire.specs.Machine.Data.{name_before, sized_before, strings_before, value_at, values_at, data_at}
 use Rattle.zone_wire.specs.Message.{RecordAt}
-use Rattle.zone_wire.specs.Finding.{Outcome, named, refused, outcome}
-use Rattle.zone_wire.specs.Sections.{and_then}
+use Rattle.zone_wire.specs.Machine.Finding.{Outcome, named, refused, outcome}
+use Rattle.zone_wire.specs.Machine.Sections.{and_then}
 use Rattle.zone_wire.specs.Transfer.{octets_between, StandsAt, StandEach, AreFieldsAt, IsDataAt}
-use Rattle.zone_wire.specs.Walk.{walk}
+use Rattle.zone_wire.specs.Machine.Walk.{walk}
 use Rattle.zone_wire.proofs.Fielding.{part_first}
 use Rattle.zone_wire.proofs.ReadSections.{ok_same, leads, passes}
 use Rattle.zone_wire.proofs.Walking.{walk_names, take_each, drop_each}
@@ -123,7 +123,7 @@ module _ (octets : List ℕ) (each : (k : ℕ) → get_or octets k 0 < 256) (end
       subst (Shown octets end start Strings) p.1 (record { some = some_strings (strings_of bs) (omega (arith, some, ap length whole)); each = strings_each bs (part_bytes start end) }, omega arith, (order, sym whole))
 
   -- what is read for a field stands there
-  value_shows : (start : ℕ) (field : Field) (v : FieldValue × ℕ) → value_at octets end start field ≡ Ok v → Shown octets end start field v
+  pub value_shows : (start : ℕ) (field : Field) (v : FieldValue × ℕ) → value_at octets end start field ≡ Ok v → Shown octets end start field v
   unfolding value_at
   value_shows start Name v e = name_shows start (outcome octets (walk octets start)) v refl e
   value_shows start Serial v e = sized_shows start 4 Serial v (λ fits. (long_short _ (take_each 4 _ (part_bytes start (start + 4))), fits, long_stands start fits)) e

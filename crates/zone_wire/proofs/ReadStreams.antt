@@ -11,10 +11,12 @@ use Rattle.zone_rdata.specs.declared.fault.Fault.TheVariants.{NoClosingSoa}
 use Rattle.zone_rdata.specs.declared.fault.Place.{Place}
 use Rattle.zone_rdata.specs.declared.fault.Place.TheVariants.{Message}
 use Rattle.zone_rdata.specs.declared.record.Placed.{Placed}
-use Rattle.zone_wire.specs.Answers.{Zone, zone_of, agrees, Answered, answers_of}
+use Rattle.zone_wire.specs.Answers.{Zone, zone_of, questions_of, handed_on, is_closed}
+use Rattle.zone_wire.specs.Machine.Answers.{agrees, Answered, answers_of}
 use Rattle.zone_wire.specs.Message.{QuestionAt, Sections, IsMessage}
-use Rattle.zone_wire.specs.Sections.{sections_of}
-use Rattle.zone_wire.specs.Stream.{questions_of, has_first_id, ask_for_zone, message_of, unless_refused, followed_by, records_of, handed_on, is_closed, ending_of, StreamReads}
+use Rattle.zone_wire.specs.Machine.Sections.{sections_of}
+use Rattle.zone_wire.specs.Machine.Stream.{has_first_id, ask_for_zone, message_of, unless_refused, followed_by, records_of, ending_of}
+use Rattle.zone_wire.specs.Machine.Stream.{FindsReading}
 use Rattle.zone_wire.specs.Transfer.{StatedMessage, AreStatedMessages, AsksFor, StateEach, frame, StreamStates}
 use Rattle.zone_wire.proofs.Accepting.{all_append, octets_of_parts, placed_of_parts, any_append, framed_parts, handed_transfer}
 use Rattle.zone_wire.proofs.Answering.{is_soa}
@@ -120,7 +122,7 @@ message_shown before placed octets s each ids zone e =
     let last : b.first ≡ s = asked_same (questions_of before) placed b.first s b.first.questions b.goes_on in
     let same : a.first ≡ s = id.0 ∙ last in
     let is : IsMessage octets s = subst (IsMessage octets) same (sections_shown octets a.first each a.is) in
-    let few : length s.questions ≤ 1 = omega (arith, is.question_count, is.header.questions) in
+    let few : length s.questions ≤ 1 = omega (arith, is.question_count, is.header.counts.0) in
     let asks : ask_for_zone (questions_of before) placed s s.questions ≡ Ok s = subst (λ (x : Sections). ask_for_zone (questions_of before) placed x x.questions ≡ Ok s) last b.goes_on in
     record {
       message = is;
@@ -278,7 +280,7 @@ message_bytes (m ∷ messages) each =
     let body : Bytes (m ++ flat_map frame messages) = λ i. each (suc (suc i)) in
     (front_bytes m (flat_map frame messages) body, message_bytes messages (back_bytes m (flat_map frame messages) body))
 
-all_front : {X : Type 0} (P : X → Type 0) (xs ys : List X) → AllByRecursion P (xs ++ ys) → AllByRecursion P xs × AllByRecursion P ys
+pub all_front : {X : Type 0} (P : X → Type 0) (xs ys : List X) → AllByRecursion P (xs ++ ys) → AllByRecursion P xs × AllByRecursion P ys
 all_front P [] ys each = (tt, each)
 all_front P (x ∷ xs) ys each = let rest = all_front P xs ys each.1 in ((each.0, rest.0), rest.1)
 
@@ -294,7 +296,7 @@ asks_for zone r name class [] ask = tt
 asks_for zone r name class (q ∷ questions) ask = (record { name = ask.0.name ∙ sym name; kind = ask.0.kind; class = ask.0.class ∙ sym class }, asks_for zone r name class questions ask.1)
 
 -- what is read without a fault is a transfer
-pub read_is_transfer : (stream : List ℕ) (placed : List Placed) → ((i : ℕ) → get_or stream i 0 < 256) → AllByRecursion (λ p. IsRecord p.rr) placed → StreamReads stream placed None → StreamStates stream placed
+pub read_is_transfer : (stream : List ℕ) (placed : List Placed) → ((i : ℕ) → get_or stream i 0 < 256) → AllByRecursion (λ p. IsRecord p.rr) placed → FindsReading stream placed None → StreamStates stream placed
 read_is_transfer stream placed each fits r =
     let answered = records_of [] [] r.messages in
     let end = ended (length r.messages + 1) answered.placed answered.fault r.rest (sym r.ends) in

@@ -1,10 +1,11 @@
+pub mod AnswerFault
 pub mod Answers
-pub mod Data
+pub mod DataFault
 pub mod Examples
+pub mod Frames
 pub mod Message
+pub mod MessageFault
 pub mod Name
-pub mod Finding
-pub mod Sections
 pub mod Stream
 pub mod Transfer
 pub mod Visits

@@ -1,96 +1,138 @@
 -- What a stream of messages states, each behind its length, up to the first fault of its frames and messages
 -- (RFC 1035 4.2.2; RFC 5936 2.2, 3).
-use Rattle.std.specs.Prelude.{◌≡◌, ℕ, ◌+◌, ◌<◌, ◌≤◌, List, [], ◌∷◌, ◌++◌, length, ◌==◌, ◌&&◌, not, if◌then◌else◌, Bool, false, Option, Some, None, Result, Ok, Err}
-use Rattle.std.specs.List.{flat_map, AllByRecursion, filter, list_any}
+use Rattle.std.specs.Prelude.{◌≡◌, ◌≢◌, ℕ, ◌+◌, List, [], ◌∷◌, ◌++◌, map, length, true, false, Option, Some, None, MatchOption, ⊤}
+use Rattle.std.specs.List.{flat_map, AllByRecursion}
+use Rattle.zone_rdata.specs.Record.{Record}
 use Rattle.zone_rdata.specs.declared.fault.Fault.{Fault}
 use Rattle.zone_rdata.specs.declared.fault.Fault.TheVariants.{ShortFrame, IdMismatch, BadQuestion, NoClosingSoa}
 use Rattle.zone_rdata.specs.declared.fault.Place.{Place}
 use Rattle.zone_rdata.specs.declared.fault.Place.TheVariants.{Message}
 use Rattle.zone_rdata.specs.declared.record.Placed.{Placed}
-use Rattle.zone_wire.specs.Answers.{zone_of, agrees, Answered, answers_of}
-use Rattle.zone_wire.specs.Message.{u16_at, QuestionAt, Sections}
-use Rattle.zone_wire.specs.Sections.{and_then, sections_of}
-use Rattle.zone_wire.specs.Transfer.{frame}
+use Rattle.zone_wire.specs.AnswerFault.{FirstAnswerFault}
+use Rattle.zone_wire.specs.Answers.{Zone, zone_of, AgreeWith, questions_of, handed_on, is_closed, StandInOrder}
+use Rattle.zone_wire.specs.Frames.{IsFramed}
+use Rattle.zone_wire.specs.Message.{QuestionAt, Sections, IsMessage}
+use Rattle.zone_wire.specs.MessageFault.{MessageFault}
+use Rattle.zone_wire.specs.Transfer.{StatedMessage, StateEach}
 
--- a stream is the frames of messages, and the octets of a last frame that is cut off
-pub record IsFramed (stream : List ℕ) (messages : List (List ℕ)) (rest : List ℕ) : Type 0 where
-  pub whole : stream ≡ flat_map frame messages ++ rest
-  pub short : AllByRecursion (λ octets. length octets ≤ 65535) messages
-  pub cut : length rest < 2 + u16_at rest 0
+-- the octets of messages, what stands in them, their questions, and the records that they state
+abbrev pub octets_in : List StatedMessage → List (List ℕ)
+octets_in messages = map (λ p. p.octets) messages
 
--- the questions of messages
-abbrev pub questions_of : List Sections → List QuestionAt
-questions_of messages = flat_map (λ s. s.questions) messages
+abbrev pub sections_in : List StatedMessage → List Sections
+sections_in messages = map (λ p. p.sections) messages
 
--- the ID is that of the first message
-abbrev pub has_first_id : List Sections → Sections → Result Sections (Fault × ℕ)
-has_first_id [] s = Ok s
-has_first_id (first ∷ messages) s = if s.id == first.id then Ok s else Err (IdMismatch, 0)
+abbrev pub asked_in : List StatedMessage → List QuestionAt
+asked_in messages = questions_of (sections_in messages)
 
--- each question asks for the whole of the zone that the questions and records before fix (RFC 5936 2.2.2)
-abbrev pub ask_for_zone : List QuestionAt → List Placed → Sections → List QuestionAt → Result Sections (Fault × ℕ)
-ask_for_zone before placed s [] = Ok s
-ask_for_zone before placed s (q ∷ questions) = if q.kind == 252 && agrees (zone_of before placed) q.name q.class then ask_for_zone before placed s questions else Err (BadQuestion, 12)
+abbrev pub placed_in : List StatedMessage → List Placed
+placed_in messages = flat_map (λ p. p.placed) messages
 
--- The sections of a message behind others, whose records are these, or its first fault that comes before all faults of
--- answers, and the offset at which it stands.
-unfoldable pub message_of : List Sections → List Placed → List ℕ → Result Sections (Fault × ℕ)
-message_of before placed octets =
-    and_then (sections_of octets) (λ s.
-    and_then (has_first_id before s) (λ s.
-    ask_for_zone (questions_of before) placed s s.questions))
+-- the ID is that of the first message, if there is one
+abbrev pub HasFirstId : List StatedMessage → Sections → Type 0
+HasFirstId [] s = ⊤
+HasFirstId (first ∷ before) s = s.id ≡ first.sections.id
 
-abbrev pub at_message : ℕ → Fault × ℕ → Fault × Place
-at_message number e = (e.0, Message number e.1)
+-- a question for the whole of the zone that is fixed, if one is: of type AXFR, 252 (RFC 5936 2.1.2, 2.2.2)
+pub record AsksIn (zone : Option Zone) (q : QuestionAt) : Type 0 where
+  pub kind : q.kind ≡ 252
+  pub agrees : AgreeWith zone q.name q.class
 
--- the records of a message, and then those of the messages after it, if it has no fault
-abbrev pub followed_by : ℕ → Answered (Fault × ℕ) → (List Placed → Answered (Fault × Place)) → Answered (Fault × Place)
-followed_by number answered next = elim answered.fault [ Some e ↦ record { placed = answered.placed; fault = Some (at_message number e) } | None ↦ let rest = next answered.placed in record rest { placed = answered.placed ++ rest.placed } ]
+-- each question asks for the zone that messages before fixed
+abbrev pub AskBehind : List StatedMessage → Sections → Type 0
+AskBehind before s = AllByRecursion (AsksIn (zone_of (asked_in before) (placed_in before))) s.questions
 
--- a fault of the whole message comes before its answers
-abbrev pub unless_refused : ℕ → Result Sections (Fault × ℕ) → (Sections → Answered (Fault × Place)) → Answered (Fault × Place)
-unless_refused number (Err e) next = record { placed = []; fault = Some (at_message number e) }
-unless_refused number (Ok s) next = next s
+-- octets are a message that stands behind others: of the same ID, and its questions are for the same zone
+pub record IsMessageBehind (before : List StatedMessage) (octets : List ℕ) (s : Sections) : Type 0 where
+  pub message : IsMessage octets s
+  pub same_id : HasFirstId before s
+  pub asks : AskBehind before s
 
--- the records of messages behind others, whose records are these, up to the first fault, and that fault with its place
-unfoldable pub records_of : List Sections → List Placed → List (List ℕ) → Answered (Fault × Place)
-records_of before placed [] = record { placed = []; fault = None }
-records_of before placed (octets ∷ messages) =
-    let number : ℕ = length before + 1 in
-    unless_refused number (message_of before placed octets) (λ s.
-    followed_by number (answers_of number octets (questions_of (before ++ s ∷ [])) placed s.answers) (λ here.
-    records_of (before ++ s ∷ []) (placed ++ here) messages))
+-- a message behind others is read: each of its answers states a record, and these stand in order
+pub record IsReadBehind (before : List StatedMessage) (p : StatedMessage) : Type 0 where
+  pub message : IsMessageBehind before p.octets p.sections
+  pub stated : StateEach (length before + 1) p.octets p.sections.answers p.placed
+  pub order : StandInOrder (asked_in before ++ p.sections.questions) (placed_in before) p.placed
 
--- the opening SOA and the records that are none: the closing SOA isn't handed on
-abbrev pub handed_on : List Placed → List Placed
-handed_on [] = []
-handed_on (opening ∷ others) = opening ∷ filter (λ p. not (p.rr.kind == 6)) others
+-- messages are read, each behind those before it
+abbrev pub AreRead : List StatedMessage → List StatedMessage → Type 0
+AreRead before [] = ⊤
+AreRead before (p ∷ messages) = IsReadBehind before p × AreRead (before ++ p ∷ []) messages
 
--- an SOA stands behind the opening one
-abbrev pub is_closed : List Placed → Bool
-is_closed [] = false
-is_closed (opening ∷ others) = list_any (λ p. p.rr.kind == 6) others
+-- The first fault of a message behind others and the offset at which it stands, and the records that are read before it:
+-- of its structure; its ID; a question; an answer.
+pub data FaultBehind (before : List StatedMessage) (octets : List ℕ) : List Placed → Fault → ℕ → Type 0 where
+  of_structure : (fault : Fault) (offset : ℕ) → MessageFault octets fault offset → FaultBehind before octets [] fault offset
+  of_id : (s : Sections) → IsMessage octets s → (HasFirstId before s → ⊥) → FaultBehind before octets [] IdMismatch 0
+  of_questions : (s : Sections) → IsMessage octets s → HasFirstId before s → (AskBehind before s → ⊥) → FaultBehind before octets [] BadQuestion 12
+  of_answers : (s : Sections) (placed : List Placed) (fault : Fault) (offset : ℕ) → IsMessageBehind before octets s → FirstAnswerFault (length before + 1) octets (asked_in before ++ s.questions) (placed_in before) s.answers placed fault offset → FaultBehind before octets placed fault offset
 
--- the fault of the stream's end, where no message has one: in a frame, or before the closing SOA
-abbrev pub end_fault : ℕ → List Placed → List ℕ → Option (Fault × Place)
-end_fault number placed (c ∷ rest) = Some (ShortFrame, Message number 0)
-end_fault number placed [] = if is_closed placed then None else Some (NoClosingSoa, Message number 0)
+-- all of these octets are messages that are read behind others, and state the records
+pub record AllRead (before : List StatedMessage) (messages : List (List ℕ)) (placed : List Placed) : Type 0 where
+  pub parts : List StatedMessage
+  pub read : AreRead before parts
+  pub whole : messages ≡ octets_in parts
+  pub stated : placed ≡ placed_in parts
 
-abbrev pub ending_of : ℕ → Answered (Fault × Place) → List ℕ → Option (Fault × Place)
-ending_of number answered rest = elim answered.fault [ Some e ↦ Some e | None ↦ end_fault number answered.placed rest ]
+-- messages are read behind others, and the next has this first fault
+pub record ReadUpTo (before : List StatedMessage) (messages : List (List ℕ)) (placed : List Placed) (e : Fault × Place) : Type 0 where
+  pub parts : List StatedMessage
+  pub octets : List ℕ
+  pub rest : List (List ℕ)
+  pub here : List Placed
+  pub fault : Fault
+  pub offset : ℕ
+  pub read : AreRead before parts
+  pub next : FaultBehind (before ++ parts) octets here fault offset
+  pub whole : messages ≡ octets_in parts ++ octets ∷ rest
+  pub stated : placed ≡ placed_in parts ++ here
+  pub place : e ≡ (fault, Message (length (before ++ parts) + 1) offset)
+
+-- the records of messages behind others up to the first fault, and that fault with its place, or none
+abbrev pub ReadBehind : List StatedMessage → List (List ℕ) → List Placed → Option (Fault × Place) → Type 0
+ReadBehind before messages placed ending = MatchOption ending (AllRead before messages placed) (λ e. ReadUpTo before messages placed e)
+
+-- the ID of the first of messages, and the opening SOA, which is the first of records
+abbrev pub first_id : List StatedMessage → Option ℕ
+first_id [] = None
+first_id (first ∷ messages) = Some first.sections.id
+
+abbrev pub opening_of : List Placed → Option Record
+opening_of [] = None
+opening_of (opening ∷ others) = Some opening.rr
+
+-- messages that are alike to the next one: as many, of one first ID, one zone that is fixed, one opening SOA, and closed
+-- or not
+pub record AreAlike (before other : List StatedMessage) : Type 0 where
+  pub count : length before ≡ length other
+  pub id : first_id before ≡ first_id other
+  pub zone : zone_of (asked_in before) (placed_in before) ≡ zone_of (asked_in other) (placed_in other)
+  pub opening : opening_of (placed_in before) ≡ opening_of (placed_in other)
+  pub closing : is_closed (placed_in before) ≡ is_closed (placed_in other)
+
+-- how a stream ends behind whole messages without a fault, the number of the next message known: inside a frame, without
+-- the closing SOA, or with it
+pub data StreamEnd (number : ℕ) (placed : List Placed) (rest : List ℕ) : Option (Fault × Place) → Type 0 where
+  in_frame : rest ≢ [] → StreamEnd number placed rest (Some (ShortFrame, Message number 0))
+  unclosed : rest ≡ [] → is_closed placed ≡ false → StreamEnd number placed rest (Some (NoClosingSoa, Message number 0))
+  closed : rest ≡ [] → is_closed placed ≡ true → StreamEnd number placed rest None
 
 -- what a stream is read as: the records before its first fault, and that fault with its place
 pub record StreamReads (stream : List ℕ) (placed : List Placed) (ending : Option (Fault × Place)) : Type 0 where
   pub messages : List (List ℕ)
   pub rest : List ℕ
   pub framed : IsFramed stream messages rest
-  pub stated : placed ≡ handed_on (records_of [] [] messages).placed
-  pub ends : ending ≡ ending_of (length messages + 1) (records_of [] [] messages) rest
+  pub all : List Placed
+  pub first : Option (Fault × Place)
+  pub read : ReadBehind [] messages all first
+  pub stated : placed ≡ handed_on all
+  pub ends : MatchOption first (StreamEnd (length messages + 1) all rest ending) (λ e. ending ≡ Some e)
 
 -- what is decided once this much of a stream is known: the records and the first fault of its whole frames
 pub record Decided (stream : List ℕ) (placed : List Placed) (ending : Option (Fault × Place)) : Type 0 where
   pub messages : List (List ℕ)
   pub rest : List ℕ
   pub framed : IsFramed stream messages rest
-  pub stated : placed ≡ handed_on (records_of [] [] messages).placed
-  pub ends : ending ≡ (records_of [] [] messages).fault
+  pub all : List Placed
+  pub read : ReadBehind [] messages all ending
+  pub stated : placed ≡ handed_on all
