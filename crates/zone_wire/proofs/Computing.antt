@@ -5,13 +5,15 @@ use Rattle.std.specs.List.{flat_map, AllByRecursion, list_all}
 use Rattle.std.proofs.lemmas.Bool.{and_parts, ltb-true, leb-true}
 use Rattle.zone_rdata.specs.declared.fault.Fault.{Fault}
 use Rattle.zone_rdata.specs.declared.fault.Place.{Place}
-use Rattle.zone_wire.specs.Answers.{Answered}
+use Rattle.zone_wire.specs.Machine.Answers.{Answered}
 use Rattle.zone_wire.specs.Message.{u16_at}
-use Rattle.zone_wire.specs.Stream.{records_of, handed_on, ending_of, StreamReads}
+use Rattle.zone_wire.specs.Machine.Stream.{records_of, ending_of}
+use Rattle.zone_wire.specs.Answers.{handed_on}
+use Rattle.zone_wire.specs.Stream.{StreamReads}
 use Rattle.zone_wire.specs.Transfer.{frame}
 use Rattle.zone_wire.specs.Name.{Found, IsNameAt}
-use Rattle.zone_wire.specs.Finding.{named, outcome}
-use Rattle.zone_wire.specs.Walk.{walk}
+use Rattle.zone_wire.specs.Machine.Finding.{named, outcome}
+use Rattle.zone_wire.specs.Machine.Walk.{walk}
 use Rattle.zone_wire.proofs.Walking.{walk_names}
 
 abbrev pub all_octets : List ℕ → Bool

@@ -2,8 +2,9 @@
 use Rattle.std.proofs.Common.{◌≡◌, ℕ, ◌<◌, ◌≤◌, List, length, refl, sym, subst}
 use Rattle.std.specs.Prelude.{get_or, Result, Ok, Err, Some, IfOk, IfErr, IsOk, MatchResult}
 use Rattle.zone_wire.specs.Name.{Found, IsNameAt, found_by}
-use Rattle.zone_wire.specs.Walk.{walk, ending}
-use Rattle.zone_wire.specs.Finding.{Outcome, refused, outcome, Says}
+use Rattle.zone_wire.specs.Machine.Walk.{walk}
+use Rattle.zone_wire.specs.Walk.{ending}
+use Rattle.zone_wire.specs.Machine.Finding.{Outcome, refused, outcome, Says}
 use Rattle.zone_rdata.specs.declared.fault.Fault.{Fault}
 use Rattle.zone_wire.specs.declared.name.Decoded.{Decoded}
 use Rattle.zone_wire.proofs.Walking.{Measures, name_walks, walk_names, walk_measures, walk_is_short, name_bounds}

@@ -10,8 +10,9 @@ use Rattle.zone_rdata.specs.declared.fault.Fault.{Fault}
 use Rattle.zone_rdata.specs.declared.fault.Fault.TheVariants.{BadClass, MetaType, CompressibleType}
 use Rattle.zone_rdata.specs.declared.fault.Place.TheVariants.{Message}
 use Rattle.zone_rdata.specs.declared.record.Placed.{Placed}
-use Rattle.zone_wire.specs.Answers.{same_name, same_record, is_no_class, record_of, zone_of, agrees, order_fault, answer_of, Answered, before_others, answers_of}
-use Rattle.zone_wire.specs.Data.{data_at}
+use Rattle.zone_wire.specs.Machine.Answers.{same_name, same_record, is_no_class, record_of, agrees, order_fault, answer_of, Answered, before_others, answers_of}
+use Rattle.zone_wire.specs.Answers.{zone_of}
+use Rattle.zone_wire.specs.Machine.Data.{data_at}
 use Rattle.zone_wire.specs.Message.{QuestionAt, RecordAt, AreRecordsAt}
 use Rattle.zone_wire.specs.Transfer.{ttl_of, compressible, StatesRecord, StateEach}
 use Rattle.zone_wire.proofs.Answering.{is_soa}

@@ -17,11 +17,13 @@ use Rattle.zone_rdata.specs.declared.field.Field.{Field}
 use Rattle.zone_rdata.specs.declared.field.Field.TheVariants.{Strings}
 use Rattle.zone_rdata.specs.declared.record.Placed.{Placed}
 use Rattle.zone_rdata.proofs.Tables.{each_layout}
-use Rattle.zone_wire.specs.Answers.{is_no_class, record_of, Answered, before_others, answer_of, answers_of}
-use Rattle.zone_wire.specs.Data.{data_at}
+use Rattle.zone_wire.specs.Machine.Answers.{is_no_class, record_of, Answered, before_others, answer_of, answers_of}
+use Rattle.zone_wire.specs.Machine.Data.{data_at}
 use Rattle.zone_wire.specs.Message.{u16_at, QuestionAt, RecordAt, IsRecordAt, AreRecordsAt, Sections, IsMessage}
-use Rattle.zone_wire.specs.Sections.{sections_of}
-use Rattle.zone_wire.specs.Stream.{questions_of, has_first_id, message_of, unless_refused, followed_by, records_of, handed_on, StreamReads}
+use Rattle.zone_wire.specs.Machine.Sections.{sections_of}
+use Rattle.zone_wire.specs.Answers.{questions_of, handed_on}
+use Rattle.zone_wire.specs.Machine.Stream.{has_first_id, message_of, unless_refused, followed_by, records_of}
+use Rattle.zone_wire.specs.Stream.{StreamReads}
 use Rattle.zone_wire.specs.Transfer.{octets_between, StandsAt, StandEach, AreFieldsAt, ttl_of, compressible, frame}
 use Rattle.zone_wire.proofs.Accepting.{all_append}
 use Rattle.zone_wire.proofs.ReadAnswers.{unequal, answer_shown}

@@ -5,9 +5,9 @@ use Rattle.std.proofs.lemmas.Bool.{and_parts, leb-true, ltb-false, eqb-true, not
 use Rattle.zone_rdata.specs.declared.fault.Fault.{Fault}
 use Rattle.zone_wire.specs.Message.{u16_at, HasHeader, QuestionAt, question_by, IsQuestionAt, RecordAt, record_by, IsRecordAt, AreAt, Sections, IsMessage}
 use Rattle.zone_wire.specs.Name.{Found}
-use Rattle.zone_wire.specs.Finding.{Outcome, named, refused, outcome}
-use Rattle.zone_wire.specs.Sections.{and_then, at_offset, header_fault, inside, question_at, record_at, each_from, questions_from, records_from, behind_header, sections_of}
-use Rattle.zone_wire.specs.Walk.{walk}
+use Rattle.zone_wire.specs.Machine.Finding.{Outcome, named, refused, outcome}
+use Rattle.zone_wire.specs.Machine.Sections.{and_then, at_offset, header_fault, inside, question_at, record_at, each_from, questions_from, records_from, behind_header, sections_of}
+use Rattle.zone_wire.specs.Machine.Walk.{walk}
 use Rattle.zone_wire.proofs.Walking.{walk_names}
 
 pub ok_same : {X E : Type 0} (x y : X) → (let r : Result X E = Ok x in r) ≡ Ok y → x ≡ y

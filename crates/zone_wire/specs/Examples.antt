@@ -4,7 +4,8 @@ use Rattle.std.specs.List.{flat_map}
 use Rattle.zone_rdata.specs.Record.{Record}
 use Rattle.zone_rdata.specs.declared.fault.Place.TheVariants.{Message}
 use Rattle.zone_rdata.specs.declared.record.Placed.{Placed}
-use Rattle.zone_wire.specs.Walk.{walk, ending}
+use Rattle.zone_wire.specs.Machine.Walk.{walk}
+use Rattle.zone_wire.specs.Walk.{ending}
 use Rattle.zone_rdata.specs.declared.fault.Fault.{Fault}
 
 -- octets behind a header of twelve zeros

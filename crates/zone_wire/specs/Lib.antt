@@ -1,10 +1,8 @@
 pub mod Answers
-pub mod Data
 pub mod Examples
+pub mod Frames
 pub mod Message
 pub mod Name
-pub mod Finding
-pub mod Sections
 pub mod Stream
 pub mod Transfer
 pub mod Visits

@@ -1,2 +1,8 @@
 -- What only private functions, invariants and proofs cite.
+pub mod Answers
+pub mod Data
+pub mod Finding
 pub mod Place
+pub mod Sections
+pub mod Stream
+pub mod Walk

@@ -7,15 +7,16 @@ ghost use Rattle.zone_name.specs.Common.{AtMostOneIs, Octets};
 ghost use Rattle.zone_wire.specs.Message.{RecordAt, Sections, IsMessage};
 ghost use Rattle.zone_wire.specs.Name.{Found, IsNameAt};
 ghost use Rattle.zone_wire.specs.Transfer.{IsDataAt, StreamStates};
-ghost use Rattle.zone_wire.specs.Data.{data_at};
-ghost use Rattle.zone_wire.specs.Sections.{sections_of};
+ghost use Rattle.zone_wire.specs.Machine.Data.{data_at};
+ghost use Rattle.zone_wire.specs.Machine.Sections.{sections_of};
 ghost use Rattle.zone_wire.specs.Stream.{StreamReads, Decided};
 ghost use Rattle.zone_rdata.specs.Record.{IsRecord};
 ghost use Rattle.zone_rdata.specs.declared.fault.Fault.{Fault};
 ghost use Rattle.zone_rdata.specs.declared.fault.Place.{Place};
 ghost use Rattle.zone_rdata.specs.declared.record.Placed.{Placed};
 ghost use Rattle.zone_wire.specs.Visits.{labels_in, pointers_in, LeadToLast};
-ghost use Rattle.zone_wire.specs.Walk.{walk, walk_by, outset, ending};
+ghost use Rattle.zone_wire.specs.Machine.Walk.{walk, walk_by, outset};
+ghost use Rattle.zone_wire.specs.Walk.{ending};
 
 use zone_rdata::laws::value::{held_values_are_data, values_without_strings_are_short};
 

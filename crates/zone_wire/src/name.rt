@@ -1,7 +1,8 @@
 ghost use Rattle.std.specs.Prelude.{◌≡◌, ◌<◌, ◌≤◌, ℕ, length, IfOk, IfErr, IsOk, MatchResult, Some};
 ghost use Rattle.zone_wire.specs.Name.{Found, IsNameAt, found_by};
-ghost use Rattle.zone_wire.specs.Finding.{Says, outcome};
-ghost use Rattle.zone_wire.specs.Walk.{walk, ending};
+ghost use Rattle.zone_wire.specs.Machine.Finding.{Says, outcome};
+ghost use Rattle.zone_wire.specs.Machine.Walk.{walk};
+ghost use Rattle.zone_wire.specs.Walk.{ending};
 
 use crate::place::{Spot, Standing, place_at};
 use crate::ticks::Ticks;

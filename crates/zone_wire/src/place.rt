@@ -1,7 +1,8 @@
 ghost use Rattle.std.specs.Prelude.{◌≡◌, ◌+◌, ◌^◌, ◌<◌, ◌≤◌, length, slice_index, Some};
 ghost use Rattle.zone_wire.specs.Name.{target_at};
 ghost use Rattle.zone_wire.specs.Machine.Place.{spot_of, standing_of, ticks_at};
-ghost use Rattle.zone_wire.specs.Walk.{place_of, label_of, pointer_of, outset, past_label, past_pointer};
+ghost use Rattle.zone_wire.specs.Walk.{place_of, label_of, pointer_of};
+ghost use Rattle.zone_wire.specs.Machine.Walk.{outset, past_label, past_pointer};
 
 use crate::ticks::Ticks;
 use zone_rdata::Fault;

@@ -1,5 +1,6 @@
 use Rattle.std.proofs.Common.{refl}
-use Rattle.zone_wire.specs.Walk.{place_of, walk_by, walk, ending}
+use Rattle.zone_wire.specs.Walk.{place_of, ending}
+use Rattle.zone_wire.specs.Machine.Walk.{walk_by, walk}
 use Rattle.zone_wire.proofs.examples.pointers_that_lead_nowhere.Goals as goal
 
 pub returns : goal.returns
