@@ -2,6 +2,7 @@
 pub mod Answers
 pub mod Data
 pub mod Finding
+pub mod Parsing
 pub mod Place
 pub mod Sections
 pub mod Stream
