@@ -5,6 +5,7 @@ pub mod Message
 pub mod Name
 pub mod Stream
 pub mod Transfer
+pub mod View
 pub mod Visits
 pub mod Walk
 pub mod WholeWalk

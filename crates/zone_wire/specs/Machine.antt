@@ -3,6 +3,7 @@ pub mod Answers
 pub mod Data
 pub mod DataReading
 pub mod Finding
+pub mod Parsing
 pub mod Place
 pub mod Sections
 pub mod Stream
