@@ -3,7 +3,7 @@ ghost use Rattle.zone_rdata.specs.Fault.{IfFault};
 ghost use Rattle.zone_wire.specs.Machine.Data.{value_at};
 ghost use Rattle.zone_wire.specs.Machine.DataReading.{Awaits, AwaitsStrings, IsReadyFor, PutsValue};
 
-use crate::name::{Decoded, name_at};
+use crate::name::name_at;
 use crate::number::{u16_at, u32_at};
 use zone_rdata::{Failing, Fault, Field, RdataBuilder};
 
@@ -32,13 +32,15 @@ fn push_name(
     ensures found { IfOk result (PutsValue message.now end start Field.Name builder.old builder.new) }
     ensures fault { IfErr result (IfFault (λ f. value_at message.now end start Field.Name ≡ Err f)) }
 {
-    let name = match name_at(message, start) {
-        Ok(Decoded { end: past, .. }) if past > end => return Err(Failing::Fault(Fault::BadRdata)),
-        Ok(name) => name,
+    let found = match name_at(message, start) {
+        Ok(found) => found,
         Err((fault, _)) => return Err(Failing::Fault(fault)),
     };
-    builder.push_name(&name.name)?;
-    Ok(name.end)
+    if found.end > end {
+        return Err(Failing::Fault(Fault::BadRdata));
+    }
+    builder.push_name(&found.name)?;
+    Ok(found.end)
 }
 
 /// Pushes the number of 32 bits at an offset of a message, and gives the offset after it.
