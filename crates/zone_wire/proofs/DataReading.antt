@@ -28,10 +28,11 @@ use Rattle.zone_wire.specs.Machine.Walk.{walk}
 use Rattle.zone_wire.specs.Message.{u16_at, u32_at}
 use Rattle.zone_wire.specs.Name.{Found, IsNameAt}
 use Rattle.zone_wire.specs.Transfer.{octets_between, StandsAt}
-use Rattle.zone_wire.specs.Walk.{ending}
+use Rattle.zone_wire.specs.WholeWalk.{NameFault}
 use Rattle.zone_wire.proofs.Fielding.{name_reads, strings_read}
 use Rattle.zone_wire.proofs.ReadFields.{bytes_each, part_bytes, strings_each, some_strings, value_shows}
-use Rattle.zone_wire.proofs.Walking.{Measures, name_walks, walk_measures}
+use Rattle.zone_wire.proofs.MessageFaults.{name_refuses}
+use Rattle.zone_wire.proofs.Walking.{name_walks}
 
 -- ---- parts of octets
 part_get : (octets : List ℕ) (start past k i : ℕ) → i ≡ start + k → i < past → get_or (octets_between octets start past) k 0 ≡ get_or octets i 0
@@ -185,13 +186,9 @@ pub name_over : (octets : List ℕ) (end start : ℕ) (found : Found) → IsName
 unfolding value_at
 name_over octets end start found is over = ap (name_before end) (name_walks octets start found is) ∙ cond-false _ _ _ (lt-leb found.end end over)
 
-name_fails : (octets : List ℕ) (end start : ℕ) (fault : Fault) (o : Outcome) → Measures o (walk octets start) → ending (walk octets start) ≡ Some fault → name_before end o ≡ Err fault
-name_fails octets end start fault (named found) m e = absurd (let t : ⊥ = cc (m.1) in t)
-name_fails octets end start fault (refused own steps) m e = let same : own ≡ fault = cc (m.1) in ap Err same
-
-pub name_faulty : (octets : List ℕ) (end start : ℕ) (fault : Fault) → ending (walk octets start) ≡ Some fault → value_at octets end start Name ≡ Err fault
+pub name_faulty : (octets : List ℕ) (end start : ℕ) (fault : Fault) → NameFault octets start fault → value_at octets end start Name ≡ Err fault
 unfolding value_at
-name_faulty octets end start fault e = name_fails octets end start fault (outcome octets (walk octets start)) (walk_measures octets start) e
+name_faulty octets end start fault is = ap (name_before end) (name_refuses octets start fault is).1
 
 -- ---- strings
 -- strings were put up to a place

@@ -2,9 +2,11 @@ pub mod Accepting
 pub mod Answering
 pub mod Carrying
 pub mod Computing
+pub mod DataFaults
 pub mod DataReading
 pub mod Fielding
 pub mod Frames
+pub mod MessageFaults
 pub mod Messages
 pub mod Naming
 pub mod Places
@@ -16,6 +18,8 @@ pub mod ReadStreams
 pub mod Sectioning
 pub mod Streams
 pub mod Transfers
+pub mod Verdicts
 pub mod Visits
+pub mod WalkLaws
 pub mod Walking
 pub mod WholeWalks

@@ -20,7 +20,7 @@ not_other a b e = ap not (eq-eqb a b e)
 pub sixteen : (octets : List ℕ) → IsResponse octets → slice_index octets 2 / 8 ≡ 16
 sixteen octets is = omega (arith, is.0, is.1)
 
-header_reads : (octets : List ℕ) → HasHeader octets → header_fault octets ≡ None
+pub header_reads : (octets : List ℕ) → HasHeader octets → header_fault octets ≡ None
 unfolding header_fault
 header_reads octets is =
     cond-false _ _ _ (le-ltb _ _ is.twelve) ∙ cond-false _ _ _ (not_other _ _ (sixteen octets is.response)) ∙ cond-false _ _ _ (not_other _ _ is.whole)
@@ -29,17 +29,17 @@ header_reads octets is =
 inside_reads : {X : Type 0} (octets : List ℕ) (by : Found → X) (end : X → ℕ) (found : Found) (o : Outcome) → o ≡ named found → end (by found) ≤ length octets → inside octets by end o ≡ Ok (by found)
 inside_reads octets by end found o e h = ap (inside octets by end) e ∙ cond-true _ _ _ (le-leb _ _ h)
 
-question_reads : (octets : List ℕ) (offset : ℕ) (q : QuestionAt) → IsQuestionAt octets offset q → question_at octets offset ≡ Ok q
+pub question_reads : (octets : List ℕ) (offset : ℕ) (q : QuestionAt) → IsQuestionAt octets offset q → question_at octets offset ≡ Ok q
 unfolding question_at
 question_reads octets offset q is =
     inside_reads octets (question_by octets) (λ (x : QuestionAt). x.end) is.found (outcome octets (walk octets offset)) (name_walks octets offset is.found is.name) (subst (λ (x : QuestionAt). x.end ≤ length octets) is.stands is.inside) ∙ ap Ok (sym is.stands)
 
-record_reads : (octets : List ℕ) (offset : ℕ) (r : RecordAt) → IsRecordAt octets offset r → record_at octets offset ≡ Ok r
+pub record_reads : (octets : List ℕ) (offset : ℕ) (r : RecordAt) → IsRecordAt octets offset r → record_at octets offset ≡ Ok r
 unfolding record_at
 record_reads octets offset r is =
     inside_reads octets (record_by octets offset) (λ (x : RecordAt). x.end) is.found (outcome octets (walk octets offset)) (name_walks octets offset is.found is.name) (subst (λ (x : RecordAt). x.end ≤ length octets) is.stands is.inside) ∙ ap Ok (sym is.stands)
 
-each_reads : {X : Type 0} (read : ℕ → Result X Fault) (end_of : X → ℕ) (Is : ℕ → X → Type 0) → ((offset : ℕ) (x : X) → Is offset x → read offset ≡ Ok x) → (xs : List X) (count offset past : ℕ) → length xs ≡ count → AreAt Is end_of offset xs past → each_from read end_of count offset ≡ Ok (xs, past)
+pub each_reads : {X : Type 0} (read : ℕ → Result X Fault) (end_of : X → ℕ) (Is : ℕ → X → Type 0) → ((offset : ℕ) (x : X) → Is offset x → read offset ≡ Ok x) → (xs : List X) (count offset past : ℕ) → length xs ≡ count → AreAt Is end_of offset xs past → each_from read end_of count offset ≡ Ok (xs, past)
 each_reads {X} read end_of Is reads xs count offset past size are = subst (λ n. each_from read end_of n offset ≡ Ok (xs, past)) size (by xs offset are)
   where
     by : (parts : List X) (start : ℕ) → AreAt Is end_of start parts past → each_from read end_of (length parts) start ≡ Ok (parts, past)

@@ -15,8 +15,8 @@ ghost use Rattle.zone_rdata.specs.declared.fault.Fault.{Fault};
 ghost use Rattle.zone_rdata.specs.declared.fault.Place.{Place};
 ghost use Rattle.zone_rdata.specs.declared.record.Placed.{Placed};
 ghost use Rattle.zone_wire.specs.Visits.{labels_in, pointers_in, LeadToLast};
-ghost use Rattle.zone_wire.specs.Machine.Walk.{walk, walk_by, outset};
-ghost use Rattle.zone_wire.specs.Walk.{ending};
+ghost use Rattle.zone_wire.specs.Walk.{Visit, ending};
+ghost use Rattle.zone_wire.specs.WholeWalk.{IsWalk};
 
 use zone_rdata::laws::value::{held_values_are_data, values_without_strings_are_short};
 
@@ -39,30 +39,33 @@ pub fn a_name_is_bounded()
         → found.end ≤ length message }
 {}
 
-/// A walk has at most 256 places, all of them in the message, and a greater bound gives no other walk: at most 127 labels
-/// and 128 pointers, and what is neither stands at the last place alone.
+/// A walk has at most 256 places, all of them in the message: at most 127 labels and 128 pointers, and what is neither
+/// stands at the last place alone.
 pub fn a_walk_is_bounded()
-    ensures places { (message : Octets) (offset : ℕ) → length (walk message offset) ≤ 256 }
-    ensures labels { (message : Octets) (offset : ℕ) → labels_in (walk message offset) ≤ 127 }
-    ensures pointers { (message : Octets) (offset : ℕ) → pointers_in (walk message offset) ≤ 128 }
-    ensures last { (message : Octets) (offset : ℕ) → LeadToLast (walk message offset) }
-    ensures inside { (message : Octets) (offset : ℕ)
-        → AllByRecursion (λ visit. visit.offset < length message) (walk message offset) }
-    ensures whole { (message : Octets) (offset more : ℕ) → walk_by (256 + more) message (outset offset) ≡ walk message offset }
+    ensures places { (message : Octets) (offset : ℕ) (visits : List Visit) → IsWalk message offset visits
+        → length visits ≤ 256 }
+    ensures labels { (message : Octets) (offset : ℕ) (visits : List Visit) → IsWalk message offset visits
+        → labels_in visits ≤ 127 }
+    ensures pointers { (message : Octets) (offset : ℕ) (visits : List Visit) → IsWalk message offset visits
+        → pointers_in visits ≤ 128 }
+    ensures last { (message : Octets) (offset : ℕ) (visits : List Visit) → IsWalk message offset visits
+        → LeadToLast visits }
+    ensures inside { (message : Octets) (offset : ℕ) (visits : List Visit) → IsWalk message offset visits
+        → AllByRecursion (λ visit. visit.offset < length message) visits }
 {}
 
 /// The walk of a name ends at the root, after as many places as the name has steps.
 pub fn a_name_is_walked()
-    ensures ending { (message : Octets) (offset : ℕ) (found : Found) → IsNameAt message offset found
-        → ending (walk message offset) ≡ None }
-    ensures steps { (message : Octets) (offset : ℕ) (found : Found) → IsNameAt message offset found
-        → length (walk message offset) ≡ found.steps }
+    ensures ending { (message : Octets) (offset : ℕ) (found : Found) (visits : List Visit) → IsNameAt message offset found
+        → IsWalk message offset visits → ending visits ≡ None }
+    ensures steps { (message : Octets) (offset : ℕ) (found : Found) (visits : List Visit) → IsNameAt message offset found
+        → IsWalk message offset visits → length visits ≡ found.steps }
 {}
 
 /// Where the walk ends at the root, a name stands.
 pub fn a_walk_to_the_root_is_a_name()
-    ensures { (message : Octets) (offset : ℕ) → ((i : ℕ) → slice_index message i < 256)
-        → ending (walk message offset) ≡ None → (found : Found) × IsNameAt message offset found }
+    ensures { (message : Octets) (offset : ℕ) (visits : List Visit) → ((i : ℕ) → slice_index message i < 256)
+        → IsWalk message offset visits → ending visits ≡ None → (found : Found) × IsNameAt message offset found }
 {}
 
 /// Octets are a message in at most one way.
