@@ -1,11 +1,14 @@
-ghost use Rattle.std.specs.Prelude.{◌≡◌, ◌+◌, ◌<◌, ◌≤◌, Err, length, IfOk, IfErr};
+ghost use Rattle.std.specs.Prelude.{◌≡◌, ℕ, slice_index, ◌+◌, ◌<◌, ◌≤◌, [], Ok, Err, Some, length, IfOk, IfErr, OnOk};
 ghost use Rattle.zone_rdata.specs.Fault.{IfFault};
-ghost use Rattle.zone_wire.specs.Machine.Data.{value_at};
-ghost use Rattle.zone_wire.specs.Machine.DataReading.{Awaits, AwaitsStrings, IsReadyFor, PutsValue};
+ghost use Rattle.zone_rdata.specs.Layout.{fields_of, layout};
+ghost use Rattle.zone_wire.specs.Machine.Data.{data_at, value_at, values_at};
+ghost use Rattle.zone_wire.specs.Machine.DataReading.{Awaits, AwaitsStrings, IsReadyFor, IsRead, PutsValue, PutsValues};
 
+use crate::answers::RawRr;
 use crate::name::name_at;
 use crate::number::{u16_at, u32_at};
-use zone_rdata::{Failing, Fault, Field, RdataBuilder};
+use std::alloc::Global;
+use zone_rdata::{Class, Failing, Fault, Field, Kind, Layout, Rdata, RdataBuilder, layout_of};
 
 /// The offset after so many octets, in data that ends at another.
 fn offset_past(start: usize, size: usize, end: usize) -> Result<usize, Fault>
@@ -164,5 +167,71 @@ fn push_field(
         Field::Octets(size) => push_octets(message, start, end, size, builder),
         Field::OneString => push_string(message, start, end, builder),
         Field::Strings => push_strings(message, start, end, builder),
+    }
+}
+
+/// Pushes the values of the fields of a layout, one behind another from an offset of a message on. They are all the data.
+fn push_fields(
+    fields: Layout,
+    message: &[u8],
+    start: usize,
+    end: usize,
+    builder: &mut RdataBuilder,
+) -> Result<(), Failing>
+    requires order { start ≤ end }
+    requires inside { end ≤ length message.now }
+    requires short { end ≤ start + 65535 }
+    requires laid { layout builder.old.class builder.old.kind ≡ Some (fields_of fields) }
+    requires new { builder.old.parts ≡ [] }
+    ensures found { OnOk result (PutsValues message.now end start (fields_of fields) builder.old builder.new) }
+    ensures fault { IfErr result (IfFault (λ f. values_at message.now end start (fields_of fields) ≡ Err f)) }
+{
+    let mut place = start;
+    let mut count = 0;
+    while let Some(field) = fields.field(count) {
+        place = push_field(field, message, place, end, builder)?;
+        count += 1;
+    }
+    if place < end {
+        return Err(Failing::Fault(Fault::BadRdata));
+    }
+    Ok(())
+}
+
+/// That octets are below 256.
+fn are_octets(octets: &[u8])
+    ensures { (i : ℕ) → slice_index octets.now i < 256 }
+{
+    let _ = octets;
+}
+
+impl<'m> RawRr<'m> {
+    /// Pushes the record's data: the values of its layout, or the octets as they are where there is none (RFC 3597 3, 4).
+    fn push_data(&self, class: Class, kind: Kind, builder: &mut RdataBuilder) -> Result<(), Failing>
+        requires class { class ≡ self.now.at.class }
+        requires kind { kind ≡ self.now.at.kind }
+        requires new { builder.old ≡ record { class = class; kind = kind; parts = [] } }
+        ensures found { OnOk result (IsRead self.now.octets self.now.at builder.new) }
+        ensures fault { IfErr result (IfFault (λ f. data_at self.now.octets self.now.at ≡ Err f)) }
+    {
+        are_octets(self.message);
+        match layout_of(class, kind) {
+            Some(layout) => push_fields(layout, self.message, self.start, self.end, builder),
+            None => builder.push_octets(&self.message[self.start..self.end]),
+        }
+    }
+
+    /// The record's data.
+    fn rdata(&self, alloc: Global, class: Class, kind: Kind) -> Result<Rdata, Failing>
+        requires class { class ≡ self.now.at.class }
+        requires kind { kind ≡ self.now.at.kind }
+        ensures class { IfOk result (λ d. d.class ≡ class) }
+        ensures kind { IfOk result (λ d. d.kind ≡ kind) }
+        ensures found { IfOk result (λ d. data_at self.now.octets self.now.at ≡ Ok d.octets) }
+        ensures fault { IfErr result (IfFault (λ f. data_at self.now.octets self.now.at ≡ Err f)) }
+    {
+        let mut builder = RdataBuilder::new(alloc, class, kind);
+        self.push_data(class, kind, &mut builder)?;
+        Ok(builder.finish()?)
     }
 }

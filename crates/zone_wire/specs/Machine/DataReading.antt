@@ -1,11 +1,13 @@
 -- How the data of a record is read into a builder, field by field.
 use Rattle.std.specs.Prelude.{◌≡◌, ℕ, ◌+◌, ◌-◌, ◌≤◌, List, ◌∷◌, [], ◌++◌, length, map, Some, Ok}
-use Rattle.zone_rdata.specs.Builder.{Built, IsNext}
+use Rattle.std.specs.List.{flat_map}
+use Rattle.zone_rdata.specs.Builder.{Built, IsNext, IsWhole}
 use Rattle.zone_rdata.specs.Field.{FieldValue, string, strings, field_octets, octets_of, Suits}
 use Rattle.zone_rdata.specs.Layout.{IsSized, layout}
 use Rattle.zone_rdata.specs.declared.field.Field.{Field}
 use Rattle.zone_rdata.specs.declared.field.Field.TheVariants.{Strings}
-use Rattle.zone_wire.specs.Machine.Data.{value_at}
+use Rattle.zone_wire.specs.Machine.Data.{data_at, value_at, values_at}
+use Rattle.zone_wire.specs.Message.{RecordAt}
 
 -- the parts that a builder takes for a value: each of several strings by itself
 abbrev pub parts_for : FieldValue → List FieldValue
@@ -37,3 +39,17 @@ pub record PutsValue (octets : List ℕ) (end start : ℕ) (field : Field) (old 
   pub put : new ≡ put_behind old (parts_for value)
   pub past : start ≤ place
   pub inside : place ≤ end
+
+-- the values of fields are read, and are the parts of a builder that had none
+pub record PutsValues (octets : List ℕ) (end start : ℕ) (fields : List Field) (old new : Built) : Type 0 where
+  pub values : List FieldValue
+  pub read : values_at octets end start fields ≡ Ok values
+  pub put : new ≡ put_behind old (flat_map parts_for values)
+  pub whole : IsWhole (Some fields) new.parts
+
+-- a builder has all the data of a record
+pub record IsRead (octets : List ℕ) (a : RecordAt) (b : Built) : Type 0 where
+  pub class : b.class ≡ a.class
+  pub kind : b.kind ≡ a.kind
+  pub read : data_at octets a ≡ Ok (octets_of b.parts)
+  pub whole : IsWhole (layout b.class b.kind) b.parts
