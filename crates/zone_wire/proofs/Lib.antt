@@ -2,6 +2,7 @@ pub mod Accepting
 pub mod Answering
 pub mod Carrying
 pub mod Computing
+pub mod Ends
 pub mod Fielding
 pub mod Frames
 pub mod Messages

@@ -10,6 +10,7 @@ use crate::ticks::Ticks;
 use zone_rdata::Fault;
 
 /// The first fault of a message's header.
+#[tactic(auto, unfolding(crate::specs::Machine::Sections::header_fault))]
 pub(crate) fn header_fault(octets: &[u8]) -> Option<Fault>
     ensures { result ≡ header_fault octets.now }
 {
