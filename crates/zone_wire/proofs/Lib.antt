@@ -7,6 +7,7 @@ pub mod Fielding
 pub mod Frames
 pub mod Messages
 pub mod Naming
+pub mod Pending
 pub mod Places
 pub mod ReadAnswers
 pub mod ReadFields

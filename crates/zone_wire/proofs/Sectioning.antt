@@ -30,12 +30,12 @@ unfolding question_at
 question_reads octets offset q is =
     inside_reads octets (question_by octets) (λ (x : QuestionAt). x.end) is.found (outcome octets (walk octets offset)) (name_walks octets offset is.found is.name) (subst (λ (x : QuestionAt). x.end ≤ length octets) is.stands is.inside) ∙ ap Ok (sym is.stands)
 
-record_reads : (octets : List ℕ) (offset : ℕ) (r : RecordAt) → IsRecordAt octets offset r → record_at octets offset ≡ Ok r
+pub record_reads : (octets : List ℕ) (offset : ℕ) (r : RecordAt) → IsRecordAt octets offset r → record_at octets offset ≡ Ok r
 unfolding record_at
 record_reads octets offset r is =
     inside_reads octets (record_by octets offset) (λ (x : RecordAt). x.end) is.found (outcome octets (walk octets offset)) (name_walks octets offset is.found is.name) (subst (λ (x : RecordAt). x.end ≤ length octets) is.stands is.inside) ∙ ap Ok (sym is.stands)
 
-each_reads : {X : Type 0} (read : ℕ → Result X Fault) (end_of : X → ℕ) (Is : ℕ → X → Type 0) → ((offset : ℕ) (x : X) → Is offset x → read offset ≡ Ok x) → (xs : List X) (count offset past : ℕ) → length xs ≡ count → AreAt Is end_of offset xs past → each_from read end_of count offset ≡ Ok (xs, past)
+pub each_reads : {X : Type 0} (read : ℕ → Result X Fault) (end_of : X → ℕ) (Is : ℕ → X → Type 0) → ((offset : ℕ) (x : X) → Is offset x → read offset ≡ Ok x) → (xs : List X) (count offset past : ℕ) → length xs ≡ count → AreAt Is end_of offset xs past → each_from read end_of count offset ≡ Ok (xs, past)
 each_reads {X} read end_of Is reads xs count offset past size are = subst (λ n. each_from read end_of n offset ≡ Ok (xs, past)) size (by xs offset are)
   where
     by : (parts : List X) (start : ℕ) → AreAt Is end_of start parts past → each_from read end_of (length parts) start ≡ Ok (parts, past)
