@@ -16,6 +16,7 @@ pub mod ReadSections
 pub mod ReadStreams
 pub mod Sectioning
 pub mod Streams
+pub mod Structures
 pub mod Transfers
 pub mod Visits
 pub mod Walking

@@ -1,11 +1,11 @@
--- Answers that are still to come.
-use Rattle.std.proofs.Common.{◌≡◌, ℕ, ◌+◌, ◌-◌, ◌≤◌, List, [], ◌∷◌, length, refl, ap, sym, ◌∙◌, subst, arith}
-use Rattle.std.specs.Prelude.{map, Ok}
-use Rattle.zone_wire.specs.Message.{RecordAt, record_by, IsRecordAt, AreRecordsAt}
+-- The question and the answers of a message that was parsed, and the answers that are still to come.
+use Rattle.std.proofs.Common.{◌≡◌, ℕ, ◌-◌, List, [], ◌∷◌, length, refl, ap, sym, ◌∙◌, subst, arith}
+use Rattle.std.specs.Prelude.{map}
+use Rattle.zone_wire.specs.Message.{u16_at, QuestionAt, question_by, IsQuestionAt, AreQuestionsAt, RecordAt, record_by, IsRecordAt, AreRecordsAt, Sections, IsMessage}
 use Rattle.zone_wire.specs.Name.{Found, IsNameAt}
-use Rattle.zone_wire.specs.Machine.Parsing.{raw_from, records_or_none, StandFrom}
-use Rattle.zone_wire.specs.Machine.Sections.{record_at, records_from}
-use Rattle.zone_wire.specs.View.{RawRecord, raw_at}
+use Rattle.zone_wire.specs.Machine.Parsing.{parsed, IsParsed, raw_from, records_or_none, StandFrom}
+use Rattle.zone_wire.specs.Machine.Sections.{record_at}
+use Rattle.zone_wire.specs.View.{raw_at}
 use Rattle.zone_wire.proofs.Messages.{one_record}
 use Rattle.zone_wire.proofs.Sectioning.{record_reads, each_reads}
 use Rattle.zone_wire.proofs.Walking.{one_name}
@@ -43,3 +43,30 @@ pub record_of_name : (octets : List ℕ) (offset : ℕ) (r : RecordAt) → IsRec
 record_of_name octets offset r is found name =
     let same : r ≡ record_by octets offset found = is.stands ∙ ap (record_by octets offset) (one_name octets offset is.found found is.name name) in
     subst (IsRecordAt octets offset) same is
+
+-- the answers of a message that was parsed
+pub answers_stand : (octets : List ℕ) (answers : ℕ) → IsParsed octets answers → StandFrom octets (u16_at octets 6) answers
+answers_stand octets answers is = record { records = (parsed octets).sections.answers; past = is.past; stand = is.begin; counted = is.message.answer_count }
+
+pub answers_shown : (octets : List ℕ) (answers : ℕ) → IsParsed octets answers → raw_from octets (u16_at octets 6) answers ≡ map (raw_at octets) (parsed octets).sections.answers
+unfolding answers_stand
+answers_shown octets answers is = stand_read octets (u16_at octets 6) answers (answers_stand octets answers is)
+
+-- the question of a message that has one
+pub record HasOneQuestion (octets : List ℕ) (questions : List QuestionAt) : Type 0 where
+  pub only : QuestionAt
+  pub is : IsQuestionAt octets 12 only
+  pub alone : questions ≡ only ∷ []
+
+pub has_one_question : (octets : List ℕ) (s : Sections) → IsMessage octets s → (u16_at octets 4 ≡ 0 → ⊥) → HasOneQuestion octets s.questions
+has_one_question octets s is some = by s.questions is.question_count is.questions
+  where
+    by : (questions : List QuestionAt) → length questions ≡ u16_at octets 4 → AreQuestionsAt octets 12 questions is.past_questions → HasOneQuestion octets questions
+    by [] count are = absurd (some (sym count))
+    by (q ∷ []) count are = record { only = q; is = are.0; alone = refl }
+    by (q ∷ other ∷ questions) count are = absurd (omega (arith, count, is.header.questions))
+
+pub question_of_name : (octets : List ℕ) (questions : List QuestionAt) (h : HasOneQuestion octets questions) (found : Found) → IsNameAt octets 12 found → (questions ≡ question_by octets found ∷ []) × IsQuestionAt octets 12 (question_by octets found)
+question_of_name octets questions h found name =
+    let same : h.only ≡ question_by octets found = h.is.stands ∙ ap (question_by octets) (one_name octets 12 h.is.found found h.is.name name) in
+    (h.alone ∙ ap (λ q. q ∷ []) same, subst (IsQuestionAt octets 12) same h.is)

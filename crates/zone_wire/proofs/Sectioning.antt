@@ -16,7 +16,7 @@ and_then_ok r x next e = ap (λ z. and_then z next) e
 not_other : (a b : ℕ) → a ≡ b → not (a == b) ≡ false
 not_other a b e = ap not (eq-eqb a b e)
 
-header_reads : (octets : List ℕ) → HasHeader octets → header_fault octets ≡ None
+pub header_reads : (octets : List ℕ) → HasHeader octets → header_fault octets ≡ None
 unfolding header_fault
 header_reads octets is =
     cond-false _ _ _ (le-ltb _ _ is.twelve) ∙ cond-false _ _ _ (not_other _ _ is.response) ∙ cond-false _ _ _ (not_other _ _ is.whole)
@@ -25,7 +25,7 @@ header_reads octets is =
 inside_reads : {X : Type 0} (octets : List ℕ) (by : Found → X) (end : X → ℕ) (found : Found) (o : Outcome) → o ≡ named found → end (by found) ≤ length octets → inside octets by end o ≡ Ok (by found)
 inside_reads octets by end found o e h = ap (inside octets by end) e ∙ cond-true _ _ _ (le-leb _ _ h)
 
-question_reads : (octets : List ℕ) (offset : ℕ) (q : QuestionAt) → IsQuestionAt octets offset q → question_at octets offset ≡ Ok q
+pub question_reads : (octets : List ℕ) (offset : ℕ) (q : QuestionAt) → IsQuestionAt octets offset q → question_at octets offset ≡ Ok q
 unfolding question_at
 question_reads octets offset q is =
     inside_reads octets (question_by octets) (λ (x : QuestionAt). x.end) is.found (outcome octets (walk octets offset)) (name_walks octets offset is.found is.name) (subst (λ (x : QuestionAt). x.end ≤ length octets) is.stands is.inside) ∙ ap Ok (sym is.stands)
@@ -44,7 +44,7 @@ each_reads {X} read end_of Is reads xs count offset past size are = subst (λ n.
         and_then_ok (at_offset start (read start)) x _ (ap (at_offset start) (reads start x at.0))
         ∙ and_then_ok (each_from read end_of (length parts) (end_of x)) (parts, past) _ (by parts (end_of x) at.1)
 
-opens : (octets : List ℕ) (fault : Option Fault) → fault ≡ None → (let r : Result Sections (Fault × ℕ) = elim fault [ Some f ↦ Err (f, 0) | None ↦ behind_header octets ] in r) ≡ behind_header octets
+pub opens : (octets : List ℕ) (fault : Option Fault) → fault ≡ None → (let r : Result Sections (Fault × ℕ) = elim fault [ Some f ↦ Err (f, 0) | None ↦ behind_header octets ] in r) ≡ behind_header octets
 opens octets None e = refl
 opens octets (Some f) e = cc
 

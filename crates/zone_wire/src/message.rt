@@ -7,7 +7,7 @@ use crate::answers::Answers;
 use crate::name::{Decoded, name_at};
 use crate::number::u16_at;
 use crate::place::HEADER_LEN;
-use crate::structure::{header_fault, questions_end, records_end};
+use crate::structure::answers_start;
 use std::marker::Model;
 use zone_name::Name;
 use zone_rdata::Fault;
@@ -56,15 +56,7 @@ impl<'m> Message<'m> {
         ensures only { (sections : Sections) → IsMessage octets.now sections → IsOk result }
         ensures fault { IfErr result (λ e. sections_of octets.now ≡ Err e) }
     {
-        if let Some(fault) = header_fault(octets) {
-            return Err((fault, 0));
-        }
-        let answers = questions_end(octets, u16_at(octets, 4), HEADER_LEN)?;
-        let additional = records_end(octets, u16_at(octets, 6), answers)?;
-        let end = records_end(octets, u16_at(octets, 10), additional)?;
-        if end != octets.len() {
-            return Err((Fault::TrailingOctets, 0));
-        }
+        let answers = answers_start(octets)?;
         Ok(Message { octets, answers })
     }
 

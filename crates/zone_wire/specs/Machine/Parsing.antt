@@ -1,7 +1,7 @@
 -- What a parsed message and its answers hold.
-use Rattle.std.specs.Prelude.{◌≡◌, ℕ, ◌≤◌, List, [], map, length, Result, Ok, Err}
+use Rattle.std.specs.Prelude.{◌≡◌, ℕ, List, [], map, length, Result, Ok, Err}
 use Rattle.zone_rdata.specs.declared.fault.Fault.{Fault}
-use Rattle.zone_wire.specs.Message.{u16_at, RecordAt, Sections, AreRecordsAt, IsMessage}
+use Rattle.zone_wire.specs.Message.{RecordAt, Sections, AreRecordsAt, IsMessage}
 use Rattle.zone_wire.specs.Machine.Finding.{Outcome, named, refused}
 use Rattle.zone_wire.specs.Machine.Sections.{sections_of, records_from}
 use Rattle.zone_wire.specs.View.{Parsed, RawRecord, raw_at}
