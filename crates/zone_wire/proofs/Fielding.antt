@@ -76,7 +76,7 @@ string_size octets start next text within stands =
     omega (arith, same)
 
 -- the value of a field, where strings go on to the end
-value_reads : (octets : List ℕ) (end start next : ℕ) (field : Field) (v : FieldValue) → (field ≡ Strings → next ≡ end) → Holds field v → next ≤ end → end ≤ length octets → StandsAt octets start next v → value_at octets end start field ≡ Ok (v, next)
+pub value_reads : (octets : List ℕ) (end start next : ℕ) (field : Field) (v : FieldValue) → (field ≡ Strings → next ≡ end) → Holds field v → next ≤ end → end ≤ length octets → StandsAt octets start next v → value_at octets end start field ≡ Ok (v, next)
 unfolding value_at
 value_reads octets end start next Name (name labels) last h before within s =
     name_reads end s.0 (outcome octets (walk octets start)) (name_walks octets start s.0 s.1) (omega (arith, s.3))

@@ -2,9 +2,11 @@ pub mod Accepting
 pub mod Answering
 pub mod Carrying
 pub mod Computing
+pub mod DataFaults
 pub mod Ends
 pub mod Fielding
 pub mod Frames
+pub mod MessageFaults
 pub mod Messages
 pub mod Naming
 pub mod Pending
@@ -18,6 +20,8 @@ pub mod Sectioning
 pub mod Streams
 pub mod Structures
 pub mod Transfers
+pub mod Verdicts
 pub mod Visits
+pub mod WalkLaws
 pub mod Walking
 pub mod WholeWalks

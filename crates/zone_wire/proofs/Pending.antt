@@ -64,7 +64,7 @@ has_one_question octets s is some = by s.questions is.question_count is.question
     by : (questions : List QuestionAt) → length questions ≡ u16_at octets 4 → AreQuestionsAt octets 12 questions is.past_questions → HasOneQuestion octets questions
     by [] count are = absurd (some (sym count))
     by (q ∷ []) count are = record { only = q; is = are.0; alone = refl }
-    by (q ∷ other ∷ questions) count are = absurd (omega (arith, count, is.header.questions))
+    by (q ∷ other ∷ questions) count are = absurd (omega (arith, count, is.header.counts.0))
 
 pub question_of_name : (octets : List ℕ) (questions : List QuestionAt) (h : HasOneQuestion octets questions) (found : Found) → IsNameAt octets 12 found → (questions ≡ question_by octets found ∷ []) × IsQuestionAt octets 12 (question_by octets found)
 question_of_name octets questions h found name =

@@ -123,7 +123,7 @@ module _ (octets : List ℕ) (each : (k : ℕ) → get_or octets k 0 < 256) (end
       subst (Shown octets end start Strings) p.1 (record { some = some_strings (strings_of bs) (omega (arith, some, ap length whole)); each = strings_each bs (part_bytes start end) }, omega arith, (order, sym whole))
 
   -- what is read for a field stands there
-  value_shows : (start : ℕ) (field : Field) (v : FieldValue × ℕ) → value_at octets end start field ≡ Ok v → Shown octets end start field v
+  pub value_shows : (start : ℕ) (field : Field) (v : FieldValue × ℕ) → value_at octets end start field ≡ Ok v → Shown octets end start field v
   unfolding value_at
   value_shows start Name v e = name_shows start (outcome octets (walk octets start)) v refl e
   value_shows start Serial v e = sized_shows start 4 Serial v (λ fits. (long_short _ (take_each 4 _ (part_bytes start (start + 4))), fits, long_stands start fits)) e

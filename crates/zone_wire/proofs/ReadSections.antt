@@ -1,9 +1,9 @@
 -- What is read as the sections of a message are its sections.
-use Rattle.std.proofs.Common.{◌≡◌, ℕ, zero, suc, ◌<◌, ◌≤◌, List, length, refl, ap, sym, subst, Bool, true, false, nat_le}
-use Rattle.std.specs.Prelude.{get_or, ◌==◌, Option, Some, None, Result, Ok, Err, if◌then◌else◌}
+use Rattle.std.proofs.Common.{◌≡◌, ℕ, zero, suc, ◌/◌, arith, ◌<◌, ◌≤◌, List, length, refl, ap, sym, subst, Bool, true, false, nat_le}
+use Rattle.std.specs.Prelude.{get_or, slice_index, ◌==◌, Option, Some, None, Result, Ok, Err, if◌then◌else◌}
 use Rattle.std.proofs.lemmas.Bool.{and_parts, leb-true, ltb-false, eqb-true, not-false}
 use Rattle.zone_rdata.specs.declared.fault.Fault.{Fault}
-use Rattle.zone_wire.specs.Message.{u16_at, HasHeader, QuestionAt, question_by, IsQuestionAt, RecordAt, record_by, IsRecordAt, AreAt, Sections, IsMessage}
+use Rattle.zone_wire.specs.Message.{u16_at, IsResponse, HasHeader, QuestionAt, question_by, IsQuestionAt, RecordAt, record_by, IsRecordAt, AreAt, Sections, IsMessage}
 use Rattle.zone_wire.specs.Name.{Found}
 use Rattle.zone_wire.specs.Machine.Finding.{Outcome, named, refused, outcome}
 use Rattle.zone_wire.specs.Machine.Sections.{and_then, at_offset, header_fault, inside, question_at, record_at, each_from, questions_from, records_from, behind_header, sections_of}
@@ -36,6 +36,9 @@ pub no_fault : (test : Bool) (fault : Fault) (rest : Option Fault) → (if test 
 no_fault true fault rest e = cc
 no_fault false fault rest e = (refl, e)
 
+pub response_of : (octets : List ℕ) → slice_index octets 2 / 8 ≡ 16 → IsResponse octets
+response_of octets e = (omega (arith, e), omega (arith, e))
+
 pub header_shows : (octets : List ℕ) → header_fault octets ≡ None → HasHeader octets
 unfolding header_fault
 header_shows octets e =
@@ -46,11 +49,10 @@ header_shows octets e =
     let counts = and_parts (nat_le (u16_at octets 4) 1) (u16_at octets 8 == 0) (not-false _ (no_fault _ _ _ d.1).0) in
     record {
       twelve = ltb-false _ _ a.0;
-      response = eqb-true _ _ (not-false _ b.0);
+      response = response_of octets (eqb-true _ _ (not-false _ b.0));
       whole = eqb-true _ _ (not-false _ c.0);
       no_error = eqb-true _ _ (not-false _ d.0);
-      questions = leb-true _ _ counts.0;
-      no_authority = eqb-true _ _ counts.1;
+      counts = (leb-true _ _ counts.0, eqb-true _ _ counts.1);
     }
 
 -- what stands behind a name inside the message

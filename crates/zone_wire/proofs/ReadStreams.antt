@@ -122,7 +122,7 @@ message_shown before placed octets s each ids zone e =
     let last : b.first ≡ s = asked_same (questions_of before) placed b.first s b.first.questions b.goes_on in
     let same : a.first ≡ s = id.0 ∙ last in
     let is : IsMessage octets s = subst (IsMessage octets) same (sections_shown octets a.first each a.is) in
-    let few : length s.questions ≤ 1 = omega (arith, is.question_count, is.header.questions) in
+    let few : length s.questions ≤ 1 = omega (arith, is.question_count, is.header.counts.0) in
     let asks : ask_for_zone (questions_of before) placed s s.questions ≡ Ok s = subst (λ (x : Sections). ask_for_zone (questions_of before) placed x x.questions ≡ Ok s) last b.goes_on in
     record {
       message = is;

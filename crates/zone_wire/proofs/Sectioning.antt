@@ -1,9 +1,9 @@
 -- The sections of a message are read.
-use Rattle.std.proofs.Common.{◌≡◌, ℕ, ◌≤◌, List, [], ◌∷◌, length, refl, ap, sym, ◌∙◌, subst, false, nat_le}
-use Rattle.std.specs.Prelude.{◌==◌, not, Option, Some, None, Result, Ok, Err}
+use Rattle.std.proofs.Common.{◌≡◌, ℕ, ◌/◌, arith, ◌≤◌, List, [], ◌∷◌, length, refl, ap, sym, ◌∙◌, subst, false, nat_le}
+use Rattle.std.specs.Prelude.{slice_index, ◌==◌, not, Option, Some, None, Result, Ok, Err}
 use Rattle.std.proofs.lemmas.Bool.{cond-true, cond-false, le-leb, le-ltb, eq-eqb, and_from}
 use Rattle.zone_rdata.specs.declared.fault.Fault.{Fault}
-use Rattle.zone_wire.specs.Message.{u16_at, HasHeader, QuestionAt, question_by, IsQuestionAt, RecordAt, record_by, IsRecordAt, AreAt, Sections, IsMessage}
+use Rattle.zone_wire.specs.Message.{u16_at, IsResponse, HasHeader, QuestionAt, question_by, IsQuestionAt, RecordAt, record_by, IsRecordAt, AreAt, Sections, IsMessage}
 use Rattle.zone_wire.specs.Name.{Found}
 use Rattle.zone_wire.specs.Machine.Finding.{Outcome, named, outcome}
 use Rattle.zone_wire.specs.Machine.Sections.{and_then, at_offset, header_fault, inside, question_at, record_at, each_from, behind_header, sections_of}
@@ -16,11 +16,15 @@ and_then_ok r x next e = ap (λ z. and_then z next) e
 not_other : (a b : ℕ) → a ≡ b → not (a == b) ≡ false
 not_other a b e = ap not (eq-eqb a b e)
 
+-- a response to a query, by the first five bits of its third octet
+pub sixteen : (octets : List ℕ) → IsResponse octets → slice_index octets 2 / 8 ≡ 16
+sixteen octets is = omega (arith, is.0, is.1)
+
 pub header_reads : (octets : List ℕ) → HasHeader octets → header_fault octets ≡ None
 unfolding header_fault
 header_reads octets is =
-    cond-false _ _ _ (le-ltb _ _ is.twelve) ∙ cond-false _ _ _ (not_other _ _ is.response) ∙ cond-false _ _ _ (not_other _ _ is.whole)
-    ∙ cond-false _ _ _ (not_other _ _ is.no_error) ∙ cond-false _ _ _ (ap not (and_from (nat_le (u16_at octets 4) 1) (u16_at octets 8 == 0) (le-leb _ _ is.questions) (eq-eqb _ _ is.no_authority)))
+    cond-false _ _ _ (le-ltb _ _ is.twelve) ∙ cond-false _ _ _ (not_other _ _ (sixteen octets is.response)) ∙ cond-false _ _ _ (not_other _ _ is.whole)
+    ∙ cond-false _ _ _ (not_other _ _ is.no_error) ∙ cond-false _ _ _ (ap not (and_from (nat_le (u16_at octets 4) 1) (u16_at octets 8 == 0) (le-leb _ _ is.counts.0) (eq-eqb _ _ is.counts.1)))
 
 inside_reads : {X : Type 0} (octets : List ℕ) (by : Found → X) (end : X → ℕ) (found : Found) (o : Outcome) → o ≡ named found → end (by found) ≤ length octets → inside octets by end o ≡ Ok (by found)
 inside_reads octets by end found o e h = ap (inside octets by end) e ∙ cond-true _ _ _ (le-leb _ _ h)

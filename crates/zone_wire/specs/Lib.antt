@@ -1,7 +1,9 @@
 pub mod Answers
+pub mod DataFault
 pub mod Examples
 pub mod Frames
 pub mod Message
+pub mod MessageFault
 pub mod Name
 pub mod Stream
 pub mod Transfer

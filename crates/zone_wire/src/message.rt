@@ -1,7 +1,7 @@
-ghost use Rattle.std.specs.Prelude.{◌≡◌, [], ◌∷◌, map, IfOk, IfErr, IsOk, Err, MatchOption};
+ghost use Rattle.std.specs.Prelude.{◌≡◌, [], ◌∷◌, map, IfOk, IfErr, IsOk, MatchOption};
 ghost use Rattle.zone_wire.specs.Message.{Sections, IsMessage};
+ghost use Rattle.zone_wire.specs.MessageFault.{MessageFault};
 ghost use Rattle.zone_wire.specs.View.{raw_at, asked};
-ghost use Rattle.zone_wire.specs.Machine.Sections.{sections_of};
 
 use crate::answers::Answers;
 use crate::name::{Decoded, name_at};
@@ -54,7 +54,7 @@ impl<'m> Message<'m> {
         ensures octets { IfOk result (λ m. m.octets ≡ octets.now) }
         ensures found { IfOk result (λ m. IsMessage octets.now m.sections) }
         ensures only { (sections : Sections) → IsMessage octets.now sections → IsOk result }
-        ensures fault { IfErr result (λ e. sections_of octets.now ≡ Err e) }
+        ensures fault { IfErr result (λ e. MessageFault octets.now e.0 e.1) }
     {
         let answers = answers_start(octets)?;
         Ok(Message { octets, answers })

@@ -35,13 +35,15 @@ fn header_fault(octets: &[u8]) -> Option<Fault>
     ensures { result ≡ header_fault octets.now }
 {
     if octets.len() < HEADER_LEN {
-        Some(Fault::ShortMessage)
-    } else if octets[2] / 8 != 16 {
+        return Some(Fault::ShortMessage);
+    }
+    // QR, of one bit, and the opcode, of four, stand above AA, TC and RD; RA and Z above RCODE, of four (RFC 1035 4.1.1).
+    if octets[2] >> 3 != 0b10000 {
         Some(Fault::NotAResponse)
-    } else if octets[2] / 2 % 2 != 0 {
+    } else if octets[2] >> 1 & 1 != 0 {
         Some(Fault::Truncated)
-    } else if octets[3] % 16 != 0 {
-        Some(Fault::ErrorCode(octets[3] % 16))
+    } else if octets[3] & 0x0f != 0 {
+        Some(Fault::ErrorCode(octets[3] & 0x0f))
     } else if u16_at(octets, 4) > 1 || u16_at(octets, 8) != 0 {
         Some(Fault::BadCounts)
     } else {

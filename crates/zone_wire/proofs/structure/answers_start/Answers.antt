@@ -10,7 +10,7 @@ pub u16_at-requires : goal.u16_at-requires
 u16_at-requires c = let has = has_header c.args.octets.now c.in_default.ensures in omega (arith, has.twelve)
 
 pub questions_end-requires : goal.questions_end-requires
-questions_end-requires c = rw c.u16_at.ensures (has_header c.args.octets.now c.in_default.ensures).questions
+questions_end-requires c = rw c.u16_at.ensures (has_header c.args.octets.now c.in_default.ensures).counts.0
 
 pub returns-in_err-answers : goal.returns-in_err-answers
 returns-in_err-answers c =
