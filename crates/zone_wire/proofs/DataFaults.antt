@@ -5,6 +5,7 @@ use Rattle.std.specs.Cmp.Lexicographic.{pointwise}
 use Rattle.std.specs.List.{flat_map}
 use Rattle.std.proofs.lemmas.Bool.{cond-false, leb-true, leb-false, eqb-true, eq-eqb, false_from_ne_true}
 use Rattle.zone_name.specs.Name.{with_length}
+use Rattle.zone_name.specs.Common.{IsVerdict}
 use Rattle.zone_rdata.specs.Field.{FieldValue, name, strings, field_at, octets_of}
 use Rattle.zone_rdata.specs.Fields.Strings.{strings_of}
 use Rattle.zone_rdata.specs.Layout.{layout}
@@ -18,12 +19,13 @@ use Rattle.zone_wire.specs.Machine.Finding.{Outcome, named, refused, outcome}
 use Rattle.zone_wire.specs.Machine.Sections.{and_then}
 use Rattle.zone_wire.specs.Machine.Walk.{walk}
 use Rattle.zone_wire.specs.Message.{RecordAt}
-use Rattle.zone_wire.specs.Transfer.{octets_between}
-use Rattle.zone_wire.proofs.Fielding.{value_reads}
+use Rattle.zone_wire.specs.Transfer.{octets_between, IsDataAt}
+use Rattle.zone_wire.proofs.Fielding.{value_reads, data_reads}
 use Rattle.zone_wire.proofs.MessageFaults.{err_same, fails, stops, and_then_err, name_refused, name_refuses}
-use Rattle.zone_wire.proofs.ReadFields.{value_shows}
+use Rattle.zone_wire.proofs.ReadFields.{value_shows, data_shown}
 use Rattle.zone_wire.proofs.ReadSections.{passes}
 use Rattle.zone_wire.proofs.Sectioning.{and_then_ok}
+use Rattle.zone_wire.proofs.Verdicts.{decides}
 use Rattle.zone_wire.proofs.Walking.{name_walks, walk_names}
 
 -- what is read for a field is its value, and conversely
@@ -129,3 +131,10 @@ data_faults octets a fault each within e = layout_fault octets each a.end within
 pub data_refuses : (octets : List ℕ) (a : RecordAt) (fault : Fault) → ((k : ℕ) → get_or octets k 0 < 256) → a.end ≤ length octets → DataFault octets a fault → data_at octets a ≡ Err fault
 unfolding data_at
 data_refuses octets a fault each within is = layout_refuses octets each a.end within a.start fault (layout a.class a.kind) is
+
+-- a record has data, or its data a first fault
+pub data_verdict : (octets : List ℕ) (a : RecordAt) → ((k : ℕ) → get_or octets k 0 < 256) → a.end ≤ length octets → IsVerdict (IsDataAt octets a) (DataFault octets a)
+data_verdict octets a each within =
+    decides (IsDataAt octets a) (DataFault octets a) (data_at octets a)
+    (λ canonical e. data_shown octets a canonical each within e) (λ canonical is. data_reads octets a canonical within is)
+    (λ f e. data_faults octets a f each within e) (λ f is. data_refuses octets a f each within is)

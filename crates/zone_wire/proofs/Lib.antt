@@ -4,11 +4,13 @@ pub mod Carrying
 pub mod Computing
 pub mod DataFaults
 pub mod DataReading
+pub mod Ends
 pub mod Fielding
 pub mod Frames
 pub mod MessageFaults
 pub mod Messages
 pub mod Naming
+pub mod Pending
 pub mod Places
 pub mod ReadAnswers
 pub mod ReadFields
@@ -17,6 +19,7 @@ pub mod ReadSections
 pub mod ReadStreams
 pub mod Sectioning
 pub mod Streams
+pub mod Structures
 pub mod Transfers
 pub mod Verdicts
 pub mod Visits

@@ -2,18 +2,20 @@
 use Rattle.std.proofs.Common.{◌≡◌, ◌≢◌, ℕ, zero, suc, ◌/◌, ◌<◌, ◌≤◌, List, [], ◌∷◌, length, refl, ap, sym, ◌∙◌, subst, Bool, true, false, nat_le, nat_lt, inl, inr, arith}
 use Rattle.std.specs.Prelude.{get_or, slice_index, ◌==◌, ◌&&◌, ◌⊎◌, not, Option, Some, None, Result, Ok, Err, if◌then◌else◌}
 use Rattle.std.proofs.lemmas.Bool.{cond-true, cond-false, and_parts, and_from, leb-true, le-leb, leb-false, ltb-true, ltb-false, lt-ltb, le-ltb, eqb-true, eq-eqb, not-true, not-false, false_from_ne_true}
+use Rattle.zone_name.specs.Common.{IsVerdict}
 use Rattle.zone_rdata.specs.declared.fault.Fault.{Fault}
 use Rattle.zone_rdata.specs.declared.fault.Fault.TheVariants.{ShortMessage, NotAResponse, Truncated, ErrorCode, BadCounts, TrailingOctets}
 use Rattle.zone_wire.specs.Machine.Finding.{Outcome, named, refused, outcome}
 use Rattle.zone_wire.specs.Machine.Sections.{and_then, header_fault, inside, question_at, record_at, at_offset, each_from, questions_from, records_from, to_the_end, behind_header, sections_of}
 use Rattle.zone_wire.specs.Machine.Walk.{walk}
-use Rattle.zone_wire.specs.Message.{tc_of, rcode_of, qdcount_of, ancount_of, arcount_of, nscount_of, IsResponse, HasCounts, HasHeader, question_by, QuestionAt, IsQuestionAt, record_by, RecordAt, IsRecordAt, AreAt, Sections}
+use Rattle.zone_wire.specs.Message.{tc_of, rcode_of, qdcount_of, ancount_of, arcount_of, nscount_of, IsResponse, HasCounts, HasHeader, question_by, QuestionAt, IsQuestionAt, record_by, RecordAt, IsRecordAt, AreAt, Sections, IsMessage}
 use Rattle.zone_wire.specs.MessageFault.{HeaderFault, short, no_response, truncated, error, counts, PartFault, of_name, past_end, QuestionFault, RecordFault, Stand, FirstFault, HasQuestions, HasAnswers, HasAdditional, FirstQuestionFault, FirstRecordFault, MessageFault, of_header, of_question, of_answer, of_additional, left_over}
 use Rattle.zone_wire.specs.Name.{Found}
 use Rattle.zone_wire.specs.Walk.{ending}
 use Rattle.zone_wire.specs.WholeWalk.{NameFault}
-use Rattle.zone_wire.proofs.ReadSections.{each_shows, header_shows, question_shows, record_shows, response_of}
-use Rattle.zone_wire.proofs.Sectioning.{and_then_ok, each_reads, header_reads, question_reads, record_reads, sixteen}
+use Rattle.zone_wire.proofs.ReadSections.{each_shows, header_shows, question_shows, record_shows, response_of, sections_shown}
+use Rattle.zone_wire.proofs.Sectioning.{and_then_ok, each_reads, header_reads, question_reads, record_reads, sections_read, sixteen}
+use Rattle.zone_wire.proofs.Verdicts.{decides}
 use Rattle.zone_wire.proofs.Walking.{Measures, name_walks, walk_names, walk_measures}
 use Rattle.zone_wire.proofs.WholeWalks.{is_walk, walk_is}
 
@@ -280,3 +282,10 @@ sections_refuse octets fault start (left_over past header stands less) =
     ∙ and_then_ok (records_from octets (ancount_of octets) answers.0) (answers.1.1.0, stands.0) _ (records_are octets (ancount_of octets) answers.0 stands.0 answers.1.1)
     ∙ and_then_ok (records_from octets (arcount_of octets) stands.0) (stands.1.1.0, past) _ (records_are octets (arcount_of octets) stands.0 past stands.1.1)
     ∙ cond-false _ _ _ (false_from_ne_true (past == length octets) (λ t. let same : past ≡ length octets = eqb-true _ _ t in omega (arith, same, less)))
+
+-- octets are a message, or have a first fault
+pub message_verdict : (octets : List ℕ) → ((k : ℕ) → get_or octets k 0 < 256) → IsVerdict (IsMessage octets) (λ (e : Fault × ℕ). MessageFault octets e.0 e.1)
+message_verdict octets each =
+    decides (IsMessage octets) (λ (e : Fault × ℕ). MessageFault octets e.0 e.1) (sections_of octets)
+    (λ s e. sections_shown octets s each e) (λ s is. sections_read octets s is)
+    (λ f e. sections_fault octets each f.0 f.1 e) (λ f is. sections_refuse octets f.0 f.1 is)

@@ -1,5 +1,5 @@
-ghost use Rattle.std.specs.Prelude.{◌≡◌, IsOk, Ok};
-ghost use Rattle.zone_wire.specs.Machine.Sections.{record_at};
+ghost use Rattle.std.specs.Prelude.{◌≡◌};
+ghost use Rattle.zone_wire.specs.Message.{RecordAt, IsRecordAt};
 
 use crate::name::{Decoded, name_at};
 use crate::number::{u16_at, u32_at};
@@ -135,9 +135,9 @@ impl<'m> Iterator for Answers<'m> {
 
 /// The record that begins at an offset of a message.
 fn record_at<'m>(message: &'m [u8], offset: usize) -> RawRr<'m>
-    requires { IsOk (record_at message.now offset) }
+    requires { (r : RecordAt) × IsRecordAt message.now offset r }
     ensures octets { result.octets ≡ message.now }
-    ensures at { record_at message.now offset ≡ Ok result.at }
+    ensures at { IsRecordAt message.now offset result.at }
 {
     match name_at(message, offset) {
         Ok(Decoded { name, end, .. }) => RawRr {

@@ -1,14 +1,14 @@
 //! Laws over the definitions alone.
 pub mod walk;
 
-ghost use Rattle.std.specs.Prelude.{◌++◌, Some, Ok, ◌≡◌, ◌+◌, ◌≤◌, ◌<◌, ℕ, List, length, slice_index, Option, None};
+ghost use Rattle.std.specs.Prelude.{◌++◌, Some, ◌≡◌, ◌+◌, ◌≤◌, ◌<◌, ℕ, List, length, slice_index, Option, None};
 ghost use Rattle.std.specs.List.{AllByRecursion};
-ghost use Rattle.zone_name.specs.Common.{AtMostOneIs, Octets};
-ghost use Rattle.zone_wire.specs.Message.{RecordAt, Sections, IsMessage};
+ghost use Rattle.zone_name.specs.Common.{AtMostOneIs, IsVerdict, Octets};
+ghost use Rattle.zone_wire.specs.Message.{RecordAt, IsMessage};
 ghost use Rattle.zone_wire.specs.Name.{Found, IsNameAt};
 ghost use Rattle.zone_wire.specs.Transfer.{IsDataAt, StreamStates};
-ghost use Rattle.zone_wire.specs.Machine.Data.{data_at};
-ghost use Rattle.zone_wire.specs.Machine.Sections.{sections_of};
+ghost use Rattle.zone_wire.specs.DataFault.{DataFault};
+ghost use Rattle.zone_wire.specs.MessageFault.{MessageFault};
 ghost use Rattle.zone_wire.specs.Stream.{StreamReads, Decided};
 ghost use Rattle.zone_rdata.specs.Record.{IsRecord};
 ghost use Rattle.zone_rdata.specs.declared.fault.Fault.{Fault};
@@ -113,20 +113,16 @@ pub fn what_is_decided_is_read()
         → (other ≡ placed) × (late ≡ Some e) }
 {}
 
-/// A message is read as its sections, and octets that are read as sections are that message.
-pub fn a_message_is_read()
-    ensures found { (octets : Octets) (sections : Sections) → ((i : ℕ) → slice_index octets i < 256)
-        → sections_of octets ≡ Ok sections → IsMessage octets sections }
-    ensures only { (octets : Octets) (sections : Sections) → IsMessage octets sections
-        → sections_of octets ≡ Ok sections }
+/// Octets are a message, or their structure has one first fault, at one offset.
+pub fn a_message_or_a_fault()
+    ensures { (octets : Octets) → ((i : ℕ) → slice_index octets i < 256)
+        → IsVerdict (IsMessage octets) (λ (e : Fault × ℕ). MessageFault octets e.0 e.1) }
 {}
 
-/// The data that is read for a record is its data.
+/// A record that stands in octets has data, or its data has one first fault.
 pub fn the_data_of_a_record()
-    ensures found { (octets canonical : Octets) (a : RecordAt) → ((i : ℕ) → slice_index octets i < 256)
-        → a.end ≤ length octets → data_at octets a ≡ Ok canonical → IsDataAt octets a canonical }
-    ensures only { (octets canonical : Octets) (a : RecordAt)
-        → a.end ≤ length octets → IsDataAt octets a canonical → data_at octets a ≡ Ok canonical }
+    ensures { (octets : Octets) (a : RecordAt) → ((i : ℕ) → slice_index octets i < 256)
+        → a.end ≤ length octets → IsVerdict (IsDataAt octets a) (DataFault octets a) }
 {}
 
 /// What a stream of octets is read as is records.

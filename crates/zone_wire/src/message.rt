@@ -1,13 +1,13 @@
-ghost use Rattle.std.specs.Prelude.{◌≡◌, [], ◌∷◌, map, IfOk, IfErr, IsOk, Err, MatchOption};
+ghost use Rattle.std.specs.Prelude.{◌≡◌, [], ◌∷◌, map, IfOk, IfErr, IsOk, MatchOption};
 ghost use Rattle.zone_wire.specs.Message.{Sections, IsMessage};
+ghost use Rattle.zone_wire.specs.MessageFault.{MessageFault};
 ghost use Rattle.zone_wire.specs.View.{raw_at, asked};
-ghost use Rattle.zone_wire.specs.Machine.Sections.{sections_of};
 
 use crate::answers::Answers;
 use crate::name::{Decoded, name_at};
 use crate::number::u16_at;
 use crate::place::HEADER_LEN;
-use crate::structure::{header_fault, questions_end, records_end};
+use crate::structure::answers_start;
 use std::marker::Model;
 use zone_name::Name;
 use zone_rdata::Fault;
@@ -54,17 +54,9 @@ impl<'m> Message<'m> {
         ensures octets { IfOk result (λ m. m.octets ≡ octets.now) }
         ensures found { IfOk result (λ m. IsMessage octets.now m.sections) }
         ensures only { (sections : Sections) → IsMessage octets.now sections → IsOk result }
-        ensures fault { IfErr result (λ e. sections_of octets.now ≡ Err e) }
+        ensures fault { IfErr result (λ e. MessageFault octets.now e.0 e.1) }
     {
-        if let Some(fault) = header_fault(octets) {
-            return Err((fault, 0));
-        }
-        let answers = questions_end(octets, u16_at(octets, 4), HEADER_LEN)?;
-        let additional = records_end(octets, u16_at(octets, 6), answers)?;
-        let end = records_end(octets, u16_at(octets, 10), additional)?;
-        if end != octets.len() {
-            return Err((Fault::TrailingOctets, 0));
-        }
+        let answers = answers_start(octets)?;
         Ok(Message { octets, answers })
     }
 

@@ -1,6 +1,6 @@
-ghost use Rattle.std.specs.Prelude.{◌≡◌, ◌≤◌, length};
-ghost use Rattle.zone_wire.specs.Machine.Parsing.{name_end_of, part_end_of, run_end_of};
-ghost use Rattle.zone_wire.specs.Machine.Sections.{header_fault, question_at, record_at, questions_from, records_from};
+ghost use Rattle.std.specs.Prelude.{◌≡◌, ◌≤◌, length, MatchResult, Err};
+ghost use Rattle.zone_wire.specs.Machine.Parsing.{IsParsed, name_end_of, part_end_of, run_end_of};
+ghost use Rattle.zone_wire.specs.Machine.Sections.{header_fault, question_at, record_at, questions_from, records_from, sections_of};
 ghost use Rattle.zone_wire.specs.Machine.Finding.{outcome};
 ghost use Rattle.zone_wire.specs.Machine.Walk.{walk};
 
@@ -9,18 +9,41 @@ use crate::place::{HEADER_LEN, Spot, Standing, place_at};
 use crate::ticks::Ticks;
 use zone_rdata::Fault;
 
+/// The offset at which the answers of a message begin.
+///
+/// # Errors
+///
+/// The first fault of the message's structure and the offset at which it stands.
+pub(crate) fn answers_start(octets: &[u8]) -> Result<usize, (Fault, usize)>
+    ensures { MatchResult result (IsParsed octets.now) (λ e. sections_of octets.now ≡ Err e) }
+{
+    if let Some(fault) = header_fault(octets) {
+        return Err((fault, 0));
+    }
+    let answers = questions_end(octets, u16_at(octets, 4), HEADER_LEN)?;
+    let additional = records_end(octets, u16_at(octets, 6), answers)?;
+    let end = records_end(octets, u16_at(octets, 10), additional)?;
+    if end != octets.len() {
+        return Err((Fault::TrailingOctets, 0));
+    }
+    Ok(answers)
+}
+
 /// The first fault of a message's header.
-pub(crate) fn header_fault(octets: &[u8]) -> Option<Fault>
+#[tactic(auto, unfolding(crate::specs::Machine::Sections::header_fault))]
+fn header_fault(octets: &[u8]) -> Option<Fault>
     ensures { result ≡ header_fault octets.now }
 {
     if octets.len() < HEADER_LEN {
-        Some(Fault::ShortMessage)
-    } else if octets[2] / 8 != 16 {
+        return Some(Fault::ShortMessage);
+    }
+    // QR, of one bit, and the opcode, of four, stand above AA, TC and RD; RA and Z above RCODE, of four (RFC 1035 4.1.1).
+    if octets[2] >> 3 != 0b10000 {
         Some(Fault::NotAResponse)
-    } else if octets[2] / 2 % 2 != 0 {
+    } else if octets[2] >> 1 & 1 != 0 {
         Some(Fault::Truncated)
-    } else if octets[3] % 16 != 0 {
-        Some(Fault::ErrorCode(octets[3] % 16))
+    } else if octets[3] & 0x0f != 0 {
+        Some(Fault::ErrorCode(octets[3] & 0x0f))
     } else if u16_at(octets, 4) > 1 || u16_at(octets, 8) != 0 {
         Some(Fault::BadCounts)
     } else {
@@ -81,11 +104,7 @@ fn record_end(message: &[u8], offset: usize) -> Result<usize, Fault>
 /// # Errors
 ///
 /// The question's fault and the offset at which it begins.
-pub(crate) fn questions_end(
-    message: &[u8],
-    count: u16,
-    offset: usize,
-) -> Result<usize, (Fault, usize)>
+fn questions_end(message: &[u8], count: u16, offset: usize) -> Result<usize, (Fault, usize)>
     requires { count ≤ 1 }
     ensures { result ≡ run_end_of (questions_from message.now count offset) }
 {
@@ -103,11 +122,7 @@ pub(crate) fn questions_end(
 /// # Errors
 ///
 /// The first fault and the offset at which its record begins.
-pub(crate) fn records_end(
-    message: &[u8],
-    count: u16,
-    offset: usize,
-) -> Result<usize, (Fault, usize)>
+fn records_end(message: &[u8], count: u16, offset: usize) -> Result<usize, (Fault, usize)>
     ensures { result ≡ run_end_of (records_from message.now count offset) }
 {
     let mut end = offset;

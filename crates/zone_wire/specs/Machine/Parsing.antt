@@ -1,7 +1,7 @@
 -- What a parsed message and its answers hold.
-use Rattle.std.specs.Prelude.{◌≡◌, ℕ, ◌≤◌, List, [], map, length, Result, Ok, Err}
+use Rattle.std.specs.Prelude.{◌≡◌, ℕ, List, [], map, length, Result, Ok, Err}
 use Rattle.zone_rdata.specs.declared.fault.Fault.{Fault}
-use Rattle.zone_wire.specs.Message.{u16_at, RecordAt, Sections, AreRecordsAt, IsMessage}
+use Rattle.zone_wire.specs.Message.{RecordAt, Sections, AreRecordsAt, IsMessage}
 use Rattle.zone_wire.specs.Machine.Finding.{Outcome, named, refused}
 use Rattle.zone_wire.specs.Machine.Sections.{sections_of, records_from}
 use Rattle.zone_wire.specs.View.{Parsed, RawRecord, raw_at}
@@ -29,10 +29,12 @@ records_or_none (Err e) = []
 abbrev pub raw_from : List ℕ → ℕ → ℕ → List RawRecord
 raw_from octets count offset = map (raw_at octets) (records_or_none (records_from octets count offset))
 
--- so many records stand there
+-- so many records stand from an offset on
 pub record StandFrom (octets : List ℕ) (count offset : ℕ) : Type 0 where
-  pub run : List RecordAt × ℕ
-  pub reads : records_from octets count offset ≡ Ok run
+  pub records : List RecordAt
+  pub past : ℕ
+  pub stand : AreRecordsAt octets offset records past
+  pub counted : length records ≡ count
 
 -- the offset after a name, a part or many parts, or their fault
 abbrev pub name_end_of : Outcome → Result ℕ Fault
