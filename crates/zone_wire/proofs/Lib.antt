@@ -1,4 +1,5 @@
 pub mod Accepting
+pub mod AnswerFaults
 pub mod Answering
 pub mod Carrying
 pub mod Computing
@@ -7,6 +8,7 @@ pub mod DataReading
 pub mod Ends
 pub mod Fielding
 pub mod Frames
+pub mod GivenAnswers
 pub mod MessageFaults
 pub mod Messages
 pub mod Naming

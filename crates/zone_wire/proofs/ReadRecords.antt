@@ -80,7 +80,7 @@ strings_short octets start end [] held stand = absurd held
 strings_short octets start end (v ∷ []) held stand = omega (arith, held_strings_short octets start stand.0 v held.0 stand.2, ap length (append-nil (field_octets v)))
 strings_short octets start end (v ∷ w ∷ values) held stand = absurd held.1
 
-no_class_parts : (n : ℕ) → is_no_class n ≡ false → (n ≢ 0) × (n ≢ 254) × (n ≢ 255)
+pub no_class_parts : (n : ℕ) → is_no_class n ≡ false → (n ≢ 0) × (n ≢ 254) × (n ≢ 255)
 no_class_parts n e =
     let last = or_parts (n == 0 || n == 254) (n == 255) e in
     let others = or_parts (n == 0) (n == 254) last.0 in
@@ -161,7 +161,7 @@ module _ (are_data : HeldAreData) (are_short : UnstrungAreShort) where
     word_short offset = omega (arith, each offset, each (offset + 1))
 
     -- the record of an answer
-    record_fits : (offset : ℕ) (a : RecordAt) (r : Record) → IsRecordAt octets offset a → record_of octets a ≡ Ok r → IsRecord r
+    pub record_fits : (offset : ℕ) (a : RecordAt) (r : Record) → IsRecordAt octets offset a → record_of octets a ≡ Ok r → IsRecord r
     unfolding record_of
     record_fits offset a r at e =
         let class = passes_on (is_no_class a.class) BadClass _ r e in
