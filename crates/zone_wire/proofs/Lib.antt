@@ -19,6 +19,7 @@ pub mod ReadFields
 pub mod ReadRecords
 pub mod ReadSections
 pub mod ReadStreams
+pub mod RecordReading
 pub mod Sectioning
 pub mod Streams
 pub mod Structures

@@ -1,12 +1,15 @@
-ghost use Rattle.std.specs.Prelude.{◌≡◌, ℕ, slice_index, ◌+◌, ◌<◌, ◌≤◌, [], Ok, Err, Some, length, IfOk, IfErr, OnOk};
+ghost use Rattle.std.specs.Prelude.{◌≡◌, ◌+◌, ◌<◌, ◌≤◌, [], Ok, Err, Some, length, IfOk, IfErr, OnOk};
 ghost use Rattle.zone_rdata.specs.Fault.{IfFault};
 ghost use Rattle.zone_rdata.specs.Layout.{fields_of, layout};
+ghost use Rattle.zone_wire.specs.DataFault.{DataFault};
+ghost use Rattle.zone_wire.specs.Transfer.{IsDataAt};
 ghost use Rattle.zone_wire.specs.Machine.Data.{data_at, value_at, values_at};
 ghost use Rattle.zone_wire.specs.Machine.DataReading.{Awaits, AwaitsStrings, IsReadyFor, IsRead, PutsValue, PutsValues};
 
 use crate::answers::RawRr;
 use crate::name::name_at;
 use crate::number::{u16_at, u32_at};
+use crate::octets::are_octets;
 use std::alloc::Global;
 use zone_rdata::{Class, Failing, Fault, Field, Kind, Layout, Rdata, RdataBuilder, layout_of};
 
@@ -198,13 +201,6 @@ fn push_fields(
     Ok(())
 }
 
-/// That octets are below 256.
-fn are_octets(octets: &[u8])
-    ensures { (i : ℕ) → slice_index octets.now i < 256 }
-{
-    let _ = octets;
-}
-
 impl<'m> RawRr<'m> {
     /// Pushes the record's data: the values of its layout, or the octets as they are where there is none (RFC 3597 3, 4).
     fn push_data(&self, class: Class, kind: Kind, builder: &mut RdataBuilder) -> Result<(), Failing>
@@ -222,14 +218,15 @@ impl<'m> RawRr<'m> {
     }
 
     /// The record's data.
-    fn rdata(&self, alloc: Global, class: Class, kind: Kind) -> Result<Rdata, Failing>
+    pub(crate) fn rdata(&self, alloc: Global, class: Class, kind: Kind) -> Result<Rdata, Failing>
         requires class { class ≡ self.now.at.class }
         requires kind { kind ≡ self.now.at.kind }
         ensures class { IfOk result (λ d. d.class ≡ class) }
         ensures kind { IfOk result (λ d. d.kind ≡ kind) }
-        ensures found { IfOk result (λ d. data_at self.now.octets self.now.at ≡ Ok d.octets) }
-        ensures fault { IfErr result (IfFault (λ f. data_at self.now.octets self.now.at ≡ Err f)) }
+        ensures found { IfOk result (λ d. IsDataAt self.now.octets self.now.at d.octets) }
+        ensures fault { IfErr result (IfFault (DataFault self.now.octets self.now.at)) }
     {
+        are_octets(self.message);
         let mut builder = RdataBuilder::new(alloc, class, kind);
         self.push_data(class, kind, &mut builder)?;
         Ok(builder.finish()?)

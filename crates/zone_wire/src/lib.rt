@@ -8,7 +8,9 @@ pub mod laws;
 mod message;
 mod name;
 mod number;
+mod octets;
 mod place;
+mod record;
 mod structure;
 mod ticks;
 
