@@ -1,11 +1,11 @@
 -- The data of a record is read into a builder.
-use Rattle.std.proofs.Common.{◌≡◌, ◌≢◌, ℕ, zero, suc, ◌+◌, ◌-◌, ◌*◌, ◌<◌, ◌≤◌, List, [], ◌∷◌, ◌++◌, length, take, drop, map, get_or, min, refl, sym, ap, ◌∙◌, subst, arith, Bool, true, false, nat_le, nat_lt, nat_eq, inl, inr, append_assoc, length-append}
-use Rattle.std.specs.Prelude.{slice_index, slice_get, ◌==◌, ◌&&◌, if◌then◌else◌, ◌⊎◌, Option, Some, None, Result, Ok, Err, IfErr}
+use Rattle.std.proofs.Common.{◌≡◌, ◌≢◌, ℕ, zero, suc, ◌+◌, ◌-◌, ◌*◌, ◌<◌, ◌≤◌, List, [], ◌∷◌, ◌++◌, length, take, drop, map, get_or, refl, sym, ap, ◌∙◌, subst, arith, Bool, true, false, nat_le, nat_lt, nat_eq, inl, inr, append_assoc, length-append}
+use Rattle.std.specs.Prelude.{slice_index, slice_get, ◌==◌, ◌&&◌, if◌then◌else◌, ◌⊎◌, Option, Some, None, Result, Ok, Err}
 use Rattle.std.specs.Int.{w16, w32, from_be_bytes}
 use Rattle.std.specs.Cmp.Lexicographic.{pointwise, bytes_decides}
 use Rattle.std.specs.List.{flat_map, AllByRecursion}
 use Rattle.std.specs.Option.{option_or}
-use Rattle.std.proofs.lemmas.Bool.{eq-eqb, cond-true, cond-false, le-leb, lt-leb, ltb-true, and_parts, leb-true, leb-false}
+use Rattle.std.proofs.lemmas.Bool.{eq-eqb, cond-true, cond-false, le-leb, lt-leb, ltb-true, and_parts, leb-false}
 use Rattle.std.proofs.lemmas.Bool.Decides.{nat_tests}
 use Rattle.std.proofs.lemmas.List.{drop_all, take_all, take-append-drop, drop-take, drop-drop, drop_more, length-take, length-take-le, length-drop, get_or-take, get_or-drop, append-nil, map-append}
 use Rattle.std.proofs.lemmas.List.Concat.{flat_map-append}
@@ -27,7 +27,7 @@ use Rattle.zone_rdata.proofs.ValueLaws.{short_value}
 use Rattle.zone_rdata.proofs.StringSteps.{AllByRecursion-append}
 use Rattle.zone_wire.specs.Machine.Data.{name_before, sized_before, strings_before, value_at, values_at, data_at}
 use Rattle.zone_wire.specs.Machine.DataReading.{parts_for, put_behind, Awaits, AwaitsStrings, IsReadyFor, IsRead, PutsValue, PutsValues}
-use Rattle.zone_wire.specs.Machine.Finding.{Outcome, named, refused, outcome}
+use Rattle.zone_wire.specs.Machine.Finding.{outcome}
 use Rattle.zone_wire.specs.Machine.Sections.{and_then}
 use Rattle.zone_wire.specs.Machine.Walk.{walk}
 use Rattle.zone_wire.specs.Message.{u16_at, u32_at, IsRecordAt, RecordAt}

@@ -1,4 +1,3 @@
-use Rattle.std.proofs.Common.{refl}
 use Rattle.std.proofs.lemmas.Result.{IfOk-weaker}
 use Rattle.zone_rdata.proofs.Failings.{IfErr-fault}
 use Rattle.zone_wire.proofs.DataReading.{long_ready, long_puts, long_fails}

@@ -1,4 +1,4 @@
-use Rattle.std.proofs.Common.{refl, sym, arith}
+use Rattle.std.proofs.Common.{arith}
 use Rattle.zone_rdata.specs.declared.field.Field.TheVariants.{Name}
 use Rattle.zone_rdata.specs.Field.{name}
 use Rattle.zone_wire.specs.Name.{found_by}

@@ -1,4 +1,4 @@
-use Rattle.std.proofs.Common.{ap, ◌∙◌, sym, subst, arith}
+use Rattle.std.proofs.Common.{ap, ◌∙◌, subst, arith}
 use Rattle.zone_rdata.specs.Words.{IsClass, IsKind}
 use Rattle.zone_wire.specs.View.{RawRecord}
 use Rattle.zone_wire.proofs.RecordReading.{err_answered, class_fault, kind_fault, unread_fault}

@@ -1,4 +1,4 @@
-use Rattle.std.proofs.Common.{ap, ◌∙◌, sym, subst, arith}
+use Rattle.std.proofs.Common.{ap}
 use Rattle.zone_rdata.specs.Record.{Data}
 use Rattle.zone_rdata.proofs.Failings.{if_fault_passed}
 use Rattle.zone_wire.proofs.RecordReading.{data_is_refused, data_is_read}

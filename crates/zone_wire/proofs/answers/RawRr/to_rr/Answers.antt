@@ -1,4 +1,4 @@
-use Rattle.std.proofs.Common.{rules, arith, Ok, Err}
+use Rattle.std.proofs.Common.{rules, Ok}
 use Rattle.zone_rdata.proofs.Failings.{if_fault_passed, fault_answered}
 use Rattle.zone_wire.specs.Transfer.{StatesRecord}
 use Rattle.zone_wire.proofs.RecordReading.{only_failing, only_answer, own_data}
