@@ -6,6 +6,7 @@ pub mod Computing
 pub mod DataFaults
 pub mod DataReading
 pub mod Ends
+pub mod FieldReading
 pub mod Fielding
 pub mod Frames
 pub mod GivenAnswers
@@ -22,6 +23,7 @@ pub mod ReadStreams
 pub mod RecordReading
 pub mod Sectioning
 pub mod Streams
+pub mod StringReading
 pub mod Structures
 pub mod Transfers
 pub mod Verdicts

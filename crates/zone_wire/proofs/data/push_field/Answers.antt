@@ -1,6 +1,6 @@
 use Rattle.std.proofs.lemmas.Result.{IfOk-weaker}
 use Rattle.zone_rdata.proofs.Failings.{IfErr-fault}
-use Rattle.zone_wire.proofs.DataReading.{long_ready, long_puts, long_fails}
+use Rattle.zone_wire.proofs.FieldReading.{long_ready, long_puts, long_fails}
 use Rattle.zone_wire.proofs.data.push_field.Goals as goal
 
 pub push_u32-requires-clause-next : goal.push_u32-requires-clause-next

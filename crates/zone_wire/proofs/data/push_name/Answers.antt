@@ -3,7 +3,7 @@ use Rattle.zone_rdata.specs.declared.field.Field.TheVariants.{Name}
 use Rattle.zone_rdata.specs.Field.{name}
 use Rattle.zone_wire.specs.Name.{found_by}
 use Rattle.zone_rdata.proofs.Failings.{if_fault_passed}
-use Rattle.zone_wire.proofs.DataReading.{name_read, name_over, name_faulty, unrefused}
+use Rattle.zone_wire.proofs.FieldReading.{name_read, name_over, name_faulty, unrefused}
 use Rattle.zone_wire.proofs.data.push_name.Goals as goal
 
 pub returns-in-Err-clause-fault : goal.returns-in-Err-clause-fault

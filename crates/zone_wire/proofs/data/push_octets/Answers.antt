@@ -3,7 +3,7 @@ use Rattle.zone_rdata.specs.declared.field.Field.TheVariants.{Octets}
 use Rattle.zone_rdata.specs.Field.{fixed}
 use Rattle.zone_wire.specs.Transfer.{octets_between}
 use Rattle.zone_rdata.proofs.Failings.{fault_answered, if_fault_passed}
-use Rattle.zone_wire.proofs.DataReading.{fixed_sized, sized_refused, unrefused_sized, fixed_value, fixed_suits, puts_sized}
+use Rattle.zone_wire.proofs.FieldReading.{fixed_sized, sized_refused, unrefused_sized, fixed_value, fixed_suits, puts_sized}
 use Rattle.zone_wire.proofs.data.push_octets.Goals as goal
 
 pub returns-in_err-past-clause-fault : goal.returns-in_err-past-clause-fault

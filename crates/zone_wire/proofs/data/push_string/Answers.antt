@@ -4,7 +4,7 @@ use Rattle.zone_rdata.specs.Field.{string}
 use Rattle.zone_wire.specs.Transfer.{octets_between}
 use Rattle.std.specs.Prelude.{slice_index, ◌+◌}
 use Rattle.zone_rdata.proofs.Failings.{fault_answered, if_fault_passed}
-use Rattle.zone_wire.proofs.DataReading.{string_sized, sized_bad, sized_refused, unrefused_sized, string_value, string_short, puts_sized}
+use Rattle.zone_wire.proofs.FieldReading.{string_sized, sized_bad, sized_refused, unrefused_sized, string_value, string_short, puts_sized}
 use Rattle.zone_wire.proofs.data.push_string.Goals as goal
 
 pub returns-then-start-end-clause-fault : goal.returns-then-start-end-clause-fault

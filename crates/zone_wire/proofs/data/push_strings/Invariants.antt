@@ -1,5 +1,5 @@
 use Rattle.std.proofs.Common.{◌-◌}
-use Rattle.zone_wire.proofs.DataReading.{HavePut}
+use Rattle.zone_wire.proofs.StringReading.{HavePut}
 use Rattle.zone_wire.proofs.data.push_strings.Given as goal
 
 abbrev pub invariant-loop-place : goal.invariant-loop-place
