@@ -48,7 +48,7 @@ each_reads {X} read end_of Is reads xs count offset past size are = subst (λ n.
         and_then_ok (at_offset start (read start)) x _ (ap (at_offset start) (reads start x at.0))
         ∙ and_then_ok (each_from read end_of (length parts) (end_of x)) (parts, past) _ (by parts (end_of x) at.1)
 
-opens : (octets : List ℕ) (fault : Option Fault) → fault ≡ None → (let r : Result Sections (Fault × ℕ) = elim fault [ Some f ↦ Err (f, 0) | None ↦ behind_header octets ] in r) ≡ behind_header octets
+pub opens : (octets : List ℕ) (fault : Option Fault) → fault ≡ None → (let r : Result Sections (Fault × ℕ) = elim fault [ Some f ↦ Err (f, 0) | None ↦ behind_header octets ] in r) ≡ behind_header octets
 opens octets None e = refl
 opens octets (Some f) e = cc
 

@@ -8,6 +8,7 @@ pub mod MessageFault
 pub mod Name
 pub mod Stream
 pub mod Transfer
+pub mod View
 pub mod Visits
 pub mod Walk
 pub mod WholeWalk

@@ -8,7 +8,7 @@ use crate::ticks::Ticks;
 use zone_rdata::Fault;
 
 /// The octets of a message's header (RFC 1035 4.1.1).
-const HEADER_LEN: usize = 12;
+pub(crate) const HEADER_LEN: usize = 12;
 
 /// The greatest number of octets of a name: its labels, each with its length, and the root (RFC 1035 2.3.4, 3.1).
 const MAX_NAME_LEN: usize = 255;
