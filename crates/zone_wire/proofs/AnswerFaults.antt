@@ -8,7 +8,7 @@ use Rattle.zone_rdata.specs.Words.{IsClass, IsKind, is_meta}
 use Rattle.zone_rdata.specs.declared.fault.Fault.{Fault}
 use Rattle.zone_rdata.specs.declared.fault.Fault.TheVariants.{BadClass, MetaType, CompressibleType, AfterClosing, NoOpeningSoa, BadQuestion, SoaMismatch}
 use Rattle.zone_rdata.specs.declared.record.Placed.{Placed}
-use Rattle.zone_rdata.proofs.ValueLaws.{held_data, stringless_short}
+use Rattle.zone_rdata.proofs.Layouts.{held_data, stringless_short}
 use Rattle.zone_wire.specs.AnswerFault.{OwnFault, of_class, of_kind, unread, of_data, OrderFault, closed, no_soa, other_zone, other_soa}
 use Rattle.zone_wire.specs.Answers.{Zone, zone_of, AgreeWith, StandsBehind, opens, follows}
 use Rattle.zone_wire.specs.Machine.Answers.{same_name, same_record, is_no_class, record_of, agrees, order_fault}

@@ -15,7 +15,7 @@ use Rattle.zone_rdata.specs.Field.{FieldValue, string, strings, field_octets, oc
 use Rattle.zone_rdata.specs.Fields.Strings.{AreStrings, AreWithLengths, strings_of}
 use Rattle.zone_rdata.specs.Layout.{layout}
 use Rattle.zone_rdata.specs.Strings.{IsString}
-use Rattle.zone_rdata.proofs.Fronts.{Framed, framed_short}
+use Rattle.zone_rdata.proofs.Fields.Strings.{Framed, framed_short}
 use Rattle.zone_rdata.proofs.StringSteps.{AllByRecursion-append}
 use Rattle.zone_wire.specs.Machine.Data.{strings_before, value_at}
 use Rattle.zone_wire.specs.Machine.DataReading.{parts_for, put_behind, Awaits, AwaitsStrings, PutsValue}
