@@ -6,4 +6,5 @@ pub mod Parsing
 pub mod Place
 pub mod Sections
 pub mod Stream
+pub mod Transferring
 pub mod Walk

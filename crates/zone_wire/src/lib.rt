@@ -10,6 +10,7 @@ mod number;
 mod place;
 mod structure;
 mod ticks;
+mod transfer;
 
 pub use answers::{Answers, RawRr};
 pub use message::{Message, Question};
