@@ -11,6 +11,7 @@ pub mod Messages
 pub mod Naming
 pub mod Pending
 pub mod Places
+pub mod Progress
 pub mod ReadAnswers
 pub mod ReadFields
 pub mod ReadRecords

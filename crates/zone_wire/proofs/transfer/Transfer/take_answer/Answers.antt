@@ -1,0 +1,24 @@
+use Rattle.std.proofs.Common.{rules, ◌≡◌, ◌+◌, ◌<◌, ◌≤◌, ◌^◌, ℕ, [], ◌∷◌, ◌++◌, List, Some, None, Ok, Err, IfOk, IfErr, OnOk, ◌-◌, ◌*◌, length, ◌/◌, ◌%◌, Bool, true, false, nat_eq, nat_lt, slice_index_or, slice_set, bit_and, bit_or, Fits, w8, w32, w64, Bor, MutBor}
+use Rattle.zone_rdata.specs.Fault.{IfFault}
+use Rattle.zone_rdata.specs.declared.record.Placed.{Placed}
+use Rattle.zone_wire.specs.Machine.Answers.{agrees, answer_of, order_fault, record_of, same_record}
+use Rattle.zone_wire.specs.Machine.Transferring.{zone_held, Among, Behind, Reached, Takes, TakesEach, TakesMessage, head_of, zone_with}
+use Rattle.zone_wire.specs.Message.{QuestionAt, Sections}
+use Rattle.zone_wire.specs.Transfer.{StatesRecord}
+use Rattle.zone_wire.proofs.transfer.Transfer.take_answer.Goals as goal
+
+-- src/transfer.rt:158:18
+pub returns-in_err-rr-clause-fault : goal.returns-in_err-rr-clause-fault
+returns-in_err-rr-clause-fault c = ?
+
+-- src/transfer.rt:160:13
+pub returns-in-Some-clause-fault : goal.returns-in-Some-clause-fault
+returns-in-Some-clause-fault c = ?
+
+-- src/transfer.rt:167:13
+pub returns-then-is_soa-clause-taken : goal.returns-then-is_soa-clause-taken
+returns-then-is_soa-clause-taken c = ?
+
+-- src/transfer.rt:150:5
+pub returns-clause-taken : goal.returns-clause-taken
+returns-clause-taken c = ?

@@ -1,0 +1,16 @@
+use Rattle.std.proofs.Common.{rules, ◌≡◌, ◌+◌, ◌<◌, ◌≤◌, ◌^◌, ℕ, [], ◌∷◌, ◌++◌, List, Some, None, Ok, Err, IfOk, IfErr, OnOk, ◌-◌, ◌*◌, length, ◌/◌, ◌%◌, Bool, true, false, nat_eq, nat_lt, slice_index_or, slice_set, bit_and, bit_or, Fits, w8, w32, w64, Bor, MutBor}
+use Rattle.zone_rdata.specs.Fault.{IfFault}
+use Rattle.zone_rdata.specs.declared.record.Placed.{Placed}
+use Rattle.zone_wire.specs.Machine.Answers.{agrees, answer_of, order_fault, record_of, same_record}
+use Rattle.zone_wire.specs.Machine.Transferring.{zone_held, Among, Behind, Reached, Takes, TakesEach, TakesMessage, head_of, zone_with}
+use Rattle.zone_wire.specs.Message.{QuestionAt, Sections}
+use Rattle.zone_wire.specs.Transfer.{StatesRecord}
+use Rattle.zone_wire.proofs.transfer.Transfer.take_head.Goals as goal
+
+-- src/transfer.rt:120:17
+pub returns-then-question-ne-AXFR-clause-fault : goal.returns-then-question-ne-AXFR-clause-fault
+returns-then-question-ne-AXFR-clause-fault c = ?
+
+-- src/transfer.rt:104:5
+pub returns-clause-taken : goal.returns-clause-taken
+returns-clause-taken c = ?
