@@ -15,7 +15,7 @@ use Rattle.zone_wire.specs.Machine.Answers.{agrees, same_record, Answered, answe
 use Rattle.zone_wire.specs.Message.{QuestionAt, Sections, IsMessage}
 use Rattle.zone_wire.specs.Machine.Sections.{sections_of}
 use Rattle.zone_wire.specs.Machine.Stream.{has_first_id, ask_for_zone, message_of, unless_refused, followed_by, records_of, ending_of}
-use Rattle.zone_wire.specs.Stream.{StreamReads}
+use Rattle.zone_wire.specs.Machine.Stream.{FindsReading}
 use Rattle.zone_wire.specs.Transfer.{StatedMessage, AreStatedMessages, AsksFor, frame, StreamStates}
 use Rattle.zone_wire.proofs.Answering.{OpensWith, zone_agrees, is_soa, InOrder, all_read, answers_are_read, differ, records_same}
 use Rattle.zone_wire.proofs.Sectioning.{and_then_ok, sections_read}
@@ -42,13 +42,13 @@ message_is_read id zone before placed octets s is same each asked ask opens =
     ∙ questions_agree zone (questions_of before) placed s s.questions asked opens ask
 
 -- records in order, in two parts
-in_order_parts : (zone : Record) (before xs ys : List Placed) → InOrder zone before (xs ++ ys) → InOrder zone before xs × InOrder zone (before ++ xs) ys
+pub in_order_parts : (zone : Record) (before xs ys : List Placed) → InOrder zone before (xs ++ ys) → InOrder zone before xs × InOrder zone (before ++ xs) ys
 in_order_parts zone before [] ys order = (tt, subst (λ (b : List Placed). InOrder zone b ys) (sym (append-nil before)) order)
 in_order_parts zone before (x ∷ xs) ys order =
     let rest = in_order_parts zone (before ++ x ∷ []) xs ys order.1 in
     ((order.0, rest.0), subst (λ (b : List Placed). InOrder zone b ys) (append_assoc before (x ∷ []) xs) rest.1)
 
-opens_more : (zone : Record) (before here : List Placed) → OpensWith zone before → InOrder zone before here → OpensWith zone (before ++ here)
+pub opens_more : (zone : Record) (before here : List Placed) → OpensWith zone before → InOrder zone before here → OpensWith zone (before ++ here)
 opens_more zone [] [] opens order = tt
 opens_more zone [] (p ∷ here) opens order = order.0.0
 opens_more zone (opening ∷ before) here opens order = opens
@@ -87,7 +87,7 @@ any_append (x ∷ xs) ys = ap (λ b. is_soa x || b) (any_append xs ys) ∙ or_as
     or_assoc false b c = refl
 
 -- an SOA, records that are none, and the SOA again are in order
-rest_in_order : (zone : Record) (opening closing : Placed) (done others : List Placed) → closing.rr ≡ opening.rr → list_any is_soa done ≡ false → AllByRecursion (λ (p : Placed). p.rr.kind ≢ 6) others → InOrder zone (opening ∷ done) (others ++ closing ∷ [])
+pub rest_in_order : (zone : Record) (opening closing : Placed) (done others : List Placed) → closing.rr ≡ opening.rr → list_any is_soa done ≡ false → AllByRecursion (λ (p : Placed). p.rr.kind ≢ 6) others → InOrder zone (opening ∷ done) (others ++ closing ∷ [])
 rest_in_order zone opening closing done [] same none each =
     let again : not (same_record closing.rr opening.rr) ≡ false = ap not (records_same closing.rr opening.rr same) in
     ((none, and_right (is_soa closing) (not (same_record closing.rr opening.rr)) again), tt)
@@ -103,7 +103,7 @@ pub framed_parts : (parts : List StatedMessage) → flat_map (λ p. frame p.octe
 framed_parts [] = refl
 framed_parts (p ∷ parts) = ap (λ x. frame p.octets ++ x) (framed_parts parts)
 
-short_parts : (id : ℕ) (zone : Record) (number : ℕ) (parts : List StatedMessage) → AreStatedMessages id zone number parts → AllByRecursion (λ octets. length octets ≤ 65535) (octets_of_parts parts)
+pub short_parts : (id : ℕ) (zone : Record) (number : ℕ) (parts : List StatedMessage) → AreStatedMessages id zone number parts → AllByRecursion (λ octets. length octets ≤ 65535) (octets_of_parts parts)
 short_parts id zone number [] are = tt
 short_parts id zone number (p ∷ parts) are = (are.0.short, short_parts id zone (number + 1) parts are.1)
 
@@ -114,7 +114,7 @@ handed_transfer opening others closing each soa =
     ap (λ x. opening ∷ x) (filter-append test others (closing ∷ []) ∙ ap (λ x. x ++ filter test (closing ∷ [])) (others_kept others each) ∙ ap (λ x. others ++ x) none ∙ append-nil others)
 
 -- a transfer is read as its records
-pub transfer_is_read : (stream : List ℕ) (placed : List Placed) → StreamStates stream placed → StreamReads stream placed None
+pub transfer_is_read : (stream : List ℕ) (placed : List Placed) → StreamStates stream placed → FindsReading stream placed None
 transfer_is_read stream placed s =
     let all : List Placed = s.opening ∷ (s.others ++ s.closing ∷ []) in
     let order : InOrder s.opening.rr [] all = ((refl, s.soa), rest_in_order s.opening.rr s.opening s.closing [] s.others s.same refl s.no_soa) in

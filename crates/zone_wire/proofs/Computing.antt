@@ -16,6 +16,7 @@ use Rattle.zone_wire.specs.Machine.Finding.{named, outcome}
 use Rattle.zone_wire.specs.Machine.Walk.{walk}
 use Rattle.zone_wire.specs.Examples.{behind_zeros, WalkEnds}
 use Rattle.zone_wire.specs.Walk.{ending}
+use Rattle.zone_wire.proofs.GivenStreams.{stream_shows}
 use Rattle.zone_wire.proofs.Walking.{walk_names}
 use Rattle.zone_wire.proofs.WholeWalks.{walk_is}
 
@@ -41,5 +42,7 @@ all_short [] e = tt
 all_short (octets ∷ messages) e = let parts = and_parts (nat_le (length octets) 65535) (list_all (λ octets. nat_le (length octets) 65535) messages) e in (leb-true (length octets) 65535 parts.0, all_short messages parts.1)
 
 -- what a stream is read as, by computing
-pub reads : (messages : List (List ℕ)) (rest : List ℕ) (answered : Answered (Fault × Place)) → list_all (λ octets. nat_le (length octets) 65535) messages ≡ true → nat_lt (length rest) (2 + u16_at rest 0) ≡ true → records_of [] [] messages ≡ answered → StreamReads (flat_map frame messages ++ rest) (handed_on answered.placed) (ending_of (length messages + 1) answered rest)
-reads messages rest answered short cut e = record { messages = messages; rest = rest; framed = record { whole = refl; short = all_short messages short; cut = ltb-true _ _ cut }; stated = ap (λ a. handed_on a.placed) (sym e); ends = ap (λ a. ending_of (length messages + 1) a rest) (sym e) }
+pub reads : (messages : List (List ℕ)) (rest : List ℕ) (answered : Answered (Fault × Place)) → list_all (λ octets. nat_le (length octets) 65535) messages ≡ true → nat_lt (length rest) (2 + u16_at rest 0) ≡ true → all_octets (flat_map frame messages ++ rest) ≡ true → records_of [] [] messages ≡ answered → StreamReads (flat_map frame messages ++ rest) (handed_on answered.placed) (ending_of (length messages + 1) answered rest)
+reads messages rest answered short cut octets e =
+    stream_shows (flat_map frame messages ++ rest) (octets_below (flat_map frame messages ++ rest) octets) _ _
+    (record { messages = messages; rest = rest; framed = record { whole = refl; short = all_short messages short; cut = ltb-true _ _ cut }; stated = ap (λ a. handed_on a.placed) (sym e); ends = ap (λ a. ending_of (length messages + 1) a rest) (sym e) })

@@ -1,4 +1,5 @@
 pub mod Accepting
+pub mod AnswerFaults
 pub mod Answering
 pub mod Carrying
 pub mod Computing
@@ -6,9 +7,15 @@ pub mod DataFaults
 pub mod Ends
 pub mod Fielding
 pub mod Frames
+pub mod GivenAnswers
+pub mod GivenMessages
+pub mod GivenStreams
+pub mod GivenTransfers
 pub mod MessageFaults
 pub mod Messages
 pub mod Naming
+pub mod OneFault
+pub mod OneReading
 pub mod Pending
 pub mod Places
 pub mod Progress

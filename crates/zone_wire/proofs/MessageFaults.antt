@@ -22,7 +22,7 @@ use Rattle.zone_wire.proofs.WholeWalks.{is_walk, walk_is}
 pub err_same : {X E : Type 0} (e f : E) → (let r : Result X E = Err e in r) ≡ Err f → e ≡ f
 err_same e f same = cc
 
-some_same : {X : Type 0} (x y : X) → Some x ≡ Some y → x ≡ y
+pub some_same : {X : Type 0} (x y : X) → Some x ≡ Some y → x ≡ y
 some_same x y e = cc
 
 -- a name that has a fault is none that a walk finds
@@ -115,14 +115,14 @@ module _ {X : Type 0} (read : ℕ → Result X Fault) (end_of : X → ℕ) (Is :
       ∙ and_then_err (each_from read end_of count (end_of x)) (fault, start) _ (first_refuses reads refuses before count (end_of x) fault start (omega (arith, few)) stand.1 next)
 
 -- one test of a header after another
-faulted : (test : Bool) (fault other : Fault) (rest : Option Fault) → (if test then Some fault else rest) ≡ Some other → ((test ≡ true) × (fault ≡ other)) ⊎ ((test ≡ false) × (rest ≡ Some other))
+pub faulted : (test : Bool) (fault other : Fault) (rest : Option Fault) → (if test then Some fault else rest) ≡ Some other → ((test ≡ true) × (fault ≡ other)) ⊎ ((test ≡ false) × (rest ≡ Some other))
 faulted true fault other rest e = inl (refl, some_same fault other e)
 faulted false fault other rest e = inr (refl, e)
 
-unequal : (a b : ℕ) → not (a == b) ≡ true → a ≢ b
-unequal a b e same = let yes : (a == b) ≡ true = eq-eqb a b same in let no : (a == b) ≡ false = not-true _ e in cc
+pub unequal_by : (a b : ℕ) → not (a == b) ≡ true → a ≢ b
+unequal_by a b e same = let yes : (a == b) ≡ true = eq-eqb a b same in let no : (a == b) ≡ false = not-true _ e in cc
 
-differs : (a b : ℕ) → a ≢ b → not (a == b) ≡ true
+pub differs : (a b : ℕ) → a ≢ b → not (a == b) ≡ true
 differs a b h = ap not (false_from_ne_true (a == b) (λ t. h (eqb-true a b t)))
 
 abbrev counted : List ℕ → Bool
@@ -146,7 +146,7 @@ module _ (octets : List ℕ) (fault : Fault) where
 
   four_faults : 12 ≤ length octets → IsResponse octets → tc_of octets ≡ 0 → (if not (rcode_of octets == 0) then Some (ErrorCode (rcode_of octets)) else if not (counted octets) then Some BadCounts else None) ≡ Some fault → HeaderFault octets fault
   four_faults twelve response whole e = elim (faulted (not (rcode_of octets == 0)) (ErrorCode (rcode_of octets)) fault _ e) [
-    | inl a ↦ subst (HeaderFault octets) a.1 (error twelve response whole (unequal _ _ a.0))
+    | inl a ↦ subst (HeaderFault octets) a.1 (error twelve response whole (unequal_by _ _ a.0))
     | inr b ↦ five_faults twelve response whole (eqb-true _ _ (not-false _ b.0)) b.1
   ]
 
@@ -156,9 +156,9 @@ module _ (octets : List ℕ) (fault : Fault) where
   header_faults e = elim (faulted (nat_lt (length octets) 12) ShortMessage fault _ e) [
     | inl a ↦ subst (HeaderFault octets) a.1 (short (ltb-true _ _ a.0))
     | inr b ↦ (let twelve = ltb-false _ _ b.0 in elim (faulted (not (slice_index octets 2 / 8 == 16)) NotAResponse fault _ b.1) [
-      | inl a ↦ subst (HeaderFault octets) a.1 (no_response twelve (λ is. unequal _ _ a.0 (sixteen octets is)))
+      | inl a ↦ subst (HeaderFault octets) a.1 (no_response twelve (λ is. unequal_by _ _ a.0 (sixteen octets is)))
       | inr c ↦ (let response = response_of octets (eqb-true _ _ (not-false _ c.0)) in elim (faulted (not (tc_of octets == 0)) Truncated fault _ c.1) [
-        | inl a ↦ subst (HeaderFault octets) a.1 (truncated twelve response (unequal _ _ a.0))
+        | inl a ↦ subst (HeaderFault octets) a.1 (truncated twelve response (unequal_by _ _ a.0))
         | inr d ↦ four_faults twelve response (eqb-true _ _ (not-false _ d.0)) d.1
       ])
     ])

@@ -23,7 +23,7 @@ use Rattle.zone_wire.specs.Message.{u16_at, QuestionAt, RecordAt, IsRecordAt, Ar
 use Rattle.zone_wire.specs.Machine.Sections.{sections_of}
 use Rattle.zone_wire.specs.Answers.{questions_of, handed_on}
 use Rattle.zone_wire.specs.Machine.Stream.{has_first_id, message_of, unless_refused, followed_by, records_of}
-use Rattle.zone_wire.specs.Stream.{StreamReads}
+use Rattle.zone_wire.specs.Machine.Stream.{FindsReading}
 use Rattle.zone_wire.specs.Transfer.{octets_between, StandsAt, StandEach, AreFieldsAt, ttl_of, compressible, frame}
 use Rattle.zone_wire.proofs.Accepting.{all_append}
 use Rattle.zone_wire.proofs.ReadAnswers.{unequal, answer_shown}
@@ -80,7 +80,7 @@ strings_short octets start end [] held stand = absurd held
 strings_short octets start end (v ∷ []) held stand = omega (arith, held_strings_short octets start stand.0 v held.0 stand.2, ap length (append-nil (field_octets v)))
 strings_short octets start end (v ∷ w ∷ values) held stand = absurd held.1
 
-no_class_parts : (n : ℕ) → is_no_class n ≡ false → (n ≢ 0) × (n ≢ 254) × (n ≢ 255)
+pub no_class_parts : (n : ℕ) → is_no_class n ≡ false → (n ≢ 0) × (n ≢ 254) × (n ≢ 255)
 no_class_parts n e =
     let last = or_parts (n == 0 || n == 254) (n == 255) e in
     let others = or_parts (n == 0) (n == 254) last.0 in
@@ -129,7 +129,7 @@ filter_fit test (p ∷ placed) fits = by (test p) (filter_fit test placed fits.1
     by true rest = (fits.0, rest)
     by false rest = rest
 
-handed_fit : (placed : List Placed) → Fit placed → Fit (handed_on placed)
+pub handed_fit : (placed : List Placed) → Fit placed → Fit (handed_on placed)
 handed_fit [] fits = tt
 handed_fit (opening ∷ others) fits = (fits.0, filter_fit _ others fits.1)
 
@@ -161,7 +161,7 @@ module _ (are_data : HeldAreData) (are_short : UnstrungAreShort) where
     word_short offset = omega (arith, each offset, each (offset + 1))
 
     -- the record of an answer
-    record_fits : (offset : ℕ) (a : RecordAt) (r : Record) → IsRecordAt octets offset a → record_of octets a ≡ Ok r → IsRecord r
+    pub record_fits : (offset : ℕ) (a : RecordAt) (r : Record) → IsRecordAt octets offset a → record_of octets a ≡ Ok r → IsRecord r
     unfolding record_of
     record_fits offset a r at e =
         let class = passes_on (is_no_class a.class) BadClass _ r e in
@@ -201,7 +201,7 @@ module _ (are_data : HeldAreData) (are_short : UnstrungAreShort) where
       (records_fit messages (before ++ s ∷ []) (placed ++ answered.placed) short.1 each.1))
 
   -- what a stream is read as
-  pub read_is_records : (stream : List ℕ) (placed : List Placed) (ending : Option (Fault × Place)) → Bytes stream → StreamReads stream placed ending → Fit placed
+  pub read_is_records : (stream : List ℕ) (placed : List Placed) (ending : Option (Fault × Place)) → Bytes stream → FindsReading stream placed ending → Fit placed
   read_is_records stream placed ending each r =
       let bytes : AllByRecursion Bytes r.messages = message_bytes r.messages (front_bytes (flat_map frame r.messages) r.rest (subst Bytes r.framed.whole each)) in
       subst Fit (sym r.stated) (handed_fit _ (records_fit r.messages [] [] r.framed.short bytes))

@@ -16,7 +16,7 @@ use Rattle.zone_wire.specs.Machine.Answers.{agrees, Answered, answers_of}
 use Rattle.zone_wire.specs.Message.{QuestionAt, Sections, IsMessage}
 use Rattle.zone_wire.specs.Machine.Sections.{sections_of}
 use Rattle.zone_wire.specs.Machine.Stream.{has_first_id, ask_for_zone, message_of, unless_refused, followed_by, records_of, ending_of}
-use Rattle.zone_wire.specs.Stream.{StreamReads}
+use Rattle.zone_wire.specs.Machine.Stream.{FindsReading}
 use Rattle.zone_wire.specs.Transfer.{StatedMessage, AreStatedMessages, AsksFor, StateEach, frame, StreamStates}
 use Rattle.zone_wire.proofs.Accepting.{all_append, octets_of_parts, placed_of_parts, any_append, framed_parts, handed_transfer}
 use Rattle.zone_wire.proofs.Answering.{is_soa}
@@ -296,7 +296,7 @@ asks_for zone r name class [] ask = tt
 asks_for zone r name class (q ∷ questions) ask = (record { name = ask.0.name ∙ sym name; kind = ask.0.kind; class = ask.0.class ∙ sym class }, asks_for zone r name class questions ask.1)
 
 -- what is read without a fault is a transfer
-pub read_is_transfer : (stream : List ℕ) (placed : List Placed) → ((i : ℕ) → get_or stream i 0 < 256) → AllByRecursion (λ p. IsRecord p.rr) placed → StreamReads stream placed None → StreamStates stream placed
+pub read_is_transfer : (stream : List ℕ) (placed : List Placed) → ((i : ℕ) → get_or stream i 0 < 256) → AllByRecursion (λ p. IsRecord p.rr) placed → FindsReading stream placed None → StreamStates stream placed
 read_is_transfer stream placed each fits r =
     let answered = records_of [] [] r.messages in
     let end = ended (length r.messages + 1) answered.placed answered.fault r.rest (sym r.ends) in

@@ -35,7 +35,7 @@ frame_unique a b c d e =
     let len : length a ≡ length b = omega arith in
     front_unique a b c d len rest
 
-placed_same : (p q : Placed) → p.rr ≡ q.rr → p.place ≡ q.place → p ≡ q
+pub placed_same : (p q : Placed) → p.rr ≡ q.rr → p.place ≡ q.place → p ≡ q
 placed_same p q rr place = ap (λ x. record p { rr = x }) rr ∙ ap (λ x. record q { place = x }) place
 
 -- records that agree in each part
@@ -47,7 +47,7 @@ equal_parts r t owner class kind ttl octets =
 one_data : (octets : List ℕ) (a : RecordAt) (c d : List ℕ) → a.end ≤ length octets → IsDataAt octets a c → IsDataAt octets a d → c ≡ d
 one_data octets a c d inside is too = let e = data_reads octets a c inside is in let k = data_reads octets a d inside too in cc
 
-record_unique : (octets : List ℕ) (a : RecordAt) (r t : Record) → a.end ≤ length octets → StatesRecord octets a r → StatesRecord octets a t → r ≡ t
+pub record_unique : (octets : List ℕ) (a : RecordAt) (r t : Record) → a.end ≤ length octets → StatesRecord octets a r → StatesRecord octets a t → r ≡ t
 record_unique octets a r t inside x y =
     equal_parts r t (x.owner ∙ sym y.owner) (x.class ∙ sym y.class) (x.kind ∙ sym y.kind) (x.ttl ∙ sym y.ttl) (one_data octets a r.octets t.octets inside x.rdata y.rdata)
 

@@ -1,6 +1,7 @@
 -- What stands before an answer in a stream: the questions, and the records of the answers (RFC 5936 2.2, 3).
-use Rattle.std.specs.Prelude.{ℕ, List, [], ◌∷◌, ◌==◌, not, Bool, false, Option, Some, None}
+use Rattle.std.specs.Prelude.{◌≡◌, ℕ, List, [], ◌∷◌, ◌++◌, ◌==◌, not, Bool, false, Option, Some, None, MatchOption, ⊤}
 use Rattle.std.specs.List.{flat_map, filter, list_any}
+use Rattle.zone_rdata.specs.Record.{Record}
 use Rattle.zone_rdata.specs.declared.record.Placed.{Placed}
 use Rattle.zone_wire.specs.Message.{QuestionAt, Sections}
 
@@ -15,6 +16,10 @@ zone_of (q ∷ questions) placed = Some (record { name = q.name; class = q.class
 zone_of [] (opening ∷ placed) = Some (record { name = opening.rr.owner; class = opening.rr.class })
 zone_of [] [] = None
 
+-- a name and a class are those of the zone, if it is fixed
+abbrev pub AgreeWith : Option Zone → List (List ℕ) → ℕ → Type 0
+AgreeWith zone name class = MatchOption zone ⊤ (λ z. (name ≡ z.name) × (class ≡ z.class))
+
 -- the questions of messages
 abbrev pub questions_of : List Sections → List QuestionAt
 questions_of messages = flat_map (λ s. s.questions) messages
@@ -28,3 +33,14 @@ handed_on (opening ∷ others) = opening ∷ filter (λ p. not (p.rr.kind == 6))
 abbrev pub is_closed : List Placed → Bool
 is_closed [] = false
 is_closed (opening ∷ others) = list_any (λ p. p.rr.kind == 6) others
+
+-- Where a record can stand behind questions and records: as the opening SOA, of the zone that a question fixed; or behind
+-- that, the transfer not being closed, as no SOA or the opening one again.
+pub data StandsBehind (questions : List QuestionAt) (before : List Placed) (r : Record) : Type 0 where
+  opens : before ≡ [] → r.kind ≡ 6 → AgreeWith (zone_of questions []) r.owner r.class → StandsBehind questions before r
+  follows : (opening : Placed) (others : List Placed) → before ≡ opening ∷ others → is_closed before ≡ false → (r.kind ≡ 6 → r ≡ opening.rr) → StandsBehind questions before r
+
+-- each behind those before it
+abbrev pub StandInOrder : List QuestionAt → List Placed → List Placed → Type 0
+StandInOrder questions before [] = ⊤
+StandInOrder questions before (p ∷ placed) = StandsBehind questions before p.rr × StandInOrder questions (before ++ p ∷ []) placed

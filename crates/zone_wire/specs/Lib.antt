@@ -1,3 +1,4 @@
+pub mod AnswerFault
 pub mod Answers
 pub mod DataFault
 pub mod Examples

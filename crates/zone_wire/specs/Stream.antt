@@ -1,25 +1,119 @@
 -- What a stream of messages states, each behind its length, up to the first fault of its frames and messages
 -- (RFC 1035 4.2.2; RFC 5936 2.2, 3).
-use Rattle.std.specs.Prelude.{◌≡◌, ℕ, ◌+◌, List, [], length, Option}
+use Rattle.std.specs.Prelude.{◌≡◌, ◌≢◌, ℕ, ◌+◌, List, [], ◌∷◌, ◌++◌, map, length, true, false, Option, Some, None, MatchOption, ⊤}
+use Rattle.std.specs.List.{flat_map, AllByRecursion}
 use Rattle.zone_rdata.specs.declared.fault.Fault.{Fault}
+use Rattle.zone_rdata.specs.declared.fault.Fault.TheVariants.{ShortFrame, IdMismatch, BadQuestion, NoClosingSoa}
 use Rattle.zone_rdata.specs.declared.fault.Place.{Place}
+use Rattle.zone_rdata.specs.declared.fault.Place.TheVariants.{Message}
 use Rattle.zone_rdata.specs.declared.record.Placed.{Placed}
-use Rattle.zone_wire.specs.Answers.{handed_on}
+use Rattle.zone_wire.specs.AnswerFault.{FirstAnswerFault}
+use Rattle.zone_wire.specs.Answers.{Zone, zone_of, AgreeWith, questions_of, handed_on, is_closed, StandInOrder}
 use Rattle.zone_wire.specs.Frames.{IsFramed}
-use Rattle.zone_wire.specs.Machine.Stream.{records_of, ending_of}
+use Rattle.zone_wire.specs.Message.{QuestionAt, Sections, IsMessage}
+use Rattle.zone_wire.specs.MessageFault.{MessageFault}
+use Rattle.zone_wire.specs.Transfer.{StatedMessage, StateEach}
+
+-- the octets of messages, what stands in them, their questions, and the records that they state
+abbrev pub octets_in : List StatedMessage → List (List ℕ)
+octets_in messages = map (λ p. p.octets) messages
+
+abbrev pub sections_in : List StatedMessage → List Sections
+sections_in messages = map (λ p. p.sections) messages
+
+abbrev pub asked_in : List StatedMessage → List QuestionAt
+asked_in messages = questions_of (sections_in messages)
+
+abbrev pub placed_in : List StatedMessage → List Placed
+placed_in messages = flat_map (λ p. p.placed) messages
+
+-- the ID is that of the first message, if there is one
+abbrev pub HasFirstId : List StatedMessage → Sections → Type 0
+HasFirstId [] s = ⊤
+HasFirstId (first ∷ before) s = s.id ≡ first.sections.id
+
+-- a question for the whole of the zone that is fixed, if one is: of type AXFR, 252 (RFC 5936 2.1.2, 2.2.2)
+pub record AsksIn (zone : Option Zone) (q : QuestionAt) : Type 0 where
+  pub kind : q.kind ≡ 252
+  pub agrees : AgreeWith zone q.name q.class
+
+-- each question asks for the zone that messages before fixed
+abbrev pub AskBehind : List StatedMessage → Sections → Type 0
+AskBehind before s = AllByRecursion (AsksIn (zone_of (asked_in before) (placed_in before))) s.questions
+
+-- octets are a message that stands behind others: of the same ID, and its questions are for the same zone
+pub record IsMessageBehind (before : List StatedMessage) (octets : List ℕ) (s : Sections) : Type 0 where
+  pub message : IsMessage octets s
+  pub same_id : HasFirstId before s
+  pub asks : AskBehind before s
+
+-- a message behind others is read: each of its answers states a record, and these stand in order
+pub record IsReadBehind (before : List StatedMessage) (p : StatedMessage) : Type 0 where
+  pub message : IsMessageBehind before p.octets p.sections
+  pub stated : StateEach (length before + 1) p.octets p.sections.answers p.placed
+  pub order : StandInOrder (asked_in before ++ p.sections.questions) (placed_in before) p.placed
+
+-- messages are read, each behind those before it
+abbrev pub AreRead : List StatedMessage → List StatedMessage → Type 0
+AreRead before [] = ⊤
+AreRead before (p ∷ messages) = IsReadBehind before p × AreRead (before ++ p ∷ []) messages
+
+-- The first fault of a message behind others and the offset at which it stands, and the records that are read before it:
+-- of its structure; its ID; a question; an answer.
+pub data FaultBehind (before : List StatedMessage) (octets : List ℕ) : List Placed → Fault → ℕ → Type 0 where
+  of_structure : (fault : Fault) (offset : ℕ) → MessageFault octets fault offset → FaultBehind before octets [] fault offset
+  of_id : (s : Sections) → IsMessage octets s → (HasFirstId before s → ⊥) → FaultBehind before octets [] IdMismatch 0
+  of_questions : (s : Sections) → IsMessage octets s → HasFirstId before s → (AskBehind before s → ⊥) → FaultBehind before octets [] BadQuestion 12
+  of_answers : (s : Sections) (placed : List Placed) (fault : Fault) (offset : ℕ) → IsMessageBehind before octets s → FirstAnswerFault (length before + 1) octets (asked_in before ++ s.questions) (placed_in before) s.answers placed fault offset → FaultBehind before octets placed fault offset
+
+-- all of these octets are messages that are read behind others, and state the records
+pub record AllRead (before : List StatedMessage) (messages : List (List ℕ)) (placed : List Placed) : Type 0 where
+  pub parts : List StatedMessage
+  pub read : AreRead before parts
+  pub whole : messages ≡ octets_in parts
+  pub stated : placed ≡ placed_in parts
+
+-- messages are read behind others, and the next has this first fault
+pub record ReadUpTo (before : List StatedMessage) (messages : List (List ℕ)) (placed : List Placed) (e : Fault × Place) : Type 0 where
+  pub parts : List StatedMessage
+  pub octets : List ℕ
+  pub rest : List (List ℕ)
+  pub here : List Placed
+  pub fault : Fault
+  pub offset : ℕ
+  pub read : AreRead before parts
+  pub next : FaultBehind (before ++ parts) octets here fault offset
+  pub whole : messages ≡ octets_in parts ++ octets ∷ rest
+  pub stated : placed ≡ placed_in parts ++ here
+  pub place : e ≡ (fault, Message (length (before ++ parts) + 1) offset)
+
+-- the records of messages behind others up to the first fault, and that fault with its place, or none
+abbrev pub ReadBehind : List StatedMessage → List (List ℕ) → List Placed → Option (Fault × Place) → Type 0
+ReadBehind before messages placed ending = MatchOption ending (AllRead before messages placed) (λ e. ReadUpTo before messages placed e)
+
+-- how a stream ends behind whole messages without a fault, the number of the next message known: inside a frame, without
+-- the closing SOA, or with it
+pub data StreamEnd (number : ℕ) (placed : List Placed) (rest : List ℕ) : Option (Fault × Place) → Type 0 where
+  in_frame : rest ≢ [] → StreamEnd number placed rest (Some (ShortFrame, Message number 0))
+  unclosed : rest ≡ [] → is_closed placed ≡ false → StreamEnd number placed rest (Some (NoClosingSoa, Message number 0))
+  closed : rest ≡ [] → is_closed placed ≡ true → StreamEnd number placed rest None
 
 -- what a stream is read as: the records before its first fault, and that fault with its place
 pub record StreamReads (stream : List ℕ) (placed : List Placed) (ending : Option (Fault × Place)) : Type 0 where
   pub messages : List (List ℕ)
   pub rest : List ℕ
   pub framed : IsFramed stream messages rest
-  pub stated : placed ≡ handed_on (records_of [] [] messages).placed
-  pub ends : ending ≡ ending_of (length messages + 1) (records_of [] [] messages) rest
+  pub all : List Placed
+  pub first : Option (Fault × Place)
+  pub read : ReadBehind [] messages all first
+  pub stated : placed ≡ handed_on all
+  pub ends : MatchOption first (StreamEnd (length messages + 1) all rest ending) (λ e. ending ≡ Some e)
 
 -- what is decided once this much of a stream is known: the records and the first fault of its whole frames
 pub record Decided (stream : List ℕ) (placed : List Placed) (ending : Option (Fault × Place)) : Type 0 where
   pub messages : List (List ℕ)
   pub rest : List ℕ
   pub framed : IsFramed stream messages rest
-  pub stated : placed ≡ handed_on (records_of [] [] messages).placed
-  pub ends : ending ≡ (records_of [] [] messages).fault
+  pub all : List Placed
+  pub read : ReadBehind [] messages all ending
+  pub stated : placed ≡ handed_on all

@@ -18,8 +18,6 @@ ghost use Rattle.zone_wire.specs.Visits.{labels_in, pointers_in, LeadToLast};
 ghost use Rattle.zone_wire.specs.Walk.{Visit, ending};
 ghost use Rattle.zone_wire.specs.WholeWalk.{IsWalk};
 
-use zone_rdata::laws::value::{held_values_are_data, values_without_strings_are_short};
-
 /// At most one name stands at an offset of a message.
 pub fn one_name_at_an_offset()
     ensures { (message : Octets) (offset : ℕ) → AtMostOneIs (IsNameAt message offset) }
@@ -130,10 +128,7 @@ pub fn what_is_read_is_records()
     ensures { (stream : Octets) (placed : List Placed) (ending : Option (Fault × Place))
         → ((i : ℕ) → slice_index stream i < 256) → StreamReads stream placed ending
         → AllByRecursion (λ p. IsRecord p.rr) placed }
-{
-    held_values_are_data();
-    values_without_strings_are_short();
-}
+{}
 
 /// A transfer is read as its records, without a fault, and a stream that is read without a fault is that transfer.
 pub fn a_transfer_is_read()
@@ -141,6 +136,4 @@ pub fn a_transfer_is_read()
         → StreamReads stream placed None → StreamStates stream placed }
     ensures only { (stream : Octets) (placed : List Placed) → StreamStates stream placed
         → StreamReads stream placed None }
-{
-    what_is_read_is_records();
-}
+{}

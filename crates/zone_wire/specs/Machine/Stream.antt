@@ -1,12 +1,13 @@
 -- What a stream of messages states, each behind its length, up to the first fault of its frames and messages
 -- (RFC 1035 4.2.2; RFC 5936 2.2, 3).
-use Rattle.std.specs.Prelude.{ℕ, ◌+◌, List, [], ◌∷◌, ◌++◌, length, ◌==◌, ◌&&◌, if◌then◌else◌, Option, Some, None, Result, Ok, Err}
+use Rattle.std.specs.Prelude.{◌≡◌, ℕ, ◌+◌, List, [], ◌∷◌, ◌++◌, length, ◌==◌, ◌&&◌, if◌then◌else◌, Option, Some, None, Result, Ok, Err}
 use Rattle.zone_rdata.specs.declared.fault.Fault.{Fault}
 use Rattle.zone_rdata.specs.declared.fault.Fault.TheVariants.{ShortFrame, IdMismatch, BadQuestion, NoClosingSoa}
 use Rattle.zone_rdata.specs.declared.fault.Place.{Place}
 use Rattle.zone_rdata.specs.declared.fault.Place.TheVariants.{Message}
 use Rattle.zone_rdata.specs.declared.record.Placed.{Placed}
-use Rattle.zone_wire.specs.Answers.{zone_of, questions_of, is_closed}
+use Rattle.zone_wire.specs.Answers.{zone_of, questions_of, is_closed, handed_on}
+use Rattle.zone_wire.specs.Frames.{IsFramed}
 use Rattle.zone_wire.specs.Machine.Answers.{agrees, Answered, answers_of}
 use Rattle.zone_wire.specs.Message.{QuestionAt, Sections}
 use Rattle.zone_wire.specs.Machine.Sections.{and_then, sections_of}
@@ -57,3 +58,19 @@ end_fault number placed [] = if is_closed placed then None else Some (NoClosingS
 
 abbrev pub ending_of : ℕ → Answered (Fault × Place) → List ℕ → Option (Fault × Place)
 ending_of number answered rest = elim answered.fault [ Some e ↦ Some e | None ↦ end_fault number answered.placed rest ]
+
+-- what is found in a stream: the records before its first fault, and that fault with its place
+pub record FindsReading (stream : List ℕ) (placed : List Placed) (ending : Option (Fault × Place)) : Type 0 where
+  pub messages : List (List ℕ)
+  pub rest : List ℕ
+  pub framed : IsFramed stream messages rest
+  pub stated : placed ≡ handed_on (records_of [] [] messages).placed
+  pub ends : ending ≡ ending_of (length messages + 1) (records_of [] [] messages) rest
+
+-- what is found in the whole frames of a stream
+pub record FindsDecision (stream : List ℕ) (placed : List Placed) (ending : Option (Fault × Place)) : Type 0 where
+  pub messages : List (List ℕ)
+  pub rest : List ℕ
+  pub framed : IsFramed stream messages rest
+  pub stated : placed ≡ handed_on (records_of [] [] messages).placed
+  pub ends : ending ≡ (records_of [] [] messages).fault

@@ -14,4 +14,4 @@ use Rattle.zone_wire.proofs.examples.a_transfer.Goals as goal
 
 pub returns : goal.returns
 unfolding records_of message_of sections_of header_fault question_at record_at value_at data_at strings_of record_of answer_of outcome place_of walk_by walk
-returns c = c.a_transfer_is_read.ensures.found (frame soa_message) (placed_soa 12 ∷ []) (octets_below (frame soa_message) refl) (reads (soa_message ∷ []) [] _ refl refl refl)
+returns c = c.a_transfer_is_read.ensures.found (frame soa_message) (placed_soa 12 ∷ []) (octets_below (frame soa_message) refl) (reads (soa_message ∷ []) [] _ refl refl refl refl)

@@ -14,11 +14,11 @@ use Rattle.zone_wire.proofs.examples.answers_with_two_faults.Goals as goal
 pub returns : goal.returns
 unfolding records_of message_of sections_of header_fault question_at record_at value_at data_at strings_of record_of answer_of outcome place_of walk_by walk
 returns c = record {
-  class_and_type = reads ((ends_with (record_of_class 0 41 [])) ∷ []) [] _ refl refl refl;
-  name_past_the_message = reads ((ends_with (record_x 2 [])) ∷ []) [] _ refl refl refl;
-  name_past_the_data = reads ((message_with (record_x 2 [])) ∷ []) [] _ refl refl refl;
-  bad_data_first = reads ((answer_header 1 1 0 ++ question_x ++ record_x 16 []) ∷ []) [] _ refl refl refl;
-  no_opening_of_other_class = reads ((answer_header 1 1 0 ++ (1 ∷ 120 ∷ 0 ∷ 0 ∷ 252 ∷ 0 ∷ 3 ∷ []) ++ record_x 2 (192 ∷ 12 ∷ [])) ∷ []) [] _ refl refl refl;
-  differing_soa_after_closing = reads ((answer_header 1 4 0 ++ small_body ++ closing_x 2) ∷ []) [] _ refl refl refl;
-  class_after_closing = reads ((answer_header 1 4 0 ++ small_body ++ record_of_class 255 1 []) ∷ []) [] _ refl refl refl;
+  class_and_type = reads ((ends_with (record_of_class 0 41 [])) ∷ []) [] _ refl refl refl refl;
+  name_past_the_message = reads ((ends_with (record_x 2 [])) ∷ []) [] _ refl refl refl refl;
+  name_past_the_data = reads ((message_with (record_x 2 [])) ∷ []) [] _ refl refl refl refl;
+  bad_data_first = reads ((answer_header 1 1 0 ++ question_x ++ record_x 16 []) ∷ []) [] _ refl refl refl refl;
+  no_opening_of_other_class = reads ((answer_header 1 1 0 ++ (1 ∷ 120 ∷ 0 ∷ 0 ∷ 252 ∷ 0 ∷ 3 ∷ []) ++ record_x 2 (192 ∷ 12 ∷ [])) ∷ []) [] _ refl refl refl refl;
+  differing_soa_after_closing = reads ((answer_header 1 4 0 ++ small_body ++ closing_x 2) ∷ []) [] _ refl refl refl refl;
+  class_after_closing = reads ((answer_header 1 4 0 ++ small_body ++ record_of_class 255 1 []) ∷ []) [] _ refl refl refl refl;
 }

@@ -14,10 +14,10 @@ use Rattle.zone_wire.proofs.examples.messages_with_two_faults.Goals as goal
 pub returns : goal.returns
 unfolding records_of message_of sections_of header_fault question_at record_at value_at data_at strings_of record_of answer_of outcome place_of walk_by walk
 returns c = record {
-  query_cut_off = reads ((0 ∷ 1 ∷ 4 ∷ 0 ∷ []) ∷ []) [] _ refl refl refl;
-  truncated_query = reads (((0 ∷ 1 ∷ 6 ∷ 0 ∷ 0 ∷ 1 ∷ 0 ∷ 3 ∷ 0 ∷ 0 ∷ 0 ∷ 0 ∷ []) ++ small_body) ∷ []) [] _ refl refl refl;
-  truncated_error = reads (((0 ∷ 1 ∷ 134 ∷ 5 ∷ 0 ∷ 1 ∷ 0 ∷ 3 ∷ 0 ∷ 0 ∷ 0 ∷ 0 ∷ []) ++ small_body) ∷ []) [] _ refl refl refl;
-  error_with_two_questions = reads (((0 ∷ 1 ∷ 132 ∷ 5 ∷ 0 ∷ 2 ∷ 0 ∷ 3 ∷ 0 ∷ 0 ∷ 0 ∷ 0 ∷ []) ++ small_body) ∷ []) [] _ refl refl refl;
-  trailing_under_other_id = reads (first_message ∷ (0 ∷ 2 ∷ 132 ∷ 0 ∷ 0 ∷ 0 ∷ 0 ∷ 0 ∷ 0 ∷ 0 ∷ 0 ∷ 0 ∷ 0 ∷ []) ∷ []) [] _ refl refl refl;
-  question_under_other_id = reads (first_message ∷ ((0 ∷ 2 ∷ 132 ∷ 0 ∷ 0 ∷ 1 ∷ 0 ∷ 0 ∷ 0 ∷ 0 ∷ 0 ∷ 0 ∷ []) ++ 1 ∷ 121 ∷ 0 ∷ 0 ∷ 252 ∷ 0 ∷ 1 ∷ []) ∷ []) [] _ refl refl refl;
+  query_cut_off = reads ((0 ∷ 1 ∷ 4 ∷ 0 ∷ []) ∷ []) [] _ refl refl refl refl;
+  truncated_query = reads (((0 ∷ 1 ∷ 6 ∷ 0 ∷ 0 ∷ 1 ∷ 0 ∷ 3 ∷ 0 ∷ 0 ∷ 0 ∷ 0 ∷ []) ++ small_body) ∷ []) [] _ refl refl refl refl;
+  truncated_error = reads (((0 ∷ 1 ∷ 134 ∷ 5 ∷ 0 ∷ 1 ∷ 0 ∷ 3 ∷ 0 ∷ 0 ∷ 0 ∷ 0 ∷ []) ++ small_body) ∷ []) [] _ refl refl refl refl;
+  error_with_two_questions = reads (((0 ∷ 1 ∷ 132 ∷ 5 ∷ 0 ∷ 2 ∷ 0 ∷ 3 ∷ 0 ∷ 0 ∷ 0 ∷ 0 ∷ []) ++ small_body) ∷ []) [] _ refl refl refl refl;
+  trailing_under_other_id = reads (first_message ∷ (0 ∷ 2 ∷ 132 ∷ 0 ∷ 0 ∷ 0 ∷ 0 ∷ 0 ∷ 0 ∷ 0 ∷ 0 ∷ 0 ∷ 0 ∷ []) ∷ []) [] _ refl refl refl refl;
+  question_under_other_id = reads (first_message ∷ ((0 ∷ 2 ∷ 132 ∷ 0 ∷ 0 ∷ 1 ∷ 0 ∷ 0 ∷ 0 ∷ 0 ∷ 0 ∷ 0 ∷ []) ++ 1 ∷ 121 ∷ 0 ∷ 0 ∷ 252 ∷ 0 ∷ 1 ∷ []) ∷ []) [] _ refl refl refl refl;
 }

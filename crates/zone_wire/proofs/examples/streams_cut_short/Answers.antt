@@ -14,10 +14,10 @@ use Rattle.zone_wire.proofs.examples.streams_cut_short.Goals as goal
 pub returns : goal.returns
 unfolding records_of message_of sections_of header_fault question_at record_at value_at data_at strings_of record_of answer_of outcome place_of walk_by walk
 returns c = record {
-  empty = reads [] [] _ refl refl refl;
-  no_answers = reads ((0 ∷ 1 ∷ 132 ∷ 0 ∷ 0 ∷ 0 ∷ 0 ∷ 0 ∷ 0 ∷ 0 ∷ 0 ∷ 0 ∷ []) ∷ []) [] _ refl refl refl;
-  first_of_two = reads (first_message ∷ []) [] _ refl refl refl;
-  one_octet_more = reads (small_message ∷ []) (0 ∷ []) _ refl refl refl;
-  half_a_length = reads [] (0 ∷ []) _ refl refl refl;
-  half_a_message = reads [] (0 ∷ 109 ∷ answer_header 1 3 0) _ refl refl refl;
+  empty = reads [] [] _ refl refl refl refl;
+  no_answers = reads ((0 ∷ 1 ∷ 132 ∷ 0 ∷ 0 ∷ 0 ∷ 0 ∷ 0 ∷ 0 ∷ 0 ∷ 0 ∷ 0 ∷ []) ∷ []) [] _ refl refl refl refl;
+  first_of_two = reads (first_message ∷ []) [] _ refl refl refl refl;
+  one_octet_more = reads (small_message ∷ []) (0 ∷ []) _ refl refl refl refl;
+  half_a_length = reads [] (0 ∷ []) _ refl refl refl refl;
+  half_a_message = reads [] (0 ∷ 109 ∷ answer_header 1 3 0) _ refl refl refl refl;
 }

@@ -14,8 +14,8 @@ use Rattle.zone_wire.proofs.examples.transfers_without_a_fault.Goals as goal
 pub returns : goal.returns
 unfolding records_of message_of sections_of header_fault question_at record_at value_at data_at strings_of record_of answer_of outcome place_of walk_by walk
 returns c = record {
-  small = reads (small_message ∷ []) [] _ refl refl refl;
-  service = reads ((message_with (record_x 33 (0 ∷ 0 ∷ 0 ∷ 5 ∷ 19 ∷ 196 ∷ 192 ∷ 31 ∷ []))) ∷ []) [] _ refl refl refl;
-  strings = reads ((message_with (record_x 35 (0 ∷ 100 ∷ 0 ∷ 10 ∷ 1 ∷ 85 ∷ 0 ∷ 0 ∷ 192 ∷ 31 ∷ []))) ∷ []) [] _ refl refl refl;
-  two_messages = reads (first_message ∷ second_message ∷ []) [] _ refl refl refl;
+  small = reads (small_message ∷ []) [] _ refl refl refl refl;
+  service = reads ((message_with (record_x 33 (0 ∷ 0 ∷ 0 ∷ 5 ∷ 19 ∷ 196 ∷ 192 ∷ 31 ∷ []))) ∷ []) [] _ refl refl refl refl;
+  strings = reads ((message_with (record_x 35 (0 ∷ 100 ∷ 0 ∷ 10 ∷ 1 ∷ 85 ∷ 0 ∷ 0 ∷ 192 ∷ 31 ∷ []))) ∷ []) [] _ refl refl refl refl;
+  two_messages = reads (first_message ∷ second_message ∷ []) [] _ refl refl refl refl;
 }

@@ -17,4 +17,4 @@ with_type kind = ends_with (record_x kind []) ∷ []
 
 pub returns : goal.returns
 unfolding records_of message_of sections_of header_fault question_at record_at value_at data_at strings_of record_of answer_of outcome place_of walk_by walk
-returns c = (reads (with_type 0) [] _ refl refl refl, (reads (with_type 41) [] _ refl refl refl, (reads (with_type 128) [] _ refl refl refl, (reads (with_type 255) [] _ refl refl refl, tt))))
+returns c = (reads (with_type 0) [] _ refl refl refl refl, (reads (with_type 41) [] _ refl refl refl refl, (reads (with_type 128) [] _ refl refl refl refl, (reads (with_type 255) [] _ refl refl refl refl, tt))))

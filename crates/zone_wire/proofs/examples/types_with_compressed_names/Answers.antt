@@ -17,4 +17,4 @@ with_type kind = ends_with (record_x kind []) ∷ []
 
 pub returns : goal.returns
 unfolding records_of message_of sections_of header_fault question_at record_at value_at data_at strings_of record_of answer_of outcome place_of walk_by walk
-returns c = (reads (with_type 3) [] _ refl refl refl, (reads (with_type 4) [] _ refl refl refl, (reads (with_type 7) [] _ refl refl refl, (reads (with_type 8) [] _ refl refl refl, (reads (with_type 9) [] _ refl refl refl, (reads (with_type 14) [] _ refl refl refl, (reads (with_type 17) [] _ refl refl refl, (reads (with_type 18) [] _ refl refl refl, (reads (with_type 21) [] _ refl refl refl, (reads (with_type 24) [] _ refl refl refl, (reads (with_type 26) [] _ refl refl refl, (reads (with_type 30) [] _ refl refl refl, tt))))))))))))
+returns c = (reads (with_type 3) [] _ refl refl refl refl, (reads (with_type 4) [] _ refl refl refl refl, (reads (with_type 7) [] _ refl refl refl refl, (reads (with_type 8) [] _ refl refl refl refl, (reads (with_type 9) [] _ refl refl refl refl, (reads (with_type 14) [] _ refl refl refl refl, (reads (with_type 17) [] _ refl refl refl refl, (reads (with_type 18) [] _ refl refl refl refl, (reads (with_type 21) [] _ refl refl refl refl, (reads (with_type 24) [] _ refl refl refl refl, (reads (with_type 26) [] _ refl refl refl refl, (reads (with_type 30) [] _ refl refl refl refl, tt))))))))))))

@@ -1,0 +1,74 @@
+-- A transfer is read as its records.
+use Rattle.std.proofs.Common.{◌≡◌, ℕ, ◌+◌, List, [], ◌∷◌, ◌++◌, length, refl, ap, sym, ◌∙◌, subst, true, arith, append_assoc, length-append, lit<}
+use Rattle.std.specs.Prelude.{◌==◌, None}
+use Rattle.std.specs.List.{flat_map, AllByRecursion, list_any}
+use Rattle.std.proofs.lemmas.Bool.{eq-eqb, or_left, or_right}
+use Rattle.std.proofs.lemmas.List.{append-nil}
+use Rattle.zone_rdata.specs.Record.{Record}
+use Rattle.zone_rdata.specs.declared.record.Placed.{Placed}
+use Rattle.zone_wire.specs.Answers.{zone_of, is_closed, handed_on, StandInOrder}
+use Rattle.zone_wire.specs.Message.{QuestionAt, Sections}
+use Rattle.zone_wire.specs.Stream.{octets_in, sections_in, asked_in, placed_in, HasFirstId, AsksIn, IsReadBehind, AreRead, closed, StreamReads}
+use Rattle.zone_wire.specs.Transfer.{StatedMessage, IsStatedMessage, AreStatedMessages, AsksFor, StateEach, frame, StreamStates}
+use Rattle.zone_wire.proofs.Accepting.{all_append, in_order_parts, opens_more, any_append, rest_in_order, framed_parts, short_parts, handed_transfer}
+use Rattle.zone_wire.proofs.AnswerFaults.{agrees_by, order_stands}
+use Rattle.zone_wire.proofs.Answering.{OpensWith, zone_agrees, is_soa, InOrder, order_is_kept}
+use Rattle.zone_wire.proofs.GivenMessages.{placed_grow, sections_grow, asked_grow}
+
+-- records in the order of a transfer
+stand_in_order : (zone : Record) (questions : List QuestionAt) (before placed : List Placed) → AllByRecursion (AsksFor zone) questions → InOrder zone before placed → StandInOrder questions before placed
+stand_in_order zone questions before [] ask order = tt
+stand_in_order zone questions before (p ∷ placed) ask order =
+    (order_stands questions before p.rr (order_is_kept zone questions before p ask order.0), stand_in_order zone questions (before ++ p ∷ []) placed ask order.1)
+
+first_id : (id : ℕ) (before : List StatedMessage) (s : Sections) → AllByRecursion (λ (p : StatedMessage). p.sections.id ≡ id) before → s.id ≡ id → HasFirstId before s
+first_id id [] s each e = tt
+first_id id (first ∷ before) s each e = e ∙ sym each.0
+
+asks_in : (zone : Record) (before : List QuestionAt) (placed : List Placed) (questions : List QuestionAt) → AllByRecursion (AsksFor zone) before → OpensWith zone placed → AllByRecursion (AsksFor zone) questions → AllByRecursion (AsksIn (zone_of before placed)) questions
+asks_in zone before placed [] asked opens ask = tt
+asks_in zone before placed (q ∷ questions) asked opens ask =
+    (record { kind = ask.0.kind; agrees = agrees_by (zone_of before placed) q.name q.class (zone_agrees zone before placed q.name q.class asked opens ask.0.name ask.0.class) }, asks_in zone before placed questions asked opens ask.1)
+
+-- a message of a transfer behind others
+stated_is_read : (id : ℕ) (zone : Record) (number : ℕ) (before : List StatedMessage) (p : StatedMessage) → number ≡ length before + 1 → IsStatedMessage id zone number p → AllByRecursion (λ (q : StatedMessage). q.sections.id ≡ id) before → AllByRecursion (AsksFor zone) (asked_in before) → OpensWith zone (placed_in before) → InOrder zone (placed_in before) p.placed → IsReadBehind before p
+stated_is_read id zone number before p count is ids asked opens order = record {
+  message = record { message = is.message; same_id = first_id id before p.sections ids is.same_id; asks = asks_in zone (asked_in before) (placed_in before) p.sections.questions asked opens is.questions };
+  stated = subst (λ n. StateEach n p.octets p.sections.answers p.placed) count is.answers;
+  order = stand_in_order zone (asked_in before ++ p.sections.questions) (placed_in before) p.placed (all_append (AsksFor zone) (asked_in before) p.sections.questions asked is.questions) order;
+}
+
+parts_are_read : (id : ℕ) (zone : Record) (parts before : List StatedMessage) (number : ℕ) → number ≡ length before + 1 → AreStatedMessages id zone number parts → AllByRecursion (λ (q : StatedMessage). q.sections.id ≡ id) before → AllByRecursion (AsksFor zone) (asked_in before) → OpensWith zone (placed_in before) → InOrder zone (placed_in before) (placed_in parts) → AreRead before parts
+parts_are_read id zone [] before number count are ids asked opens order = tt
+parts_are_read id zone (p ∷ parts) before number count are ids asked opens order =
+    let orders = in_order_parts zone (placed_in before) p.placed (placed_in parts) order in
+    let s = p.sections in
+    let questions : asked_in before ++ s.questions ≡ asked_in (before ++ p ∷ []) = sym (asked_grow before s) ∙ ap (flat_map (λ (t : Sections). t.questions)) (sections_grow before p) in
+    let placed = placed_grow before p in
+    (stated_is_read id zone number before p count are.0 ids asked opens orders.0,
+    parts_are_read id zone parts (before ++ p ∷ []) (number + 1) (omega (arith, count, length-append before (p ∷ []))) are.1
+    (all_append (λ (q : StatedMessage). q.sections.id ≡ id) before (p ∷ []) ids (are.0.same_id, tt))
+    (subst (AllByRecursion (AsksFor zone)) questions (all_append (AsksFor zone) (asked_in before) s.questions asked are.0.questions))
+    (subst (OpensWith zone) placed (opens_more zone (placed_in before) p.placed opens orders.0))
+    (subst (λ x. InOrder zone x (placed_in parts)) placed orders.1))
+
+-- a transfer is read as its records
+pub transfer_reads : (stream : List ℕ) (placed : List Placed) → StreamStates stream placed → StreamReads stream placed None
+transfer_reads stream placed s =
+    let all : List Placed = s.opening ∷ (s.others ++ s.closing ∷ []) in
+    let order : InOrder s.opening.rr [] all = ((refl, s.soa), rest_in_order s.opening.rr s.opening s.closing [] s.others s.same refl s.no_soa) in
+    let read = parts_are_read s.id s.opening.rr s.parts [] 1 refl s.each tt tt tt (subst (InOrder s.opening.rr []) (sym s.answers) order) in
+    let kind : s.closing.rr.kind ≡ 6 = ap (λ (r : Record). r.kind) s.same ∙ s.soa in
+    let soa : is_soa s.closing ≡ true = eq-eqb s.closing.rr.kind 6 kind in
+    let kept : handed_on all ≡ s.opening ∷ s.others = handed_transfer s.opening s.others s.closing s.no_soa kind in
+    let last : is_closed all ≡ true = any_append s.others (s.closing ∷ []) ∙ or_right (list_any is_soa s.others) (list_any is_soa (s.closing ∷ [])) (or_left (is_soa s.closing) _ soa) in
+    record {
+      messages = octets_in s.parts;
+      rest = [];
+      framed = record { whole = s.framed ∙ framed_parts s.parts ∙ sym (append-nil (flat_map frame (octets_in s.parts))); short = short_parts s.id s.opening.rr 1 s.parts s.each; cut = lit< tt };
+      all = all;
+      first = None;
+      read = record { parts = s.parts; read = read; whole = refl; stated = sym s.answers };
+      stated = s.stated ∙ sym kept;
+      ends = closed refl last;
+    }
