@@ -34,7 +34,7 @@ part_text octets start end text order inside e =
     let same : length (octets_between octets start end) ≡ length text = ap length e in
     omega arith
 
-name_reads : (end : ℕ) (found : Found) (o : Outcome) → o ≡ named found → found.end ≤ end → name_before end o ≡ Ok (name found.labels, found.end)
+pub name_reads : (end : ℕ) (found : Found) (o : Outcome) → o ≡ named found → found.end ≤ end → name_before end o ≡ Ok (name found.labels, found.end)
 name_reads end found o e h = ap (name_before end) e ∙ cond-true _ _ _ (le-leb _ _ h)
 
 -- a value of this many octets
@@ -60,7 +60,7 @@ part_first octets start past h = first (past - start) (drop start octets) (omega
     first (suc n) [] some = refl
     first (suc n) (x ∷ xs) some = refl
 
-strings_read : (octets : List ℕ) (end : ℕ) (many : List (List ℕ)) → AreStrings many → octets ≡ flat_map with_length many → strings_before end octets ≡ Ok (strings many, end)
+pub strings_read : (octets : List ℕ) (end : ℕ) (many : List (List ℕ)) → AreStrings many → octets ≡ flat_map with_length many → strings_before end octets ≡ Ok (strings many, end)
 strings_read octets end many are is =
     let cut : strings_of octets ≡ many = ap strings_of is ∙ strings_back many in
     let some : 0 < length octets = omega (arith, are.some, length-frames many, ap length is) in

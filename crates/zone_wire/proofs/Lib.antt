@@ -4,7 +4,9 @@ pub mod Answering
 pub mod Carrying
 pub mod Computing
 pub mod DataFaults
+pub mod DataReading
 pub mod Ends
+pub mod FieldReading
 pub mod Fielding
 pub mod Frames
 pub mod GivenAnswers
@@ -24,8 +26,10 @@ pub mod ReadFields
 pub mod ReadRecords
 pub mod ReadSections
 pub mod ReadStreams
+pub mod RecordReading
 pub mod Sectioning
 pub mod Streams
+pub mod StringReading
 pub mod Structures
 pub mod Transfers
 pub mod Verdicts

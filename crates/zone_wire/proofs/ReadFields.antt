@@ -40,11 +40,11 @@ strings_each_by (suc n) [] small = tt
 strings_each_by (suc n) (c ∷ octets) small =
     (record { short = omega (arith, length-take c octets, small 0); each = bytes_each (take c octets) (take_each c octets (λ k. small (suc k))) }, strings_each_by n (drop c octets) (drop_each c octets (λ k. small (suc k))))
 
-strings_each : (octets : List ℕ) → ((k : ℕ) → get_or octets k 0 < 256) → AllByRecursion IsString (strings_of octets)
+pub strings_each : (octets : List ℕ) → ((k : ℕ) → get_or octets k 0 < 256) → AllByRecursion IsString (strings_of octets)
 unfolding strings_of
 strings_each octets small = strings_each_by (length octets) octets small
 
-some_strings : (many : List (List ℕ)) → 0 < length (flat_map with_length many) → 0 < length many
+pub some_strings : (many : List (List ℕ)) → 0 < length (flat_map with_length many) → 0 < length many
 some_strings [] h = absurd (omega arith)
 some_strings (text ∷ many) h = omega arith
 
@@ -61,7 +61,7 @@ module _ (octets : List ℕ) (each : (k : ℕ) → get_or octets k 0 < 256) (end
       let p = passes (nat_le (start + size) end) _ v _ e in
       subst (Shown octets end start field) p.1 (shows (leb-true _ _ p.0))
 
-  part_bytes : (start past : ℕ) (k : ℕ) → get_or (octets_between octets start past) k 0 < 256
+  pub part_bytes : (start past : ℕ) (k : ℕ) → get_or (octets_between octets start past) k 0 < 256
   part_bytes start past = take_each (past - start) (drop start octets) (drop_each start octets each)
 
   part_size : (start size : ℕ) → start + size ≤ end → length (octets_between octets start (start + size)) ≡ size
@@ -133,7 +133,7 @@ module _ (octets : List ℕ) (each : (k : ℕ) → get_or octets k 0 < 256) (end
   value_shows start Strings v e = strings_show start v e
   value_shows start U16 v e = sized_shows start 2 U16 v (λ fits. (two_short _ (take_each 2 _ (part_bytes start (start + 2))), fits, two_stands start fits)) e
 
-  values_show : (fields : List Field) (start : ℕ) (values : List FieldValue) → values_at octets end start fields ≡ Ok values → HoldEach fields values × StandEach octets start end values
+  pub values_show : (fields : List Field) (start : ℕ) (values : List FieldValue) → values_at octets end start fields ≡ Ok values → HoldEach fields values × StandEach octets start end values
   values_show [] start values e =
       let p = passes (start == end) [] values _ e in
       subst (λ (vs : List FieldValue). HoldEach [] vs × StandEach octets start end vs) p.1 (tt, eqb-true start end p.0)

@@ -33,7 +33,7 @@ use Rattle.zone_wire.proofs.ReadStreams.{Bytes, asked_same, front_bytes, message
 use Rattle.zone_wire.proofs.Walking.{take_each, drop_each}
 
 -- a layout holds no strings, or strings alone
-abbrev IsRow : Option (List Field) → Type 0
+abbrev pub IsRow : Option (List Field) → Type 0
 IsRow None = ⊤
 IsRow (Some fields) = AllByRecursion (λ field. field ≢ Strings) fields ⊎ (fields ≡ Strings ∷ [])
 
@@ -64,7 +64,7 @@ row_by : (laid : Option (List Field)) → ((fields : List Field) → laid ≡ So
 row_by None each = tt
 row_by (Some fields) each = row_of fields (each fields refl)
 
-each_row : (class kind : ℕ) → IsRow (layout class kind)
+pub each_row : (class kind : ℕ) → IsRow (layout class kind)
 each_row class kind = row_by (layout class kind) (each_layout (λ fields. unstrung fields || strings_alone fields) refl class kind)
 
 part_short : (octets : List ℕ) (start end : ℕ) → length (octets_between octets start end) ≤ length octets

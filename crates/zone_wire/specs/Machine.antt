@@ -1,6 +1,7 @@
 -- What only private functions, invariants and proofs cite.
 pub mod Answers
 pub mod Data
+pub mod DataReading
 pub mod Finding
 pub mod Parsing
 pub mod Place

@@ -2,12 +2,15 @@
 #![tactic(auto)]
 
 mod answers;
+mod data;
 pub mod examples;
 pub mod laws;
 mod message;
 mod name;
 mod number;
+mod octets;
 mod place;
+mod record;
 mod structure;
 mod ticks;
 mod transfer;
