@@ -1,44 +1,27 @@
 -- Answers and messages that are read one behind another.
 use Rattle.std.proofs.Common.{◌≡◌, ℕ, ◌+◌, List, [], ◌∷◌, ◌++◌, length, refl, ap, sym, ◌∙◌, subst, Bool, true, false, arith, append_assoc, length-append}
-use Rattle.std.specs.Prelude.{map, ◌==◌, ◌||◌, ◌&&◌, not, if◌then◌else◌, Option, Some, None, Result, Ok, Err}
-use Rattle.std.specs.List.{flat_map, filter, list_any}
+use Rattle.std.specs.Prelude.{map, ◌==◌, ◌||◌, not, Option, Some, None, MatchOption, ⊤}
+use Rattle.std.specs.List.{AllByRecursion, flat_map, filter, list_any}
 use Rattle.std.proofs.lemmas.Bool.{cond-true, cond-false, eq-eqb}
 use Rattle.std.proofs.lemmas.List.{append-nil}
 use Rattle.std.proofs.lemmas.List.Concat.{flat_map-append}
 use Rattle.std.proofs.lemmas.List.Elements.{filter-append}
 use Rattle.zone_rdata.specs.Record.{Record}
 use Rattle.zone_rdata.specs.declared.fault.Fault.{Fault}
-use Rattle.zone_rdata.specs.declared.fault.Place.{Place}
 use Rattle.zone_rdata.specs.declared.fault.Place.TheVariants.{Message}
 use Rattle.zone_rdata.specs.declared.record.Placed.{Placed}
-use Rattle.zone_wire.specs.Answers.{Zone, zone_of, questions_of, handed_on, is_closed}
-use Rattle.zone_wire.specs.Machine.Answers.{order_fault, record_of, answer_of, Answered, before_others, answers_of}
-use Rattle.zone_wire.specs.Machine.Sections.{and_then}
-use Rattle.zone_wire.specs.Machine.Transferring.{Among, Behind, Gains, Takes, TakesUpTo, zone_held, zone_with}
-use Rattle.zone_wire.specs.Message.{QuestionAt, RecordAt, Sections}
+use Rattle.zone_wire.specs.AnswerFault.{AnswerFault, FirstAnswerFault}
+use Rattle.zone_wire.specs.Answers.{Zone, zone_of, AgreeWith, questions_of, handed_on, is_closed, StandsBehind, StandInOrder}
+use Rattle.zone_wire.specs.Machine.Transferring.{Among, Behind, Gains, Hands, Takes, TakesUpTo, TakesHead, HeadFault, other_id, other_zone, TakesWhole, StopsIn, zone_held, zone_with}
+use Rattle.zone_wire.specs.Message.{QuestionAt, RecordAt, Sections, IsMessage}
+use Rattle.zone_wire.specs.MessageFault.{MessageFault}
 use Rattle.zone_wire.specs.Source.{first_id, opening_of}
-use Rattle.zone_wire.specs.Transfer.{StatesRecord, StateEach}
+use Rattle.zone_wire.specs.Stream.{sections_in, asked_in, placed_in, HasFirstId, AsksIn, AskBehind, FaultBehind, of_structure, of_id, of_questions, of_answers}
+use Rattle.zone_wire.specs.Transfer.{StatesRecord, StatedMessage, StateEach}
 use Rattle.zone_wire.specs.View.{RawRecord, raw_at}
 use Rattle.zone_wire.specs.declared.transfer.Transfer.{Transfer}
 use Rattle.zone_wire.proofs.Accepting.{any_append}
 use Rattle.zone_wire.proofs.Answering.{is_soa, differ}
-
--- an answer whose record has a fault by itself, or behind others, or none
-pub answer_refused : (octets : List ℕ) (questions : List QuestionAt) (placed : List Placed) (a : RecordAt) (fault : Fault) → record_of octets a ≡ Err fault → answer_of octets questions placed a ≡ Err fault
-unfolding answer_of
-answer_refused octets questions placed a fault e = ap (λ r. and_then r (λ rr. elim (order_fault questions placed rr) [ Some f ↦ Err f | None ↦ Ok rr ])) e
-
-pub answer_disordered : (octets : List ℕ) (questions : List QuestionAt) (placed : List Placed) (a : RecordAt) (rr : Record) (fault : Fault) → record_of octets a ≡ Ok rr → Some fault ≡ order_fault questions placed rr → answer_of octets questions placed a ≡ Err fault
-unfolding answer_of
-answer_disordered octets questions placed a rr fault e order =
-    ap (λ r. and_then r (λ s. elim (order_fault questions placed s) [ Some f ↦ Err f | None ↦ Ok s ])) e
-    ∙ ap (λ (o : Option Fault). let x : Result Record Fault = elim o [ Some f ↦ Err f | None ↦ Ok rr ] in x) (sym order)
-
-pub answer_taken : (octets : List ℕ) (questions : List QuestionAt) (placed : List Placed) (a : RecordAt) (rr : Record) → record_of octets a ≡ Ok rr → None ≡ order_fault questions placed rr → answer_of octets questions placed a ≡ Ok rr
-unfolding answer_of
-answer_taken octets questions placed a rr e order =
-    ap (λ r. and_then r (λ s. elim (order_fault questions placed s) [ Some f ↦ Err f | None ↦ Ok s ])) e
-    ∙ ap (λ (o : Option Fault). let x : Result Record Fault = elim o [ Some f ↦ Err f | None ↦ Ok rr ] in x) (sym order)
 
 -- the opening SOA is handed on
 none_placed : (placed : List Placed) → None ≡ opening_of placed → placed ≡ []
@@ -133,15 +116,11 @@ gains_other questions placed p opened old new among some other opening zone clos
     or_false_right true = refl
     or_false_right false = refl
 
--- records, and then others
-abbrev pub put : List Placed → Answered (Fault × ℕ) → Answered (Fault × ℕ)
-put here x = record x { placed = here ++ x.placed }
-
--- the answers that were read, and what the rest of them gives
-pub record SoFar (octets : List ℕ) (answers done rest : List RecordAt) (questions : List QuestionAt) (placed : List Placed) (old new : Transfer) : Type 0 where
+-- the answers that were read
+pub record SoFar (octets : List ℕ) (done : List RecordAt) (questions : List QuestionAt) (placed : List Placed) (old new : Transfer) : Type 0 where
   pub here : List Placed
-  pub is : answers_of old.messages octets questions placed answers ≡ put here (answers_of old.messages octets questions (placed ++ here) rest)
   pub stated : StateEach old.messages octets done here
+  pub order : StandInOrder questions placed here
   pub gains : Gains here questions placed old new
 
 -- those that are still to come
@@ -151,7 +130,8 @@ pub record Pending (octets : List ℕ) (answers : List RecordAt) (left : List Ra
   pub parts : answers ≡ done ++ rest
   pub left_is : left ≡ map (raw_at octets) rest
   pub messages : new.messages ≡ old.messages
-  pub so_far : (questions : List QuestionAt) (placed : List Placed) → Among questions placed old → SoFar octets answers done rest questions placed old new
+  pub ending : new.decided.ending ≡ old.decided.ending
+  pub so_far : (questions : List QuestionAt) (placed : List Placed) → Among questions placed old → SoFar octets done questions placed old new
 
 gains_none : (questions : List QuestionAt) (placed : List Placed) (t : Transfer) → Among questions placed t → Gains [] questions placed t t
 gains_none questions placed t among = record {
@@ -163,12 +143,12 @@ gains_none questions placed t among = record {
 }
 
 gains_more : (here more : List Placed) (questions : List QuestionAt) (placed : List Placed) (old mid new : Transfer) → Gains here questions placed old mid → Gains more questions (placed ++ here) mid new → Gains (here ++ more) questions placed old new
-gains_more here more questions placed old mid new first then = record {
-  among = subst (λ ps. Among questions ps new) (append_assoc placed here more) then.among;
-  handed = λ given e. then.handed given (first.handed given e) ∙ ap handed_on (append_assoc placed here more);
-  messages = then.messages ∙ first.messages;
-  id = then.id ∙ first.id;
-  ending = then.ending ∙ first.ending;
+gains_more here more questions placed old mid new first next = record {
+  among = subst (λ ps. Among questions ps new) (append_assoc placed here more) next.among;
+  handed = λ given e. next.handed given (first.handed given e) ∙ ap handed_on (append_assoc placed here more);
+  messages = next.messages ∙ first.messages;
+  id = next.id ∙ first.id;
+  ending = next.ending ∙ first.ending;
 }
 
 state_append : (number : ℕ) (octets : List ℕ) (done : List RecordAt) (here : List Placed) (a : RecordAt) (p : Placed) → StateEach number octets done here → StatesRecord octets a p.rr → p.place ≡ Message number a.offset → StateEach number octets (done ++ a ∷ []) (here ++ p ∷ [])
@@ -177,6 +157,10 @@ state_append number octets [] (q ∷ here) a p each states place = absurd each
 state_append number octets (b ∷ done) [] a p each states place = absurd each
 state_append number octets (b ∷ done) (q ∷ here) a p each states place = (each.0, each.1, state_append number octets done here a p each.2 states place)
 
+order_append : (questions : List QuestionAt) (placed here : List Placed) (p : Placed) → StandInOrder questions placed here → StandsBehind questions (placed ++ here) p.rr → StandInOrder questions placed (here ++ p ∷ [])
+order_append questions placed [] p order stands = (subst (λ ps. StandsBehind questions ps p.rr) (append-nil placed) stands, tt)
+order_append questions placed (q ∷ here) p order stands = (order.0, order_append questions (placed ++ q ∷ []) here p order.1 (subst (λ ps. StandsBehind questions ps p.rr) (sym (append_assoc placed (q ∷ []) here)) stands))
+
 pub pending_all : (octets : List ℕ) (answers : List RecordAt) (left : List RawRecord) (t : Transfer) → left ≡ map (raw_at octets) answers → Pending octets answers left t t
 pending_all octets answers left t e = record {
   done = [];
@@ -184,21 +168,9 @@ pending_all octets answers left t e = record {
   parts = refl;
   left_is = e;
   messages = refl;
-  so_far = λ questions placed among. record {
-    here = [];
-    is = ap (λ ps. answers_of t.messages octets questions ps answers) (sym (append-nil placed));
-    stated = tt;
-    gains = gains_none questions placed t among;
-  };
+  ending = refl;
+  so_far = λ questions placed among. record { here = []; stated = tt; order = tt; gains = gains_none questions placed t among };
 }
-
--- one answer more
-one_answer : (number : ℕ) (octets : List ℕ) (questions : List QuestionAt) (placed : List Placed) (a : RecordAt) (rest : List RecordAt) (rr : Record) → answer_of octets questions placed a ≡ Ok rr
-    → (let p : Placed = record { rr = rr; place = Message number a.offset } in answers_of number octets questions placed (a ∷ rest) ≡ put (p ∷ []) (answers_of number octets questions (placed ++ p ∷ []) rest))
-one_answer number octets questions placed a rest rr e = ap (λ r. before_others number a.offset r (λ p. answers_of number octets questions (placed ++ p ∷ []) rest)) e
-
-put_more : (here : List Placed) (p : Placed) (x : Answered (Fault × ℕ)) → put here (put (p ∷ []) x) ≡ put (here ++ p ∷ []) x
-put_more here p x = ap (λ ps. record x { placed = ps }) (sym (append_assoc here (p ∷ []) x.placed))
 
 -- the first of those still to come
 pub record NextAnswer (octets : List ℕ) (first : RawRecord) (left : List RawRecord) (rest : List RecordAt) : Type 0 where
@@ -208,66 +180,170 @@ pub record NextAnswer (octets : List ℕ) (first : RawRecord) (left : List RawRe
   pub first_is : first ≡ raw_at octets a
   pub left_is : left ≡ map (raw_at octets) others
 
-pub next_answer : (octets : List ℕ) (first : RawRecord) (left : List RawRecord) (rest : List RecordAt) → first ∷ left ≡ map (raw_at octets) rest → NextAnswer octets first left rest
+next_answer : (octets : List ℕ) (first : RawRecord) (left : List RawRecord) (rest : List RecordAt) → first ∷ left ≡ map (raw_at octets) rest → NextAnswer octets first left rest
 next_answer octets first left [] e = cc
 next_answer octets first left (a ∷ others) e = record { a = a; others = others; rest_is = refl; first_is = cc; left_is = cc }
 
-so_far_more : (octets : List ℕ) (answers done others : List RecordAt) (a : RecordAt) (questions : List QuestionAt) (placed : List Placed) (old mid new : Transfer) → mid.messages ≡ old.messages → (s : SoFar octets answers done (a ∷ others) questions placed old mid) → Takes octets a questions (placed ++ s.here) mid new → SoFar octets answers (done ++ a ∷ []) others questions placed old new
-so_far_more octets answers done others a questions placed old mid new messages s takes =
-    let p : Placed = record { rr = takes.rr; place = Message old.messages a.offset } in
-    let same : Message mid.messages a.offset ≡ Message old.messages a.offset = ap (λ n. Message n a.offset) messages in
-    let gains : Gains (p ∷ []) questions (placed ++ s.here) mid new = subst (λ (x : Place). Gains (record { rr = takes.rr; place = x } ∷ []) questions (placed ++ s.here) mid new) same takes.gains in
+so_far_more : (octets : List ℕ) (done : List RecordAt) (a : RecordAt) (questions : List QuestionAt) (placed : List Placed) (old mid new : Transfer) → mid.messages ≡ old.messages → (s : SoFar octets done questions placed old mid) → Takes octets a questions (placed ++ s.here) mid new → SoFar octets (done ++ a ∷ []) questions placed old new
+so_far_more octets done a questions placed old mid new messages s takes =
+    let p : Placed = record { rr = takes.rr; place = Message mid.messages a.offset } in
     record {
       here = s.here ++ p ∷ [];
-      is = s.is ∙ ap (put s.here) (one_answer old.messages octets questions (placed ++ s.here) a others takes.rr takes.is) ∙ put_more s.here p (answers_of old.messages octets questions ((placed ++ s.here) ++ p ∷ []) others) ∙ ap (λ ps. put (s.here ++ p ∷ []) (answers_of old.messages octets questions ps others)) (append_assoc placed s.here (p ∷ []));
-      stated = state_append old.messages octets done s.here a p s.stated takes.states refl;
-      gains = gains_more s.here (p ∷ []) questions placed old mid new s.gains gains;
+      stated = state_append old.messages octets done s.here a p s.stated takes.states (ap (λ n. Message n a.offset) messages);
+      order = order_append questions placed s.here p s.order takes.stands;
+      gains = gains_more s.here (p ∷ []) questions placed old mid new s.gains takes.gains;
     }
 
-pub pending_more : (octets : List ℕ) (answers : List RecordAt) (first : RawRecord) (left : List RawRecord) (old mid new : Transfer) → Pending octets answers (first ∷ left) old mid → new.messages ≡ mid.messages → ((questions : List QuestionAt) (placed : List Placed) → Among questions placed mid → Takes first.octets first.at questions placed mid new) → Pending octets answers left old new
-pending_more octets answers first left old mid new p messages takes =
-    let next = next_answer octets first left p.rest (sym (sym p.left_is)) in
+pub pending_more : (octets : List ℕ) (answers : List RecordAt) (first : RawRecord) (left before : List RawRecord) (old mid new : Transfer) → Pending octets answers before old mid → before ≡ first ∷ left → new.messages ≡ mid.messages → new.decided.ending ≡ mid.decided.ending → ((questions : List QuestionAt) (placed : List Placed) → Among questions placed mid → Takes first.octets first.at questions placed mid new) → Pending octets answers left old new
+pending_more octets answers first left before old mid new p e messages ending takes =
+    let next = next_answer octets first left p.rest (sym e ∙ p.left_is) in
     record {
       done = p.done ++ next.a ∷ [];
       rest = next.others;
       parts = p.parts ∙ ap (λ x. p.done ++ x) next.rest_is ∙ sym (append_assoc p.done (next.a ∷ []) next.others);
       left_is = next.left_is;
       messages = messages ∙ p.messages;
+      ending = ending ∙ p.ending;
       so_far = λ questions placed among.
-        let s : SoFar octets answers p.done (next.a ∷ next.others) questions placed old mid = subst (λ (rest : List RecordAt). SoFar octets answers p.done rest questions placed old mid) next.rest_is (p.so_far questions placed among) in
-        so_far_more octets answers p.done next.others next.a questions placed old mid new p.messages s (subst (λ (r : RawRecord). Takes r.octets r.at questions (placed ++ s.here) mid new) next.first_is (takes questions (placed ++ s.here) s.gains.among));
+        let s = p.so_far questions placed among in
+        so_far_more octets p.done next.a questions placed old mid new p.messages s (subst (λ (r : RawRecord). Takes r.octets r.at questions (placed ++ s.here) mid new) next.first_is (takes questions (placed ++ s.here) s.gains.among));
     }
+
+no_rest : (octets : List ℕ) (rest : List RecordAt) → [] ≡ map (raw_at octets) rest → rest ≡ []
+no_rest octets [] e = refl
+no_rest octets (a ∷ rest) e = cc
 
 -- all answers were read
 pub takes_all : (octets : List ℕ) (answers : List RecordAt) (left : List RawRecord) (old new : Transfer) → left ≡ [] → Pending octets answers left old new → (questions : List QuestionAt) (placed : List Placed) → Among questions placed old → TakesUpTo octets answers questions placed old new None
 takes_all octets answers left old new none p questions placed among =
     let s = p.so_far questions placed among in
-    let empty : p.rest ≡ [] = no_rest p.rest (sym none ∙ p.left_is) in
-    let is : answers_of old.messages octets questions placed answers ≡ put s.here (answers_of old.messages octets questions (placed ++ s.here) []) = s.is ∙ ap (λ rest. put s.here (answers_of old.messages octets questions (placed ++ s.here) rest)) empty in
-    record {
-      here = s.here;
-      is = is ∙ ap (λ ps. record { placed = ps; fault = None }) (append-nil s.here);
-      stated = λ e. subst (λ (as : List RecordAt). StateEach old.messages octets as s.here) (sym (p.parts ∙ ap (λ rest. p.done ++ rest) empty ∙ append-nil p.done)) s.stated;
-      gains = s.gains;
-    }
-  where
-    no_rest : (rest : List RecordAt) → [] ≡ map (raw_at octets) rest → rest ≡ []
-    no_rest [] e = refl
-    no_rest (a ∷ rest) e = cc
+    let all : p.done ≡ answers = sym (p.parts ∙ ap (λ rest. p.done ++ rest) (no_rest octets p.rest (sym none ∙ p.left_is)) ∙ append-nil p.done) in
+    record { here = s.here; gives = (subst (λ (done : List RecordAt). StateEach old.messages octets done s.here) all s.stated, s.order); gains = s.gains }
 
 -- the next answer has a fault
-pub takes_up_to : (octets : List ℕ) (answers : List RecordAt) (first : RawRecord) (left : List RawRecord) (old mid new : Transfer) (fault : Fault) (offset : ℕ) → Pending octets answers (first ∷ left) old mid → new ≡ mid → offset ≡ first.at.offset
-    → ((questions : List QuestionAt) (placed : List Placed) → Among questions placed mid → answer_of first.octets questions placed first.at ≡ Err fault)
+pub takes_up_to : (octets : List ℕ) (answers : List RecordAt) (first : RawRecord) (left before : List RawRecord) (old mid new : Transfer) (fault : Fault) (offset : ℕ) → Pending octets answers before old mid → before ≡ first ∷ left → new ≡ mid → offset ≡ first.at.offset
+    → ((questions : List QuestionAt) (placed : List Placed) → Among questions placed mid → AnswerFault first.octets questions placed first.at fault)
     → (questions : List QuestionAt) (placed : List Placed) → Among questions placed old → TakesUpTo octets answers questions placed old new (Some (fault, offset))
-takes_up_to octets answers first left old mid new fault offset p same there refuses questions placed among =
+takes_up_to octets answers first left before old mid new fault offset p e same there refuses questions placed among =
     let s = p.so_far questions placed among in
-    let next = next_answer octets first left p.rest p.left_is in
-    let here : offset ≡ next.a.offset = there ∙ ap (λ (r : RawRecord). r.at.offset) next.first_is in
-    let refused : answer_of octets questions (placed ++ s.here) next.a ≡ Err fault = subst (λ (r : RawRecord). answer_of r.octets questions (placed ++ s.here) r.at ≡ Err fault) next.first_is (refuses questions (placed ++ s.here) s.gains.among) in
-    let last : answers_of old.messages octets questions (placed ++ s.here) (next.a ∷ next.others) ≡ record { placed = []; fault = Some (fault, next.a.offset) } = ap (λ r. before_others old.messages next.a.offset r (λ q. answers_of old.messages octets questions ((placed ++ s.here) ++ q ∷ []) next.others)) refused in
+    let next = next_answer octets first left p.rest (sym e ∙ p.left_is) in
     record {
       here = s.here;
-      is = s.is ∙ ap (λ rest. put s.here (answers_of old.messages octets questions (placed ++ s.here) rest)) next.rest_is ∙ ap (put s.here) last ∙ ap (λ ps. record { placed = ps; fault = Some (fault, next.a.offset) }) (append-nil s.here) ∙ ap (λ n. record { placed = s.here; fault = Some (fault, n) }) (sym here);
-      stated = λ e. cc;
+      gives = record {
+        front = p.done;
+        answer = next.a;
+        rest = next.others;
+        parts = p.parts ∙ ap (λ x. p.done ++ x) next.rest_is;
+        stated = s.stated;
+        order = s.order;
+        next = subst (λ (r : RawRecord). AnswerFault r.octets questions (placed ++ s.here) r.at fault) next.first_is (refuses questions (placed ++ s.here) s.gains.among);
+        start = there ∙ ap (λ (r : RawRecord). r.at.offset) next.first_is;
+      };
       gains = subst (λ (t : Transfer). Gains s.here questions placed old t) (sym same) s.gains;
     }
+
+-- what the ID and the questions of a message leave
+first_id_behind : (before : List StatedMessage) (s : Sections) (id : ℕ) → id ≡ s.id → HasFirstId before s → Some id ≡ first_id (sections_in before ++ s ∷ [])
+first_id_behind [] s id e same = ap Some e
+first_id_behind (first ∷ before) s id e same = ap Some (e ∙ same)
+
+pub has_first_id : (before : List StatedMessage) (s : Sections) (id : Option ℕ) → id ≡ first_id (sections_in before) → MatchOption id ⊤ (λ first. s.id ≡ first) → HasFirstId before s
+has_first_id [] s id e h = tt
+has_first_id (first ∷ before) s id e h = subst (λ (o : Option ℕ). MatchOption o ⊤ (λ n. s.id ≡ n)) e h
+
+pub no_first_id : (before : List StatedMessage) (s : Sections) (id : Option ℕ) → id ≡ first_id (sections_in before) → (MatchOption id ⊤ (λ first. s.id ≡ first) → ⊥) → HasFirstId before s → ⊥
+no_first_id [] s id e h has = h (subst (λ (o : Option ℕ). MatchOption o ⊤ (λ n. s.id ≡ n)) (sym e) tt)
+no_first_id (first ∷ before) s id e h has = h (subst (λ (o : Option ℕ). MatchOption o ⊤ (λ n. s.id ≡ n)) (sym e) has)
+
+-- a message without a question leaves the zone as it is
+among_nothing : (before : List StatedMessage) (s : Sections) (t : Transfer) → s.questions ≡ [] → Among (asked_in before) (placed_in before) t → Among (asked_in before ++ s.questions) (placed_in before) t
+among_nothing before s t none among = subst (λ qs. Among qs (placed_in before) t) (sym (ap (λ qs. asked_in before ++ qs) none ∙ append-nil (asked_in before))) among
+
+pub takes_none : (before : List StatedMessage) (s : Sections) (old new : Transfer) (id : ℕ) → Behind before old → s.questions ≡ [] → id ≡ s.id → HasFirstId before s → new.messages ≡ old.messages + 1 → new.id ≡ Some id → new.zone ≡ old.zone → new.opening ≡ old.opening → new.closed ≡ old.closed → TakesHead before s old new
+takes_none before s old new id behind none is same count new_id zone opening closed =
+    let among : Among (asked_in before) (placed_in before) new = record { zone = ap zone_held zone ∙ behind.among.zone; opening = opening ∙ behind.among.opening; closed = closed ∙ behind.among.closed } in
+    record {
+      same_id = same;
+      asks = subst (AllByRecursion (AsksIn (zone_of (asked_in before) (placed_in before)))) (sym none) tt;
+      count = count;
+      id = new_id ∙ first_id_behind before s id is same;
+      among = among_nothing before s new none among;
+    }
+
+-- the question of a message fixes the zone, or names the one that is fixed
+zone_asked : (questions : List QuestionAt) (placed : List Placed) (q : QuestionAt) → AgreeWith (zone_of questions placed) q.name q.class → (let z : Zone = record { name = q.name; class = q.class } in Some z) ≡ zone_of (questions ++ q ∷ []) placed
+zone_asked [] [] q agree = refl
+zone_asked [] (p ∷ placed) q agree = refl
+zone_asked (first ∷ questions) placed q agree = let name = agree.0 in let class = agree.1 in cc
+
+pub takes_one : (before : List StatedMessage) (s : Sections) (old new : Transfer) (id : ℕ) (q : QuestionAt) → Behind before old → s.questions ≡ q ∷ [] → id ≡ s.id → HasFirstId before s → q.kind ≡ 252 → AgreeWith (zone_held old.zone) q.name q.class → new.messages ≡ old.messages + 1 → new.id ≡ Some id → zone_held new.zone ≡ Some (record { name = q.name; class = q.class }) → new.opening ≡ old.opening → new.closed ≡ old.closed → TakesHead before s old new
+takes_one before s old new id q behind one is same kind agree count new_id zone opening closed =
+    let fixed = zone_of (asked_in before) (placed_in before) in
+    let agrees_with : AgreeWith fixed q.name q.class = subst (λ z. AgreeWith z q.name q.class) behind.among.zone agree in
+    let among : Among (asked_in before ++ q ∷ []) (placed_in before) new = record { zone = zone ∙ zone_asked (asked_in before) (placed_in before) q agrees_with; opening = opening ∙ behind.among.opening; closed = closed ∙ behind.among.closed } in
+    record {
+      same_id = same;
+      asks = subst (AllByRecursion (AsksIn fixed)) (sym one) (record { kind = kind; agrees = agrees_with }, tt);
+      count = count;
+      id = new_id ∙ first_id_behind before s id is same;
+      among = subst (λ qs. Among (asked_in before ++ qs) (placed_in before) new) (sym one) among;
+    }
+
+-- a question that doesn't ask for the zone
+pub asks_other : (before : List StatedMessage) (s : Sections) (old : Transfer) (q : QuestionAt) → Behind before old → s.questions ≡ q ∷ [] → (q.kind ≡ 252 → AgreeWith (zone_held old.zone) q.name q.class → ⊥) → AskBehind before s → ⊥
+asks_other before s old q behind one other asks =
+    let asked = subst (AllByRecursion (AsksIn (zone_of (asked_in before) (placed_in before)))) one asks in
+    other asked.0.kind (subst (λ z. AgreeWith z q.name q.class) (sym behind.among.zone) asked.0.agrees)
+
+-- a message that was read whole
+placed_behind : (before : List StatedMessage) (p : StatedMessage) → placed_in (before ++ p ∷ []) ≡ placed_in before ++ p.placed
+placed_behind before p = flat_map-append (λ (x : StatedMessage). x.placed) before (p ∷ []) ∙ ap (λ ps. placed_in before ++ ps) (append-nil p.placed)
+
+sections_behind : (before : List StatedMessage) (p : StatedMessage) → sections_in (before ++ p ∷ []) ≡ sections_in before ++ p.sections ∷ []
+sections_behind [] p = refl
+sections_behind (q ∷ before) p = ap (λ x. q.sections ∷ x) (sections_behind before p)
+
+asked_behind : (before : List StatedMessage) (p : StatedMessage) → asked_in (before ++ p ∷ []) ≡ asked_in before ++ p.sections.questions
+asked_behind before p = ap questions_of (sections_behind before p) ∙ flat_map-append (λ (s : Sections). s.questions) (sections_in before) (p.sections ∷ []) ∙ ap (λ qs. asked_in before ++ qs) (append-nil p.sections.questions)
+
+pub takes_whole : (octets : List ℕ) (before : List StatedMessage) (s : Sections) (old mid new : Transfer) → Behind before old → IsMessage octets s → TakesHead before s old mid → mid.decided ≡ old.decided → TakesUpTo octets s.answers (asked_in before ++ s.questions) (placed_in before) mid new None → TakesWhole octets before old new
+takes_whole octets before s old mid new behind is head decided takes =
+    let p : StatedMessage = record { octets = octets; sections = s; placed = takes.here } in
+    let number : mid.messages ≡ length before + 1 = head.count ∙ ap (λ n. n + 1) behind.count in
+    let asked = asked_behind before p in
+    let placed = placed_behind before p in
+    let among : Among (asked_in (before ++ p ∷ [])) (placed_in (before ++ p ∷ [])) new = subst (λ qs. Among qs (placed_in (before ++ p ∷ [])) new) (sym asked) (subst (λ ps. Among (asked_in before ++ s.questions) ps new) (sym placed) takes.gains.among) in
+    record {
+      part = p;
+      octets_are = refl;
+      read = record {
+        message = record { message = is; same_id = head.same_id; asks = head.asks };
+        stated = subst (λ n. StateEach n octets s.answers takes.here) number takes.gives.0;
+        order = takes.gives.1;
+      };
+      behind = record {
+        count = takes.gains.messages ∙ number ∙ sym (length-append before (p ∷ []));
+        id = takes.gains.id ∙ head.id ∙ ap first_id (sym (sections_behind before p));
+        among = among;
+      };
+      handed = λ given e. takes.gains.handed given (ap (λ d. given ++ d.placed.items) decided ∙ e) ∙ ap handed_on (sym placed);
+    }
+
+pub stops_in_answers : (octets : List ℕ) (before : List StatedMessage) (s : Sections) (old mid new : Transfer) (e : Fault × ℕ) → Behind before old → IsMessage octets s → TakesHead before s old mid → mid.decided ≡ old.decided → TakesUpTo octets s.answers (asked_in before ++ s.questions) (placed_in before) mid new (Some e) → StopsIn octets before old new e
+stops_in_answers octets before s old mid new e behind is head decided takes =
+    let number : mid.messages ≡ length before + 1 = head.count ∙ ap (λ n. n + 1) behind.count in
+    record {
+      here = takes.here;
+      next = of_answers s takes.here e.0 e.1 (record { message = is; same_id = head.same_id; asks = head.asks }) (subst (λ n. FirstAnswerFault n octets (asked_in before ++ s.questions) (placed_in before) s.answers takes.here e.0 e.1) number takes.gives);
+      handed = λ given h. takes.gains.handed given (ap (λ d. given ++ d.placed.items) decided ∙ h);
+    }
+
+hands_nothing : (placed : List Placed) (old new : Transfer) → new.decided ≡ old.decided → Hands placed (placed ++ []) old new
+hands_nothing placed old new decided = λ given e. ap (λ d. given ++ d.placed.items) decided ∙ e ∙ ap handed_on (sym (append-nil placed))
+
+pub stops_in_structure : (octets : List ℕ) (before : List StatedMessage) (t : Transfer) (e : Fault × ℕ) → MessageFault octets e.0 e.1 → StopsIn octets before t t e
+stops_in_structure octets before t e fault = record { here = []; next = of_structure e.0 e.1 fault; handed = hands_nothing (placed_in before) t t refl }
+
+pub stops_in_head : (octets : List ℕ) (before : List StatedMessage) (s : Sections) (old new : Transfer) (e : Fault × ℕ) → IsMessage octets s → HeadFault before s e → new.decided ≡ old.decided → StopsIn octets before old new e
+stops_in_head octets before s old new e is (other_id no) decided = record { here = []; next = of_id s is no; handed = hands_nothing (placed_in before) old new decided }
+stops_in_head octets before s old new e is (other_zone same no) decided = record { here = []; next = of_questions s is same no; handed = hands_nothing (placed_in before) old new decided }

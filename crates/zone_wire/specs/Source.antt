@@ -1,15 +1,14 @@
 -- A source of the records of a zone transfer that is fed in pieces: what it holds, and what it stands for. This is this
 -- project's own: RFC 5936 speaks of whole transfers.
-use Rattle.std.specs.Prelude.{◌≡◌, ℕ, ◌+◌, ◌<◌, List, [], ◌∷◌, ◌++◌, length, map, slice_index, Bool, true, false, Option, Some, None, ⊤}
-use Rattle.std.specs.List.{flat_map}
+use Rattle.std.specs.Prelude.{◌≡◌, ℕ, ◌+◌, ◌<◌, List, [], ◌∷◌, ◌++◌, length, slice_index, Bool, true, false, Option, Some, None}
 use Rattle.zone_rdata.specs.Record.{Record}
 use Rattle.zone_rdata.specs.Source.{Pending}
 use Rattle.zone_rdata.specs.declared.record.Placed.{Placed}
-use Rattle.zone_wire.specs.Answers.{Zone, zone_of, questions_of, is_closed}
+use Rattle.zone_wire.specs.Answers.{Zone, zone_of, is_closed}
 use Rattle.zone_wire.specs.Frames.{IsFramed}
-use Rattle.zone_wire.specs.Message.{Sections, IsMessage}
-use Rattle.zone_wire.specs.Stream.{StreamReads, Decided}
-use Rattle.zone_wire.specs.Transfer.{StatedMessage, StateEach}
+use Rattle.zone_wire.specs.Message.{Sections}
+use Rattle.zone_wire.specs.Stream.{octets_in, sections_in, asked_in, placed_in, AreRead, StreamReads, Decided}
+use Rattle.zone_wire.specs.Transfer.{StatedMessage}
 
 -- What a source holds beside what it has still to give: whether the stream has ended, the number of octets fed, and of the
 -- messages that came whole their number, the ID of the first, the zone that they fix, the opening SOA and whether the
@@ -35,24 +34,12 @@ counted more source = record {
   held = record source.held { fed = source.held.fed + more };
 }
 
--- the messages of a stream from a number on, each with what stands in it and the records that its answers state
-abbrev pub AreReadMessages : ℕ → List StatedMessage → Type 0
-AreReadMessages number [] = ⊤
-AreReadMessages number (p ∷ parts) = IsMessage p.octets p.sections × StateEach number p.octets p.sections.answers p.placed × AreReadMessages (number + 1) parts
-
-abbrev pub octets_in : List StatedMessage → List (List ℕ)
-octets_in parts = map (λ p. p.octets) parts
-
-abbrev pub sections_in : List StatedMessage → List Sections
-sections_in parts = map (λ p. p.sections) parts
-
-abbrev pub records_in : List StatedMessage → List Placed
-records_in parts = flat_map (λ p. p.placed) parts
-
+-- the ID of the first message
 abbrev pub first_id : List Sections → Option ℕ
 first_id [] = None
 first_id (first ∷ messages) = Some first.id
 
+-- the first record
 abbrev pub opening_of : List Placed → Option Record
 opening_of [] = None
 opening_of (opening ∷ others) = Some opening.rr
@@ -61,12 +48,12 @@ opening_of (opening ∷ others) = Some opening.rr
 pub record Leave (fed : List ℕ) (held : Held) : Type 0 where
   pub parts : List StatedMessage
   pub framed : IsFramed fed (octets_in parts) held.unfinished
-  pub read : AreReadMessages 1 parts
+  pub read : AreRead [] parts
   pub number : held.messages ≡ length parts
   pub id : held.id ≡ first_id (sections_in parts)
-  pub zone : held.zone ≡ zone_of (questions_of (sections_in parts)) (records_in parts)
-  pub opening : held.opening ≡ opening_of (records_in parts)
-  pub closed : held.closed ≡ is_closed (records_in parts)
+  pub zone : held.zone ≡ zone_of (asked_in parts) (placed_in parts)
+  pub opening : held.opening ≡ opening_of (placed_in parts)
+  pub closed : held.closed ≡ is_closed (placed_in parts)
 
 -- The source stands for the octets that it was fed and the records that it has given. Before the end of the stream it has
 -- still to give what else is decided, and while no fault is decided it holds what the octets leave. From then on it has

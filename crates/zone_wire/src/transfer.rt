@@ -1,11 +1,14 @@
 //! The messages of a zone transfer one after another, and what those before one fix (RFC 5936 2.2).
-ghost use Rattle.std.specs.Prelude.{◌≡◌, ◌+◌, ◌<◌, ◌≤◌, ◌^◌, ℕ, [], ◌∷◌, ◌++◌, List, Some, None, Ok, Err, IfOk, IfErr, OnOk};
+ghost use Rattle.std.specs.Prelude.{◌≡◌, ◌+◌, ◌<◌, ◌≤◌, ◌^◌, [], ◌∷◌, ◌++◌, length, ◌↔◌, List, Some, None, IfErr, IsTrue, MatchOption, OnOk, ⊤};
 ghost use Rattle.zone_rdata.specs.Fault.{IfFault};
+ghost use Rattle.zone_rdata.specs.Record.{Record};
+ghost use Rattle.zone_rdata.specs.declared.fault.Place.TheVariants.{Message as in_message};
 ghost use Rattle.zone_rdata.specs.declared.record.Placed.{Placed};
-ghost use Rattle.zone_wire.specs.Machine.Answers.{agrees, answer_of, order_fault, record_of, same_record};
-ghost use Rattle.zone_wire.specs.Machine.Transferring.{zone_held, Among, Behind, Reached, Takes, TakesEach, TakesMessage, head_of, zone_with};
-ghost use Rattle.zone_wire.specs.Message.{QuestionAt, Sections};
-ghost use Rattle.zone_wire.specs.Transfer.{StatesRecord};
+ghost use Rattle.zone_wire.specs.AnswerFault.{AnswerFault};
+ghost use Rattle.zone_wire.specs.Machine.Answers.{agrees, order_fault, same_name, same_record};
+ghost use Rattle.zone_wire.specs.Machine.Transferring.{zone_held, zone_with, Among, Behind, Gains, Takes, TakesEach, TakesHead, HeadFault, TakesMessage, ReadsNext};
+ghost use Rattle.zone_wire.specs.Message.{QuestionAt};
+ghost use Rattle.zone_wire.specs.Transfer.{StatesRecord, StatedMessage};
 
 use crate::answers::RawRr;
 use crate::message::Message;
@@ -43,9 +46,8 @@ pub(crate) struct Transfer {
 impl Transfer {
     /// No message yet.
     pub(crate) fn new(alloc: Global) -> Transfer
-        ensures reached { Reached [] [] result }
+        ensures behind { Behind [] result }
         ensures none { result.decided.ending ≡ None }
-        ensures count { result.messages ≡ 0 }
         ensures records { result.decided.placed.items ≡ [] }
     {
         Transfer {
@@ -66,8 +68,9 @@ impl Transfer {
     pub(crate) fn read(&mut self, octets: &[u8]) -> Result<(), AllocError>
         requires going { self.old.decided.ending ≡ None }
         requires fits { self.old.messages + 1 < 2 ^ 64 }
-        ensures reached { OnOk result ((messages : List (List ℕ)) (given : List Placed)
-            → Reached messages given self.old → Reached (messages ++ octets.now ∷ []) given self.new) }
+        requires short { length octets.now ≤ 65535 }
+        ensures next { OnOk result ((before : List StatedMessage) → Behind before self.old
+            → ReadsNext octets.now before self.old self.new) }
         ensures count { OnOk result (self.new.messages ≤ self.old.messages + 1) }
     {
         let number = self.messages + 1;
@@ -85,9 +88,11 @@ impl Transfer {
 
     /// Takes the records of the message that octets are.
     fn take_message(&mut self, octets: &[u8]) -> Result<(), (Failing, usize)>
-        requires { self.old.messages + 1 < 2 ^ 64 }
-        ensures taken { (before : List Sections) (placed : List Placed) → Behind before placed self.old
-            → TakesMessage octets.now before placed result self.old self.new }
+        requires fits { self.old.messages + 1 < 2 ^ 64 }
+        requires short { length octets.now ≤ 65535 }
+        ensures taken { (before : List StatedMessage) → Behind before self.old
+            → TakesMessage octets.now before result self.old self.new }
+        ensures ending { self.new.decided.ending ≡ self.old.decided.ending }
         ensures count { self.new.messages ≤ self.old.messages + 1 }
     {
         let message = match Message::parse(octets) {
@@ -103,16 +108,15 @@ impl Transfer {
     /// Counts a message, and takes its ID and its question.
     fn take_head(&mut self, message: &Message<'_>) -> Result<(), (Fault, usize)>
         requires { self.old.messages + 1 < 2 ^ 64 }
-        ensures taken { OnOk result ((before : List Sections) (placed : List Placed) → Behind before placed self.old
-            → (head_of before placed message.now.sections ≡ Ok message.now.sections)
-            × Behind (before ++ message.now.sections ∷ []) placed self.new) }
-        ensures fault { IfErr result (λ e. (before : List Sections) (placed : List Placed) → Behind before placed self.old
-            → head_of before placed message.now.sections ≡ Err e) }
+        ensures taken { OnOk result ((before : List StatedMessage) → Behind before self.old
+            → TakesHead before message.now.sections self.old self.new) }
+        ensures fault { IfErr result (λ e. (before : List StatedMessage) → Behind before self.old
+            → HeadFault before message.now.sections e) }
         ensures decided { self.new.decided ≡ self.old.decided }
         ensures count { self.new.messages ≤ self.old.messages + 1 }
     {
         let id = message.id();
-        if self.id.is_some_and(|first| first != id) {
+        if !self.has_id(id) {
             return Err((Fault::IdMismatch, 0));
         }
         if let Some(question) = message.question() {
@@ -124,11 +128,19 @@ impl Transfer {
                 class: question.class,
             });
         }
-        if self.id.is_none() {
-            self.id = Some(id);
-        }
+        self.id = Some(id);
         self.messages += 1;
         Ok(())
+    }
+
+    /// Whether an ID is that of the first message, if there is one.
+    fn has_id(&self, id: u16) -> bool
+        ensures { IsTrue result ↔ MatchOption self.now.id ⊤ (λ first. id ≡ first) }
+    {
+        match self.id {
+            Some(first) => first == id,
+            None => true,
+        }
     }
 
     /// Takes the records of a message's answers up to the first fault.
@@ -136,6 +148,7 @@ impl Transfer {
         ensures taken { (questions : List QuestionAt) (placed : List Placed) → Among questions placed self.old
             → TakesEach message.now.octets message.now.sections.answers questions placed result self.old self.new }
         ensures count { self.new.messages ≡ self.old.messages }
+        ensures ending { self.new.decided.ending ≡ self.old.decided.ending }
     {
         let mut answers = message.answers();
         while let Some(answer) = answers.next() {
@@ -151,25 +164,52 @@ impl Transfer {
         ensures taken { OnOk result ((questions : List QuestionAt) (placed : List Placed) → Among questions placed self.old
             → Takes answer.now.octets answer.now.at questions placed self.old self.new) }
         ensures fault { IfErr result (IfFault (λ f. (questions : List QuestionAt) (placed : List Placed)
-            → Among questions placed self.old → answer_of answer.now.octets questions placed answer.now.at ≡ Err f)) }
+            → Among questions placed self.old → AnswerFault answer.now.octets questions placed answer.now.at f)) }
         ensures unchanged { IfErr result (IfFault (λ _. self.new ≡ self.old)) }
         ensures count { self.new.messages ≡ self.old.messages }
+        ensures ending { self.new.decided.ending ≡ self.old.decided.ending }
     {
-        let rr = stated_by(self.alloc, answer)?;
-        if let Some(fault) = self.order_fault(&rr) {
-            return Err(Failing::Fault(fault));
+        let rr = answer.to_rr(self.alloc)?;
+        match self.order_fault(&rr) {
+            Some(fault) => Err(Failing::Fault(fault)),
+            None => match self.take_record(rr, answer) {
+                Ok(()) => Ok(()),
+                Err(_) => Err(Failing::Memory),
+            },
         }
+    }
+
+    /// Takes the record that an answer states behind those before it.
+    fn take_record(&mut self, rr: Rr, answer: &RawRr<'_>) -> Result<(), AllocError>
+        requires { StatesRecord answer.now.octets answer.now.at rr }
+        ensures gains { OnOk result ((questions : List QuestionAt) (placed : List Placed) → Among questions placed self.old
+            → Gains (record { rr = rr; place = in_message self.old.messages answer.now.at.offset } ∷ []) questions placed self.old self.new) }
+        ensures count { self.new.messages ≡ self.old.messages }
+        ensures ending { self.new.decided.ending ≡ self.old.decided.ending }
+    {
         if self.opening.is_none() {
-            let opening = stated_by(self.alloc, answer)?;
-            self.open(opening);
+            match answer.to_rr(self.alloc) {
+                Ok(opening) => self.open(opening),
+                Err(_) => return Err(AllocError),
+            }
         } else if rr.kind().is_soa() {
             self.closed = true;
             return Ok(());
         }
-        let place = Place::Message(self.messages, answer.offset());
+        self.hand_on(rr, answer.offset())
+    }
+
+    /// Puts a record behind those that are still to be handed on.
+    fn hand_on(&mut self, rr: Rr, offset: usize) -> Result<(), AllocError>
+        ensures items { OnOk result (self.new.decided.placed.items
+            ≡ self.old.decided.placed.items ++ record { rr = rr; place = in_message self.old.messages offset } ∷ []) }
+        ensures others { self.new ≡ record self.old { decided = self.new.decided } }
+        ensures ending { self.new.decided.ending ≡ self.old.decided.ending }
+    {
+        let place = Place::Message(self.messages, offset);
         match self.decided.placed.push_back(Placed { rr, place }) {
             Ok(()) => Ok(()),
-            Err(_) => Err(Failing::Memory),
+            Err(_) => Err(AllocError),
         }
     }
 
@@ -210,26 +250,26 @@ impl Transfer {
         ensures { result ≡ agrees (zone_held self.now.zone) name.now class }
     {
         match &self.zone {
-            Some(zone) => *name == zone.name && class == zone.class,
+            Some(zone) => is_same_name(name, &zone.name) && class == zone.class,
             None => true,
         }
     }
+}
+
+/// Whether names are the same.
+fn is_same_name(name: &Name, other: &Name) -> bool
+    ensures { result ≡ same_name name.now other.now }
+{
+    name == other
 }
 
 /// Whether records are the same in owner, class, type, TTL and data.
 fn is_same(rr: &Rr, other: &Rr) -> bool
     ensures { result ≡ same_record rr.now other.now }
 {
-    rr.owner() == other.owner() && rr.ttl() == other.ttl() && rr.rdata() == other.rdata()
-}
-
-/// The record that an answer states.
-fn stated_by(alloc: Global, answer: &RawRr<'_>) -> Result<Rr, Failing>
-    ensures found { IfOk result (λ rr. (record_of answer.now.octets answer.now.at ≡ Ok rr) × StatesRecord answer.now.octets answer.now.at rr) }
-    ensures fault { IfErr result (IfFault (λ f. record_of answer.now.octets answer.now.at ≡ Err f)) }
-{
-    // WIP: by `RawRr::to_rr`.
-    let _ = alloc;
-    let _ = answer.offset();
-    Err(Failing::Memory)
+    is_same_name(rr.owner(), other.owner())
+        && rr.class().number() == other.class().number()
+        && rr.kind().number() == other.kind().number()
+        && rr.ttl() == other.ttl()
+        && rr.rdata().octets() == other.rdata().octets()
 }

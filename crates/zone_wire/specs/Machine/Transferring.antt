@@ -1,18 +1,18 @@
--- How the messages of a stream are read, one behind another.
-use Rattle.std.specs.Prelude.{◌≡◌, ℕ, ◌+◌, List, [], ◌∷◌, ◌++◌, length, Bool, Option, Some, None, Result, Ok, Err, ⊤}
+-- How the messages of a stream are taken, one behind another.
+use Rattle.std.specs.Prelude.{◌≡◌, ℕ, ◌+◌, List, [], ◌∷◌, ◌++◌, length, Option, Some, None, Result, Ok, Err, MatchOption, ⊤}
 use Rattle.zone_rdata.specs.Record.{Record}
 use Rattle.zone_rdata.specs.declared.fault.Failing.{Failing}
 use Rattle.zone_rdata.specs.declared.fault.Failing.TheVariants as failings
 use Rattle.zone_rdata.specs.declared.fault.Fault.{Fault}
+use Rattle.zone_rdata.specs.declared.fault.Fault.TheVariants.{IdMismatch, BadQuestion}
 use Rattle.zone_rdata.specs.declared.fault.Place.{Place}
 use Rattle.zone_rdata.specs.declared.fault.Place.TheVariants.{Message}
 use Rattle.zone_rdata.specs.declared.record.Placed.{Placed}
-use Rattle.zone_wire.specs.Answers.{Zone, zone_of, questions_of, handed_on, is_closed}
-use Rattle.zone_wire.specs.Machine.Answers.{answer_of, Answered, answers_of}
-use Rattle.zone_wire.specs.Machine.Sections.{and_then, sections_of}
-use Rattle.zone_wire.specs.Machine.Stream.{has_first_id, ask_for_zone, message_of, at_message, records_of}
-use Rattle.zone_wire.specs.Message.{QuestionAt, RecordAt, Sections, IsMessage}
-use Rattle.zone_wire.specs.Source.{AreReadMessages, octets_in, sections_in, records_in, first_id, opening_of}
+use Rattle.zone_wire.specs.AnswerFault.{FirstAnswerFault}
+use Rattle.zone_wire.specs.Answers.{Zone, zone_of, handed_on, is_closed, StandsBehind, StandInOrder}
+use Rattle.zone_wire.specs.Message.{QuestionAt, RecordAt, Sections}
+use Rattle.zone_wire.specs.Source.{first_id, opening_of}
+use Rattle.zone_wire.specs.Stream.{sections_in, asked_in, placed_in, HasFirstId, AskBehind, IsReadBehind, FaultBehind}
 use Rattle.zone_wire.specs.Transfer.{StatesRecord, StatedMessage, StateEach}
 use Rattle.zone_wire.specs.declared.transfer.FixedZone.{FixedZone}
 use Rattle.zone_wire.specs.declared.transfer.Transfer.{Transfer}
@@ -32,20 +32,20 @@ pub record Among (questions : List QuestionAt) (placed : List Placed) (t : Trans
   pub opening : t.opening ≡ opening_of placed
   pub closed : t.closed ≡ is_closed placed
 
--- the transfer holds what these messages and their records fix
-pub record Behind (before : List Sections) (placed : List Placed) (t : Transfer) : Type 0 where
+-- the transfer holds what these messages fix
+pub record Behind (before : List StatedMessage) (t : Transfer) : Type 0 where
   pub count : t.messages ≡ length before
-  pub id : t.id ≡ first_id before
-  pub among : Among (questions_of before) placed t
+  pub id : t.id ≡ first_id (sections_in before)
+  pub among : Among (asked_in before) (placed_in before) t
 
--- the fault of a message's ID or its question, or none
-abbrev pub head_of : List Sections → List Placed → Sections → Result Sections (Fault × ℕ)
-head_of before placed s = and_then (has_first_id before s) (λ s. ask_for_zone (questions_of before) placed s s.questions)
+-- what is still to be handed on is the rest of these records, whatever was given
+abbrev pub Hands : List Placed → List Placed → Transfer → Transfer → Type 0
+Hands placed later old new = (given : List Placed) → given ++ old.decided.placed.items ≡ handed_on placed → given ++ new.decided.placed.items ≡ handed_on later
 
 -- records came behind others, and those of them that are handed on are held
 pub record Gains (here : List Placed) (questions : List QuestionAt) (placed : List Placed) (old new : Transfer) : Type 0 where
   pub among : Among questions (placed ++ here) new
-  pub handed : (given : List Placed) → given ++ old.decided.placed.items ≡ handed_on placed → given ++ new.decided.placed.items ≡ handed_on (placed ++ here)
+  pub handed : Hands placed (placed ++ here) old new
   pub messages : new.messages ≡ old.messages
   pub id : new.id ≡ old.id
   pub ending : new.decided.ending ≡ old.decided.ending
@@ -53,8 +53,8 @@ pub record Gains (here : List Placed) (questions : List QuestionAt) (placed : Li
 -- the record of an answer came behind others
 pub record Takes (octets : List ℕ) (a : RecordAt) (questions : List QuestionAt) (placed : List Placed) (old new : Transfer) : Type 0 where
   pub rr : Record
-  pub is : answer_of octets questions placed a ≡ Ok rr
   pub states : StatesRecord octets a rr
+  pub stands : StandsBehind questions placed rr
   pub gains : Gains (record { rr = rr; place = Message old.messages a.offset } ∷ []) questions placed old new
 
 -- the fault that was found, if memory was not wanting
@@ -62,55 +62,54 @@ abbrev pub IfNoMemory : (Option (Fault × ℕ) → Type 0) → Result (Unit {0})
 IfNoMemory Is (Ok done) = Is None
 IfNoMemory Is (Err e) = elim e.0 [ failings.Fault fault ↦ Is (Some (fault, e.1)) | failings.Memory ↦ ⊤ ]
 
+-- what answers give: the records of all of them, or those before the first fault
+abbrev pub Gives : ℕ → List ℕ → List QuestionAt → List Placed → List RecordAt → List Placed → Option (Fault × ℕ) → Type 0
+Gives number octets questions placed answers here None = StateEach number octets answers here × StandInOrder questions placed here
+Gives number octets questions placed answers here (Some e) = FirstAnswerFault number octets questions placed answers here e.0 e.1
+
 -- the records of answers came behind others, up to a fault
 pub record TakesUpTo (octets : List ℕ) (answers : List RecordAt) (questions : List QuestionAt) (placed : List Placed) (old new : Transfer) (fault : Option (Fault × ℕ)) : Type 0 where
   pub here : List Placed
-  pub is : answers_of old.messages octets questions placed answers ≡ record { placed = here; fault = fault }
-  pub stated : fault ≡ None → StateEach old.messages octets answers here
+  pub gives : Gives old.messages octets questions placed answers here fault
   pub gains : Gains here questions placed old new
 
 abbrev pub TakesEach : List ℕ → List RecordAt → List QuestionAt → List Placed → Result (Unit {0}) (Failing × ℕ) → Transfer → Transfer → Type 0
 TakesEach octets answers questions placed result old new = IfNoMemory (TakesUpTo octets answers questions placed old new) result
 
--- a message came behind others without a fault, and its records
-pub record TakesWhole (octets : List ℕ) (before : List Sections) (placed here : List Placed) (new : Transfer) : Type 0 where
-  pub sections : Sections
-  pub is : message_of before placed octets ≡ Ok sections
-  pub message : IsMessage octets sections
-  pub answers : answers_of (length before + 1) octets (questions_of (before ++ sections ∷ [])) placed sections.answers ≡ record { placed = here; fault = None }
-  pub stated : StateEach (length before + 1) octets sections.answers here
-  pub behind : Behind (before ++ sections ∷ []) (placed ++ here) new
+-- the ID and the questions of a message fit those of others, and the transfer holds what they fix
+pub record TakesHead (before : List StatedMessage) (s : Sections) (old new : Transfer) : Type 0 where
+  pub same_id : HasFirstId before s
+  pub asks : AskBehind before s
+  pub count : new.messages ≡ old.messages + 1
+  pub id : new.id ≡ first_id (sections_in before ++ s ∷ [])
+  pub among : Among (asked_in before ++ s.questions) (placed_in before) new
 
-abbrev pub placed_fault : ℕ → Option (Fault × ℕ) → Option (Fault × Place)
-placed_fault number None = None
-placed_fault number (Some e) = Some (at_message number e)
+-- the fault of a message's ID, or of a question
+pub data HeadFault (before : List StatedMessage) (s : Sections) : Fault × ℕ → Type 0 where
+  other_id : (HasFirstId before s → ⊥) → HeadFault before s (IdMismatch, 0)
+  other_zone : HasFirstId before s → (AskBehind before s → ⊥) → HeadFault before s (BadQuestion, 12)
 
--- the records of a message came behind those of others, up to a fault
-pub record TakesMessageUpTo (octets : List ℕ) (before : List Sections) (placed : List Placed) (old new : Transfer) (fault : Option (Fault × ℕ)) : Type 0 where
+-- a message came behind others
+pub record TakesWhole (octets : List ℕ) (before : List StatedMessage) (old new : Transfer) : Type 0 where
+  pub part : StatedMessage
+  pub octets_are : part.octets ≡ octets
+  pub read : IsReadBehind before part
+  pub behind : Behind (before ++ part ∷ []) new
+  pub handed : Hands (placed_in before) (placed_in (before ++ part ∷ [])) old new
+
+-- a message behind others has a fault
+pub record StopsIn (octets : List ℕ) (before : List StatedMessage) (old new : Transfer) (e : Fault × ℕ) : Type 0 where
   pub here : List Placed
-  pub is : records_of before placed (octets ∷ []) ≡ record { placed = here; fault = placed_fault (length before + 1) fault }
-  pub whole : fault ≡ None → TakesWhole octets before placed here new
-  pub handed : (given : List Placed) → given ++ old.decided.placed.items ≡ handed_on placed → given ++ new.decided.placed.items ≡ handed_on (placed ++ here)
-  pub ending : new.decided.ending ≡ old.decided.ending
+  pub next : FaultBehind before octets here e.0 e.1
+  pub handed : Hands (placed_in before) (placed_in before ++ here) old new
 
-abbrev pub TakesMessage : List ℕ → List Sections → List Placed → Result (Unit {0}) (Failing × ℕ) → Transfer → Transfer → Type 0
-TakesMessage octets before placed result old new = IfNoMemory (TakesMessageUpTo octets before placed old new) result
+abbrev pub TakesMessageUpTo : List ℕ → List StatedMessage → Transfer → Transfer → Option (Fault × ℕ) → Type 0
+TakesMessageUpTo octets before old new None = TakesWhole octets before old new
+TakesMessageUpTo octets before old new (Some e) = StopsIn octets before old new e
 
--- records, and then what else is read
-abbrev pub behind : List Placed → Answered (Fault × Place) → Answered (Fault × Place)
-behind placed answered = record answered { placed = placed ++ answered.placed }
+abbrev pub TakesMessage : List ℕ → List StatedMessage → Result (Unit {0}) (Failing × ℕ) → Transfer → Transfer → Type 0
+TakesMessage octets before result old new = IfNoMemory (TakesMessageUpTo octets before old new) result
 
--- messages were read without a fault: what is read of a stream that goes on behind them
-pub record ReadsOn (messages : List (List ℕ)) (parts : List StatedMessage) : Type 0 where
-  pub octets : octets_in parts ≡ messages
-  pub read : AreReadMessages 1 parts
-  pub goes_on : (more : List (List ℕ)) → records_of [] [] (messages ++ more) ≡ behind (records_in parts) (records_of (sections_in parts) (records_in parts) more)
-
--- The transfer follows from the messages and the records that were given: it has still to give the rest of what is read of
--- them.
-pub record Reached (messages : List (List ℕ)) (given : List Placed) (t : Transfer) : Type 0 where
-  pub placed : List Placed
-  pub is : records_of [] [] messages ≡ record { placed = placed; fault = t.decided.ending }
-  pub handed : given ++ t.decided.placed.items ≡ handed_on placed
-  pub parts : List StatedMessage
-  pub reads : t.decided.ending ≡ None → (records_in parts ≡ placed) × ReadsOn messages parts × Behind (sections_in parts) placed t
+-- one message more: it came behind others, or its fault at its place is the last word
+abbrev pub ReadsNext : List ℕ → List StatedMessage → Transfer → Transfer → Type 0
+ReadsNext octets before old new = MatchOption new.decided.ending (TakesWhole octets before old new) (λ e. (offset : ℕ) × (StopsIn octets before old new (e.0, offset) × (e.1 ≡ Message (length before + 1) offset)))
