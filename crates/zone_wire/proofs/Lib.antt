@@ -7,6 +7,7 @@ pub mod DataFaults
 pub mod DataReading
 pub mod Ends
 pub mod FieldReading
+pub mod Feeding
 pub mod Fielding
 pub mod Frames
 pub mod GivenAnswers

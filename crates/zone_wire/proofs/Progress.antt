@@ -1,27 +1,34 @@
 -- Answers and messages that are read one behind another.
 use Rattle.std.proofs.Common.{◌≡◌, ℕ, ◌+◌, List, [], ◌∷◌, ◌++◌, length, refl, ap, sym, ◌∙◌, subst, Bool, true, false, arith, append_assoc, length-append}
-use Rattle.std.specs.Prelude.{map, ◌==◌, ◌||◌, not, Option, Some, None, MatchOption, ⊤}
+use Rattle.std.specs.Prelude.{map, reverse, nat_eq, is_some, ◌==◌, ◌||◌, not, Option, Some, None, MatchOption, Result, Ok, Err, ⊤}
+use Rattle.std.specs.Cmp.Lexicographic.{pointwise}
 use Rattle.std.specs.List.{AllByRecursion, flat_map, filter, list_any}
 use Rattle.std.proofs.lemmas.Bool.{cond-true, cond-false, eq-eqb}
-use Rattle.std.proofs.lemmas.List.{append-nil}
+use Rattle.std.proofs.lemmas.List.{append-nil, reverse-reverse}
 use Rattle.std.proofs.lemmas.List.Concat.{flat_map-append}
 use Rattle.std.proofs.lemmas.List.Elements.{filter-append}
 use Rattle.zone_rdata.specs.Record.{Record}
+use Rattle.zone_rdata.specs.Fault.{IfFault}
+use Rattle.zone_rdata.specs.declared.fault.Failing.{Failing}
+use Rattle.zone_rdata.specs.declared.fault.Failing.TheVariants as failings
 use Rattle.zone_rdata.specs.declared.fault.Fault.{Fault}
 use Rattle.zone_rdata.specs.declared.fault.Place.TheVariants.{Message}
 use Rattle.zone_rdata.specs.declared.record.Placed.{Placed}
 use Rattle.zone_wire.specs.AnswerFault.{AnswerFault, FirstAnswerFault}
 use Rattle.zone_wire.specs.Answers.{Zone, zone_of, AgreeWith, questions_of, handed_on, is_closed, StandsBehind, StandInOrder}
-use Rattle.zone_wire.specs.Machine.Transferring.{Among, Behind, Gains, Hands, Takes, TakesUpTo, TakesHead, HeadFault, other_id, other_zone, TakesWhole, StopsIn, zone_held, zone_with}
+use Rattle.zone_wire.specs.Machine.Transferring.{Among, Behind, Gains, Hands, Takes, TakesUpTo, TakesHead, HeadFault, other_id, other_zone, TakesWhole, StopsIn, IfNoMemory, TakesEach, TakesMessageUpTo, TakesMessage, zone_held, zone_with}
 use Rattle.zone_wire.specs.Message.{QuestionAt, RecordAt, Sections, IsMessage}
 use Rattle.zone_wire.specs.MessageFault.{MessageFault}
 use Rattle.zone_wire.specs.Source.{first_id, opening_of}
 use Rattle.zone_wire.specs.Stream.{sections_in, asked_in, placed_in, HasFirstId, AsksIn, AskBehind, FaultBehind, of_structure, of_id, of_questions, of_answers}
 use Rattle.zone_wire.specs.Transfer.{StatesRecord, StatedMessage, StateEach}
-use Rattle.zone_wire.specs.View.{RawRecord, raw_at}
+use Rattle.zone_wire.specs.View.{RawRecord, raw_at, asked}
+use Rattle.zone_wire.specs.declared.message.Question.{Question}
+use Rattle.zone_wire.specs.Machine.Answers.{same_name}
 use Rattle.zone_wire.specs.declared.transfer.Transfer.{Transfer}
 use Rattle.zone_wire.proofs.Accepting.{any_append}
-use Rattle.zone_wire.proofs.Answering.{is_soa, differ}
+use Rattle.zone_wire.proofs.Answering.{is_soa, differ, names_same}
+use Rattle.zone_wire.proofs.ReadAnswers.{names_equal}
 
 -- the opening SOA is handed on
 none_placed : (placed : List Placed) → None ≡ opening_of placed → placed ≡ []
@@ -345,5 +352,79 @@ pub stops_in_structure : (octets : List ℕ) (before : List StatedMessage) (t : 
 stops_in_structure octets before t e fault = record { here = []; next = of_structure e.0 e.1 fault; handed = hands_nothing (placed_in before) t t refl }
 
 pub stops_in_head : (octets : List ℕ) (before : List StatedMessage) (s : Sections) (old new : Transfer) (e : Fault × ℕ) → IsMessage octets s → HeadFault before s e → new.decided ≡ old.decided → StopsIn octets before old new e
-stops_in_head octets before s old new e is (other_id no) decided = record { here = []; next = of_id s is no; handed = hands_nothing (placed_in before) old new decided }
-stops_in_head octets before s old new e is (other_zone same no) decided = record { here = []; next = of_questions s is same no; handed = hands_nothing (placed_in before) old new decided }
+stops_in_head octets before s old new e is (other_id other) decided = record { here = []; next = of_id s is other; handed = hands_nothing (placed_in before) old new decided }
+stops_in_head octets before s old new e is (other_zone same other) decided = record { here = []; next = of_questions s is same other; handed = hands_nothing (placed_in before) old new decided }
+
+-- a record behind those before it is taken
+pub some_of : {X : Type 0} (o : Option X) → is_some o ≡ true → (x : X) × (o ≡ Some x)
+some_of None e = cc
+some_of (Some x) e = (x, refl)
+
+pub none_of : {X : Type 0} (o : Option X) → is_some o ≡ false → o ≡ None
+none_of None e = refl
+none_of (Some x) e = cc
+
+abbrev pub here_at : Record → ℕ → ℕ → Placed
+here_at rr number offset = record { rr = rr; place = Message number offset }
+
+pub opening_gains : (questions : List QuestionAt) (placed : List Placed) (rr : Record) (offset : ℕ) (old mid new : Transfer) → Among questions placed old → is_some old.opening ≡ false → mid.opening ≡ Some rr → zone_held mid.zone ≡ zone_with (zone_held old.zone) rr → mid ≡ record old { zone = mid.zone; opening = mid.opening } → new ≡ record mid { decided = new.decided } → new.decided.ending ≡ mid.decided.ending → new.decided.placed.items ≡ mid.decided.placed.items ++ here_at rr mid.messages offset ∷ [] → Gains (here_at rr old.messages offset ∷ []) questions placed old new
+opening_gains questions placed rr offset old mid new among none opening zone mid_is new_is ending items =
+    gains_opening questions placed (here_at rr old.messages offset) old new among (none_of old.opening none)
+    (ap (λ (t : Transfer). t.opening) new_is ∙ opening)
+    (ap (λ (t : Transfer). zone_held t.zone) new_is ∙ zone)
+    (ap (λ (t : Transfer). t.closed) new_is ∙ ap (λ (t : Transfer). t.closed) mid_is)
+    (ap (λ (t : Transfer). t.messages) new_is ∙ ap (λ (t : Transfer). t.messages) mid_is)
+    (ap (λ (t : Transfer). t.id) new_is ∙ ap (λ (t : Transfer). t.id) mid_is)
+    (ending ∙ ap (λ (t : Transfer). t.decided.ending) mid_is)
+    (items ∙ ap (λ (t : Transfer). t.decided.placed.items ++ here_at rr t.messages offset ∷ []) mid_is)
+
+pub other_gains : (questions : List QuestionAt) (placed : List Placed) (rr : Record) (offset : ℕ) (old mid new : Transfer) → Among questions placed old → is_some old.opening ≡ true → (rr.kind ≡ 6 → ⊥) → mid ≡ old → new ≡ record mid { decided = new.decided } → new.decided.ending ≡ mid.decided.ending → new.decided.placed.items ≡ mid.decided.placed.items ++ here_at rr mid.messages offset ∷ [] → Gains (here_at rr old.messages offset ∷ []) questions placed old new
+other_gains questions placed rr offset old mid new among some other mid_is new_is ending items =
+    let has = some_of old.opening some in
+    gains_other questions placed (here_at rr old.messages offset) has.0 old new among has.1 other
+    (ap (λ (t : Transfer). t.opening) new_is ∙ ap (λ (t : Transfer). t.opening) mid_is)
+    (ap (λ (t : Transfer). t.zone) new_is ∙ ap (λ (t : Transfer). t.zone) mid_is)
+    (ap (λ (t : Transfer). t.closed) new_is ∙ ap (λ (t : Transfer). t.closed) mid_is)
+    (ap (λ (t : Transfer). t.messages) new_is ∙ ap (λ (t : Transfer). t.messages) mid_is)
+    (ap (λ (t : Transfer). t.id) new_is ∙ ap (λ (t : Transfer). t.id) mid_is)
+    (ending ∙ ap (λ (t : Transfer). t.decided.ending) mid_is)
+    (items ∙ ap (λ (t : Transfer). t.decided.placed.items ++ here_at rr t.messages offset ∷ []) mid_is)
+
+-- the next answer is refused, or memory is wanting
+pub stopped_by : (octets : List ℕ) (answers : List RecordAt) (first : RawRecord) (left before : List RawRecord) (old mid new : Transfer) (failing : Failing) (offset : ℕ) → Pending octets answers before old mid → before ≡ first ∷ left → offset ≡ first.at.offset
+    → IfFault (λ f. (questions : List QuestionAt) (placed : List Placed) → Among questions placed mid → AnswerFault first.octets questions placed first.at f) failing → IfFault (λ _. new ≡ mid) failing
+    → (questions : List QuestionAt) (placed : List Placed) → Among questions placed old → IfNoMemory (TakesUpTo octets answers questions placed old new) (Err (failing, offset))
+stopped_by octets answers first left before old mid new (failings.Fault fault) offset p e there refuses same questions placed among = takes_up_to octets answers first left before old mid new fault offset p e same there refuses questions placed among
+stopped_by octets answers first left before old mid new failings.Memory offset p e there refuses same questions placed among = tt
+
+-- a message behind others, by what its answers give
+module _ (octets : List ℕ) (before : List StatedMessage) (s : Sections) (old mid new : Transfer) (behind : Behind before old) (is : IsMessage octets s) (head : TakesHead before s old mid) (decided : mid.decided ≡ old.decided) where
+  failing_taken : (failing : Failing) (offset : ℕ) → IfNoMemory (TakesUpTo octets s.answers (asked_in before ++ s.questions) (placed_in before) mid new) (Err (failing, offset)) → IfNoMemory (TakesMessageUpTo octets before old new) (Err (failing, offset))
+  failing_taken (failings.Fault fault) offset takes = stops_in_answers octets before s old mid new (fault, offset) behind is head decided takes
+  failing_taken failings.Memory offset takes = tt
+
+  pub message_taken : (r : Result (Unit {0}) (Failing × ℕ)) → TakesEach octets s.answers (asked_in before ++ s.questions) (placed_in before) r mid new → TakesMessage octets before r old new
+  message_taken (Ok done) takes = takes_whole octets before s old mid new behind is head decided takes
+  message_taken (Err e) takes = failing_taken e.0 e.1 takes
+
+-- a question as it is held
+pub record Asked (questions : List QuestionAt) (q : Question) : Type 0 where
+  pub at : QuestionAt
+  pub one : questions ≡ at ∷ []
+  pub same : asked at ≡ q
+
+pub asked_one : (questions : List QuestionAt) (q : Question) → map asked questions ≡ q ∷ [] → Asked questions q
+asked_one [] q e = cc
+asked_one (x ∷ []) q e = record { at = x; one = refl; same = cc }
+asked_one (x ∷ y ∷ questions) q e = cc
+
+-- names that are compared from their ends
+same_bool : (a b : Bool) → (a ≡ true → b ≡ true) → (b ≡ true → a ≡ true) → a ≡ b
+same_bool true b f g = sym (f refl)
+same_bool false true f g = g refl
+same_bool false false f g = refl
+
+pub reversed_same : (n m : List (List ℕ)) → pointwise (pointwise nat_eq) (reverse n) (reverse m) ≡ same_name n m
+reversed_same n m = same_bool _ _
+    (λ e. names_same n m (sym (reverse-reverse n) ∙ ap reverse (names_equal (reverse n) (reverse m) e) ∙ reverse-reverse m))
+    (λ e. names_same (reverse n) (reverse m) (ap reverse (names_equal n m e)))

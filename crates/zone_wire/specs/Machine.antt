@@ -2,6 +2,7 @@
 pub mod Answers
 pub mod Data
 pub mod DataReading
+pub mod Feeding
 pub mod Finding
 pub mod Parsing
 pub mod Place

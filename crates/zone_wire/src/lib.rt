@@ -5,6 +5,7 @@ mod answers;
 mod data;
 pub mod examples;
 pub mod laws;
+mod intake;
 mod message;
 mod name;
 mod number;

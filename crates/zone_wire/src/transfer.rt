@@ -99,10 +99,10 @@ impl Transfer {
             Ok(message) => message,
             Err((fault, offset)) => return Err((Failing::Fault(fault), offset)),
         };
-        if let Err((fault, offset)) = self.take_head(&message) {
-            return Err((Failing::Fault(fault), offset));
+        match self.take_head(&message) {
+            Ok(()) => self.take_answers(&message),
+            Err((fault, offset)) => Err((Failing::Fault(fault), offset)),
         }
-        self.take_answers(&message)
     }
 
     /// Counts a message, and takes its ID and its question.
@@ -152,8 +152,9 @@ impl Transfer {
     {
         let mut answers = message.answers();
         while let Some(answer) = answers.next() {
-            if let Err(failing) = self.take_answer(&answer) {
-                return Err((failing, answer.offset()));
+            match self.take_answer(&answer) {
+                Ok(()) => {}
+                Err(failing) => return Err((failing, answer.offset())),
             }
         }
         Ok(())
@@ -196,7 +197,8 @@ impl Transfer {
             self.closed = true;
             return Ok(());
         }
-        self.hand_on(rr, answer.offset())
+        self.hand_on(rr, answer.offset())?;
+        Ok(())
     }
 
     /// Puts a record behind those that are still to be handed on.
