@@ -1,8 +1,8 @@
 -- What is decided of a stream by one frame more, by octets that end inside a frame, and by the stream's end.
-use Rattle.std.proofs.Common.{◌≡◌, ◌≢◌, ℕ, zero, suc, ◌+◌, ◌*◌, ◌/◌, ◌%◌, ◌<◌, ◌≤◌, List, [], ◌∷◌, ◌++◌, length, refl, ap, sym, ◌∙◌, subst, true, false, arith, append_assoc, lit<}
-use Rattle.std.specs.Prelude.{get_or, drop, Option, Some, None, MatchOption}
+use Rattle.std.proofs.Common.{◌≡◌, ◌≢◌, ℕ, zero, suc, ◌+◌, ◌*◌, ◌/◌, ◌%◌, ◌<◌, ◌≤◌, List, [], ◌∷◌, ◌++◌, length, refl, ap, sym, ◌∙◌, subst, true, false, arith, append_assoc, length-append, lit<}
+use Rattle.std.specs.Prelude.{get_or, take, drop, Option, Some, None, IfSome, MatchOption}
 use Rattle.std.specs.List.{flat_map}
-use Rattle.std.proofs.lemmas.List.{append-nil, length-map}
+use Rattle.std.proofs.lemmas.List.{append-nil, length-map, length-take-le, take-append-drop}
 use Rattle.std.proofs.lemmas.List.Concat.{flat_map-append}
 use Rattle.zone_rdata.specs.declared.fault.Fault.{Fault}
 use Rattle.zone_rdata.specs.declared.fault.Place.{Place}
@@ -15,6 +15,7 @@ use Rattle.zone_wire.specs.Machine.Transferring.{Behind, ReadsNext, TakesWhole, 
 use Rattle.zone_wire.specs.Message.{u16_at}
 use Rattle.zone_wire.specs.Stream.{octets_in, placed_in, IsReadBehind, AreRead, Decided, StreamReads, StreamEnd}
 use Rattle.zone_wire.specs.Transfer.{StatedMessage, frame}
+use Rattle.zone_wire.specs.declared.intake.Intake.{Intake}
 use Rattle.zone_wire.specs.declared.transfer.Transfer.{Transfer}
 use Rattle.zone_wire.proofs.Accepting.{all_append}
 use Rattle.zone_wire.proofs.Streams.{fault_stays, fault_is_read, some_decision, some_reading}
@@ -23,7 +24,7 @@ abbrev pub Bytes : List ℕ → Type 0
 Bytes xs = (i : ℕ) → get_or xs i 0 < 256
 
 pub bytes_append : (xs ys : List ℕ) → Bytes xs → Bytes ys → Bytes (xs ++ ys)
-bytes_append [] ys a b = b
+bytes_append [] ys a b k = b k
 bytes_append (x ∷ xs) ys a b zero = a 0
 bytes_append (x ∷ xs) ys a b (suc k) = bytes_append xs ys (λ i. a (suc i)) b k
 
@@ -142,3 +143,69 @@ ends_behind_fault t unfinished fed given some follow = by t.decided.ending some 
         let later = some_reading (fed ++ []) (subst Bytes (sym whole) follow.octets) in
         let stays = fault_is_read fed [] (given ++ t.decided.placed.items) later.0 f later.1 state later.2 in
         subst (λ xs. StreamReads xs (given ++ t.decided.placed.items) (Some f)) whole (subst (λ ps. StreamReads (fed ++ []) ps (Some f)) stays.0 (subst (λ o. StreamReads (fed ++ []) later.0 o) stays.1 later.2))
+
+-- a piece of which a front was taken
+pub record FedSoFar (piece rest : List ℕ) (old new : Intake) : Type 0 where
+  pub front : List ℕ
+  pub parts : piece ≡ front ++ rest
+  pub cut : IsCut new.unfinished.items
+  pub dropped : IfSome new.transfer.decided.ending (λ _. new.unfinished.items ≡ [])
+  pub count : new.transfer.messages ≤ old.transfer.messages + length front
+  pub same : IfSome old.transfer.decided.ending (λ _. new ≡ old)
+  pub follow : (fed : List ℕ) (given : List Placed) → Follow old.transfer old.unfinished.items fed given → Follow new.transfer new.unfinished.items (fed ++ front) given
+
+-- the first octets of a frame say its length
+u16_front : (cut more : List ℕ) (end : ℕ) → end ≤ length more → 2 ≤ length cut + end → u16_at (cut ++ take end more) 0 ≡ u16_at (cut ++ more) 0
+u16_front [] [] end h k = absurd (omega (arith, h, k))
+u16_front [] (x ∷ []) end h k = absurd (omega (arith, h, k))
+u16_front [] (x ∷ y ∷ more) zero h k = absurd (omega (arith, k))
+u16_front [] (x ∷ y ∷ more) (suc zero) h k = absurd (omega (arith, k))
+u16_front [] (x ∷ y ∷ more) (suc (suc n)) h k = refl
+u16_front (c ∷ []) [] end h k = absurd (omega (arith, h, k))
+u16_front (c ∷ []) (x ∷ more) zero h k = absurd (omega (arith, k))
+u16_front (c ∷ []) (x ∷ more) (suc n) h k = refl
+u16_front (c ∷ d ∷ cut) more end h k = refl
+
+pub whole_front : (cut more : List ℕ) (end : ℕ) → length cut + end ≡ 2 + u16_at (cut ++ more) 0 → end ≤ length more → length (cut ++ take end more) ≡ 2 + u16_at (cut ++ take end more) 0
+whole_front cut more end e h =
+    let size = u16_front cut more end h (omega (arith, e)) in
+    omega (arith, e, size, length-append cut (take end more), length-take-le end more h)
+
+pub finishes : (t : Transfer) (unfinished fed : List ℕ) (given : List Placed) (ending : Option (Fault × Place)) → t.decided.ending ≡ None → ((placed : List Placed) → t.closed ≡ is_closed placed → StreamEnd (t.messages + 1) placed unfinished ending) → Follow t unfinished fed given → StreamReads fed (given ++ t.decided.placed.items) ending
+finishes t unfinished fed given ending going ends follow =
+    let g = still_going t unfinished fed given t.decided.ending going follow.state in
+    ends_with t unfinished fed given ending g (subst (λ n. StreamEnd (n + 1) (placed_in g.parts) unfinished ending) g.behind.count (ends (placed_in g.parts) g.behind.among.closed))
+
+pub fed_more : (piece rest : List ℕ) (taken : ℕ) (old mid new : Intake) → Bytes piece → (s : FedSoFar piece rest old mid) → mid.transfer.decided.ending ≡ None → 0 < taken → taken ≤ length rest → IsCut new.unfinished.items → IfSome new.transfer.decided.ending (λ _. new.unfinished.items ≡ []) → new.transfer.messages ≤ mid.transfer.messages + 1
+    → ((fed : List ℕ) (given : List Placed) → Follow mid.transfer mid.unfinished.items fed given → Follow new.transfer new.unfinished.items (fed ++ take taken rest) given) → FedSoFar piece (drop taken rest) old new
+fed_more piece rest taken old mid new each s going some within cut dropped count follow = record {
+  front = s.front ++ take taken rest;
+  parts = s.parts ∙ ap (λ x. s.front ++ x) (sym (take-append-drop taken rest)) ∙ sym (append_assoc s.front (take taken rest) (drop taken rest));
+  cut = cut;
+  dropped = dropped;
+  count = omega (arith, count, s.count, some, length-append s.front (take taken rest), length-take-le taken rest within);
+  same = not_faulted old.transfer.decided.ending refl s.same;
+  follow = λ fed given f. subst (λ xs. Follow new.transfer new.unfinished.items xs given) (append_assoc fed s.front (take taken rest)) (follow (fed ++ s.front) given (s.follow fed given f));
+}
+  where
+    not_faulted : (ending : Option (Fault × Place)) → old.transfer.decided.ending ≡ ending → IfSome ending (λ _. mid ≡ old) → IfSome ending (λ _. new ≡ old)
+    not_faulted None is same = tt
+    not_faulted (Some f) is same =
+        let still : old.transfer.decided.ending ≡ None = ap (λ (i : Intake). i.transfer.decided.ending) (sym same) ∙ going in
+        let none : ⊥ = cc in
+        absurd none
+
+pub fed_nothing : (piece : List ℕ) (t : Intake) → IsCut t.unfinished.items → IfSome t.transfer.decided.ending (λ _. t.unfinished.items ≡ []) → FedSoFar piece piece t t
+fed_nothing piece t cut dropped = record {
+  front = [];
+  parts = refl;
+  cut = cut;
+  dropped = dropped;
+  count = omega arith;
+  same = same t.transfer.decided.ending;
+  follow = λ fed given f. subst (λ xs. Follow t.transfer t.unfinished.items xs given) (sym (append-nil fed)) f;
+}
+  where
+    same : (ending : Option (Fault × Place)) → IfSome ending (λ _. t ≡ t)
+    same None = tt
+    same (Some f) = refl

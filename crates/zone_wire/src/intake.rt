@@ -1,9 +1,11 @@
 //! Octets of a stream as they come in pieces: the frames that came whole, and the octets behind them (RFC 1035 4.2.2).
-ghost use Rattle.std.specs.Prelude.{◌≡◌, ◌+◌, ◌-◌, ◌<◌, ◌≤◌, ◌^◌, ◌++◌, [], ℕ, List, None, length, take, IfOk, MatchOption, OnOk};
+ghost use Rattle.std.specs.Prelude.{◌≡◌, ◌+◌, ◌-◌, ◌<◌, ◌≤◌, ◌^◌, ◌++◌, [], ℕ, List, None, length, take, IfOk, IfSome, MatchOption, OnOk};
 ghost use Rattle.zone_rdata.specs.declared.record.Placed.{Placed};
 ghost use Rattle.zone_wire.specs.Machine.Feeding.{Follow, IsCut};
 ghost use Rattle.zone_wire.specs.Message.{u16_at};
-ghost use Rattle.zone_wire.specs.Stream.{StreamReads};
+ghost use Rattle.zone_wire.specs.Stream.{StreamEnd, StreamReads};
+ghost use Rattle.zone_wire.specs.Answers.{is_closed};
+ghost use Rattle.zone_wire.specs.Transfer.{frame};
 
 use crate::transfer::Transfer;
 use std::alloc::{AllocError, Global};
@@ -36,9 +38,12 @@ impl Intake {
     /// Takes the octets of a piece up to a fault.
     pub(crate) fn feed(&mut self, piece: &[u8]) -> Result<(), AllocError>
         requires cut { IsCut self.old.unfinished.items }
-        requires fits { self.old.transfer.messages + length piece.now < 2 ^ 64 }
+        requires fits { self.old.transfer.messages + length piece.now + 1 < 2 ^ 64 }
+        requires dropped { IfSome self.old.transfer.decided.ending (λ _. self.old.unfinished.items ≡ []) }
         ensures cut { OnOk result (IsCut self.new.unfinished.items) }
+        ensures dropped { OnOk result (IfSome self.new.transfer.decided.ending (λ _. self.new.unfinished.items ≡ [])) }
         ensures count { OnOk result (self.new.transfer.messages ≤ self.old.transfer.messages + length piece.now) }
+        ensures decided { OnOk result (IfSome self.old.transfer.decided.ending (λ _. self.new ≡ self.old)) }
         ensures follow { OnOk result ((fed : List ℕ) (given : List Placed)
             → Follow self.old.transfer self.old.unfinished.items fed given
             → Follow self.new.transfer self.new.unfinished.items (fed ++ piece.now) given) }
@@ -58,6 +63,7 @@ impl Intake {
         requires going { self.old.transfer.decided.ending ≡ None }
         requires fits { self.old.transfer.messages + 1 < 2 ^ 64 }
         ensures cut { OnOk result (IsCut self.new.unfinished.items) }
+        ensures dropped { OnOk result (IfSome self.new.transfer.decided.ending (λ _. self.new.unfinished.items ≡ [])) }
         ensures within { IfOk result (λ taken. (0 < taken) × (taken ≤ length octets.now)) }
         ensures count { OnOk result (self.new.transfer.messages ≤ self.old.transfer.messages + 1) }
         ensures follow { IfOk result (λ taken. (fed : List ℕ) (given : List Placed)
@@ -70,13 +76,12 @@ impl Intake {
                 Ok(octets.len())
             }
             Some(end) if self.unfinished.is_empty() => {
-                self.transfer.read(&octets[LENGTH_LEN..end])?;
+                self.transfer.read(message_of(&octets[..end]))?;
                 Ok(end)
             }
             Some(end) => {
                 self.unfinished.extend_from_slice(&octets[..end])?;
-                self.transfer
-                    .read(&self.unfinished.as_slice()[LENGTH_LEN..])?;
+                self.transfer.read(message_of(self.unfinished.as_slice()))?;
                 self.unfinished.clear();
                 Ok(end)
             }
@@ -101,24 +106,35 @@ impl Intake {
             → StreamReads fed (given ++ self.new.transfer.decided.placed.items) self.new.transfer.decided.ending }
     {
         if self.transfer.decided.ending.is_none() {
-            self.transfer.decided.ending = match self.end_fault() {
-                Some(fault) => Some((fault, Place::Message(self.transfer.messages + 1, 0))),
-                None => None,
-            };
+            self.transfer.decided.ending = self.end();
         }
         self.drop_unfinished();
     }
 
-    /// The fault of the end of the stream behind frames without a fault.
-    fn end_fault(&self) -> Option<Fault> {
+    /// How the stream ends behind frames without a fault.
+    fn end(&self) -> Option<(Fault, Place)>
+        requires { self.now.transfer.messages + 1 < 2 ^ 64 }
+        ensures { (placed : List Placed) → self.now.transfer.closed ≡ is_closed placed
+            → StreamEnd (self.now.transfer.messages + 1) placed self.now.unfinished.items result }
+    {
+        let place = Place::Message(self.transfer.messages + 1, 0);
         if !self.unfinished.is_empty() {
-            Some(Fault::ShortFrame)
+            Some((Fault::ShortFrame, place))
         } else if !self.transfer.closed {
-            Some(Fault::NoClosingSoa)
+            Some((Fault::NoClosingSoa, place))
         } else {
             None
         }
     }
+}
+
+/// The message of a frame, behind its length.
+fn message_of(framed: &[u8]) -> &[u8]
+    requires { length framed.now ≡ 2 + u16_at framed.now 0 }
+    ensures framed { framed.now ≡ frame result.now }
+    ensures short { length result.now ≤ 65535 }
+{
+    &framed[LENGTH_LEN..]
 }
 
 /// Where in further octets the frame ends that cut-off octets begin; none, where it doesn't end there.

@@ -64,6 +64,14 @@ impl Transfer {
         }
     }
 
+    /// What is still to be handed on.
+    pub(crate) fn into_decided(self) -> Reading
+        ensures { result ≡ self.decided }
+    {
+        let Transfer { decided, .. } = self;
+        decided
+    }
+
     /// Takes the next message. A fault in it is the last word.
     pub(crate) fn read(&mut self, octets: &[u8]) -> Result<(), AllocError>
         requires going { self.old.decided.ending ≡ None }

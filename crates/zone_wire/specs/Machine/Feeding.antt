@@ -1,5 +1,5 @@
 -- How the octets that a source is fed are taken, frame by frame.
-use Rattle.std.specs.Prelude.{◌≡◌, ℕ, ◌+◌, ◌<◌, List, [], ◌++◌, length, slice_index, Bool, true, false, Some, MatchOption}
+use Rattle.std.specs.Prelude.{◌≡◌, ℕ, ◌+◌, ◌^◌, ◌<◌, ◌≤◌, List, [], ◌++◌, length, slice_index, Bool, true, false, Some, IfSome, MatchOption}
 use Rattle.zone_rdata.specs.declared.record.Placed.{Placed}
 use Rattle.zone_wire.specs.Answers.{handed_on}
 use Rattle.zone_wire.specs.Frames.{IsFramed}
@@ -25,3 +25,13 @@ pub record Going (t : Transfer) (unfinished : List ℕ) (fed : List ℕ) (given 
 pub record Follow (t : Transfer) (unfinished : List ℕ) (fed : List ℕ) (given : List Placed) : Type 0 where
   pub octets : (i : ℕ) → slice_index fed i < 256
   pub state : MatchOption t.decided.ending (Going t unfinished fed given) (λ e. Decided fed (given ++ t.decided.placed.items) (Some e))
+
+-- what a source holds: octets of the unfinished frame alone, none of them behind a fault, behind the end or once it has
+-- failed, and numbers that fit
+pub record IsSource (failed finished : Bool) (fed : ℕ) (t : Transfer) (unfinished : List ℕ) : Type 0 where
+  pub cut : IsCut unfinished
+  pub messages : failed ≡ false → t.messages ≤ fed
+  pub fits : fed + 1 < 2 ^ 64
+  pub dropped : IfSome t.decided.ending (λ _. unfinished ≡ [])
+  pub none_failed : failed ≡ true → unfinished ≡ []
+  pub none_finished : finished ≡ true → unfinished ≡ []
