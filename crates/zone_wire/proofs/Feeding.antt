@@ -1,24 +1,25 @@
 -- What is decided of a stream by one frame more, by octets that end inside a frame, and by the stream's end.
-use Rattle.std.proofs.Common.{◌≡◌, ◌≢◌, ℕ, zero, suc, ◌+◌, ◌*◌, ◌/◌, ◌%◌, ◌<◌, ◌≤◌, List, [], ◌∷◌, ◌++◌, length, refl, ap, sym, ◌∙◌, subst, true, false, arith, append_assoc, length-append, lit<}
+use Rattle.std.proofs.Common.{◌≡◌, ◌≢◌, ℕ, zero, suc, ◌+◌, ◌-◌, ◌*◌, ◌/◌, ◌%◌, ◌<◌, ◌≤◌, List, [], ◌∷◌, ◌++◌, length, refl, ap, sym, ◌∙◌, subst, Bool, true, false, arith, append_assoc, length-append, lit<}
 use Rattle.std.specs.Prelude.{get_or, take, drop, Option, Some, None, IfSome, MatchOption}
 use Rattle.std.specs.List.{flat_map}
-use Rattle.std.proofs.lemmas.List.{append-nil, length-map, length-take-le, take-append-drop}
+use Rattle.std.proofs.lemmas.List.{append-nil, length-map, length-take-le, length-drop, take-append-drop}
 use Rattle.std.proofs.lemmas.List.Concat.{flat_map-append}
 use Rattle.zone_rdata.specs.declared.fault.Fault.{Fault}
 use Rattle.zone_rdata.specs.declared.fault.Place.{Place}
 use Rattle.zone_rdata.specs.declared.fault.Place.TheVariants.{Message}
 use Rattle.zone_rdata.specs.declared.record.Placed.{Placed}
-use Rattle.zone_wire.specs.Answers.{is_closed}
+use Rattle.zone_wire.specs.Answers.{handed_on, is_closed}
 use Rattle.zone_wire.specs.Frames.{IsFramed}
 use Rattle.zone_wire.specs.Machine.Feeding.{IsCut, Going, Follow}
-use Rattle.zone_wire.specs.Machine.Transferring.{Behind, ReadsNext, TakesWhole, StopsIn}
+use Rattle.zone_wire.specs.Machine.Transferring.{zone_held, Behind, ReadsNext, TakesWhole, StopsIn}
 use Rattle.zone_wire.specs.Message.{u16_at}
+use Rattle.zone_wire.specs.Source.{SourceState, Leave, Stands}
 use Rattle.zone_wire.specs.Stream.{octets_in, placed_in, IsReadBehind, AreRead, Decided, StreamReads, StreamEnd}
 use Rattle.zone_wire.specs.Transfer.{StatedMessage, frame}
 use Rattle.zone_wire.specs.declared.intake.Intake.{Intake}
 use Rattle.zone_wire.specs.declared.transfer.Transfer.{Transfer}
 use Rattle.zone_wire.proofs.Accepting.{all_append}
-use Rattle.zone_wire.proofs.Streams.{fault_stays, fault_is_read, some_decision, some_reading}
+use Rattle.zone_wire.proofs.Streams.{one_decision, fault_stays, fault_is_read, some_decision, some_reading}
 
 abbrev pub Bytes : List ℕ → Type 0
 Bytes xs = (i : ℕ) → get_or xs i 0 < 256
@@ -209,3 +210,91 @@ fed_nothing piece t cut dropped = record {
     same : (ending : Option (Fault × Place)) → IfSome ending (λ _. t ≡ t)
     same None = tt
     same (Some f) = refl
+
+take_whole : {X : Type 0} (xs : List X) → take (length xs) xs ≡ xs
+take_whole [] = refl
+take_whole (x ∷ xs) = ap (λ ys. x ∷ ys) (take_whole xs)
+
+-- what a part of a list up to its end is
+pub rest_taken : {X : Type 0} (n : ℕ) (xs : List X) → take (length xs - n) (drop n xs) ≡ drop n xs
+rest_taken n xs = ap (λ k. take k (drop n xs)) (sym (length-drop n xs)) ∙ take_whole (drop n xs)
+
+pub all_taken : {X : Type 0} (xs : List X) → take (length xs) xs ≡ xs
+all_taken xs = take_whole xs
+
+pub bytes_back : (front rest : List ℕ) → Bytes (front ++ rest) → Bytes rest
+bytes_back [] rest each i = each i
+bytes_back (x ∷ front) rest each i = bytes_back front rest (λ k. each (suc k)) i
+
+pub empty_of : {X : Type 0} (xs : List X) → length xs ≡ 0 → xs ≡ []
+empty_of [] e = refl
+empty_of (x ∷ xs) e = absurd (omega (arith, e))
+
+-- a source as it holds this
+abbrev pub source_of : Bool → Bool → ℕ → Transfer → List ℕ → SourceState
+source_of failed finished count t unfinished = record {
+  pending = record { failed = failed; records = t.decided.placed.items; ending = t.decided.ending };
+  held = record { finished = finished; fed = count; messages = t.messages; id = t.id; zone = zone_held t.zone; opening = t.opening; closed = t.closed; unfinished = unfinished };
+}
+
+decided_by : (fed unfinished : List ℕ) (parts : List StatedMessage) → IsFramed fed (octets_in parts) unfinished → AreRead [] parts → Decided fed (handed_on (placed_in parts)) None
+decided_by fed unfinished parts framed read = record {
+  messages = octets_in parts;
+  rest = unfinished;
+  framed = framed;
+  all = placed_in parts;
+  read = record { parts = parts; read = read; whole = refl; stated = refl };
+  stated = refl;
+}
+
+-- what a source stands for before the end of its stream
+pub stands_follow : (failed finished : Bool) (count : ℕ) (t : Transfer) (unfinished fed : List ℕ) (given : List Placed) → finished ≡ false → Stands (source_of failed finished count t unfinished) fed given → Follow t unfinished fed given
+stands_follow failed finished count t unfinished fed given going stands = record { octets = stands.octets; state = by t.decided.ending refl }
+  where
+    by : (ending : Option (Fault × Place)) → t.decided.ending ≡ ending → MatchOption ending (Going t unfinished fed given) (λ e. Decided fed (given ++ t.decided.placed.items) (Some e))
+    by None e =
+        let l = stands.leave going e in
+        let decided = subst (λ o. Decided fed (given ++ t.decided.placed.items) o) e (stands.decided going) in
+        record {
+          parts = l.parts;
+          framed = l.framed;
+          read = l.read;
+          behind = record { count = l.number; id = l.id; among = record { zone = l.zone; opening = l.opening; closed = l.closed } };
+          handed = (one_decision fed (given ++ t.decided.placed.items) (handed_on (placed_in l.parts)) None None decided (decided_by fed unfinished l.parts l.framed l.read)).0;
+        }
+    by (Some f) e = subst (λ o. Decided fed (given ++ t.decided.placed.items) o) e (stands.decided going)
+
+pub follow_stands : (failed finished : Bool) (count : ℕ) (t : Transfer) (unfinished fed : List ℕ) (given : List Placed) → failed ≡ false → finished ≡ false → count ≡ length fed → Follow t unfinished fed given → Stands (source_of failed finished count t unfinished) fed given
+follow_stands failed finished count t unfinished fed given works going counted follow = record {
+  works = works;
+  octets = follow.octets;
+  count = counted;
+  decided = λ e. by t.decided.ending follow.state;
+  leave = λ e none. leaves (still_going t unfinished fed given t.decided.ending none follow.state);
+  read = λ e. let no : ⊥ = cc in absurd no;
+}
+  where
+    by : (ending : Option (Fault × Place)) → MatchOption ending (Going t unfinished fed given) (λ e. Decided fed (given ++ t.decided.placed.items) (Some e)) → Decided fed (given ++ t.decided.placed.items) ending
+    by None g = subst (λ ps. Decided fed ps None) (sym g.handed) (decided_by fed unfinished g.parts g.framed g.read)
+    by (Some f) state = state
+    leaves : Going t unfinished fed given → Leave fed (source_of failed finished count t unfinished).held
+    leaves g = record {
+      parts = g.parts;
+      framed = g.framed;
+      read = g.read;
+      number = g.behind.count;
+      id = g.behind.id;
+      zone = g.behind.among.zone;
+      opening = g.behind.among.opening;
+      closed = g.behind.among.closed;
+    }
+
+pub finished_stands : (failed : Bool) (count : ℕ) (t : Transfer) (unfinished fed : List ℕ) (given : List Placed) → failed ≡ false → Bytes fed → count ≡ length fed → StreamReads fed (given ++ t.decided.placed.items) t.decided.ending → Stands (source_of failed true count t unfinished) fed given
+finished_stands failed count t unfinished fed given works octets counted reads = record {
+  works = works;
+  octets = octets;
+  count = counted;
+  decided = λ e. let no : ⊥ = cc in absurd no;
+  leave = λ e none. let no : ⊥ = cc in absurd no;
+  read = λ e. reads;
+}

@@ -128,6 +128,15 @@ impl Intake {
     }
 }
 
+/// The number of octets that end inside a frame, at most 65,536.
+pub(crate) fn cut_len(octets: &[u8]) -> usize
+    requires { IsCut octets.now }
+    ensures len { result ≡ length octets.now }
+    ensures few { result ≤ 65536 }
+{
+    octets.len()
+}
+
 /// The message of a frame, behind its length.
 fn message_of(framed: &[u8]) -> &[u8]
     requires { length framed.now ≡ 2 + u16_at framed.now 0 }

@@ -2,7 +2,7 @@
 ghost use Rattle.std.specs.Prelude.{◌≡◌, ◌+◌, ◌<◌, ◌≤◌, ◌^◌, ◌++◌, ℕ, true, false, [], List, length, IfErr, IfOk, IfSome, OnOk, OnErr};
 ghost use Rattle.zone_wire.specs.Stream.{StreamReads};
 
-use crate::intake::Intake;
+use crate::intake::{Intake, cut_len};
 use std::alloc::{AllocError, Global};
 use std::marker::Model;
 use zone_rdata::{Placed, Reading, RrSource, Stop};
@@ -143,7 +143,7 @@ impl TransferSource {
         ensures finished { self.now.held.finished ≡ true → result ≡ 0 }
         ensures failed { self.now.pending.failed ≡ true → result ≡ 0 }
     {
-        self.intake.unfinished.len()
+        cut_len(self.intake.unfinished.as_slice())
     }
 
     /// The number of octets of all pieces for which `feed` answered `Ok`.
