@@ -1,5 +1,5 @@
 -- What is decided of a stream by one frame more, by octets that end inside a frame, and by the stream's end.
-use Rattle.std.proofs.Common.{◌≡◌, ◌≢◌, ℕ, zero, suc, ◌+◌, ◌-◌, ◌*◌, ◌/◌, ◌%◌, ◌<◌, ◌≤◌, List, [], ◌∷◌, ◌++◌, length, refl, ap, sym, ◌∙◌, subst, Bool, true, false, arith, append_assoc, length-append, lit<}
+use Rattle.std.proofs.Common.{◌≡◌, ℕ, zero, suc, ◌+◌, ◌-◌, ◌*◌, ◌/◌, ◌%◌, ◌<◌, ◌≤◌, List, [], ◌∷◌, ◌++◌, length, refl, ap, sym, ◌∙◌, subst, Bool, true, false, arith, append_assoc, length-append, lit<}
 use Rattle.std.specs.Prelude.{get_or, take, drop, Option, Some, None, IfSome, MatchOption}
 use Rattle.std.specs.List.{flat_map}
 use Rattle.std.proofs.lemmas.List.{append-nil, length-map, length-take-le, length-drop, take-append-drop}
@@ -277,6 +277,7 @@ follow_stands failed finished count t unfinished fed given works going counted f
     by : (ending : Option (Fault × Place)) → MatchOption ending (Going t unfinished fed given) (λ e. Decided fed (given ++ t.decided.placed.items) (Some e)) → Decided fed (given ++ t.decided.placed.items) ending
     by None g = subst (λ ps. Decided fed ps None) (sym g.handed) (decided_by fed unfinished g.parts g.framed g.read)
     by (Some f) state = state
+
     leaves : Going t unfinished fed given → Leave fed (source_of failed finished count t unfinished).held
     leaves g = record {
       parts = g.parts;

@@ -1,8 +1,8 @@
 -- Answers and messages that are read one behind another.
-use Rattle.std.proofs.Common.{◌≡◌, ℕ, ◌+◌, List, [], ◌∷◌, ◌++◌, length, refl, ap, sym, ◌∙◌, subst, Bool, true, false, arith, append_assoc, length-append}
+use Rattle.std.proofs.Common.{◌≡◌, ℕ, ◌+◌, List, [], ◌∷◌, ◌++◌, length, refl, ap, sym, ◌∙◌, subst, Bool, true, false, append_assoc, length-append}
 use Rattle.std.specs.Prelude.{map, reverse, nat_eq, is_some, ◌==◌, ◌||◌, not, Option, Some, None, MatchOption, Result, Ok, Err, ⊤}
 use Rattle.std.specs.Cmp.Lexicographic.{pointwise}
-use Rattle.std.specs.List.{AllByRecursion, flat_map, filter, list_any}
+use Rattle.std.specs.List.{AllByRecursion, filter, list_any}
 use Rattle.std.proofs.lemmas.Bool.{cond-true, cond-false, eq-eqb}
 use Rattle.std.proofs.lemmas.List.{append-nil, reverse-reverse}
 use Rattle.std.proofs.lemmas.List.Concat.{flat_map-append}
@@ -20,7 +20,7 @@ use Rattle.zone_wire.specs.Machine.Transferring.{Among, Behind, Gains, Hands, Ta
 use Rattle.zone_wire.specs.Message.{QuestionAt, RecordAt, Sections, IsMessage}
 use Rattle.zone_wire.specs.MessageFault.{MessageFault}
 use Rattle.zone_wire.specs.Source.{first_id, opening_of}
-use Rattle.zone_wire.specs.Stream.{sections_in, asked_in, placed_in, HasFirstId, AsksIn, AskBehind, FaultBehind, of_structure, of_id, of_questions, of_answers}
+use Rattle.zone_wire.specs.Stream.{sections_in, asked_in, placed_in, HasFirstId, AsksIn, AskBehind, of_structure, of_id, of_questions, of_answers}
 use Rattle.zone_wire.specs.Transfer.{StatesRecord, StatedMessage, StateEach}
 use Rattle.zone_wire.specs.View.{RawRecord, raw_at, asked}
 use Rattle.zone_wire.specs.declared.message.Question.{Question}
@@ -212,8 +212,8 @@ pending_more octets answers first left before old mid new p e messages ending ta
       messages = messages ∙ p.messages;
       ending = ending ∙ p.ending;
       so_far = λ questions placed among.
-        let s = p.so_far questions placed among in
-        so_far_more octets p.done next.a questions placed old mid new p.messages s (subst (λ (r : RawRecord). Takes r.octets r.at questions (placed ++ s.here) mid new) next.first_is (takes questions (placed ++ s.here) s.gains.among));
+          let s = p.so_far questions placed among in
+          so_far_more octets p.done next.a questions placed old mid new p.messages s (subst (λ (r : RawRecord). Takes r.octets r.at questions (placed ++ s.here) mid new) next.first_is (takes questions (placed ++ s.here) s.gains.among));
     }
 
 no_rest : (octets : List ℕ) (rest : List RecordAt) → [] ≡ map (raw_at octets) rest → rest ≡ []

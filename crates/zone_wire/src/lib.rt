@@ -4,8 +4,8 @@
 mod answers;
 mod data;
 pub mod examples;
-pub mod laws;
 mod intake;
+pub mod laws;
 mod message;
 mod name;
 mod number;
