@@ -8,6 +8,7 @@ pub mod DataFaults
 pub mod DataReading
 pub mod Ends
 pub mod FieldReading
+pub mod Feeding
 pub mod Fielding
 pub mod FrameLaws
 pub mod Frames
@@ -22,6 +23,7 @@ pub mod OneFault
 pub mod OneReading
 pub mod Pending
 pub mod Places
+pub mod Progress
 pub mod ReadAnswers
 pub mod ReadFields
 pub mod ReadRecords

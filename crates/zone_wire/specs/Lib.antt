@@ -6,6 +6,7 @@ pub mod Frames
 pub mod Message
 pub mod MessageFault
 pub mod Name
+pub mod Source
 pub mod Stream
 pub mod Transfer
 pub mod View

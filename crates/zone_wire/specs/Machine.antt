@@ -2,9 +2,11 @@
 pub mod Answers
 pub mod Data
 pub mod DataReading
+pub mod Feeding
 pub mod Finding
 pub mod Parsing
 pub mod Place
 pub mod Sections
 pub mod Stream
+pub mod Transferring
 pub mod Walk

@@ -4,6 +4,7 @@
 mod answers;
 mod data;
 pub mod examples;
+mod intake;
 pub mod laws;
 mod message;
 mod name;
@@ -11,9 +12,12 @@ mod number;
 mod octets;
 mod place;
 mod record;
+mod source;
 mod structure;
 mod ticks;
+mod transfer;
 
 pub use answers::{Answers, RawRr};
 pub use message::{Message, Question};
 pub use name::{Decoded, name_at};
+pub use source::{TransferSource, read_transfer};

@@ -1,0 +1,301 @@
+-- What is decided of a stream by one frame more, by octets that end inside a frame, and by the stream's end.
+use Rattle.std.proofs.Common.{◌≡◌, ℕ, zero, suc, ◌+◌, ◌-◌, ◌*◌, ◌/◌, ◌%◌, ◌<◌, ◌≤◌, List, [], ◌∷◌, ◌++◌, length, refl, ap, sym, ◌∙◌, subst, Bool, true, false, arith, append_assoc, length-append, lit<}
+use Rattle.std.specs.Prelude.{get_or, take, drop, Option, Some, None, IfSome, MatchOption}
+use Rattle.std.specs.List.{flat_map}
+use Rattle.std.proofs.lemmas.List.{append-nil, length-map, length-take-le, length-drop, take-append-drop}
+use Rattle.std.proofs.lemmas.List.Concat.{flat_map-append}
+use Rattle.zone_rdata.specs.declared.fault.Fault.{Fault}
+use Rattle.zone_rdata.specs.declared.fault.Place.{Place}
+use Rattle.zone_rdata.specs.declared.fault.Place.TheVariants.{Message}
+use Rattle.zone_rdata.specs.declared.record.Placed.{Placed}
+use Rattle.zone_wire.specs.Answers.{handed_on, is_closed}
+use Rattle.zone_wire.specs.Frames.{IsFramed}
+use Rattle.zone_wire.specs.Machine.Feeding.{IsCut, Going, Follow}
+use Rattle.zone_wire.specs.Machine.Transferring.{zone_held, Behind, ReadsNext, TakesWhole, StopsIn}
+use Rattle.zone_wire.specs.Message.{u16_at}
+use Rattle.zone_wire.specs.Source.{SourceState, Leave, Stands}
+use Rattle.zone_wire.specs.Stream.{octets_in, placed_in, IsReadBehind, AreRead, Decided, StreamReads, StreamEnd}
+use Rattle.zone_wire.specs.Transfer.{StatedMessage, frame}
+use Rattle.zone_wire.specs.declared.intake.Intake.{Intake}
+use Rattle.zone_wire.specs.declared.transfer.Transfer.{Transfer}
+use Rattle.zone_wire.proofs.Accepting.{all_append}
+use Rattle.zone_wire.proofs.Streams.{one_decision, fault_stays, fault_is_read, some_decision, some_reading}
+
+abbrev pub Bytes : List ℕ → Type 0
+Bytes xs = (i : ℕ) → get_or xs i 0 < 256
+
+pub bytes_append : (xs ys : List ℕ) → Bytes xs → Bytes ys → Bytes (xs ++ ys)
+bytes_append [] ys a b k = b k
+bytes_append (x ∷ xs) ys a b zero = a 0
+bytes_append (x ∷ xs) ys a b (suc k) = bytes_append xs ys (λ i. a (suc i)) b k
+
+-- octets of the length that they begin with are a frame
+pub framed_whole : (whole : List ℕ) → Bytes whole → length whole ≡ 2 + u16_at whole 0 → whole ≡ frame (drop 2 whole)
+framed_whole [] each e = absurd (omega (arith, e))
+framed_whole (c ∷ []) each e = absurd (omega (arith, e))
+framed_whole (high ∷ low ∷ octets) each e =
+    let h : high < 256 = each 0 in
+    let l : low < 256 = each 1 in
+    let size : length octets ≡ high * 256 + low = omega (arith, e) in
+    let high_is : high ≡ length octets / 256 = omega (arith, size, h, l) in
+    let low_is : low ≡ length octets % 256 = omega (arith, size, h, l) in
+    ap (λ x. x ∷ low ∷ octets) high_is ∙ ap (λ x. (length octets / 256) ∷ x ∷ octets) low_is
+
+framed_more : (fed front octets unfinished : List ℕ) (messages : List (List ℕ)) → IsFramed fed messages unfinished → unfinished ++ front ≡ frame octets → length octets ≤ 65535 → IsFramed (fed ++ front) (messages ++ octets ∷ []) []
+framed_more fed front octets unfinished messages is e short = record {
+  whole = ap (λ x. x ++ front) is.whole ∙ append_assoc (flat_map frame messages) unfinished front ∙ ap (λ x. flat_map frame messages ++ x) (e ∙ sym (append-nil (frame octets))) ∙ sym (flat_map-append frame messages (octets ∷ [])) ∙ sym (append-nil (flat_map frame (messages ++ octets ∷ [])));
+  short = all_append (λ (x : List ℕ). length x ≤ 65535) messages (octets ∷ []) is.short (short, tt);
+  cut = lit< tt;
+}
+
+read_append : (before parts : List StatedMessage) (p : StatedMessage) → AreRead before parts → IsReadBehind (before ++ parts) p → AreRead before (parts ++ p ∷ [])
+read_append before [] p are is = (subst (λ b. IsReadBehind b p) (append-nil before) is, tt)
+read_append before (q ∷ parts) p are is = (are.0, read_append (before ++ q ∷ []) parts p are.1 (subst (λ b. IsReadBehind b p) (sym (append_assoc before (q ∷ []) parts)) is))
+
+octets_append : (parts : List StatedMessage) (p : StatedMessage) → octets_in (parts ++ p ∷ []) ≡ octets_in parts ++ p.octets ∷ []
+octets_append [] p = refl
+octets_append (q ∷ parts) p = ap (λ x. q.octets ∷ x) (octets_append parts p)
+
+-- one frame more, without a fault or with one
+going_on : (old new : Transfer) (unfinished fed front octets : List ℕ) (given : List Placed) → (g : Going old unfinished fed given) → unfinished ++ front ≡ frame octets → length octets ≤ 65535 → TakesWhole octets g.parts old new → Going new [] (fed ++ front) given
+going_on old new unfinished fed front octets given g e short w = record {
+  parts = g.parts ++ w.part ∷ [];
+  framed = subst (λ (ms : List (List ℕ)). IsFramed (fed ++ front) ms []) (ap (λ (m : List ℕ). octets_in g.parts ++ m ∷ []) (sym w.octets_are) ∙ sym (octets_append g.parts w.part)) (framed_more fed front octets unfinished (octets_in g.parts) g.framed e short);
+  read = read_append [] g.parts w.part g.read w.read;
+  behind = w.behind;
+  handed = w.handed given g.handed;
+}
+
+stopped : (old new : Transfer) (unfinished fed front octets : List ℕ) (given : List Placed) → (g : Going old unfinished fed given) → unfinished ++ front ≡ frame octets → length octets ≤ 65535 → (f : Fault × Place) (offset : ℕ) → StopsIn octets g.parts old new (f.0, offset) → f.1 ≡ Message (length g.parts + 1) offset → Decided (fed ++ front) (given ++ new.decided.placed.items) (Some f)
+stopped old new unfinished fed front octets given g e short f offset s place = record {
+  messages = octets_in g.parts ++ octets ∷ [];
+  rest = [];
+  framed = framed_more fed front octets unfinished (octets_in g.parts) g.framed e short;
+  all = placed_in g.parts ++ s.here;
+  read = record { parts = g.parts; octets = octets; rest = []; here = s.here; fault = f.0; offset = offset; read = g.read; next = s.next; whole = refl; stated = refl; place = ap (λ (p : Place). (f.0, p)) place };
+  stated = s.handed given g.handed;
+}
+
+framed_state : (old new : Transfer) (unfinished fed front octets : List ℕ) (given : List Placed) → (g : Going old unfinished fed given) → unfinished ++ front ≡ frame octets → length octets ≤ 65535 → (ending : Option (Fault × Place)) → MatchOption ending (TakesWhole octets g.parts old new) (λ f. (offset : ℕ) × (StopsIn octets g.parts old new (f.0, offset) × (f.1 ≡ Message (length g.parts + 1) offset))) → MatchOption ending (Going new [] (fed ++ front) given) (λ f. Decided (fed ++ front) (given ++ new.decided.placed.items) (Some f))
+framed_state old new unfinished fed front octets given g e short None w = going_on old new unfinished fed front octets given g e short w
+framed_state old new unfinished fed front octets given g e short (Some f) s = stopped old new unfinished fed front octets given g e short f s.0 s.1.0 s.1.1
+
+still_going : (t : Transfer) (unfinished fed : List ℕ) (given : List Placed) (ending : Option (Fault × Place)) → ending ≡ None → MatchOption ending (Going t unfinished fed given) (λ e. Decided fed (given ++ t.decided.placed.items) (Some e)) → Going t unfinished fed given
+still_going t unfinished fed given None e state = state
+still_going t unfinished fed given (Some f) e state = cc
+
+pub one_frame : (old new : Transfer) (unfinished fed front octets : List ℕ) (given : List Placed) → old.decided.ending ≡ None → Bytes front → unfinished ++ front ≡ frame octets → length octets ≤ 65535 → ((before : List StatedMessage) → Behind before old → ReadsNext octets before old new) → Follow old unfinished fed given → Follow new [] (fed ++ front) given
+one_frame old new unfinished fed front octets given going each e short next follow =
+    let g = still_going old unfinished fed given old.decided.ending going follow.state in
+    record { octets = bytes_append fed front follow.octets each; state = framed_state old new unfinished fed front octets given g e short new.decided.ending (next g.parts g.behind) }
+
+going_state : (t : Transfer) (unfinished fed : List ℕ) (given : List Placed) (ending : Option (Fault × Place)) → ending ≡ None → Going t unfinished fed given → MatchOption ending (Going t unfinished fed given) (λ e. Decided fed (given ++ t.decided.placed.items) (Some e))
+going_state t unfinished fed given None e g = g
+going_state t unfinished fed given (Some f) e g = cc
+
+-- octets that end inside the frame
+pub inside_frame : (t : Transfer) (unfinished fed more : List ℕ) (given : List Placed) → t.decided.ending ≡ None → Bytes more → IsCut (unfinished ++ more) → Follow t unfinished fed given → Follow t (unfinished ++ more) (fed ++ more) given
+inside_frame t unfinished fed more given going each cut follow =
+    let g = still_going t unfinished fed given t.decided.ending going follow.state in
+    let longer : Going t (unfinished ++ more) (fed ++ more) given = record {
+      parts = g.parts;
+      framed = record { whole = ap (λ x. x ++ more) g.framed.whole ∙ append_assoc (flat_map frame (octets_in g.parts)) unfinished more; short = g.framed.short; cut = cut };
+      read = g.read;
+      behind = g.behind;
+      handed = g.handed;
+    } in
+    record { octets = bytes_append fed more follow.octets each; state = going_state t (unfinished ++ more) (fed ++ more) given t.decided.ending going longer }
+
+-- behind a fault nothing more is decided
+faulted_state : (t : Transfer) (unfinished other fed more : List ℕ) (given : List Placed) (ending : Option (Fault × Place)) → (ending ≡ None → ⊥) → Bytes (fed ++ more) → MatchOption ending (Going t unfinished fed given) (λ e. Decided fed (given ++ t.decided.placed.items) (Some e)) → MatchOption ending (Going t other (fed ++ more) given) (λ e. Decided (fed ++ more) (given ++ t.decided.placed.items) (Some e))
+faulted_state t unfinished other fed more given None some each state = absurd (some refl)
+faulted_state t unfinished other fed more given (Some f) some each state =
+    let later = some_decision (fed ++ more) each in
+    let stays = fault_stays fed more (given ++ t.decided.placed.items) later.0 f later.1 state later.2 in
+    subst (λ ps. Decided (fed ++ more) ps (Some f)) stays.0 (subst (λ o. Decided (fed ++ more) later.0 o) stays.1 later.2)
+
+pub behind_fault : (t : Transfer) (unfinished other fed more : List ℕ) (given : List Placed) → (t.decided.ending ≡ None → ⊥) → Bytes more → Follow t unfinished fed given → Follow t other (fed ++ more) given
+behind_fault t unfinished other fed more given some each follow = record {
+  octets = bytes_append fed more follow.octets each;
+  state = faulted_state t unfinished other fed more given t.decided.ending some (bytes_append fed more follow.octets each) follow.state;
+}
+
+-- the end of the stream behind frames without a fault
+pub ends_with : (t : Transfer) (unfinished fed : List ℕ) (given : List Placed) (ending : Option (Fault × Place)) → (g : Going t unfinished fed given) → StreamEnd (length g.parts + 1) (placed_in g.parts) unfinished ending → StreamReads fed (given ++ t.decided.placed.items) ending
+ends_with t unfinished fed given ending g end = record {
+  messages = octets_in g.parts;
+  rest = unfinished;
+  framed = g.framed;
+  all = placed_in g.parts;
+  first = None;
+  read = record { parts = g.parts; read = g.read; whole = refl; stated = refl };
+  stated = g.handed;
+  ends = subst (λ n. StreamEnd (n + 1) (placed_in g.parts) unfinished ending) (sym (length-map g.parts (λ (p : StatedMessage). p.octets))) end;
+}
+
+-- the end of the stream behind a fault
+pub ends_behind_fault : (t : Transfer) (unfinished fed : List ℕ) (given : List Placed) → (t.decided.ending ≡ None → ⊥) → Follow t unfinished fed given → StreamReads fed (given ++ t.decided.placed.items) t.decided.ending
+ends_behind_fault t unfinished fed given some follow = by t.decided.ending some follow.state
+  where
+    by : (ending : Option (Fault × Place)) → (ending ≡ None → ⊥) → MatchOption ending (Going t unfinished fed given) (λ e. Decided fed (given ++ t.decided.placed.items) (Some e)) → StreamReads fed (given ++ t.decided.placed.items) ending
+    by None none state = absurd (none refl)
+    by (Some f) none state =
+        let whole = append-nil fed in
+        let later = some_reading (fed ++ []) (subst Bytes (sym whole) follow.octets) in
+        let stays = fault_is_read fed [] (given ++ t.decided.placed.items) later.0 f later.1 state later.2 in
+        subst (λ xs. StreamReads xs (given ++ t.decided.placed.items) (Some f)) whole (subst (λ ps. StreamReads (fed ++ []) ps (Some f)) stays.0 (subst (λ o. StreamReads (fed ++ []) later.0 o) stays.1 later.2))
+
+-- a piece of which a front was taken
+pub record FedSoFar (piece rest : List ℕ) (old new : Intake) : Type 0 where
+  pub front : List ℕ
+  pub parts : piece ≡ front ++ rest
+  pub cut : IsCut new.unfinished.items
+  pub dropped : IfSome new.transfer.decided.ending (λ _. new.unfinished.items ≡ [])
+  pub count : new.transfer.messages ≤ old.transfer.messages + length front
+  pub same : IfSome old.transfer.decided.ending (λ _. new ≡ old)
+  pub follow : (fed : List ℕ) (given : List Placed) → Follow old.transfer old.unfinished.items fed given → Follow new.transfer new.unfinished.items (fed ++ front) given
+
+-- the first octets of a frame say its length
+u16_front : (cut more : List ℕ) (end : ℕ) → end ≤ length more → 2 ≤ length cut + end → u16_at (cut ++ take end more) 0 ≡ u16_at (cut ++ more) 0
+u16_front [] [] end h k = absurd (omega (arith, h, k))
+u16_front [] (x ∷ []) end h k = absurd (omega (arith, h, k))
+u16_front [] (x ∷ y ∷ more) zero h k = absurd (omega (arith, k))
+u16_front [] (x ∷ y ∷ more) (suc zero) h k = absurd (omega (arith, k))
+u16_front [] (x ∷ y ∷ more) (suc (suc n)) h k = refl
+u16_front (c ∷ []) [] end h k = absurd (omega (arith, h, k))
+u16_front (c ∷ []) (x ∷ more) zero h k = absurd (omega (arith, k))
+u16_front (c ∷ []) (x ∷ more) (suc n) h k = refl
+u16_front (c ∷ d ∷ cut) more end h k = refl
+
+pub whole_front : (cut more : List ℕ) (end : ℕ) → length cut + end ≡ 2 + u16_at (cut ++ more) 0 → end ≤ length more → length (cut ++ take end more) ≡ 2 + u16_at (cut ++ take end more) 0
+whole_front cut more end e h =
+    let size = u16_front cut more end h (omega (arith, e)) in
+    omega (arith, e, size, length-append cut (take end more), length-take-le end more h)
+
+pub finishes : (t : Transfer) (unfinished fed : List ℕ) (given : List Placed) (ending : Option (Fault × Place)) → t.decided.ending ≡ None → ((placed : List Placed) → t.closed ≡ is_closed placed → StreamEnd (t.messages + 1) placed unfinished ending) → Follow t unfinished fed given → StreamReads fed (given ++ t.decided.placed.items) ending
+finishes t unfinished fed given ending going ends follow =
+    let g = still_going t unfinished fed given t.decided.ending going follow.state in
+    ends_with t unfinished fed given ending g (subst (λ n. StreamEnd (n + 1) (placed_in g.parts) unfinished ending) g.behind.count (ends (placed_in g.parts) g.behind.among.closed))
+
+pub fed_more : (piece rest : List ℕ) (taken : ℕ) (old mid new : Intake) → Bytes piece → (s : FedSoFar piece rest old mid) → mid.transfer.decided.ending ≡ None → 0 < taken → taken ≤ length rest → IsCut new.unfinished.items → IfSome new.transfer.decided.ending (λ _. new.unfinished.items ≡ []) → new.transfer.messages ≤ mid.transfer.messages + 1
+    → ((fed : List ℕ) (given : List Placed) → Follow mid.transfer mid.unfinished.items fed given → Follow new.transfer new.unfinished.items (fed ++ take taken rest) given) → FedSoFar piece (drop taken rest) old new
+fed_more piece rest taken old mid new each s going some within cut dropped count follow = record {
+  front = s.front ++ take taken rest;
+  parts = s.parts ∙ ap (λ x. s.front ++ x) (sym (take-append-drop taken rest)) ∙ sym (append_assoc s.front (take taken rest) (drop taken rest));
+  cut = cut;
+  dropped = dropped;
+  count = omega (arith, count, s.count, some, length-append s.front (take taken rest), length-take-le taken rest within);
+  same = not_faulted old.transfer.decided.ending refl s.same;
+  follow = λ fed given f. subst (λ xs. Follow new.transfer new.unfinished.items xs given) (append_assoc fed s.front (take taken rest)) (follow (fed ++ s.front) given (s.follow fed given f));
+}
+  where
+    not_faulted : (ending : Option (Fault × Place)) → old.transfer.decided.ending ≡ ending → IfSome ending (λ _. mid ≡ old) → IfSome ending (λ _. new ≡ old)
+    not_faulted None is same = tt
+    not_faulted (Some f) is same =
+        let still : old.transfer.decided.ending ≡ None = ap (λ (i : Intake). i.transfer.decided.ending) (sym same) ∙ going in
+        let none : ⊥ = cc in
+        absurd none
+
+pub fed_nothing : (piece : List ℕ) (t : Intake) → IsCut t.unfinished.items → IfSome t.transfer.decided.ending (λ _. t.unfinished.items ≡ []) → FedSoFar piece piece t t
+fed_nothing piece t cut dropped = record {
+  front = [];
+  parts = refl;
+  cut = cut;
+  dropped = dropped;
+  count = omega arith;
+  same = same t.transfer.decided.ending;
+  follow = λ fed given f. subst (λ xs. Follow t.transfer t.unfinished.items xs given) (sym (append-nil fed)) f;
+}
+  where
+    same : (ending : Option (Fault × Place)) → IfSome ending (λ _. t ≡ t)
+    same None = tt
+    same (Some f) = refl
+
+take_whole : {X : Type 0} (xs : List X) → take (length xs) xs ≡ xs
+take_whole [] = refl
+take_whole (x ∷ xs) = ap (λ ys. x ∷ ys) (take_whole xs)
+
+-- what a part of a list up to its end is
+pub rest_taken : {X : Type 0} (n : ℕ) (xs : List X) → take (length xs - n) (drop n xs) ≡ drop n xs
+rest_taken n xs = ap (λ k. take k (drop n xs)) (sym (length-drop n xs)) ∙ take_whole (drop n xs)
+
+pub all_taken : {X : Type 0} (xs : List X) → take (length xs) xs ≡ xs
+all_taken xs = take_whole xs
+
+pub bytes_back : (front rest : List ℕ) → Bytes (front ++ rest) → Bytes rest
+bytes_back [] rest each i = each i
+bytes_back (x ∷ front) rest each i = bytes_back front rest (λ k. each (suc k)) i
+
+pub empty_of : {X : Type 0} (xs : List X) → length xs ≡ 0 → xs ≡ []
+empty_of [] e = refl
+empty_of (x ∷ xs) e = absurd (omega (arith, e))
+
+-- a source as it holds this
+abbrev pub source_of : Bool → Bool → ℕ → Transfer → List ℕ → SourceState
+source_of failed finished count t unfinished = record {
+  pending = record { failed = failed; records = t.decided.placed.items; ending = t.decided.ending };
+  held = record { finished = finished; fed = count; messages = t.messages; id = t.id; zone = zone_held t.zone; opening = t.opening; closed = t.closed; unfinished = unfinished };
+}
+
+decided_by : (fed unfinished : List ℕ) (parts : List StatedMessage) → IsFramed fed (octets_in parts) unfinished → AreRead [] parts → Decided fed (handed_on (placed_in parts)) None
+decided_by fed unfinished parts framed read = record {
+  messages = octets_in parts;
+  rest = unfinished;
+  framed = framed;
+  all = placed_in parts;
+  read = record { parts = parts; read = read; whole = refl; stated = refl };
+  stated = refl;
+}
+
+-- what a source stands for before the end of its stream
+pub stands_follow : (failed finished : Bool) (count : ℕ) (t : Transfer) (unfinished fed : List ℕ) (given : List Placed) → finished ≡ false → Stands (source_of failed finished count t unfinished) fed given → Follow t unfinished fed given
+stands_follow failed finished count t unfinished fed given going stands = record { octets = stands.octets; state = by t.decided.ending refl }
+  where
+    by : (ending : Option (Fault × Place)) → t.decided.ending ≡ ending → MatchOption ending (Going t unfinished fed given) (λ e. Decided fed (given ++ t.decided.placed.items) (Some e))
+    by None e =
+        let l = stands.leave going e in
+        let decided = subst (λ o. Decided fed (given ++ t.decided.placed.items) o) e (stands.decided going) in
+        record {
+          parts = l.parts;
+          framed = l.framed;
+          read = l.read;
+          behind = record { count = l.number; id = l.id; among = record { zone = l.zone; opening = l.opening; closed = l.closed } };
+          handed = (one_decision fed (given ++ t.decided.placed.items) (handed_on (placed_in l.parts)) None None decided (decided_by fed unfinished l.parts l.framed l.read)).0;
+        }
+    by (Some f) e = subst (λ o. Decided fed (given ++ t.decided.placed.items) o) e (stands.decided going)
+
+pub follow_stands : (failed finished : Bool) (count : ℕ) (t : Transfer) (unfinished fed : List ℕ) (given : List Placed) → failed ≡ false → finished ≡ false → count ≡ length fed → Follow t unfinished fed given → Stands (source_of failed finished count t unfinished) fed given
+follow_stands failed finished count t unfinished fed given works going counted follow = record {
+  works = works;
+  octets = follow.octets;
+  count = counted;
+  decided = λ e. by t.decided.ending follow.state;
+  leave = λ e none. leaves (still_going t unfinished fed given t.decided.ending none follow.state);
+  read = λ e. let no : ⊥ = cc in absurd no;
+}
+  where
+    by : (ending : Option (Fault × Place)) → MatchOption ending (Going t unfinished fed given) (λ e. Decided fed (given ++ t.decided.placed.items) (Some e)) → Decided fed (given ++ t.decided.placed.items) ending
+    by None g = subst (λ ps. Decided fed ps None) (sym g.handed) (decided_by fed unfinished g.parts g.framed g.read)
+    by (Some f) state = state
+
+    leaves : Going t unfinished fed given → Leave fed (source_of failed finished count t unfinished).held
+    leaves g = record {
+      parts = g.parts;
+      framed = g.framed;
+      read = g.read;
+      number = g.behind.count;
+      id = g.behind.id;
+      zone = g.behind.among.zone;
+      opening = g.behind.among.opening;
+      closed = g.behind.among.closed;
+    }
+
+pub finished_stands : (failed : Bool) (count : ℕ) (t : Transfer) (unfinished fed : List ℕ) (given : List Placed) → failed ≡ false → Bytes fed → count ≡ length fed → StreamReads fed (given ++ t.decided.placed.items) t.decided.ending → Stands (source_of failed true count t unfinished) fed given
+finished_stands failed count t unfinished fed given works octets counted reads = record {
+  works = works;
+  octets = octets;
+  count = counted;
+  decided = λ e. let no : ⊥ = cc in absurd no;
+  leave = λ e none. let no : ⊥ = cc in absurd no;
+  read = λ e. reads;
+}

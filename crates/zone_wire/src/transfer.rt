@@ -1,0 +1,285 @@
+//! The messages of a zone transfer one after another, and what those before one fix (RFC 5936 2.2).
+ghost use Rattle.std.specs.Prelude.{◌≡◌, ◌+◌, ◌<◌, ◌≤◌, ◌^◌, [], ◌∷◌, ◌++◌, length, ◌↔◌, List, Some, None, IfErr, IsTrue, MatchOption, OnOk, ⊤};
+ghost use Rattle.zone_rdata.specs.Fault.{IfFault};
+ghost use Rattle.zone_rdata.specs.Record.{Record};
+ghost use Rattle.zone_rdata.specs.declared.fault.Place.TheVariants.{Message as in_message};
+ghost use Rattle.zone_rdata.specs.declared.record.Placed.{Placed};
+ghost use Rattle.zone_wire.specs.AnswerFault.{AnswerFault};
+ghost use Rattle.zone_wire.specs.Machine.Answers.{agrees, order_fault, same_name, same_record};
+ghost use Rattle.zone_wire.specs.Machine.Transferring.{zone_held, zone_with, Among, Behind, Gains, Takes, TakesEach, TakesHead, HeadFault, TakesMessage, ReadsNext};
+ghost use Rattle.zone_wire.specs.Message.{QuestionAt};
+ghost use Rattle.zone_wire.specs.Transfer.{StatesRecord, StatedMessage};
+
+use crate::answers::RawRr;
+use crate::message::Message;
+use crate::place::HEADER_LEN;
+use std::alloc::{AllocError, Global};
+use std::collections::VecDeque;
+use zone_name::Name;
+use zone_rdata::{Failing, Fault, Place, Placed, Reading, Rr};
+
+/// The number of the query type AXFR, of a whole zone (RFC 5936 2.1.2).
+const AXFR: u16 = 252;
+
+/// The name and the class of the zone that is transferred.
+#[derive(Debug, Drop)]
+pub(crate) struct FixedZone {
+    pub(crate) name: Name,
+    pub(crate) class: u16,
+}
+
+/// What the messages so far fix, and the records that their answers state.
+#[derive(Drop)]
+pub(crate) struct Transfer {
+    alloc: Global,
+    pub(crate) messages: u64,
+    /// The ID of the first message.
+    pub(crate) id: Option<u16>,
+    /// By the first question or the opening SOA.
+    pub(crate) zone: Option<FixedZone>,
+    pub(crate) opening: Option<Rr>,
+    /// Whether the closing SOA came.
+    pub(crate) closed: bool,
+    pub(crate) decided: Reading,
+}
+
+impl Transfer {
+    /// No message yet.
+    pub(crate) fn new(alloc: Global) -> Transfer
+        ensures behind { Behind [] result }
+        ensures none { result.decided.ending ≡ None }
+        ensures records { result.decided.placed.items ≡ [] }
+    {
+        Transfer {
+            alloc,
+            messages: 0,
+            id: None,
+            zone: None,
+            opening: None,
+            closed: false,
+            decided: Reading {
+                placed: VecDeque::new(alloc),
+                ending: None,
+            },
+        }
+    }
+
+    /// What is still to be handed on.
+    pub(crate) fn into_decided(self) -> Reading
+        ensures { result ≡ self.decided }
+    {
+        let Transfer { decided, .. } = self;
+        decided
+    }
+
+    /// Takes the next message. A fault in it is the last word.
+    pub(crate) fn read(&mut self, octets: &[u8]) -> Result<(), AllocError>
+        requires going { self.old.decided.ending ≡ None }
+        requires fits { self.old.messages + 1 < 2 ^ 64 }
+        requires short { length octets.now ≤ 65535 }
+        ensures next { OnOk result ((before : List StatedMessage) → Behind before self.old
+            → ReadsNext octets.now before self.old self.new) }
+        ensures count { OnOk result (self.new.messages ≤ self.old.messages + 1) }
+    {
+        let number = self.messages + 1;
+        match self.take_message(octets) {
+            Ok(()) => Ok(()),
+            Err((failing, offset)) => match failing {
+                Failing::Fault(fault) => {
+                    self.decided.ending = Some((fault, Place::Message(number, offset)));
+                    Ok(())
+                }
+                Failing::Memory => Err(AllocError),
+            },
+        }
+    }
+
+    /// Takes the records of the message that octets are.
+    fn take_message(&mut self, octets: &[u8]) -> Result<(), (Failing, usize)>
+        requires fits { self.old.messages + 1 < 2 ^ 64 }
+        requires short { length octets.now ≤ 65535 }
+        ensures taken { (before : List StatedMessage) → Behind before self.old
+            → TakesMessage octets.now before result self.old self.new }
+        ensures ending { self.new.decided.ending ≡ self.old.decided.ending }
+        ensures count { self.new.messages ≤ self.old.messages + 1 }
+    {
+        let message = match Message::parse(octets) {
+            Ok(message) => message,
+            Err((fault, offset)) => return Err((Failing::Fault(fault), offset)),
+        };
+        match self.take_head(&message) {
+            Ok(()) => self.take_answers(&message),
+            Err((fault, offset)) => Err((Failing::Fault(fault), offset)),
+        }
+    }
+
+    /// Counts a message, and takes its ID and its question.
+    fn take_head(&mut self, message: &Message<'_>) -> Result<(), (Fault, usize)>
+        requires { self.old.messages + 1 < 2 ^ 64 }
+        ensures taken { OnOk result ((before : List StatedMessage) → Behind before self.old
+            → TakesHead before message.now.sections self.old self.new) }
+        ensures fault { IfErr result (λ e. (before : List StatedMessage) → Behind before self.old
+            → HeadFault before message.now.sections e) }
+        ensures decided { self.new.decided ≡ self.old.decided }
+        ensures count { self.new.messages ≤ self.old.messages + 1 }
+    {
+        let id = message.id();
+        if !self.has_id(id) {
+            return Err((Fault::IdMismatch, 0));
+        }
+        if let Some(question) = message.question() {
+            if question.kind != AXFR || !self.is_of_zone(&question.name, question.class) {
+                return Err((Fault::BadQuestion, HEADER_LEN));
+            }
+            self.zone = Some(FixedZone {
+                name: question.name,
+                class: question.class,
+            });
+        }
+        self.id = Some(id);
+        self.messages += 1;
+        Ok(())
+    }
+
+    /// Whether an ID is that of the first message, if there is one.
+    fn has_id(&self, id: u16) -> bool
+        ensures { IsTrue result ↔ MatchOption self.now.id ⊤ (λ first. id ≡ first) }
+    {
+        match self.id {
+            Some(first) => first == id,
+            None => true,
+        }
+    }
+
+    /// Takes the records of a message's answers up to the first fault.
+    fn take_answers(&mut self, message: &Message<'_>) -> Result<(), (Failing, usize)>
+        ensures taken { (questions : List QuestionAt) (placed : List Placed) → Among questions placed self.old
+            → TakesEach message.now.octets message.now.sections.answers questions placed result self.old self.new }
+        ensures count { self.new.messages ≡ self.old.messages }
+        ensures ending { self.new.decided.ending ≡ self.old.decided.ending }
+    {
+        let mut answers = message.answers();
+        while let Some(answer) = answers.next() {
+            match self.take_answer(&answer) {
+                Ok(()) => {}
+                Err(failing) => return Err((failing, answer.offset())),
+            }
+        }
+        Ok(())
+    }
+
+    /// Takes the record that an answer states.
+    fn take_answer(&mut self, answer: &RawRr<'_>) -> Result<(), Failing>
+        ensures taken { OnOk result ((questions : List QuestionAt) (placed : List Placed) → Among questions placed self.old
+            → Takes answer.now.octets answer.now.at questions placed self.old self.new) }
+        ensures fault { IfErr result (IfFault (λ f. (questions : List QuestionAt) (placed : List Placed)
+            → Among questions placed self.old → AnswerFault answer.now.octets questions placed answer.now.at f)) }
+        ensures unchanged { IfErr result (IfFault (λ _. self.new ≡ self.old)) }
+        ensures count { self.new.messages ≡ self.old.messages }
+        ensures ending { self.new.decided.ending ≡ self.old.decided.ending }
+    {
+        let rr = answer.to_rr(self.alloc)?;
+        match self.order_fault(&rr) {
+            Some(fault) => Err(Failing::Fault(fault)),
+            None => match self.take_record(rr, answer) {
+                Ok(()) => Ok(()),
+                Err(_) => Err(Failing::Memory),
+            },
+        }
+    }
+
+    /// Takes the record that an answer states behind those before it.
+    fn take_record(&mut self, rr: Rr, answer: &RawRr<'_>) -> Result<(), AllocError>
+        requires { StatesRecord answer.now.octets answer.now.at rr }
+        ensures gains { OnOk result ((questions : List QuestionAt) (placed : List Placed) → Among questions placed self.old
+            → Gains (record { rr = rr; place = in_message self.old.messages answer.now.at.offset } ∷ []) questions placed self.old self.new) }
+        ensures count { self.new.messages ≡ self.old.messages }
+        ensures ending { self.new.decided.ending ≡ self.old.decided.ending }
+    {
+        if self.opening.is_none() {
+            match answer.to_rr(self.alloc) {
+                Ok(opening) => self.open(opening),
+                Err(_) => return Err(AllocError),
+            }
+        } else if rr.kind().is_soa() {
+            self.closed = true;
+            return Ok(());
+        }
+        self.hand_on(rr, answer.offset())?;
+        Ok(())
+    }
+
+    /// Puts a record behind those that are still to be handed on.
+    fn hand_on(&mut self, rr: Rr, offset: usize) -> Result<(), AllocError>
+        ensures items { OnOk result (self.new.decided.placed.items
+            ≡ self.old.decided.placed.items ++ record { rr = rr; place = in_message self.old.messages offset } ∷ []) }
+        ensures others { self.new ≡ record self.old { decided = self.new.decided } }
+        ensures ending { self.new.decided.ending ≡ self.old.decided.ending }
+    {
+        let place = Place::Message(self.messages, offset);
+        match self.decided.placed.push_back(Placed { rr, place }) {
+            Ok(()) => Ok(()),
+            Err(_) => Err(AllocError),
+        }
+    }
+
+    /// Takes the opening SOA, which fixes the zone if no question does.
+    fn open(&mut self, opening: Rr)
+        ensures opening { self.new.opening ≡ Some opening }
+        ensures zone { zone_held self.new.zone ≡ zone_with (zone_held self.old.zone) opening }
+        ensures others { self.new ≡ record self.old { zone = self.new.zone; opening = self.new.opening } }
+    {
+        if self.zone.is_none() {
+            self.zone = Some(FixedZone {
+                name: opening.owner().copy(),
+                class: opening.class().number(),
+            });
+        }
+        self.opening = Some(opening);
+    }
+
+    /// The fault of a record behind those before it.
+    fn order_fault(&self, rr: &Rr) -> Option<Fault>
+        ensures { (questions : List QuestionAt) (placed : List Placed) → Among questions placed self.now
+            → result ≡ order_fault questions placed rr.now }
+    {
+        match &self.opening {
+            None if !rr.kind().is_soa() => Some(Fault::NoOpeningSoa),
+            None if !self.is_of_zone(rr.owner(), rr.class().number()) => Some(Fault::BadQuestion),
+            None => None,
+            Some(_) if self.closed => Some(Fault::AfterClosing),
+            Some(opening) if rr.kind().is_soa() && !is_same(rr, opening) => Some(
+                Fault::SoaMismatch,
+            ),
+            Some(_) => None,
+        }
+    }
+
+    /// Whether a name and a class are those of the zone, if it is fixed.
+    fn is_of_zone(&self, name: &Name, class: u16) -> bool
+        ensures { result ≡ agrees (zone_held self.now.zone) name.now class }
+    {
+        match &self.zone {
+            Some(zone) => is_same_name(name, &zone.name) && class == zone.class,
+            None => true,
+        }
+    }
+}
+
+/// Whether names are the same.
+fn is_same_name(name: &Name, other: &Name) -> bool
+    ensures { result ≡ same_name name.now other.now }
+{
+    name == other
+}
+
+/// Whether records are the same in owner, class, type, TTL and data.
+fn is_same(rr: &Rr, other: &Rr) -> bool
+    ensures { result ≡ same_record rr.now other.now }
+{
+    is_same_name(rr.owner(), other.owner())
+        && rr.class().number() == other.class().number()
+        && rr.kind().number() == other.kind().number()
+        && rr.ttl() == other.ttl()
+        && rr.rdata().octets() == other.rdata().octets()
+}
