@@ -28,6 +28,8 @@ impl Intake {
         ensures follow { Follow result.transfer result.unfinished.items [] [] }
         ensures none { result.unfinished.items ≡ [] }
         ensures count { result.transfer.messages ≡ 0 }
+        ensures records { result.transfer.decided.placed.items ≡ [] }
+        ensures undecided { result.transfer.decided.ending ≡ None }
     {
         Intake {
             transfer: Transfer::new(alloc),

@@ -1,5 +1,5 @@
 //! A source of the records of a zone transfer that is fed in pieces.
-ghost use Rattle.std.specs.Prelude.{◌≡◌, ◌+◌, ◌<◌, ◌≤◌, ◌^◌, ◌++◌, ℕ, true, false, [], List, length, IfErr, IfOk, IfSome, OnOk, OnErr};
+ghost use Rattle.std.specs.Prelude.{◌≡◌, ◌+◌, ◌<◌, ◌≤◌, ◌^◌, ◌++◌, ℕ, true, false, [], List, None, length, IfErr, IfOk, IfSome, OnOk, OnErr};
 ghost use Rattle.zone_wire.specs.Stream.{StreamReads};
 
 use crate::intake::{Intake, cut_len};
@@ -55,6 +55,8 @@ impl TransferSource {
     /// A source that was fed nothing.
     pub fn new(alloc: Global) -> TransferSource
         ensures stands { Stands result [] [] }
+        ensures records { result.pending.records ≡ [] }
+        ensures undecided { result.pending.ending ≡ None }
         ensures going { result.held.finished ≡ false }
         ensures nothing { result.held.unfinished ≡ [] }
     {

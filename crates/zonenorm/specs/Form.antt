@@ -1,8 +1,9 @@
 -- How an input is to be read.
-use Rattle.zonenorm.specs.Input.{InputForm, as_file}
+use Rattle.zonenorm.specs.Input.{InputForm, as_file, as_transfer}
 use Rattle.zonenorm.specs.declared.form.Form.{Form}
-use Rattle.zonenorm.specs.declared.form.Form.TheVariants.{File}
+use Rattle.zonenorm.specs.declared.form.Form.TheVariants.{File, Transfer}
 
 -- the form of the input
 abbrev pub form_of : Form → InputForm
 form_of (File origin) = as_file origin.now
+form_of Transfer = as_transfer

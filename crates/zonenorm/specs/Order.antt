@@ -2,13 +2,14 @@
 use Rattle.std.specs.Prelude.{◌≡◌, ◌≢◌, ℕ, List, codes, string_bytes, Option, Some, None, IfSome, ◌⊎◌, true}
 use Rattle.std.specs.Io.KnownBytes.{Keeps}
 use Rattle.clap.specs.Words.{App, Row, Text, new_rule, new_app, with_rule, with_subcommand, subcommand_of, first_of}
+use Rattle.zone_name.specs.Common.{NothingIs}
 use Rattle.zone_name.specs.Spelling.{Spells}
 use Rattle.zone_rdata.specs.declared.fault.Fault.{Fault}
 use Rattle.zone_rdata.specs.declared.fault.Place.{Place}
 use Rattle.zone_rdata.specs.declared.fault.Stop.{Stop}
 use Rattle.zone_rdata.specs.declared.fault.Stop.TheVariants.{Refused, Read, Write, Memory}
 use Rattle.zonenorm.specs.Normalise.{Normalises, WritesPrefix}
-use Rattle.zonenorm.specs.Input.{Input, InputForm, as_file, input_of}
+use Rattle.zonenorm.specs.Input.{Input, InputForm, as_file, as_transfer, input_of}
 use Rattle.zonenorm.specs.Refusal.{IsRefusal}
 use Rattle.zonenorm.specs.declared.order.Order.{Order}
 use Rattle.zonenorm.specs.declared.order.Order.TheVariants.{Normalise}
@@ -33,17 +34,22 @@ pub record AsksFor (command : Text) (found : Option (Text × List Row)) (text : 
   pub entered : found ≡ Some (command, rows)
   pub origin : first_of (codes "ORIGIN") rows ≡ Some text
 
--- The words give the order: by `clap` they name its command with a text for its origin, and the text spells the
--- origin as an absolute name.
+-- what a text in the place of an origin asks for: the word `transfer` for a transfer, any other text for a master file
+-- under the origin that it spells as an absolute name
+abbrev pub IsOriginText : Text → Option (List (List ℕ)) → Type 0
+IsOriginText text None = text ≡ codes "transfer"
+IsOriginText text (Some origin) = Spells None text origin
+
+-- The words give the order: by `clap` they name its command with a text for its origin, and that is its text.
 abbrev pub Orders : List Text → Order → Type 0
 Orders words (Normalise origin) =
-    (text : Text) × AsksFor (codes "normalise") (subcommand_of program_app words) text × Spells None text origin
+    (text : Text) × AsksFor (codes "normalise") (subcommand_of program_app words) text × IsOriginText text origin
 
--- Why the words give no order. A bad origin is a text in its place that spells no absolute name.
+-- Why the words give no order. A bad origin is a text in its place that asks for nothing.
 abbrev pub IsLineFault : List Text → LineFault → Type 0
 IsLineFault words line_faults.BadOrigin =
     (text : Text) × AsksFor (codes "normalise") (subcommand_of program_app words) text
-    × ((name : List (List ℕ)) → Spells None text name → ⊥)
+    × NothingIs (IsOriginText text)
 IsLineFault words (line_faults.Clap told) = Unit {0}
 IsLineFault words line_faults.Memory = Unit {0}
 
@@ -65,13 +71,18 @@ line_text line_faults.BadOrigin = codes "F46 BadOrigin: an origin is an absolute
 line_text (line_faults.Clap told) = string_bytes told
 line_text line_faults.Memory = codes "out of memory"
 
+-- the origin of a master file that is to be normalised, none of a transfer
+abbrev pub order_origin : Order → Option (List (List ℕ))
+order_origin (Normalise origin) = origin
+
+-- the form of an input with this origin
+abbrev pub form_with : Option (List (List ℕ)) → InputForm
+form_with None = as_transfer
+form_with (Some origin) = as_file origin
+
 -- the form of the input that is to be normalised
 abbrev pub order_form : Order → InputForm
-order_form (Normalise origin) = as_file origin
-
--- the origin of the input that is to be normalised
-abbrev pub order_origin : Order → List (List ℕ)
-order_origin (Normalise origin) = origin
+order_form order = form_with (order_origin order)
 
 -- the exit status of a run that stopped: 3 where the input is refused, else 4
 abbrev pub status_of : Stop → ℕ

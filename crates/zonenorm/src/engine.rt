@@ -4,7 +4,7 @@ ghost use Rattle.zone_name.specs.Common.{Octets};
 ghost use Rattle.zone_name.specs.Name.{IsName};
 ghost use Rattle.zone_print.specs.Canonical.{text_limit};
 ghost use Rattle.zonenorm.specs.Form.{form_of};
-ghost use Rattle.zonenorm.specs.Input.{file, input_of, IsForm};
+ghost use Rattle.zonenorm.specs.Input.{file, input_of, IsForm, transfer};
 ghost use Rattle.zonenorm.specs.Machine.Stops.{IsOfReading};
 ghost use Rattle.zonenorm.specs.Machine.Taking.{ReadsZoneWithin};
 ghost use Rattle.zonenorm.specs.Normalise.{Normalises, NormalisesTo, WritesNothing, WritesPrefix, IsOfBytes};
@@ -21,6 +21,7 @@ use zone_rdata::Stop;
 use zone_set::Zone;
 use zone_text::TextSource;
 use zone_text::laws::file::of_nothing_nothing_is_decided;
+use zone_wire::TransferSource;
 
 /// Writes the canonical text of the zone that the reader's octets denote, and answers the number of its records. The
 /// reader is read to its end, or to the octet behind [`TEXT_LIMIT`], in pieces.
@@ -89,6 +90,7 @@ fn zone_of<R: Read>(alloc: Global, form: Form<'_>, reader: &mut R) -> Result<Zon
 {
     match form {
         Form::File(origin) => zone_of_file(alloc, origin, reader),
+        Form::Transfer => zone_of_transfer(alloc, reader),
     }
 }
 
@@ -113,6 +115,19 @@ fn zone_of_file<R: Read>(alloc: Global, origin: &Name, reader: &mut R) -> Result
     )
 }
 
+/// `zone_of` for a transfer.
+fn zone_of_transfer<R: Read>(alloc: Global, reader: &mut R) -> Result<Zone, Stop>
+    ensures zone { IfOk result (λ z. IfSome (R.remaining reader.old) (λ octets.
+        ReadsZoneWithin text_limit (transfer octets) z)) }
+    ensures fault { IfErr result (λ stop. IfSome (R.remaining reader.old) (λ octets.
+        IfRefused stop (IsRefusal (transfer octets)))) }
+    ensures stopped { IfErr result IsOfReading }
+    ensures few { (given : Octets) × (length given ≤ text_limit + 1)
+        × Consumes (R.remaining reader.old) (R.remaining reader.new) given }
+{
+    read_zone(alloc, &mut TransferSource::new(alloc), reader, TEXT_LIMIT)
+}
+
 /// The zone of the records that the octets state.
 ///
 /// # Errors
@@ -128,6 +143,7 @@ fn zone_of_bytes(alloc: Global, form: Form<'_>, octets: &[u8]) -> Result<Zone, S
 {
     match form {
         Form::File(origin) => zone_of_file_bytes(alloc, origin, octets),
+        Form::Transfer => zone_of_transfer_bytes(alloc, octets),
     }
 }
 
@@ -146,4 +162,13 @@ fn zone_of_file_bytes(alloc: Global, origin: &Name, octets: &[u8]) -> Result<Zon
         octets,
         TEXT_LIMIT,
     )
+}
+
+/// `zone_of_bytes` for a transfer.
+fn zone_of_transfer_bytes(alloc: Global, octets: &[u8]) -> Result<Zone, Stop>
+    ensures zone { IfOk result (λ z. ReadsZoneWithin text_limit (transfer octets.now) z) }
+    ensures fault { IfErr result (λ stop. IfRefused stop (IsRefusal (transfer octets.now))) }
+    ensures stopped { IfErr result IsOfBytes }
+{
+    zone_of_octets(alloc, &mut TransferSource::new(alloc), octets, TEXT_LIMIT)
 }

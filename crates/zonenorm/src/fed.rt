@@ -8,6 +8,7 @@ ghost use Rattle.zonenorm.specs.Input.{InputForm, input_of, Decides, Reads};
 
 use zone_rdata::{RrSource, Stop};
 use zone_text::TextSource;
+use zone_wire::TransferSource;
 
 /// A source of records that is fed an input in pieces.
 pub(crate) trait FedSource: RrSource {
@@ -101,4 +102,35 @@ impl FedSource for TextSource {
     ghost reads = { file_reads };
 
     ghost gives = { file_gives };
+}
+
+impl FedSource for TransferSource {
+    ghost use Rattle.zone_wire.specs.Source.{Held};
+    ghost use Rattle.zonenorm.specs.Machine.Fed.{TransferStands, transfer_decides, transfer_gives, transfer_reads};
+
+    ghost Held = { Held };
+
+    ghost held = { λ s. s.held };
+
+    ghost Stands = { TransferStands };
+
+    ghost fed = { λ inside. inside.fed };
+
+    ghost finished = { λ inside. inside.finished };
+
+    fn feed(&mut self, piece: &[u8]) -> Result<(), Stop> {
+        TransferSource::feed(self, piece)
+    }
+
+    fn finish(&mut self) -> Result<(), Stop> {
+        TransferSource::finish(self)
+    }
+
+    ghost keeps = { λ old new same. same };
+
+    ghost decides = { transfer_decides };
+
+    ghost reads = { transfer_reads };
+
+    ghost gives = { transfer_gives };
 }

@@ -1,8 +1,7 @@
-ghost use Rattle.std.specs.Prelude.{◌≡◌, codes, None, map, IfOk, IfErr, IfSome, string_bytes};
+ghost use Rattle.std.specs.Prelude.{◌≡◌, codes, map, IfOk, IfErr, IfSome, string_bytes};
 ghost use Rattle.clap.specs.Words.{app_of, subcommand_rows_of};
 ghost use Rattle.zone_name.specs.Common.{NothingIs};
-ghost use Rattle.zone_name.specs.Spelling.{Spells};
-ghost use Rattle.zonenorm.specs.Order.{program_app, order_origin, AsksFor, Orders, IsLineFault, IsClapFault, line_status, line_text};
+ghost use Rattle.zonenorm.specs.Order.{program_app, order_origin, AsksFor, IsOriginText, Orders, IsLineFault, IsClapFault, line_status, line_text};
 
 use crate::explain::OUT_OF_MEMORY;
 use clap::error::ErrorKind;
@@ -10,17 +9,21 @@ use clap::{Arg, ArgMatches, Command, Error};
 use std::alloc::{AllocError, Global};
 use zone_name::Name;
 
+/// The word that stands in the place of an origin where the input is a transfer.
+const TRANSFER: &str = "transfer";
+
 /// What a command line asks for.
 #[derive(Debug, Drop)]
 pub enum Order {
-    /// Write the canonical text of the master file on standard input, read with this origin.
-    Normalise(Name),
+    /// Write the canonical text of the input on standard input: a master file read with this origin, or a transfer where
+    /// there is none.
+    Normalise(Option<Name>),
 }
 
 /// Why a command line is no order.
 #[derive(Debug, Drop)]
 pub enum LineFault {
-    /// An origin is no absolute name.
+    /// An origin is neither an absolute name nor the word `transfer`.
     BadOrigin,
     /// What `clap` tells a user in place of matches, help included.
     Clap(String),
@@ -67,7 +70,7 @@ impl LineFault {
 ///
 /// # Errors
 ///
-/// `BadOrigin` where the origin's text is no absolute name; `Clap` where `clap` gives no matches; `Memory`.
+/// `BadOrigin` where the origin's text is neither an absolute name nor `transfer`; `Clap` where `clap` gives no matches; `Memory`.
 pub fn order_of(alloc: Global, words: &[String]) -> Result<Order, LineFault>
     ensures ordered { IfOk result (Orders (map string_bytes words.now)) }
     ensures refused { IfErr result (IsLineFault (map string_bytes words.now)) }
@@ -84,12 +87,15 @@ pub fn order_of(alloc: Global, words: &[String]) -> Result<Order, LineFault>
 
 /// The order whose origin has this text.
 fn order_with(text: &str) -> Result<Order, LineFault>
-    ensures ordered { IfOk result (λ order. Spells None text.now (order_origin order)) }
+    ensures ordered { IfOk result (λ order. IsOriginText text.now (order_origin order)) }
     ensures refused { IfErr result (λ fault. (fault ≡ LineFault.BadOrigin)
-        × NothingIs (Spells None text.now)) }
+        × NothingIs (IsOriginText text.now)) }
 {
+    if text == TRANSFER {
+        return Ok(Order::Normalise(None));
+    }
     match Name::from_text(text.as_bytes(), None) {
-        Ok(origin) => Ok(Order::Normalise(origin)),
+        Ok(origin) => Ok(Order::Normalise(Some(origin))),
         Err(_) => Err(LineFault::BadOrigin),
     }
 }

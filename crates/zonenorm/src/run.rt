@@ -25,7 +25,10 @@ pub fn run<R: Read, W: Write, E: Write>(
         (E.contents errors.old) (E.contents errors.new) result }
 {
     match order {
-        Order::Normalise(origin) => run_normalise(alloc, Form::File(origin), input, output, errors),
+        Order::Normalise(Some(origin)) => {
+            run_normalise(alloc, Form::File(origin), input, output, errors)
+        }
+        Order::Normalise(None) => run_normalise(alloc, Form::Transfer, input, output, errors),
     }
 }
 

@@ -27,7 +27,7 @@ fn ends(
     text: &str,
     line: &str,
 ) -> Result<bool, Fail> {
-    let order = Order::Normalise(origin);
+    let order = Order::Normalise(Some(origin));
     let (mut written, mut errors) = (roomy(alloc)?, roomy(alloc)?);
     let mut reader = file.as_bytes();
     let answered = run(alloc, &order, &mut reader, &mut written, &mut errors);

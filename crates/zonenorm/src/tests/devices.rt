@@ -16,7 +16,7 @@ const FILE: &[u8] = b"x. 3600 IN NS n.x.\nx. 3600 IN SOA n.x. h.x. 1 2 3 4 5\n";
 const TEXT: &[u8] = b"x. 3600 IN SOA n.x. h.x. 1 2 3 4 5\nx. 3600 IN NS n.x.\n";
 
 fn order() -> Result<Order, Fail> {
-    Ok(Order::Normalise(Name::from_text(b"x.", None)?))
+    Ok(Order::Normalise(Some(Name::from_text(b"x.", None)?)))
 }
 
 /// A reader that answers an error after its octets.

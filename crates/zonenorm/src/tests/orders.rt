@@ -39,7 +39,7 @@ fn is_told(fault: &LineFault, given: Given) -> bool {
 impl Case for Line {
     fn is_right(&self, alloc: Global) -> Result<bool, Fail> {
         match (order_of(alloc, &words_of(alloc, self.0)?), self.1) {
-            (Ok(Order::Normalise(name)), Given::Origin(text)) => {
+            (Ok(Order::Normalise(Some(name))), Given::Origin(text)) => {
                 let mut spelling = Vec::new(alloc);
                 name.push_text(&mut spelling)?;
                 Ok(spelling.as_slice() == text)

@@ -1,6 +1,6 @@
 use Rattle.std.proofs.lemmas.Result.{MatchResult-weaker}
 use Rattle.zonenorm.specs.Input.{as_file}
-use Rattle.zonenorm.proofs.FedFiles.{file_begins}
+use Rattle.zonenorm.proofs.FedSources.{file_begins}
 use Rattle.zonenorm.proofs.engine.zone_of_file.Goals as goal
 
 pub returns-clause-zone : goal.returns-clause-zone

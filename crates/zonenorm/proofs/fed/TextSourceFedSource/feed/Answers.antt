@@ -1,5 +1,5 @@
 use Rattle.std.proofs.Common.{◌++◌}
-use Rattle.zonenorm.proofs.FedFiles.{stands_on}
+use Rattle.zonenorm.proofs.FedSources.{stands_on}
 use Rattle.zonenorm.proofs.fed.TextSourceFedSource.feed.Goals as goal
 
 pub returns-clause-stands : goal.returns-clause-stands

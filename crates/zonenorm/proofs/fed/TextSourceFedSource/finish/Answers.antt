@@ -1,4 +1,4 @@
-use Rattle.zonenorm.proofs.FedFiles.{stands_on}
+use Rattle.zonenorm.proofs.FedSources.{stands_on}
 use Rattle.zonenorm.proofs.fed.TextSourceFedSource.finish.Goals as goal
 
 pub returns-clause-stands : goal.returns-clause-stands

@@ -1,4 +1,4 @@
--- A source of a master file that goes on stands as a source of an input goes on.
+-- A source of a master file or of a transfer that begins, or goes on, does so as a source of an input.
 use Rattle.std.proofs.Common.{◌≡◌, List, [], Ok, Err, false, ap, ◌∙◌}
 use Rattle.std.specs.Prelude.{Option, None, Result, OnOk}
 use Rattle.zone_name.specs.Common.{Labels, Octets}
@@ -9,8 +9,9 @@ use Rattle.zone_rdata.specs.declared.fault.Stop.{Stop}
 use Rattle.zone_rdata.specs.declared.record.Placed.{Placed}
 use Rattle.zone_text.specs.Decided.{Decided}
 use Rattle.zone_text.specs.Source.{SourceState, Stands}
+use Rattle.zone_wire.specs.Source as wire
 use Rattle.zonenorm.specs.Input.{InputForm, as_file, as_transfer}
-use Rattle.zonenorm.specs.Machine.Fed.{FileStands}
+use Rattle.zonenorm.specs.Machine.Fed.{FileStands, TransferStands}
 use Rattle.zonenorm.specs.Machine.Taking.{Begins, nothing_pending}
 
 module _ (old new : SourceState) (more : Octets → Octets) where
@@ -22,6 +23,12 @@ module _ (old new : SourceState) (more : Octets → Octets) where
   stands_on (Ok x) on = each_form on
   stands_on (Err stop) on = tt
 
+pending_is : (pending : Pending) → pending.failed ≡ false → pending.records ≡ [] → pending.ending ≡ None → pending ≡ nothing_pending
+pending_is pending works empty whole =
+    ap (λ failed. record { failed = failed; records = pending.records; ending = pending.ending }) works
+    ∙ ap (λ records. record { failed = false; records = records; ending = pending.ending }) empty
+    ∙ ap (λ ending. record { failed = false; records = []; ending = ending }) whole
+
 -- a source of a file that was fed nothing begins
 pub file_begins : ((origin : Labels) (placed : List Placed) (ending : Option (Fault × Place)) → Decided origin [] placed ending → (placed ≡ []) × (ending ≡ None)) → (origin : Labels) (source : SourceState) → Stands origin source [] [] → source.held.finished ≡ false → Begins (FileStands (as_file origin)) source.pending source.held
 file_begins nothing origin source stands going =
@@ -30,9 +37,16 @@ file_begins nothing origin source stands going =
       stands = stands;
       nothing = pending_is source.pending stands.works none.0 none.1;
     }
-  where
-    pending_is : (pending : Pending) → pending.failed ≡ false → pending.records ≡ [] → pending.ending ≡ None → pending ≡ nothing_pending
-    pending_is pending works empty whole =
-        ap (λ failed. record { failed = failed; records = pending.records; ending = pending.ending }) works
-        ∙ ap (λ records. record { failed = false; records = records; ending = pending.ending }) empty
-        ∙ ap (λ ending. record { failed = false; records = []; ending = ending }) whole
+
+-- and so does one of a transfer
+pub transfer_begins : (source : wire.SourceState) → wire.Stands source [] [] → source.pending.records ≡ [] → source.pending.ending ≡ None → Begins (TransferStands as_transfer) source.pending source.held
+transfer_begins source stands empty whole = record { stands = stands; nothing = pending_is source.pending stands.works empty whole }
+
+module _ (old new : wire.SourceState) (more : Octets → Octets) where
+  each_transfer : ((fed : Octets) (given : List Placed) → wire.Stands old fed given → wire.Stands new (more fed) given) → (form : InputForm) (octets : Octets) (given : List Placed) → TransferStands form old.pending old.held octets given → TransferStands form new.pending new.held (more octets) given
+  each_transfer on (as_file origin) octets given never = never
+  each_transfer on as_transfer octets given stands = on octets given stands
+
+  pub transfer_stands_on : (r : Result (Unit {0}) Stop) → OnOk r ((fed : Octets) (given : List Placed) → wire.Stands old fed given → wire.Stands new (more fed) given) → OnOk r ((form : InputForm) (octets : Octets) (given : List Placed) → TransferStands form old.pending old.held octets given → TransferStands form new.pending new.held (more octets) given)
+  transfer_stands_on (Ok x) on = each_transfer on
+  transfer_stands_on (Err stop) on = tt
