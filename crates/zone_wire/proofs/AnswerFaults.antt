@@ -1,32 +1,26 @@
 -- The faults of answers are those at which their records stop being read.
-use Rattle.std.proofs.Common.{◌≡◌, ◌≢◌, ℕ, ◌+◌, ◌<◌, ◌≤◌, List, [], ◌∷◌, ◌++◌, length, refl, ap, sym, ◌∙◌, subst, Bool, true, false, nat_eq, inl, inr, arith, append_assoc}
-use Rattle.std.specs.Prelude.{get_or, ◌==◌, ◌&&◌, ◌⊎◌, not, Option, Some, None, Result, Ok, Err, if◌then◌else◌, ⊤}
-use Rattle.std.specs.List.{AllByRecursion, list_any}
+use Rattle.std.proofs.Common.{◌≡◌, ◌≢◌, ℕ, ◌+◌, ◌<◌, ◌≤◌, List, [], ◌∷◌, length, refl, ap, sym, ◌∙◌, subst, Bool, true, false, nat_eq, inl, inr, arith}
+use Rattle.std.specs.Prelude.{◌==◌, ◌&&◌, ◌⊎◌, not, Option, Some, None, Result, Ok, Err, if◌then◌else◌}
+use Rattle.std.specs.List.{list_any}
 use Rattle.std.proofs.lemmas.Bool.{cond-true, cond-false, and_parts, and_from, and_cases, eqb-true, eq-eqb, not-true, not-false, false_from_ne_true, true_from_ne_false}
-use Rattle.std.proofs.lemmas.List.{append-nil}
-use Rattle.zone_rdata.specs.Record.{Record, IsRecord}
+use Rattle.zone_rdata.specs.Record.{Record}
 use Rattle.zone_rdata.specs.Words.{IsClass, IsKind, is_meta}
 use Rattle.zone_rdata.specs.declared.fault.Fault.{Fault}
 use Rattle.zone_rdata.specs.declared.fault.Fault.TheVariants.{BadClass, MetaType, CompressibleType, AfterClosing, NoOpeningSoa, BadQuestion, SoaMismatch}
-use Rattle.zone_rdata.specs.declared.fault.Place.TheVariants.{Message}
 use Rattle.zone_rdata.specs.declared.record.Placed.{Placed}
 use Rattle.zone_rdata.proofs.ValueLaws.{held_data, stringless_short}
-use Rattle.zone_wire.specs.AnswerFault.{OwnFault, of_class, of_kind, unread, of_data, OrderFault, closed, no_soa, other_zone, other_soa, AnswerFault, own, of_order, FirstAnswerFault}
-use Rattle.zone_wire.specs.Answers.{Zone, zone_of, AgreeWith, is_closed, StandsBehind, opens, follows, StandInOrder}
-use Rattle.zone_wire.specs.Machine.Answers.{same_name, same_record, is_no_class, record_of, agrees, order_fault, answer_of, Answered, before_others, answers_of}
+use Rattle.zone_wire.specs.AnswerFault.{OwnFault, of_class, of_kind, unread, of_data, OrderFault, closed, no_soa, other_zone, other_soa}
+use Rattle.zone_wire.specs.Answers.{Zone, zone_of, AgreeWith, StandsBehind, opens, follows}
+use Rattle.zone_wire.specs.Machine.Answers.{same_name, same_record, is_no_class, record_of, agrees, order_fault}
 use Rattle.zone_wire.specs.Machine.Data.{data_at}
-use Rattle.zone_wire.specs.Message.{u16_at, QuestionAt, RecordAt, IsRecordAt, AreRecordsAt}
-use Rattle.zone_wire.specs.Transfer.{ttl_of, compressible, IsReadable, StatesRecord, StateEach}
-use Rattle.zone_wire.proofs.Answering.{holds_data, none_of, names_same, record_is_read, records_same}
+use Rattle.zone_wire.specs.Message.{u16_at, QuestionAt, RecordAt, IsRecordAt}
+use Rattle.zone_wire.specs.Transfer.{ttl_of, compressible, IsReadable, StatesRecord}
+use Rattle.zone_wire.proofs.Answering.{holds_data, none_of, names_same, records_same}
 use Rattle.zone_wire.proofs.DataFaults.{data_faults, data_refuses}
-use Rattle.zone_wire.proofs.Fielding.{data_reads}
 use Rattle.zone_wire.proofs.MessageFaults.{err_same, some_same, stops, and_then_err, faulted, unequal_by, differs}
-use Rattle.zone_wire.proofs.ReadAnswers.{each_other, record_shown, agree_parts, records_equal, answer_shown}
+use Rattle.zone_wire.proofs.ReadAnswers.{each_other, record_shown, agree_parts, records_equal}
 use Rattle.zone_wire.proofs.ReadRecords.{no_class_parts, record_fits}
-use Rattle.zone_wire.proofs.Sectioning.{and_then_ok}
-
-abbrev pub Bytes : List ℕ → Type 0
-Bytes octets = (k : ℕ) → get_or octets k 0 < 256
+pub use Rattle.zone_wire.proofs.ReadStreams.{Bytes}
 
 -- a test that refuses, or the rest does
 refused_or : {X : Type 0} (test : Bool) (fault other : Fault) (rest : Result X Fault) → (if test then Err fault else rest) ≡ Err other → ((test ≡ true) × (fault ≡ other)) ⊎ ((test ≡ false) × (rest ≡ Err other))

@@ -1,20 +1,18 @@
--- The answers of a message are read as the records that they state.
+-- The answer of a message is read as the record that it states, and in the order of a transfer.
 use Rattle.std.proofs.Common.{◌≡◌, ◌≢◌, ℕ, ◌≤◌, List, [], ◌∷◌, ◌++◌, length, refl, ap, sym, ◌∙◌, Bool, true, false, nat_eq, arith}
-use Rattle.std.specs.Prelude.{◌==◌, ◌&&◌, ◌||◌, not, Option, Some, None, Result, Ok, Err, ⊤}
+use Rattle.std.specs.Prelude.{◌==◌, ◌&&◌, ◌||◌, not, None, Ok, ⊤}
 use Rattle.std.specs.List.{AllByRecursion, list_any}
 use Rattle.std.specs.Cmp.Lexicographic.{pointwise, pointwise_decides, bytes_decides}
 use Rattle.std.proofs.lemmas.Bool.{cond-true, cond-false, eq-eqb, and_from, or_from}
 use Rattle.std.proofs.lemmas.Bool.Decides.{nat_tests}
 use Rattle.zone_rdata.specs.Record.{Record}
 use Rattle.zone_rdata.specs.Words.{IsClass, is_meta}
-use Rattle.zone_rdata.specs.declared.fault.Fault.{Fault}
-use Rattle.zone_rdata.specs.declared.fault.Place.TheVariants.{Message}
 use Rattle.zone_rdata.specs.declared.record.Placed.{Placed}
-use Rattle.zone_wire.specs.Machine.Answers.{same_name, same_record, is_no_class, record_of, agrees, order_fault, answer_of, Answered, before_others, answers_of}
+use Rattle.zone_wire.specs.Machine.Answers.{same_name, same_record, is_no_class, record_of, agrees, order_fault}
 use Rattle.zone_wire.specs.Answers.{zone_of}
 use Rattle.zone_wire.specs.Machine.Data.{data_at}
-use Rattle.zone_wire.specs.Message.{QuestionAt, RecordAt, AreRecordsAt}
-use Rattle.zone_wire.specs.Transfer.{ttl_of, compressible, StatesRecord, StateEach, AsksFor}
+use Rattle.zone_wire.specs.Message.{QuestionAt, RecordAt}
+use Rattle.zone_wire.specs.Transfer.{ttl_of, compressible, StatesRecord, AsksFor}
 use Rattle.zone_wire.proofs.Fielding.{data_reads}
 use Rattle.zone_wire.proofs.Sectioning.{and_then_ok}
 
@@ -79,29 +77,3 @@ order_is_kept zone questions [] p ask follows =
     cond-false _ _ _ (ap not (eq-eqb p.rr.kind 6 (ap (λ (r : Record). r.kind) follows.0 ∙ follows.1)))
     ∙ cond-true _ _ _ (zone_agrees zone questions [] p.rr.owner p.rr.class ask tt (ap (λ (r : Record). r.owner) follows.0) (ap (λ (r : Record). r.class) follows.0))
 order_is_kept zone questions (opening ∷ others) p ask follows = cond-false _ _ _ follows.0 ∙ cond-false _ _ _ follows.1
-
-unfaulted : (r : Record) (fault : Option Fault) → fault ≡ None → (let x : Result Record Fault = elim fault [ Some f ↦ Err f | None ↦ Ok r ] in x) ≡ Ok r
-unfaulted r None e = refl
-unfaulted r (Some f) e = cc
-
-answer_is_read : (zone : Record) (octets : List ℕ) (questions : List QuestionAt) (before : List Placed) (a : RecordAt) (p : Placed) → a.end ≤ length octets → AllByRecursion (AsksFor zone) questions → StatesRecord octets a p.rr → Follows zone before p → answer_of octets questions before a ≡ Ok p.rr
-unfolding answer_of
-answer_is_read zone octets questions before a p within ask states follows =
-    and_then_ok (record_of octets a) p.rr _ (record_is_read octets a p.rr within states) ∙ unfaulted p.rr (order_fault questions before p.rr) (order_is_kept zone questions before p ask follows)
-
-abbrev pub all_read : {E : Type 0} → List Placed → Answered E
-all_read placed = record { placed = placed; fault = None }
-
--- an answer that is read, and those after it
-read_before : (number offset : ℕ) (p : Placed) (placed : List Placed) (next : Placed → Answered (Fault × ℕ)) → p.place ≡ Message number offset → next p ≡ all_read placed → before_others number offset (Ok p.rr) next ≡ all_read (p ∷ placed)
-read_before number offset p placed next place e =
-    ap (λ x. let q : Placed = record p { place = x } in record (next q) { placed = q ∷ (next q).placed }) (sym place) ∙ ap (λ (x : Answered (Fault × ℕ)). record x { placed = p ∷ x.placed }) e
-
-pub answers_are_read : (zone : Record) (number : ℕ) (octets : List ℕ) (questions : List QuestionAt) (offset end : ℕ) (answers : List RecordAt) (before placed : List Placed) → AllByRecursion (AsksFor zone) questions → AreRecordsAt octets offset answers end → StateEach number octets answers placed → InOrder zone before placed → answers_of number octets questions before answers ≡ all_read placed
-answers_are_read zone number octets questions offset end [] before [] ask are states order = refl
-answers_are_read zone number octets questions offset end [] before (p ∷ placed) ask are states order = absurd states
-answers_are_read zone number octets questions offset end (a ∷ answers) before [] ask are states order = absurd states
-answers_are_read zone number octets questions offset end (a ∷ answers) before (p ∷ placed) ask are states order =
-    let next = λ (q : Placed). answers_of number octets questions (before ++ q ∷ []) answers in
-    ap (λ r. before_others number a.offset r next) (answer_is_read zone octets questions before a p are.0.inside ask states.0 order.0)
-    ∙ read_before number a.offset p placed next states.1 (answers_are_read zone number octets questions a.end end answers (before ++ p ∷ []) placed ask are.1 states.2 order.1)

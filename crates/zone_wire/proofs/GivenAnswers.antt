@@ -1,5 +1,5 @@
 -- The records of a message's answers up to the first that has a fault are those that are read.
-use Rattle.std.proofs.Common.{◌≡◌, ℕ, ◌<◌, ◌≤◌, List, [], ◌∷◌, ◌++◌, length, refl, ap, sym, ◌∙◌, subst, inl, inr, append_assoc}
+use Rattle.std.proofs.Common.{◌≡◌, ℕ, ◌≤◌, List, [], ◌∷◌, ◌++◌, length, refl, ap, sym, ◌∙◌, subst, inl, inr, append_assoc}
 use Rattle.std.specs.Prelude.{Option, Some, None, Result, Ok, Err}
 use Rattle.std.specs.List.{AllByRecursion}
 use Rattle.std.proofs.lemmas.List.{append-nil}
@@ -12,10 +12,11 @@ use Rattle.zone_wire.specs.Answers.{StandsBehind, StandInOrder}
 use Rattle.zone_wire.specs.Machine.Answers.{record_of, order_fault, answer_of, Answered, before_others, answers_of}
 use Rattle.zone_wire.specs.Message.{QuestionAt, RecordAt, IsRecordAt, AreRecordsAt}
 use Rattle.zone_wire.specs.Transfer.{StatesRecord, StateEach}
-use Rattle.zone_wire.proofs.AnswerFaults.{Bytes, own_faults, own_refuses, own_states, order_faults, order_refuses, order_stands, stands_unrefused}
+use Rattle.zone_wire.proofs.AnswerFaults.{own_faults, own_refuses, own_states, order_faults, order_refuses, order_stands, stands_unrefused}
 use Rattle.zone_wire.proofs.Answering.{record_is_read}
 use Rattle.zone_wire.proofs.MessageFaults.{err_same, stops, and_then_err}
 use Rattle.zone_wire.proofs.ReadAnswers.{answer_shown}
+use Rattle.zone_wire.proofs.ReadStreams.{Bytes, all_front}
 use Rattle.zone_wire.proofs.Sectioning.{and_then_ok}
 
 -- it stands somewhere
@@ -119,10 +120,6 @@ front_read number octets questions (a ∷ front) rest before (p ∷ placed) more
     ∙ ap (λ x. let q : Placed = record p { place = x } in record (next q) { placed = q ∷ (next q).placed }) (sym states.1)
     ∙ ap (λ (x : Answered (Fault × ℕ)). record x { placed = p ∷ x.placed }) after
 
-pub all_parts : {X : Type 0} (P : X → Type 0) (xs ys : List X) → AllByRecursion P (xs ++ ys) → AllByRecursion P xs × AllByRecursion P ys
-all_parts P [] ys each = (tt, each)
-all_parts P (x ∷ xs) ys each = let rest = all_parts P xs ys each.1 in ((each.0, rest.0), rest.1)
-
 -- the records that are given are read
 pub answers_given : (number : ℕ) (octets : List ℕ) (questions : List QuestionAt) (before : List Placed) (answers : List RecordAt) (placed : List Placed) → AllByRecursion (Stands octets) answers → StateEach number octets answers placed → StandInOrder questions before placed → answers_of number octets questions before answers ≡ found placed None
 answers_given number octets questions before answers placed at states order =
@@ -130,7 +127,7 @@ answers_given number octets questions before answers placed at states order =
 
 pub fault_given : (number : ℕ) (octets : List ℕ) (questions : List QuestionAt) (before : List Placed) (answers : List RecordAt) (placed : List Placed) (fault : Fault) (offset : ℕ) → Bytes octets → length octets ≤ 65535 → AllByRecursion (Stands octets) answers → FirstAnswerFault number octets questions before answers placed fault offset → answers_of number octets questions before answers ≡ found placed (Some (fault, offset))
 fault_given number octets questions before answers placed fault offset each few at is =
-    let parts = all_parts (Stands octets) is.front (is.answer ∷ is.rest) (subst (AllByRecursion (Stands octets)) is.parts at) in
+    let parts = all_front (Stands octets) is.front (is.answer ∷ is.rest) (subst (AllByRecursion (Stands octets)) is.parts at) in
     let next = λ (q : Placed). answers_of number octets questions ((before ++ placed) ++ q ∷ []) is.rest in
     let last : answers_of number octets questions (before ++ placed) (is.answer ∷ is.rest) ≡ found [] (Some (fault, offset)) =
     ap (λ r. before_others number is.answer.offset r next) (answer_refuses octets each few questions (before ++ placed) is.answer fault parts.1.0 is.next)

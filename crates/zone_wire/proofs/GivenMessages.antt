@@ -1,7 +1,7 @@
 -- The records of messages up to the first fault are those that are read.
-use Rattle.std.proofs.Common.{◌≡◌, ◌≢◌, ℕ, ◌+◌, ◌<◌, ◌≤◌, List, [], ◌∷◌, ◌++◌, length, refl, ap, sym, ◌∙◌, subst, Bool, true, false, inl, inr, append_assoc}
-use Rattle.std.specs.Prelude.{map, ◌==◌, ◌&&◌, ◌⊎◌, Option, Some, None, MatchOption, Result, Ok, Err, if◌then◌else◌}
-use Rattle.std.specs.List.{flat_map, AllByRecursion}
+use Rattle.std.proofs.Common.{◌≡◌, ℕ, ◌+◌, ◌≤◌, List, [], ◌∷◌, ◌++◌, length, refl, ap, sym, ◌∙◌, subst, Bool, true, false, inl, inr, append_assoc}
+use Rattle.std.specs.Prelude.{◌==◌, ◌&&◌, ◌⊎◌, Option, Some, None, Result, Ok, Err, if◌then◌else◌}
+use Rattle.std.specs.List.{AllByRecursion}
 use Rattle.std.proofs.lemmas.Bool.{cond-true, cond-false, and_parts, and_from, eqb-true, eq-eqb, false_from_ne_true}
 use Rattle.std.proofs.lemmas.List.{append-nil, length-map, map-append}
 use Rattle.std.proofs.lemmas.List.Concat.{flat_map-append}
@@ -10,18 +10,19 @@ use Rattle.zone_rdata.specs.declared.fault.Fault.TheVariants.{IdMismatch, BadQue
 use Rattle.zone_rdata.specs.declared.fault.Place.{Place}
 use Rattle.zone_rdata.specs.declared.fault.Place.TheVariants.{Message}
 use Rattle.zone_rdata.specs.declared.record.Placed.{Placed}
-use Rattle.zone_wire.specs.Answers.{Zone, zone_of, AgreeWith, questions_of}
+use Rattle.zone_wire.specs.Answers.{zone_of, questions_of}
 use Rattle.zone_wire.specs.Machine.Answers.{agrees, Answered, answers_of}
 use Rattle.zone_wire.specs.Machine.Sections.{and_then, sections_of}
-use Rattle.zone_wire.specs.Machine.Stream.{has_first_id, ask_for_zone, message_of, at_message, unless_refused, followed_by, records_of}
+use Rattle.zone_wire.specs.Machine.Stream.{has_first_id, ask_for_zone, message_of, unless_refused, followed_by, records_of}
 use Rattle.zone_wire.specs.Message.{QuestionAt, Sections, IsMessage}
 use Rattle.zone_wire.specs.MessageFault.{MessageFault}
-use Rattle.zone_wire.specs.Stream.{octets_in, sections_in, asked_in, placed_in, HasFirstId, AsksIn, AskBehind, IsMessageBehind, IsReadBehind, AreRead, FaultBehind, of_structure, of_id, of_questions, of_answers, AllRead, ReadUpTo, ReadBehind}
-use Rattle.zone_wire.specs.Transfer.{StatedMessage, StateEach}
-use Rattle.zone_wire.proofs.AnswerFaults.{Bytes, agrees_by, agrees_true}
-use Rattle.zone_wire.proofs.GivenAnswers.{Stands, each_stands, Give, answers_give, answers_given, fault_given, found}
+use Rattle.zone_wire.specs.Stream.{octets_in, sections_in, asked_in, placed_in, HasFirstId, AsksIn, AskBehind, IsMessageBehind, IsReadBehind, AreRead, FaultBehind, of_structure, of_id, of_questions, of_answers, ReadBehind}
+use Rattle.zone_wire.specs.Transfer.{StatedMessage}
+use Rattle.zone_wire.proofs.AnswerFaults.{agrees_by, agrees_true}
+use Rattle.zone_wire.proofs.GivenAnswers.{each_stands, Give, answers_give, answers_given, fault_given, found}
 use Rattle.zone_wire.proofs.MessageFaults.{err_same, stops, and_then_err, fails, sections_fault, sections_refuse}
 use Rattle.zone_wire.proofs.ReadSections.{leads, passes, ok_same, sections_shown}
+use Rattle.zone_wire.proofs.ReadStreams.{Bytes}
 use Rattle.zone_wire.proofs.Sectioning.{and_then_ok, sections_read}
 
 -- the ID of a message behind others
@@ -79,8 +80,9 @@ module _ (questions : List QuestionAt) (placed : List Placed) where
   ask_fault : (s : Sections) (qs : List QuestionAt) (e : Fault × ℕ) → ask_for_zone questions placed s qs ≡ Err e → (e ≡ (BadQuestion, 12)) × (AllByRecursion Asks qs → ⊥)
   ask_fault s [] e h = cc
   ask_fault s (q ∷ qs) e h = elim (stop_here (asks q) (ask_for_zone questions placed s qs) (BadQuestion, 12) e h) [
-      inl k ↦ (let rest = ask_fault s qs e k.1 in (rest.0, λ each. rest.1 each.1))
-    | inr k ↦ (sym k.1, λ each. let yes : asks q ≡ true = asks_true q each.0 in let none = k.0 in cc) ]
+    | inl k ↦ (let rest = ask_fault s qs e k.1 in (rest.0, λ each. rest.1 each.1))
+    | inr k ↦ (sym k.1, λ each. let yes : asks q ≡ true = asks_true q each.0 in let none = k.0 in cc)
+  ]
 
   ask_refused : (s : Sections) (qs : List QuestionAt) → (AllByRecursion Asks qs → ⊥) → ask_for_zone questions placed s qs ≡ Err (BadQuestion, 12)
   ask_refused s qs none = by (ask_for_zone questions placed s qs) refl
@@ -115,12 +117,14 @@ message_is before octets s each e =
 pub message_faults : (before : List StatedMessage) (octets : List ℕ) (e : Fault × ℕ) → Bytes octets → message_of (sections_in before) (placed_in before) octets ≡ Err e → FaultBehind before octets [] e.0 e.1
 unfolding message_of
 message_faults before octets e each h = elim (stops (sections_of octets) _ e h) [
-    inl k ↦ of_structure e.0 e.1 (sections_fault octets each e.0 e.1 k)
+  | inl k ↦ of_structure e.0 e.1 (sections_fault octets each e.0 e.1 k)
   | inr k ↦ (let s : Sections = k.0 in let is : IsMessage octets s = sections_shown octets s each k.1.0 in elim (stops (has_first_id (sections_in before) s) _ e k.1.1) [
-      inl i ↦ (let f = id_fault before s e i in subst (λ (x : Fault × ℕ). FaultBehind before octets [] x.0 x.1) (sym f.0) (of_id s is f.1))
+    | inl i ↦ (let f = id_fault before s e i in subst (λ (x : Fault × ℕ). FaultBehind before octets [] x.0 x.1) (sym f.0) (of_id s is f.1))
     | inr i ↦ (let same = id_is before s i.0 i.1.0 in
         let f = ask_fault (asked_in before) (placed_in before) i.0 i.0.questions e i.1.1 in
-        subst (λ (x : Fault × ℕ). FaultBehind before octets [] x.0 x.1) (sym f.0) (of_questions i.0 (subst (IsMessage octets) same.0 is) (subst (HasFirstId before) same.0 same.1) f.1)) ]) ]
+        subst (λ (x : Fault × ℕ). FaultBehind before octets [] x.0 x.1) (sym f.0) (of_questions i.0 (subst (IsMessage octets) same.0 is) (subst (HasFirstId before) same.0 same.1) f.1))
+  ])
+]
 
 abbrev pub Finds : Type 0
 Finds = Answered (Fault × Place)

@@ -1,6 +1,6 @@
 -- What a stream is read as is what is found in it, and records.
-use Rattle.std.proofs.Common.{◌≡◌, ◌≢◌, ℕ, ◌+◌, ◌<◌, ◌≤◌, List, [], ◌∷◌, ◌++◌, length, refl, ap, sym, ◌∙◌, subst, Bool, true, false, arith}
-use Rattle.std.specs.Prelude.{get_or, Option, Some, None, MatchOption}
+use Rattle.std.proofs.Common.{◌≡◌, ℕ, ◌+◌, ◌≤◌, List, [], ◌∷◌, ◌++◌, length, refl, ap, sym, ◌∙◌, subst, Bool, true, false}
+use Rattle.std.specs.Prelude.{Option, Some, None, MatchOption}
 use Rattle.std.specs.List.{flat_map, AllByRecursion}
 use Rattle.std.proofs.lemmas.Bool.{cond-true, cond-false}
 use Rattle.std.proofs.lemmas.List.{append-nil}
@@ -10,17 +10,14 @@ use Rattle.zone_rdata.specs.declared.fault.Place.{Place}
 use Rattle.zone_rdata.specs.declared.fault.Place.TheVariants.{Message}
 use Rattle.zone_rdata.specs.declared.record.Placed.{Placed}
 use Rattle.zone_wire.specs.Answers.{is_closed, handed_on}
-use Rattle.zone_wire.specs.Machine.Answers.{Answered}
 use Rattle.zone_wire.specs.Machine.Stream.{records_of, end_fault, ending_of, FindsReading, FindsDecision}
 use Rattle.zone_wire.specs.Message.{RecordAt}
 use Rattle.zone_wire.specs.Stream.{octets_in, placed_in, AreRead, FaultBehind, of_structure, of_id, of_questions, of_answers, ReadBehind, StreamEnd, in_frame, unclosed, closed, StreamReads, Decided}
 use Rattle.zone_wire.specs.Transfer.{StatedMessage, StateEach, frame}
 use Rattle.zone_wire.proofs.Accepting.{all_append}
-use Rattle.zone_wire.proofs.AnswerFaults.{Bytes}
-use Rattle.zone_wire.proofs.GivenAnswers.{all_parts}
 use Rattle.zone_wire.proofs.GivenMessages.{Finds, finds, parts_read, fault_read, records_show}
 use Rattle.zone_wire.proofs.ReadRecords.{handed_fit}
-use Rattle.zone_wire.proofs.ReadStreams.{front_bytes, message_bytes}
+use Rattle.zone_wire.proofs.ReadStreams.{Bytes, all_front, front_bytes, message_bytes}
 
 -- how a stream ends
 end_shows : (number : ℕ) (placed : List Placed) (rest : List ℕ) → StreamEnd number placed rest (end_fault number placed rest)
@@ -57,8 +54,8 @@ reading_is messages placed None each few is =
     let e : records_of [] [] (octets_in is.parts ++ []) ≡ finds (placed_in is.parts ++ []) None = parts_read [] is.parts [] [] None is.read refl in
     ap (records_of [] []) (is.whole ∙ sym (append-nil (octets_in is.parts))) ∙ e ∙ ap (λ x. finds x None) (append-nil (placed_in is.parts) ∙ sym is.stated)
 reading_is messages placed (Some e) each few is =
-    let bytes = all_parts Bytes (octets_in is.parts) (is.octets ∷ is.rest) (subst (AllByRecursion Bytes) is.whole each) in
-    let short = all_parts (λ octets. length octets ≤ 65535) (octets_in is.parts) (is.octets ∷ is.rest) (subst (AllByRecursion (λ octets. length octets ≤ 65535)) is.whole few) in
+    let bytes = all_front Bytes (octets_in is.parts) (is.octets ∷ is.rest) (subst (AllByRecursion Bytes) is.whole each) in
+    let short = all_front (λ octets. length octets ≤ 65535) (octets_in is.parts) (is.octets ∷ is.rest) (subst (AllByRecursion (λ octets. length octets ≤ 65535)) is.whole few) in
     let last = fault_read is.parts is.octets is.rest is.here is.fault is.offset bytes.1.0 short.1.0 is.next in
     let first : Option (Fault × Place) = Some (is.fault, Message (length is.parts + 1) is.offset) in
     ap (records_of [] []) is.whole

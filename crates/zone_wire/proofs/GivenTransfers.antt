@@ -1,6 +1,6 @@
 -- A transfer is read as its records.
-use Rattle.std.proofs.Common.{◌≡◌, ℕ, ◌+◌, List, [], ◌∷◌, ◌++◌, length, refl, ap, sym, ◌∙◌, subst, true, arith, append_assoc, length-append, lit<}
-use Rattle.std.specs.Prelude.{◌==◌, None}
+use Rattle.std.proofs.Common.{◌≡◌, ℕ, ◌+◌, List, [], ◌∷◌, ◌++◌, length, refl, ap, sym, ◌∙◌, subst, true, arith, length-append, lit<}
+use Rattle.std.specs.Prelude.{None}
 use Rattle.std.specs.List.{flat_map, AllByRecursion, list_any}
 use Rattle.std.proofs.lemmas.Bool.{eq-eqb, or_left, or_right}
 use Rattle.std.proofs.lemmas.List.{append-nil}
@@ -8,7 +8,7 @@ use Rattle.zone_rdata.specs.Record.{Record}
 use Rattle.zone_rdata.specs.declared.record.Placed.{Placed}
 use Rattle.zone_wire.specs.Answers.{zone_of, is_closed, handed_on, StandInOrder}
 use Rattle.zone_wire.specs.Message.{QuestionAt, Sections}
-use Rattle.zone_wire.specs.Stream.{octets_in, sections_in, asked_in, placed_in, HasFirstId, AsksIn, IsReadBehind, AreRead, closed, StreamReads}
+use Rattle.zone_wire.specs.Stream.{octets_in, asked_in, placed_in, HasFirstId, AsksIn, IsReadBehind, AreRead, closed, StreamReads}
 use Rattle.zone_wire.specs.Transfer.{StatedMessage, IsStatedMessage, AreStatedMessages, AsksFor, StateEach, frame, StreamStates}
 use Rattle.zone_wire.proofs.Accepting.{all_append, in_order_parts, opens_more, any_append, rest_in_order, framed_parts, short_parts, handed_transfer}
 use Rattle.zone_wire.proofs.AnswerFaults.{agrees_by, order_stands}
@@ -44,13 +44,14 @@ parts_are_read id zone (p ∷ parts) before number count are ids asked opens ord
     let orders = in_order_parts zone (placed_in before) p.placed (placed_in parts) order in
     let s = p.sections in
     let questions : asked_in before ++ s.questions ≡ asked_in (before ++ p ∷ []) = sym (asked_grow before s) ∙ ap (flat_map (λ (t : Sections). t.questions)) (sections_grow before p) in
-    let placed = placed_grow before p in
-    (stated_is_read id zone number before p count are.0 ids asked opens orders.0,
-    parts_are_read id zone parts (before ++ p ∷ []) (number + 1) (omega (arith, count, length-append before (p ∷ []))) are.1
-    (all_append (λ (q : StatedMessage). q.sections.id ≡ id) before (p ∷ []) ids (are.0.same_id, tt))
-    (subst (AllByRecursion (AsksFor zone)) questions (all_append (AsksFor zone) (asked_in before) s.questions asked are.0.questions))
-    (subst (OpensWith zone) placed (opens_more zone (placed_in before) p.placed opens orders.0))
-    (subst (λ x. InOrder zone x (placed_in parts)) placed orders.1))
+    let placed = placed_grow before p in (
+      stated_is_read id zone number before p count are.0 ids asked opens orders.0,
+      parts_are_read id zone parts (before ++ p ∷ []) (number + 1) (omega (arith, count, length-append before (p ∷ []))) are.1
+          (all_append (λ (q : StatedMessage). q.sections.id ≡ id) before (p ∷ []) ids (are.0.same_id, tt))
+          (subst (AllByRecursion (AsksFor zone)) questions (all_append (AsksFor zone) (asked_in before) s.questions asked are.0.questions))
+          (subst (OpensWith zone) placed (opens_more zone (placed_in before) p.placed opens orders.0))
+          (subst (λ x. InOrder zone x (placed_in parts)) placed orders.1),
+    )
 
 -- a transfer is read as its records
 pub transfer_reads : (stream : List ℕ) (placed : List Placed) → StreamStates stream placed → StreamReads stream placed None

@@ -1,4 +1,5 @@
 pub mod Accepting
+pub mod AlikeMessages
 pub mod AnswerFaults
 pub mod Answering
 pub mod Carrying
@@ -9,6 +10,7 @@ pub mod Ends
 pub mod FieldReading
 pub mod Feeding
 pub mod Fielding
+pub mod FrameLaws
 pub mod Frames
 pub mod GivenAnswers
 pub mod GivenMessages

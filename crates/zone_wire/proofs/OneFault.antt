@@ -1,8 +1,8 @@
 -- Data and answers have one first fault, and none where they have a value.
-use Rattle.std.proofs.Common.{◌≡◌, ◌≢◌, ℕ, ◌+◌, ◌<◌, ◌≤◌, List, [], ◌∷◌, ◌++◌, length, refl, ap, sym, ◌∙◌, subst, Bool, true, false, nat_eq, nat_lt, inl, inr, arith}
-use Rattle.std.specs.Prelude.{◌&&◌, ◌⊎◌, not, Option, Some, None, MatchOption, Result, Ok, Err, if◌then◌else◌}
-use Rattle.std.specs.List.{AllByRecursion, list_any}
-use Rattle.std.proofs.lemmas.Bool.{cond-true, cond-false, and_parts, and_from, ltb-true, lt-ltb, not-true, not-false, false_from_ne_true, true_from_ne_false}
+use Rattle.std.proofs.Common.{◌≡◌, ℕ, ◌<◌, ◌≤◌, List, [], ◌∷◌, length, refl, ap, sym, ◌∙◌, subst, Bool, true, false, nat_eq, nat_lt, inl, inr, arith}
+use Rattle.std.specs.Prelude.{◌&&◌, ◌⊎◌, not, Option, Some, None, MatchOption, if◌then◌else◌}
+use Rattle.std.specs.List.{list_any}
+use Rattle.std.proofs.lemmas.Bool.{cond-true, cond-false, and_parts, and_from, ltb-true, lt-ltb, not-true, false_from_ne_true, true_from_ne_false}
 use Rattle.zone_rdata.specs.Field.{FieldValue, name, HoldEach}
 use Rattle.zone_rdata.specs.Layout.{layout, StringsLast}
 use Rattle.zone_rdata.specs.Record.{Record}
@@ -17,9 +17,6 @@ use Rattle.zone_wire.specs.AnswerFault.{OwnFault, of_class, of_kind, unread, of_
 use Rattle.zone_wire.specs.Answers.{StandsBehind}
 use Rattle.zone_wire.specs.DataFault.{HasValueAt, FieldFault, FieldsFault, DataFault}
 use Rattle.zone_wire.specs.Machine.Answers.{is_no_class, order_fault}
-use Rattle.zone_wire.specs.Machine.Data.{value_at}
-use Rattle.zone_wire.specs.Machine.Finding.{refused, outcome}
-use Rattle.zone_wire.specs.Machine.Walk.{walk}
 use Rattle.zone_wire.specs.Message.{QuestionAt, RecordAt}
 use Rattle.zone_wire.specs.Name.{Found, IsNameAt}
 use Rattle.zone_wire.specs.Transfer.{octets_between, StandEach, AreFieldsAt, IsDataAt, compressible, IsReadable, StatesRecord}

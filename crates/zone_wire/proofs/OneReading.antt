@@ -1,9 +1,8 @@
 -- Messages are read in one way, and more messages only go on.
 use Rattle.std.proofs.Common.{◌≡◌, ℕ, ◌+◌, ◌≤◌, List, [], ◌∷◌, ◌++◌, length, refl, ap, sym, ◌∙◌, subst, inl, inr, arith, append_assoc, length-append}
-use Rattle.std.specs.Prelude.{◌⊎◌, Option, Some, None, Result, Ok, Err}
+use Rattle.std.specs.Prelude.{◌⊎◌, Option, Some, None, Err}
 use Rattle.std.specs.List.{AllByRecursion}
 use Rattle.std.proofs.lemmas.List.{append-nil}
-use Rattle.zone_rdata.specs.Record.{Record}
 use Rattle.zone_rdata.specs.declared.fault.Fault.{Fault}
 use Rattle.zone_rdata.specs.declared.fault.Place.{Place}
 use Rattle.zone_rdata.specs.declared.fault.Place.TheVariants.{Message}
@@ -12,7 +11,7 @@ use Rattle.zone_wire.specs.AnswerFault.{AnswerFault, FirstAnswerFault}
 use Rattle.zone_wire.specs.Answers.{StandsBehind, StandInOrder}
 use Rattle.zone_wire.specs.Machine.Stream.{message_of}
 use Rattle.zone_wire.specs.Message.{QuestionAt, RecordAt, Sections}
-use Rattle.zone_wire.specs.Stream.{octets_in, sections_in, asked_in, placed_in, IsMessageBehind, IsReadBehind, AreRead, FaultBehind, of_structure, of_id, of_questions, of_answers, AllRead, ReadUpTo, ReadBehind}
+use Rattle.zone_wire.specs.Stream.{octets_in, sections_in, asked_in, placed_in, IsMessageBehind, IsReadBehind, AreRead, FaultBehind, of_structure, of_id, of_questions, of_answers, ReadBehind}
 use Rattle.zone_wire.specs.Transfer.{StatedMessage, StatesRecord, StateEach}
 use Rattle.zone_wire.proofs.GivenAnswers.{Stands, each_stands, Give}
 use Rattle.zone_wire.proofs.GivenMessages.{message_kept, fault_of_structure, id_fault_of, questions_fault_of}
@@ -173,23 +172,23 @@ one_read before p q e is too =
     same_part p q e sections placed
 
 -- the first of messages is read, and the others give the rest
-record ReadsOne (before : List StatedMessage) (octets : List ℕ) (messages : List (List ℕ)) (placed : List Placed) (ending : Option (Fault × Place)) : Type 0 where
-  p : StatedMessage
-  others : List Placed
-  same : p.octets ≡ octets
-  read : IsReadBehind before p
-  is : placed ≡ p.placed ++ others
-  rest : ReadBehind (before ++ p ∷ []) messages others ending
+pub record ReadsOne (before : List StatedMessage) (octets : List ℕ) (messages : List (List ℕ)) (placed : List Placed) (ending : Option (Fault × Place)) : Type 0 where
+  pub p : StatedMessage
+  pub others : List Placed
+  pub same : p.octets ≡ octets
+  pub read : IsReadBehind before p
+  pub is : placed ≡ p.placed ++ others
+  pub rest : ReadBehind (before ++ p ∷ []) messages others ending
 
-record Refuses (before : List StatedMessage) (octets : List ℕ) (placed : List Placed) (ending : Option (Fault × Place)) : Type 0 where
-  here : List Placed
-  fault : Fault
-  offset : ℕ
-  has : FaultBehind before octets here fault offset
-  is : placed ≡ here
-  place : ending ≡ Some (fault, Message (length before + 1) offset)
+pub record Refuses (before : List StatedMessage) (octets : List ℕ) (placed : List Placed) (ending : Option (Fault × Place)) : Type 0 where
+  pub here : List Placed
+  pub fault : Fault
+  pub offset : ℕ
+  pub has : FaultBehind before octets here fault offset
+  pub is : placed ≡ here
+  pub place : ending ≡ Some (fault, Message (length before + 1) offset)
 
-abbrev FirstRead : List StatedMessage → List ℕ → List (List ℕ) → List Placed → Option (Fault × Place) → Type 0
+abbrev pub FirstRead : List StatedMessage → List ℕ → List (List ℕ) → List Placed → Option (Fault × Place) → Type 0
 FirstRead before octets messages placed ending = ReadsOne before octets messages placed ending ⊎ Refuses before octets placed ending
 
 all_read_first : (before : List StatedMessage) (octets : List ℕ) (messages : List (List ℕ)) (placed : List Placed) (parts : List StatedMessage) → AreRead before parts → octets ∷ messages ≡ octets_in parts → placed ≡ placed_in parts → FirstRead before octets messages placed None
@@ -217,7 +216,7 @@ up_to_first before octets messages placed e (p ∷ parts) last rest here fault o
       rest = record { parts = parts; octets = last; rest = rest; here = here; fault = fault; offset = offset; read = read.1; next = subst (λ b. FaultBehind b last here fault offset) along next; whole = others; stated = refl; place = place ∙ ap (λ b. (fault, Message (length b + 1) offset)) along };
     })
 
-first_read : (before : List StatedMessage) (octets : List ℕ) (messages : List (List ℕ)) (placed : List Placed) (ending : Option (Fault × Place)) → ReadBehind before (octets ∷ messages) placed ending → FirstRead before octets messages placed ending
+pub first_read : (before : List StatedMessage) (octets : List ℕ) (messages : List (List ℕ)) (placed : List Placed) (ending : Option (Fault × Place)) → ReadBehind before (octets ∷ messages) placed ending → FirstRead before octets messages placed ending
 first_read before octets messages placed None r = all_read_first before octets messages placed r.parts r.read r.whole r.stated
 first_read before octets messages placed (Some e) r = up_to_first before octets messages placed e r.parts r.octets r.rest r.here r.fault r.offset r.read r.next r.whole r.stated r.place
 

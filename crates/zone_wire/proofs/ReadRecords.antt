@@ -1,7 +1,7 @@
--- What a stream of octets is read as is records.
-use Rattle.std.proofs.Common.{◌≡◌, ◌≢◌, ℕ, ◌+◌, ◌-◌, ◌≤◌, ◌<◌, List, [], ◌∷◌, ◌++◌, length, refl, ap, sym, ◌∙◌, subst, Bool, true, false, not, nat_lt, nat_eq, inl, inr, arith}
-use Rattle.std.specs.Prelude.{drop, ◌==◌, ◌||◌, ◌⊎◌, Option, Some, None, MatchOption, Result, Ok, Err, if◌then◌else◌, ⊤}
-use Rattle.std.specs.List.{flat_map, AllByRecursion, filter, list_all, list_any}
+-- The record that an answer states is one.
+use Rattle.std.proofs.Common.{◌≡◌, ◌≢◌, ℕ, ◌+◌, ◌-◌, ◌≤◌, ◌<◌, List, [], ◌∷◌, length, refl, ap, sym, ◌∙◌, subst, Bool, true, false, not, nat_lt, nat_eq, inl, inr, arith}
+use Rattle.std.specs.Prelude.{drop, ◌==◌, ◌||◌, ◌⊎◌, Option, Some, None, MatchOption, Ok, if◌then◌else◌, ⊤}
+use Rattle.std.specs.List.{AllByRecursion, filter, list_all, list_any}
 use Rattle.std.proofs.lemmas.Bool.{and_parts, or_cases, or_parts, not-true, false≢true, ltb-false}
 use Rattle.std.proofs.lemmas.List.{append-nil, length-take, length-drop}
 use Rattle.zone_name.specs.Name.{IsName}
@@ -10,26 +10,20 @@ use Rattle.zone_rdata.specs.Layout.{layout, AreLaidOut, IsData}
 use Rattle.zone_rdata.specs.Record.{Record, IsRecord}
 use Rattle.zone_rdata.specs.Field.{is_strings}
 use Rattle.zone_rdata.specs.Words.{is_meta}
-use Rattle.zone_rdata.specs.declared.fault.Fault.{Fault}
 use Rattle.zone_rdata.specs.declared.fault.Fault.TheVariants.{BadClass, MetaType, CompressibleType}
-use Rattle.zone_rdata.specs.declared.fault.Place.{Place}
 use Rattle.zone_rdata.specs.declared.field.Field.{Field}
 use Rattle.zone_rdata.specs.declared.field.Field.TheVariants.{Strings}
 use Rattle.zone_rdata.specs.declared.record.Placed.{Placed}
 use Rattle.zone_rdata.proofs.Tables.{each_layout}
-use Rattle.zone_wire.specs.Machine.Answers.{is_no_class, record_of, Answered, before_others, answer_of, answers_of}
+use Rattle.zone_wire.specs.Machine.Answers.{is_no_class, record_of}
 use Rattle.zone_wire.specs.Machine.Data.{data_at}
-use Rattle.zone_wire.specs.Message.{u16_at, QuestionAt, RecordAt, IsRecordAt, AreRecordsAt, Sections, IsMessage}
-use Rattle.zone_wire.specs.Machine.Sections.{sections_of}
-use Rattle.zone_wire.specs.Answers.{questions_of, handed_on}
-use Rattle.zone_wire.specs.Machine.Stream.{has_first_id, message_of, unless_refused, followed_by, records_of}
-use Rattle.zone_wire.specs.Machine.Stream.{FindsReading}
-use Rattle.zone_wire.specs.Transfer.{octets_between, StandsAt, StandEach, AreFieldsAt, ttl_of, compressible, frame}
-use Rattle.zone_wire.proofs.Accepting.{all_append}
-use Rattle.zone_wire.proofs.ReadAnswers.{unequal, answer_shown}
+use Rattle.zone_wire.specs.Message.{u16_at, RecordAt, IsRecordAt}
+use Rattle.zone_wire.specs.Answers.{handed_on}
+use Rattle.zone_wire.specs.Transfer.{octets_between, StandsAt, StandEach, AreFieldsAt, ttl_of, compressible}
+use Rattle.zone_wire.proofs.ReadAnswers.{unequal}
 use Rattle.zone_wire.proofs.ReadFields.{bytes_each, data_shown}
-use Rattle.zone_wire.proofs.ReadSections.{ok_same, leads, passes, passes_on, sections_shown}
-use Rattle.zone_wire.proofs.ReadStreams.{Bytes, asked_same, front_bytes, message_bytes}
+use Rattle.zone_wire.proofs.ReadSections.{ok_same, leads, passes_on}
+use Rattle.zone_wire.proofs.ReadStreams.{Bytes}
 use Rattle.zone_wire.proofs.Walking.{take_each, drop_each}
 
 -- a layout holds no strings, or strings alone
@@ -96,31 +90,6 @@ ttl_short n = by (nat_lt 2147483647 n) refl
 abbrev Fit : List Placed → Type 0
 Fit placed = AllByRecursion (λ (p : Placed). IsRecord p.rr) placed
 
-before_fit : (number offset : ℕ) (r : Result Record Fault) (next : Placed → Answered (Fault × ℕ)) → ((rr : Record) → r ≡ Ok rr → IsRecord rr) → ((p : Placed) → Fit (next p).placed) → Fit (before_others number offset r next).placed
-before_fit number offset (Err fault) next here others = tt
-before_fit number offset (Ok rr) next here others = (here rr refl, others _)
-
-unless_fit : (number : ℕ) (r : Result Sections (Fault × ℕ)) (next : Sections → Answered (Fault × Place)) → ((s : Sections) → r ≡ Ok s → Fit (next s).placed) → Fit (unless_refused number r next).placed
-unless_fit number (Err fault) next others = tt
-unless_fit number (Ok s) next others = others s refl
-
-followed_fit : (number : ℕ) (here : List Placed) (fault : Option (Fault × ℕ)) (next : List Placed → Answered (Fault × Place)) → Fit here → Fit (next here).placed → Fit (followed_by number (record { placed = here; fault = fault }) next).placed
-followed_fit number here (Some f) next fits others = fits
-followed_fit number here None next fits others = all_append (λ (p : Placed). IsRecord p.rr) here (next here).placed fits others
-
-id_same : (before : List Sections) (s t : Sections) → has_first_id before s ≡ Ok t → s ≡ t
-id_same [] s t e = ok_same s t e
-id_same (first ∷ before) s t e = (passes (s.id == first.id) s t _ e).1
-
--- the sections of a message that is not refused
-message_read : (before : List Sections) (placed : List Placed) (octets : List ℕ) (s : Sections) → Bytes octets → message_of before placed octets ≡ Ok s → IsMessage octets s
-unfolding message_of
-message_read before placed octets s each e =
-    let a = leads (sections_of octets) _ s e in
-    let b = leads (has_first_id before a.first) _ s a.goes_on in
-    let same : a.first ≡ s = id_same before a.first b.first b.is ∙ asked_same (questions_of before) placed b.first s b.first.questions b.goes_on in
-    subst (IsMessage octets) same (sections_shown octets a.first each a.is)
-
 filter_fit : (test : Placed → Bool) (placed : List Placed) → Fit placed → Fit (filter test placed)
 filter_fit test [] fits = tt
 filter_fit test (p ∷ placed) fits = by (test p) (filter_fit test placed fits.1)
@@ -180,28 +149,3 @@ module _ (are_data : HeldAreData) (are_short : UnstrungAreShort) where
             octets = data_by a.class a.kind a.start a.end l.first (layout a.class a.kind) refl (data_shown octets a l.first each at.inside l.is);
           };
         })
-
-    answers_fit : (number : ℕ) (questions : List QuestionAt) (offset end : ℕ) (answers : List RecordAt) (before : List Placed) → AreRecordsAt octets offset answers end → Fit (answers_of number octets questions before answers).placed
-    answers_fit number questions offset end [] before are = tt
-    answers_fit number questions offset end (a ∷ answers) before are =
-        before_fit number a.offset (answer_of octets questions before a) (λ p. answers_of number octets questions (before ++ p ∷ []) answers)
-        (λ r e. record_fits offset a r are.0 (answer_shown octets questions before a r e).0)
-        (λ p. answers_fit number questions a.end end answers (before ++ p ∷ []) are.1)
-
-  records_fit : (messages : List (List ℕ)) (before : List Sections) (placed : List Placed) → AllByRecursion (λ octets. length octets ≤ 65535) messages → AllByRecursion Bytes messages → Fit (records_of before placed messages).placed
-  unfolding records_of
-  records_fit [] before placed short each = tt
-  records_fit (octets ∷ messages) before placed short each =
-      let number : ℕ = length before + 1 in
-      unless_fit number (message_of before placed octets) _ (λ s e.
-      let message = message_read before placed octets s each.0 e in
-      let answered = answers_of number octets (questions_of (before ++ s ∷ [])) placed s.answers in
-      followed_fit number answered.placed answered.fault (λ here. records_of (before ++ s ∷ []) (placed ++ here) messages)
-      (answers_fit octets each.0 short.0 number (questions_of (before ++ s ∷ [])) message.past_questions message.past_answers s.answers placed message.answers)
-      (records_fit messages (before ++ s ∷ []) (placed ++ answered.placed) short.1 each.1))
-
-  -- what a stream is read as
-  pub read_is_records : (stream : List ℕ) (placed : List Placed) (ending : Option (Fault × Place)) → Bytes stream → FindsReading stream placed ending → Fit placed
-  read_is_records stream placed ending each r =
-      let bytes : AllByRecursion Bytes r.messages = message_bytes r.messages (front_bytes (flat_map frame r.messages) r.rest (subst Bytes r.framed.whole each)) in
-      subst Fit (sym r.stated) (handed_fit _ (records_fit r.messages [] [] r.framed.short bytes))

@@ -280,7 +280,7 @@ message_bytes (m ∷ messages) each =
     let body : Bytes (m ++ flat_map frame messages) = λ i. each (suc (suc i)) in
     (front_bytes m (flat_map frame messages) body, message_bytes messages (back_bytes m (flat_map frame messages) body))
 
-all_front : {X : Type 0} (P : X → Type 0) (xs ys : List X) → AllByRecursion P (xs ++ ys) → AllByRecursion P xs × AllByRecursion P ys
+pub all_front : {X : Type 0} (P : X → Type 0) (xs ys : List X) → AllByRecursion P (xs ++ ys) → AllByRecursion P xs × AllByRecursion P ys
 all_front P [] ys each = (tt, each)
 all_front P (x ∷ xs) ys each = let rest = all_front P xs ys each.1 in ((each.0, rest.0), rest.1)
 

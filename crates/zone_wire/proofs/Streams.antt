@@ -35,7 +35,7 @@ messages_go_on stream more ms ns r s placed other ending late is longer read als
     let after = framed_extends stream more ms ns r s is longer in
     read_goes_on ms after.0 [] placed other ending late read (subst (λ m. ReadBehind [] m other late) after.1 also)
 
-handed_more : (placed more : List Placed) → (rest : List Placed) × (handed_on (placed ++ more) ≡ handed_on placed ++ rest)
+pub handed_more : (placed more : List Placed) → (rest : List Placed) × (handed_on (placed ++ more) ≡ handed_on placed ++ rest)
 handed_more [] more = (handed_on more, refl)
 handed_more (opening ∷ others) more = let test = λ (p : Placed). not (p.rr.kind == 6) in (filter test more, ap (λ x. opening ∷ x) (filter-append test others more))
 

@@ -257,13 +257,6 @@ walk_on_inside n message spot (Some (at_label size)) shows each = (omega (arith,
 walk_on_inside n message spot (Some (at_pointer target)) shows each = (omega (arith, shows.inside), each (past_pointer spot target))
 walk_on_inside n message spot (Some (at_fault fault)) shows each = (shows, tt)
 
-walk_on_enough : (n m : ℕ) (message : List ℕ) (spot : Spot) (standing : Option Standing) → Shows message spot standing → spot.octets + 1 ≤ 255 → spot.pointers ≤ 128 → 512 ≤ spot.octets + 2 * spot.pointers + 2 * suc n → ((next : Spot) → next.octets + 1 ≤ 255 → next.pointers ≤ 128 → 512 ≤ next.octets + 2 * next.pointers + 2 * n → walk_by m message next ≡ walk_by n message next) → walk_on (walk_by m message) spot standing ≡ walk_on (walk_by n message) spot standing
-walk_on_enough n m message spot None shows short few enough each = refl
-walk_on_enough n m message spot (Some at_root) shows short few enough each = refl
-walk_on_enough n m message spot (Some (at_label size)) shows short few enough each = ap (λ rest. visit spot (at_label size) ∷ rest) (each (past_label spot size) (omega (arith, shows.room)) few (omega (arith, shows.some)))
-walk_on_enough n m message spot (Some (at_pointer target)) shows short few enough each = ap (λ rest. visit spot (at_pointer target) ∷ rest) (each (past_pointer spot target) short (omega (arith, shows.few)) (omega arith))
-walk_on_enough n m message spot (Some (at_fault fault)) shows short few enough each = refl
-
 -- n places or fewer
 pub walk_length : (n : ℕ) (message : List ℕ) (spot : Spot) → length (walk_by n message spot) ≤ n
 unfolding walk_by
@@ -275,18 +268,6 @@ pub walk_inside : (n : ℕ) (message : List ℕ) (spot : Spot) → AllByRecursio
 unfolding walk_by
 walk_inside zero message spot = tt
 walk_inside (suc n) message spot = walk_on_inside n message spot (place_of message spot) (place_shows message spot) (λ next. walk_inside n message next)
-
--- more places than are enough change nothing
-pub walk_enough : (n more : ℕ) (message : List ℕ) (spot : Spot) → spot.octets + 1 ≤ 255 → spot.pointers ≤ 128 → 512 ≤ spot.octets + 2 * spot.pointers + 2 * n → walk_by (n + more) message spot ≡ walk_by n message spot
-unfolding walk_by
-walk_enough zero more message spot short few enough = absurd (omega arith)
-walk_enough (suc n) more message spot short few enough =
-    let same : suc n + more ≡ suc (n + more) = omega arith in
-    ap (λ k. walk_by k message spot) same ∙ walk_on_enough n (n + more) message spot (place_of message spot) (place_shows message spot) short few enough (λ next. walk_enough n more message next)
-
-pub walk_ends : (n : ℕ) (message : List ℕ) (offset : ℕ) → walk_by (256 + n) message (outset offset) ≡ walk message offset
-unfolding walk
-walk_ends n message offset = walk_enough 256 n message (outset offset) (lit≤ tt) (lit≤ tt) (lit≤ tt)
 
 pub walk_is_short : (message : List ℕ) (offset : ℕ) → length (walk message offset) ≤ 256
 unfolding walk

@@ -2,6 +2,7 @@
 -- (RFC 1035 4.2.2; RFC 5936 2.2, 3).
 use Rattle.std.specs.Prelude.{◌≡◌, ◌≢◌, ℕ, ◌+◌, List, [], ◌∷◌, ◌++◌, map, length, true, false, Option, Some, None, MatchOption, ⊤}
 use Rattle.std.specs.List.{flat_map, AllByRecursion}
+use Rattle.zone_rdata.specs.Record.{Record}
 use Rattle.zone_rdata.specs.declared.fault.Fault.{Fault}
 use Rattle.zone_rdata.specs.declared.fault.Fault.TheVariants.{ShortFrame, IdMismatch, BadQuestion, NoClosingSoa}
 use Rattle.zone_rdata.specs.declared.fault.Place.{Place}
@@ -90,6 +91,24 @@ pub record ReadUpTo (before : List StatedMessage) (messages : List (List ℕ)) (
 -- the records of messages behind others up to the first fault, and that fault with its place, or none
 abbrev pub ReadBehind : List StatedMessage → List (List ℕ) → List Placed → Option (Fault × Place) → Type 0
 ReadBehind before messages placed ending = MatchOption ending (AllRead before messages placed) (λ e. ReadUpTo before messages placed e)
+
+-- the ID of the first of messages, and the opening SOA, which is the first of records
+abbrev pub first_id : List StatedMessage → Option ℕ
+first_id [] = None
+first_id (first ∷ messages) = Some first.sections.id
+
+abbrev pub opening_of : List Placed → Option Record
+opening_of [] = None
+opening_of (opening ∷ others) = Some opening.rr
+
+-- messages that are alike to the next one: as many, of one first ID, one zone that is fixed, one opening SOA, and closed
+-- or not
+pub record AreAlike (before other : List StatedMessage) : Type 0 where
+  pub count : length before ≡ length other
+  pub id : first_id before ≡ first_id other
+  pub zone : zone_of (asked_in before) (placed_in before) ≡ zone_of (asked_in other) (placed_in other)
+  pub opening : opening_of (placed_in before) ≡ opening_of (placed_in other)
+  pub closing : is_closed (placed_in before) ≡ is_closed (placed_in other)
 
 -- how a stream ends behind whole messages without a fault, the number of the next message known: inside a frame, without
 -- the closing SOA, or with it

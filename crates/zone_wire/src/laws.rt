@@ -1,4 +1,5 @@
 //! Laws over the definitions alone.
+pub mod frame;
 pub mod walk;
 
 ghost use Rattle.std.specs.Prelude.{◌++◌, Some, ◌≡◌, ◌+◌, ◌≤◌, ◌<◌, ℕ, List, length, slice_index, Option, None};

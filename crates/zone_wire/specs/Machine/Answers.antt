@@ -22,7 +22,7 @@ same_name n m = pointwise (pointwise nat_eq) n m
 abbrev pub same_record : Record → Record → Bool
 same_record r s = same_name r.owner s.owner && r.class == s.class && r.kind == s.kind && r.ttl == s.ttl && pointwise nat_eq r.octets s.octets
 
--- a class that holds no zone data (RFC 6895 3.2): 0, which is reserved, NONE 254 and ANY 255 (RFC 2136 1.3, RFC 1035 3.2.5)
+-- a number of 16 bits that is none of a class that can hold zone data: the test for `IsClass`
 abbrev pub is_no_class : ℕ → Bool
 is_no_class n = n == 0 || n == 254 || n == 255
 
