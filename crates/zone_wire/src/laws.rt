@@ -1,5 +1,6 @@
 //! Laws over the definitions alone.
 pub mod frame;
+pub mod record;
 pub mod walk;
 
 ghost use Rattle.std.specs.Prelude.{◌++◌, Some, ◌≡◌, ◌+◌, ◌≤◌, ◌<◌, ℕ, List, length, slice_index, Option, None};
