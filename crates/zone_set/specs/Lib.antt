@@ -2,5 +2,4 @@ pub mod Order
 pub mod Zone
 pub mod Builder
 pub mod Refusal
-pub mod View
 pub mod Machine

@@ -1,3 +1,2 @@
 -- What only private functions, invariants and proofs cite.
-pub mod Held
 pub mod Key

@@ -1,12 +1,4 @@
 //! The records of a zone, kept in canonical order (RFC 1035 5.2, RFC 2181 5, RFC 4034 6).
 #![tactic(auto)]
 
-mod builder;
-mod held;
 mod key;
-mod records;
-mod zone;
-
-pub use builder::ZoneBuilder;
-pub use records::{Records, RrRef};
-pub use zone::Zone;
