@@ -1,4 +1,18 @@
 //! The records of a zone, kept in canonical order (RFC 1035 5.2, RFC 2181 5, RFC 4034 6).
 #![tactic(auto)]
 
+mod builder;
+mod datum;
+mod datums;
+mod held;
 mod key;
+mod records;
+mod refusal;
+mod rr;
+mod sets;
+mod zone;
+
+pub use builder::ZoneBuilder;
+pub use records::Records;
+pub use rr::RrRef;
+pub use zone::Zone;

@@ -35,7 +35,7 @@ abbrev pub set_cmp : RecordSet → RecordSet → Ordering
 set_cmp = then_cmp (on set_rank nat_cmp) (then_cmp (on (λ s. s.owner) name_cmp) (then_cmp (on (λ s. s.kind) nat_cmp) (on (λ s. s.covered) (slice_cmp nat_cmp))))
 
 -- it is total
-names_total : IsTotalOrder name_cmp
+pub names_total : IsTotalOrder name_cmp
 names_total = on_total (reverse {A = List ℕ}) (lists_total nat_list_cmp_total)
 
 pub sets_total : IsTotalOrder set_cmp

@@ -1,0 +1,85 @@
+-- Records taken from a source, one after another.
+use Rattle.std.proofs.Common.{◌≡◌, Bool, true, false, List, [], ◌∷◌, ◌++◌, Option, Some, None, Ok, Err, refl, ap, sym, ◌∙◌, subst, append_assoc, append-nil}
+use Rattle.zone_rdata.specs.Record.{Record}
+use Rattle.zone_rdata.specs.Source.{Pending, answer_of, after, others}
+use Rattle.zone_rdata.specs.declared.fault.Fault.{Fault}
+use Rattle.zone_rdata.specs.declared.fault.Place.{Place}
+use Rattle.zone_rdata.specs.declared.fault.Stop.{Stop}
+use Rattle.zone_rdata.specs.declared.fault.Stop.TheVariants.{Refused, Memory}
+use Rattle.zone_rdata.specs.declared.record.Placed.{Placed}
+use Rattle.zone_set.specs.Builder.{Accepts, Adds, AddsEach, StopsAdd, StopsTaking, fault, failure, memory, refused as by_fault, ending as by_ending}
+
+-- one more at the end
+pub AddsEach-push : (old mid : List Record) (taken : List Placed) (p : Placed) (new : List Record) → AddsEach old taken mid → Accepts mid p.rr → Adds mid p.rr new → AddsEach old (taken ++ p ∷ []) new
+AddsEach-push old mid [] p new is fits adds = (new, subst (λ held. Accepts held p.rr) is fits, subst (λ held. Adds held p.rr new) is adds, refl)
+AddsEach-push old mid (q ∷ taken) p new each fits adds = (each.0, each.1, each.2, AddsEach-push each.0 mid taken p new each.3 fits adds)
+
+-- what is left after an answer, where a source works
+after_parts : (failed : Bool) (records : List Placed) (ending : Option (Fault × Place)) → failed ≡ false → after (record { failed = failed; records = records; ending = ending }) ≡ record { failed = failed; records = others records; ending = ending }
+after_parts true records ending works = cc
+after_parts false records ending works = refl
+
+-- an answer with a record: it was the first
+first_parts : (failed : Bool) (records : List Placed) (ending : Option (Fault × Place)) (p : Placed) → answer_of (record { failed = failed; records = records; ending = ending }) ≡ Ok (Some p) → (failed ≡ false) × (records ≡ p ∷ others records)
+first_parts true records ending p is = cc
+first_parts false [] None p is = cc
+first_parts false [] (Some e) p is = cc
+first_parts false (q ∷ records) ending p is = let same : q ≡ p = cc in (refl, ap (λ (x : Placed). x ∷ records) same)
+
+-- an answer with a fault: the source failed, or the fault at its end
+pub data Stopped (pending : Pending) : Stop → Type 0 where
+  at_failure : pending.failed ≡ true → Stopped pending Memory
+  at_end : (e : Fault × Place) → pending.failed ≡ false → pending.records ≡ [] → pending.ending ≡ Some e → Stopped pending (Refused e.0 e.1)
+
+stop_parts : (failed : Bool) (records : List Placed) (ending : Option (Fault × Place)) (stop : Stop) → answer_of (record { failed = failed; records = records; ending = ending }) ≡ Err stop → Stopped (record { failed = failed; records = records; ending = ending }) stop
+stop_parts true records ending stop is = let same : Memory ≡ stop = cc in subst (Stopped (record { failed = true; records = records; ending = ending })) same (at_failure refl)
+stop_parts false [] None stop is = cc
+stop_parts false [] (Some e) stop is = let same : Refused e.0 e.1 ≡ stop = cc in subst (Stopped (record { failed = false; records = []; ending = Some e })) same (at_end e refl refl refl)
+stop_parts false (q ∷ records) ending stop is = cc
+
+-- some first records of a source were taken, none of a source that failed, and these are held now
+pub record HasTaken (old : List Record) (start : Pending) (now : List Record) (left : Pending) : Type 0 where
+  pub taken : List Placed
+  pub parts : start.records ≡ taken ++ left.records
+  pub failed : left.failed ≡ start.failed
+  pub none : start.failed ≡ true → taken ≡ []
+  pub ending : left.ending ≡ start.ending
+  pub each : AddsEach old taken now
+
+pub HasTaken-start : (old : List Record) (start : Pending) → HasTaken old start old start
+HasTaken-start old start = record { taken = []; parts = refl; failed = refl; none = λ fails. refl; ending = refl; each = refl }
+
+-- one more answer of the source
+module _ (old : List Record) (start : Pending) (now : List Record) (left : Pending) (had : HasTaken old start now left) where
+  pub HasTaken-more : (p : Placed) (new : List Record) (next : Pending) → answer_of left ≡ Ok (Some p) → next ≡ after left → Accepts now p.rr → Adds now p.rr new → HasTaken old start new next
+  HasTaken-more p new next answer is fits adds =
+      let first = first_parts left.failed left.records left.ending p answer in
+      let rest = is ∙ after_parts left.failed left.records left.ending first.0 in
+      record {
+        taken = had.taken ++ p ∷ [];
+        parts = had.parts ∙ ap (λ rs. had.taken ++ rs) (first.1 ∙ ap (λ (f : Pending). p ∷ f.records) (sym rest)) ∙ sym (append_assoc had.taken (p ∷ []) next.records);
+        failed = ap (λ f. f.failed) rest ∙ had.failed;
+        none = λ fails. let no : false ≡ true = sym first.0 ∙ had.failed ∙ fails in cc;
+        ending = ap (λ f. f.ending) rest ∙ had.ending;
+        each = AddsEach-push old now had.taken p new had.each fits adds;
+      }
+
+  whole : left.records ≡ [] → start.records ≡ had.taken
+  whole none = had.parts ∙ ap (λ rs. had.taken ++ rs) none ∙ append-nil had.taken
+
+  pub StopsTaking-at_end : (stop : Stop) → answer_of left ≡ Err stop → StopsTaking old start now stop
+  StopsTaking-at_end stop answer = by stop (stop_parts left.failed left.records left.ending stop answer)
+    where
+      by : (s : Stop) → Stopped left s → StopsTaking old start now s
+      by s (at_failure is) = let fails : start.failed ≡ true = sym had.failed ∙ is in failure fails (subst (λ ps. AddsEach old ps now) (had.none fails) had.each)
+      by s (at_end e works none is) = by_ending e (sym had.failed ∙ works) (sym had.ending ∙ is) (subst (λ rs. AddsEach old rs now) (sym (whole none)) had.each)
+
+  pub StopsTaking-refused : (p : Placed) (stop : Stop) (new : List Record) → answer_of left ≡ Ok (Some p) → StopsAdd now p stop → new ≡ now → StopsTaking old start new stop
+  StopsTaking-refused p stop new answer why same = subst (λ held. StopsTaking old start held stop) (sym same) (by stop why)
+    where
+      first : (left.failed ≡ false) × (left.records ≡ p ∷ others left.records)
+      first = first_parts left.failed left.records left.ending p answer
+
+      by : (s : Stop) → StopsAdd now p s → StopsTaking old start now s
+      by s memory = memory had.taken (others left.records) p (sym had.failed ∙ first.0) (had.parts ∙ ap (λ rs. had.taken ++ rs) first.1) had.each
+      by s (fault f is) = by_fault had.taken (others left.records) p f (sym had.failed ∙ first.0) (had.parts ∙ ap (λ rs. had.taken ++ rs) first.1) had.each is

@@ -1,0 +1,57 @@
+ghost use Rattle.std.specs.Prelude.{◌≡◌, ◌-◌, ◌^◌, length, min};
+ghost use Rattle.zone_set.specs.Zone.{IsZone};
+
+use crate::records::Records;
+use crate::sets::Sets;
+use std::marker::Model;
+use zone_name::Name;
+use zone_rdata::Class;
+
+/// A zone: apex, class and records in canonical order (RFC 1035 5.2).
+#[derive(Drop)]
+pub struct Zone {
+    pub(crate) apex: Name,
+    pub(crate) class: Class,
+    pub(crate) sets: Sets,
+}
+
+impl Model for Zone {
+    ghost use Rattle.zone_set.specs.Zone.{Zone, IsZone};
+
+    ghost Value = { Zone };
+
+    ghost view = { λ z. record { apex = z.apex; class = z.class; records = z.sets } };
+
+    ghost invariant = { λ z. IsZone (record { apex = z.apex; class = z.class; records = z.sets }) };
+}
+
+impl Zone {
+    /// The owner of the SOA.
+    pub fn apex(&self) -> &Name
+        ensures { result.now ≡ self.now.apex }
+    {
+        &self.apex
+    }
+
+    /// The class of all records.
+    pub fn class(&self) -> Class
+        ensures { result ≡ self.now.class }
+    {
+        self.class
+    }
+
+    /// How many records there are, or 2^64 - 1 where there are more.
+    pub fn len(&self) -> u64
+        ensures { result ≡ min (length self.now.records) (2 ^ 64 - 1) }
+    {
+        self.sets.len()
+    }
+
+    /// The records in canonical order.
+    pub fn records(&self) -> Records<'_>
+        ensures records { result ≡ self.now.records }
+        ensures zone { IsZone self.now }
+    {
+        self.sets.iter()
+    }
+}
