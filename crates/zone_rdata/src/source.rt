@@ -7,6 +7,11 @@ use std::collections::VecDeque;
 
 /// A source of records in order, and the fault after them.
 pub trait RrSource {
+    /// What else it holds.
+    ghost Beside: { Type 0 };
+
+    ghost beside: { Self → Beside };
+
     /// Whether it failed, the records still to come, and the fault after them, if one is decided.
     ghost pending: { Self → Pending };
 
@@ -17,7 +22,8 @@ pub trait RrSource {
     /// `Memory` where the source has failed, and `Refused` with the fault.
     fn next(&mut self) -> Result<Option<Placed>, Stop>
         ensures answer { result ≡ answer_of (pending self.old) }
-        ensures left { pending self.new ≡ after (pending self.old) };
+        ensures left { pending self.new ≡ after (pending self.old) }
+        ensures beside { beside self.new ≡ beside self.old };
 }
 
 /// The records of a whole input up to its first fault, and that fault.
@@ -30,6 +36,10 @@ pub struct Reading {
 }
 
 impl RrSource for Reading {
+    ghost Beside = { Unit {0} };
+
+    ghost beside = { λ _. tt };
+
     ghost pending = { λ r. record { failed = false; records = r.placed.items; ending = r.ending } };
 
     fn next(&mut self) -> Result<Option<Placed>, Stop> {

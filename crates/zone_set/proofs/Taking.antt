@@ -7,7 +7,7 @@ use Rattle.zone_rdata.specs.declared.fault.Place.{Place}
 use Rattle.zone_rdata.specs.declared.fault.Stop.{Stop}
 use Rattle.zone_rdata.specs.declared.fault.Stop.TheVariants.{Refused, Memory}
 use Rattle.zone_rdata.specs.declared.record.Placed.{Placed}
-use Rattle.zone_set.specs.Builder.{Accepts, Adds, AddsEach, StopsAdd, StopsTaking, fault, failure, memory, refused as by_fault, ending as by_ending}
+use Rattle.zone_set.specs.Builder.{Accepts, Adds, AddsEach, StopsAdd, leaves, TakesAll, StopsTaking, fault, failure, memory, refused as by_fault, ending as by_ending}
 
 -- one more at the end
 pub AddsEach-push : (old mid : List Record) (taken : List Placed) (p : Placed) (new : List Record) → AddsEach old taken mid → Accepts mid p.rr → Adds mid p.rr new → AddsEach old (taken ++ p ∷ []) new
@@ -19,12 +19,23 @@ after_parts : (failed : Bool) (records : List Placed) (ending : Option (Fault ×
 after_parts true records ending works = cc
 after_parts false records ending works = refl
 
+after_failed : (failed : Bool) (records : List Placed) (ending : Option (Fault × Place)) → failed ≡ true → after (record { failed = failed; records = records; ending = ending }) ≡ record { failed = failed; records = records; ending = ending }
+after_failed true records ending fails = refl
+after_failed false records ending fails = cc
+
 -- an answer with a record: it was the first
 first_parts : (failed : Bool) (records : List Placed) (ending : Option (Fault × Place)) (p : Placed) → answer_of (record { failed = failed; records = records; ending = ending }) ≡ Ok (Some p) → (failed ≡ false) × (records ≡ p ∷ others records)
 first_parts true records ending p is = cc
 first_parts false [] None p is = cc
 first_parts false [] (Some e) p is = cc
 first_parts false (q ∷ records) ending p is = let same : q ≡ p = cc in (refl, ap (λ (x : Placed). x ∷ records) same)
+
+-- an answer without a record: none was left, and no fault
+none_parts : (failed : Bool) (records : List Placed) (ending : Option (Fault × Place)) → answer_of (record { failed = failed; records = records; ending = ending }) ≡ Ok None → (failed ≡ false) × (records ≡ []) × (ending ≡ None)
+none_parts true records ending is = cc
+none_parts false [] None is = (refl, refl, refl)
+none_parts false [] (Some e) is = cc
+none_parts false (q ∷ records) ending is = cc
 
 -- an answer with a fault: the source failed, or the fault at its end
 pub data Stopped (pending : Pending) : Stop → Type 0 where
@@ -41,45 +52,70 @@ stop_parts false (q ∷ records) ending stop is = cc
 pub record HasTaken (old : List Record) (start : Pending) (now : List Record) (left : Pending) : Type 0 where
   pub taken : List Placed
   pub parts : start.records ≡ taken ++ left.records
-  pub failed : left.failed ≡ start.failed
+  pub rest : left ≡ leaves start left.records
   pub none : start.failed ≡ true → taken ≡ []
-  pub ending : left.ending ≡ start.ending
   pub each : AddsEach old taken now
 
 pub HasTaken-start : (old : List Record) (start : Pending) → HasTaken old start old start
-HasTaken-start old start = record { taken = []; parts = refl; failed = refl; none = λ fails. refl; ending = refl; each = refl }
+HasTaken-start old start = record { taken = []; parts = refl; rest = refl; none = λ fails. refl; each = refl }
 
 -- one more answer of the source
 module _ (old : List Record) (start : Pending) (now : List Record) (left : Pending) (had : HasTaken old start now left) where
+  failed : left.failed ≡ start.failed
+  failed = ap (λ p. p.failed) had.rest
+
+  same_end : left.ending ≡ start.ending
+  same_end = ap (λ p. p.ending) had.rest
+
   pub HasTaken-more : (p : Placed) (new : List Record) (next : Pending) → answer_of left ≡ Ok (Some p) → next ≡ after left → Accepts now p.rr → Adds now p.rr new → HasTaken old start new next
   HasTaken-more p new next answer is fits adds =
       let first = first_parts left.failed left.records left.ending p answer in
       let rest = is ∙ after_parts left.failed left.records left.ending first.0 in
+      let here : next.records ≡ others left.records = ap (λ (f : Pending). f.records) rest in
       record {
         taken = had.taken ++ p ∷ [];
         parts = had.parts ∙ ap (λ rs. had.taken ++ rs) (first.1 ∙ ap (λ (f : Pending). p ∷ f.records) (sym rest)) ∙ sym (append_assoc had.taken (p ∷ []) next.records);
-        failed = ap (λ f. f.failed) rest ∙ had.failed;
-        none = λ fails. let no : false ≡ true = sym first.0 ∙ had.failed ∙ fails in cc;
-        ending = ap (λ f. f.ending) rest ∙ had.ending;
+        rest = rest ∙ ap (λ (f : Pending). leaves f (others left.records)) had.rest ∙ ap (leaves start) (sym here);
+        none = λ fails. let no : false ≡ true = sym first.0 ∙ failed ∙ fails in cc;
         each = AddsEach-push old now had.taken p new had.each fits adds;
       }
 
   whole : left.records ≡ [] → start.records ≡ had.taken
   whole none = had.parts ∙ ap (λ rs. had.taken ++ rs) none ∙ append-nil had.taken
 
-  pub StopsTaking-at_end : (stop : Stop) → answer_of left ≡ Err stop → StopsTaking old start now stop
-  StopsTaking-at_end stop answer = by stop (stop_parts left.failed left.records left.ending stop answer)
-    where
-      by : (s : Stop) → Stopped left s → StopsTaking old start now s
-      by s (at_failure is) = let fails : start.failed ≡ true = sym had.failed ∙ is in failure fails (subst (λ ps. AddsEach old ps now) (had.none fails) had.each)
-      by s (at_end e works none is) = by_ending e (sym had.failed ∙ works) (sym had.ending ∙ is) (subst (λ rs. AddsEach old rs now) (sym (whole none)) had.each)
+  emptied : left.records ≡ [] → left ≡ leaves start []
+  emptied none = had.rest ∙ ap (leaves start) none
 
-  pub StopsTaking-refused : (p : Placed) (stop : Stop) (new : List Record) → answer_of left ≡ Ok (Some p) → StopsAdd now p stop → new ≡ now → StopsTaking old start new stop
-  StopsTaking-refused p stop new answer why same = subst (λ held. StopsTaking old start held stop) (sym same) (by stop why)
+  pub TakesAll-at_end : answer_of left ≡ Ok None → TakesAll old start now left
+  TakesAll-at_end answer =
+      let last = none_parts left.failed left.records left.ending answer in
+      record {
+        works = sym failed ∙ last.0;
+        whole = sym same_end ∙ last.2;
+        taken = subst (λ rs. AddsEach old rs now) (sym (whole last.1)) had.each;
+        emptied = emptied last.1;
+      }
+
+  pub StopsTaking-at_end : (stop : Stop) (next : Pending) → answer_of left ≡ Err stop → next ≡ after left → StopsTaking old start now next stop
+  StopsTaking-at_end stop next answer is = by stop (stop_parts left.failed left.records left.ending stop answer)
+    where
+      by : (s : Stop) → Stopped left s → StopsTaking old start now next s
+      by s (at_failure fails) =
+          let start_fails : start.failed ≡ true = sym failed ∙ fails in
+          let all : start.records ≡ left.records = had.parts ∙ ap (λ ps. ps ++ left.records) (had.none start_fails) in
+          failure start_fails (subst (λ ps. AddsEach old ps now) (had.none start_fails) had.each) (is ∙ after_failed left.failed left.records left.ending fails ∙ had.rest ∙ ap (leaves start) (sym all))
+      by s (at_end e works none found) =
+          by_ending e (sym failed ∙ works) (sym same_end ∙ found) (subst (λ rs. AddsEach old rs now) (sym (whole none)) had.each) (is ∙ after_parts left.failed left.records left.ending works ∙ ap (λ rs. leaves left (others rs)) none ∙ ap (λ (f : Pending). leaves f []) had.rest)
+
+  pub StopsTaking-refused : (p : Placed) (stop : Stop) (new : List Record) (next : Pending) → answer_of left ≡ Ok (Some p) → next ≡ after left → StopsAdd now p stop → new ≡ now → StopsTaking old start new next stop
+  StopsTaking-refused p stop new next answer is why same = subst (λ held. StopsTaking old start held next stop) (sym same) (by stop why)
     where
       first : (left.failed ≡ false) × (left.records ≡ p ∷ others left.records)
       first = first_parts left.failed left.records left.ending p answer
 
-      by : (s : Stop) → StopsAdd now p s → StopsTaking old start now s
-      by s memory = memory had.taken (others left.records) p (sym had.failed ∙ first.0) (had.parts ∙ ap (λ rs. had.taken ++ rs) first.1) had.each
-      by s (fault f is) = by_fault had.taken (others left.records) p f (sym had.failed ∙ first.0) (had.parts ∙ ap (λ rs. had.taken ++ rs) first.1) had.each is
+      rest : next ≡ leaves start (others left.records)
+      rest = is ∙ after_parts left.failed left.records left.ending first.0 ∙ ap (λ (f : Pending). leaves f (others left.records)) had.rest
+
+      by : (s : Stop) → StopsAdd now p s → StopsTaking old start now next s
+      by s memory = memory had.taken (others left.records) p (sym failed ∙ first.0) (had.parts ∙ ap (λ rs. had.taken ++ rs) first.1) had.each rest
+      by s (fault f refused) = by_fault had.taken (others left.records) p f (sym failed ∙ first.0) (had.parts ∙ ap (λ rs. had.taken ++ rs) first.1) had.each rest refused

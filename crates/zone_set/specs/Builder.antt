@@ -57,19 +57,25 @@ abbrev pub AddsEach : List Record → List Placed → List Record → Type 0
 AddsEach old [] new = new ≡ old
 AddsEach old (p ∷ placed) new = (next : List Record) × Accepts old p.rr × Adds old p.rr next × AddsEach next placed new
 
--- all of a source was taken, and no fault stands at its end
-pub record TakesAll (old : List Record) (pending : Pending) (new : List Record) : Type 0 where
+-- what a source still has to give where only these of its records are left
+abbrev pub leaves : Pending → List Placed → Pending
+leaves pending records = record pending { records = records }
+
+-- all of a source was taken, no fault stands at its end, and none of its records is left
+pub record TakesAll (old : List Record) (pending : Pending) (new : List Record) (rest : Pending) : Type 0 where
   pub works : pending.failed ≡ false
   pub whole : pending.ending ≡ None
   pub taken : AddsEach old pending.records new
+  pub emptied : rest ≡ leaves pending []
 
--- why taking a source ended early: it had failed, and nothing of it is taken; memory was refused for a record, or the
--- record was, and all before it are held; or all are held, and a fault stands at its end
-pub data StopsTaking (old : List Record) (pending : Pending) (new : List Record) : Stop → Type 0 where
-  failure : pending.failed ≡ true → new ≡ old → StopsTaking old pending new Memory
-  memory : (taken rest : List Placed) (p : Placed) → pending.failed ≡ false → pending.records ≡ taken ++ p ∷ rest → AddsEach old taken new → StopsTaking old pending new Memory
-  refused : (taken rest : List Placed) (p : Placed) (f : Fault) → pending.failed ≡ false → pending.records ≡ taken ++ p ∷ rest → AddsEach old taken new → IsRefusedFor new p.rr f → StopsTaking old pending new (Refused f p.place)
-  ending : (e : Fault × Place) → pending.failed ≡ false → pending.ending ≡ Some e → AddsEach old pending.records new → StopsTaking old pending new (Refused e.0 e.1)
+-- why taking a source ended early, and what it has left: it had failed, and nothing of it is taken; memory was refused for
+-- a record, or the record was, all before it are held, and the record is dropped; or all are held, and a fault stands at
+-- its end
+pub data StopsTaking (old : List Record) (pending : Pending) (new : List Record) (rest : Pending) : Stop → Type 0 where
+  failure : pending.failed ≡ true → new ≡ old → rest ≡ pending → StopsTaking old pending new rest Memory
+  memory : (taken others : List Placed) (p : Placed) → pending.failed ≡ false → pending.records ≡ taken ++ p ∷ others → AddsEach old taken new → rest ≡ leaves pending others → StopsTaking old pending new rest Memory
+  refused : (taken others : List Placed) (p : Placed) (f : Fault) → pending.failed ≡ false → pending.records ≡ taken ++ p ∷ others → AddsEach old taken new → rest ≡ leaves pending others → IsRefusedFor new p.rr f → StopsTaking old pending new rest (Refused f p.place)
+  ending : (e : Fault × Place) → pending.failed ≡ false → pending.ending ≡ Some e → AddsEach old pending.records new → rest ≡ leaves pending [] → StopsTaking old pending new rest (Refused e.0 e.1)
 
 -- no SOA is held
 abbrev pub HasNoSoa : List Record → Type 0

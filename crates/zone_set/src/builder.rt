@@ -61,10 +61,12 @@ impl ZoneBuilder {
     /// # Errors
     ///
     /// The first refusal of `add`, or the fault at the source's end; `Memory` where memory was refused or the source
-    /// has failed. The records before it are held, and the one that was refused is dropped.
+    /// has failed. The records before it are held, and the one that was refused is dropped: the source has those behind it
+    /// left. Nothing else of the source changes.
     pub fn take_all<S: RrSource>(&mut self, source: &mut S) -> Result<(), Stop>
-        ensures taken { OnOk result (TakesAll self.old (S.pending source.old) self.new) }
-        ensures stopped { IfErr result (StopsTaking self.old (S.pending source.old) self.new) }
+        ensures taken { OnOk result (TakesAll self.old (S.pending source.old) self.new (S.pending source.new)) }
+        ensures stopped { IfErr result (StopsTaking self.old (S.pending source.old) self.new (S.pending source.new)) }
+        ensures beside { S.beside source.new ≡ S.beside source.old }
     {
         while let Some(placed) = source.next()? {
             match self.add(placed) {

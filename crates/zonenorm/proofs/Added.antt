@@ -7,6 +7,7 @@ use Rattle.zone_rdata.specs.declared.source.Reading.{Reading}
 use Rattle.zone_rdata.specs.declared.fault.Stop.{Stop}
 use Rattle.zone_text.specs.File.{FileStates}
 use Rattle.zone_set.specs.Zone.{Zone, IsZone, Has, SameRecords}
+use Rattle.zone_rdata.specs.Source.{Pending}
 use Rattle.zone_set.specs.Builder.{AddsEach, TakesAll}
 use Rattle.zone_set.specs.Refusal.{records_of}
 use Rattle.zonenorm.specs.Normalise.{StatesZone}
@@ -28,9 +29,9 @@ added_all placed new records h e = rw e (λ r.
     ((λ t. ⊎_elim (λ s. s) (λ b. absurd b) (both.0 t)), (λ s. both.1 (inl s))))
 
 -- the zone of a builder that took all that a file's reading gives
-pub zone_stated : (origin : List (List ℕ)) (octets : List ℕ) (reading : Reading) (held none : List Record) (r : Result Zone Stop) → none ≡ [] → IfNone reading.ending (FileStates origin octets reading.placed.items) → TakesAll none (record { failed = false; records = reading.placed.items; ending = reading.ending }) held → IfOk r IsZone → IfOk r (λ z. z.records ≡ held) → IfOk r (StatesZone origin octets)
-zone_stated origin octets reading held none (Err e) empty stated takes zone records = tt
-zone_stated origin octets reading held none (Ok z) empty stated takes zone records =
+pub zone_stated : (origin : List (List ℕ)) (octets : List ℕ) (reading : Reading) (held none : List Record) (rest : Pending) (r : Result Zone Stop) → none ≡ [] → IfNone reading.ending (FileStates origin octets reading.placed.items) → TakesAll none (record { failed = false; records = reading.placed.items; ending = reading.ending }) held rest → IfOk r IsZone → IfOk r (λ z. z.records ≡ held) → IfOk r (StatesZone origin octets)
+zone_stated origin octets reading held none rest (Err e) empty stated takes zone records = tt
+zone_stated origin octets reading held none rest (Ok z) empty stated takes zone records =
     let whole : FileStates origin octets reading.placed.items = rw takes.whole at stated in
     let taken : AddsEach [] reading.placed.items held = rw empty at takes.taken in
     record {

@@ -77,25 +77,25 @@ module _ (origin : List (List ℕ)) (octets : List ℕ) (reading : Reading) (fro
   reads : (f : Fault) (at : Place) → RefusesReading reading.placed.items reading.ending f at → RefusesRead origin octets f at
   reads f at refuses = record { front = front.front; rest = front.rest; placed = reading.placed.items; ending = reading.ending; whole = front.whole; states = front.records; all = front.all; behind = front.place; refuses = refuses }
 
-  pub refused_taking : (old new : List Record) (stop : Stop) → old ≡ [] → StopsTaking old fed new stop → IfRefused stop (RefusesRead origin octets)
-  refused_taking old new stop none stops = by stop (subst (λ held. StopsTaking held fed new stop) none stops)
+  pub refused_taking : (old new : List Record) (rest : Pending) (stop : Stop) → old ≡ [] → StopsTaking old fed new rest stop → IfRefused stop (RefusesRead origin octets)
+  refused_taking old new rest stop none stops = by stop (subst (λ held. StopsTaking held fed new rest stop) none stops)
     where
-      by : (s : Stop) → StopsTaking [] fed new s → IfRefused s (RefusesRead origin octets)
-      by _ (failure fails same) = tt
-      by _ (memory taken rest p works parts each) = tt
-      by _ (by_record taken rest p f works parts each why) = reads f p.place (refused f p.place (record {
+      by : (s : Stop) → StopsTaking [] fed new rest s → IfRefused s (RefusesRead origin octets)
+      by _ (failure fails same kept) = tt
+      by _ (memory taken others p works parts each left) = tt
+      by _ (by_record taken others p f works parts each left why) = reads f p.place (refused f p.place (record {
         before = taken;
         refused = p;
-        others = rest;
+        others = others;
         parts = parts;
         accepted = taken_accepted taken new each;
         why = IsRefusedFor-same new (records_of taken) p.rr f (added_all taken new new each refl) why;
         stands = refl;
       }))
-      by _ (by_ending e works is each) = reads e.0 e.1 (unread e.0 e.1 (taken_accepted reading.placed.items new each) is)
+      by _ (by_ending e works is each left) = reads e.0 e.1 (unread e.0 e.1 (taken_accepted reading.placed.items new each) is)
 
-  pub refused_finishing : (old held : List Record) (stop : Stop) → old ≡ [] → TakesAll old fed held → StopsFinish held stop → IfRefused stop (RefusesRead origin octets)
-  refused_finishing old held stop none takes stops =
+  pub refused_finishing : (old held : List Record) (rest : Pending) (stop : Stop) → old ≡ [] → TakesAll old fed held rest → StopsFinish held stop → IfRefused stop (RefusesRead origin octets)
+  refused_finishing old held rest stop none takes stops =
       let each : AddsEach [] reading.placed.items held = subst (λ rs. AddsEach rs reading.placed.items held) none takes.taken in
       by each stop (StopsFinish-same held (records_of reading.placed.items) stop (added_all reading.placed.items held held each refl) stops)
     where

@@ -1,20 +1,20 @@
-use Rattle.std.proofs.Common.{sym, ◌∙◌, ap, Ok}
+use Rattle.std.proofs.Common.{refl, sym, ◌∙◌, ap, Ok}
 use Rattle.std.proofs.lemmas.Result.{err_from_is_err_and}
 use Rattle.zone_set.proofs.Taking.{HasTaken-start, HasTaken-more, StopsTaking-at_end, StopsTaking-refused}
 use Rattle.zone_set.proofs.builder.ZoneBuilder.take_all.Goals as goal
 
 pub loop-placed-init : goal.loop-placed-init
-loop-placed-init g c = HasTaken-start _ _
+loop-placed-init g c = (HasTaken-start _ _, refl)
+
+pub loop-placed-preserved : goal.loop-placed-preserved
+loop-placed-preserved g c =
+    (HasTaken-more _ _ _ _ c.loop-placed.invariant.0 c.in-Some.placed _ _ (sym c.next.ensures.answer ∙ c.in_ok-placed.was ∙ ap Ok c.in-Some.is) c.next.ensures.left c.in-Ok.ensures.accepted c.in-Ok.ensures.taken, c.next.ensures.beside ∙ c.loop-placed.invariant.1)
 
 pub returns-in_err-placed-clause-stopped : goal.returns-in_err-placed-clause-stopped
 returns-in_err-placed-clause-stopped g c =
     let p = err_from_is_err_and c.from_residual.result c.from_residual.ensures.1 in
-    rw (p.1, p.2) (StopsTaking-at_end _ _ _ _ c.loop-placed.invariant _ (sym c.next.ensures.answer ∙ c.in_err-placed.was))
-
-pub loop-placed-preserved : goal.loop-placed-preserved
-loop-placed-preserved g c =
-    HasTaken-more _ _ _ _ c.loop-placed.invariant c.in-Some.placed _ _ (sym c.next.ensures.answer ∙ c.in_ok-placed.was ∙ ap Ok c.in-Some.is) c.next.ensures.left c.in-Ok.ensures.accepted c.in-Ok.ensures.taken
+    rw (p.1, p.2) (StopsTaking-at_end _ _ _ _ c.loop-placed.invariant.0 _ _ (sym c.next.ensures.answer ∙ c.in_err-placed.was) c.next.ensures.left)
 
 pub returns-in-Err-clause-stopped : goal.returns-in-Err-clause-stopped
 returns-in-Err-clause-stopped g c =
-    StopsTaking-refused _ _ _ _ c.loop-placed.invariant c.in-Some.placed _ _ (sym c.next.ensures.answer ∙ c.in_ok-placed.was ∙ ap Ok c.in-Some.is) c.in-Err.ensures.refused c.in-Err.ensures.unchanged
+    StopsTaking-refused _ _ _ _ c.loop-placed.invariant.0 c.in-Some.placed _ _ _ (sym c.next.ensures.answer ∙ c.in_ok-placed.was ∙ ap Ok c.in-Some.is) c.next.ensures.left c.in-Err.ensures.refused c.in-Err.ensures.unchanged
