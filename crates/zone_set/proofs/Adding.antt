@@ -1,5 +1,5 @@
 -- A record and the sets that are held: why it is refused, and what is held with it.
-use Rattle.std.proofs.Common.{◌≡◌, ◌≢◌, ◌⊎◌, ◌↔◌, ℕ, List, [], ◌∷◌, ◌++◌, Option, Some, None, Ordering, Less, Equal, Greater, nat_cmp, refl, sym, ap, ◌∙◌, subst, inl, inr}
+use Rattle.std.proofs.Common.{◌≡◌, ◌≢◌, ◌⊎◌, ◌↔◌, ℕ, List, [], ◌∷◌, Option, Some, None, Ordering, Less, Equal, Greater, refl, sym, ap, ◌∙◌, subst, inl}
 use Rattle.std.specs.BTreeMap.{insert_entry, is_at}
 use Rattle.std.specs.List.{AllByRecursion}
 use Rattle.std.specs.List.Sorted.{IsStrictlySortedBy}
@@ -13,13 +13,13 @@ use Rattle.zone_set.proofs.Entries.{Has-append, first_of, stands_at, StandsAt, h
 use Rattle.zone_set.proofs.Inserting.{AreCompatible-with}
 use Rattle.zone_set.proofs.Together.{set_at, key_from_set, set_from_key, stable_number}
 use Rattle.zone_rdata.specs.declared.record.Placed.{Placed}
-use Rattle.zone_set.specs.Builder.{OtherClass, OtherSoa, OtherTtl, Accepts, Adds, IsRefusedFor, StopsAdd, fault, memory, class as by_class, soa as by_soa, ttl as by_ttl}
+use Rattle.zone_set.specs.Builder.{OtherClass, OtherSoa, Accepts, Adds, IsRefusedFor, StopsAdd, fault, memory, class as by_class, soa as by_soa, ttl as by_ttl}
 use Rattle.zone_set.specs.Machine.Held.{SetData, with_datum, entry_records, all_records, class_or_none, IsKept, HoldsSets}
 use Rattle.zone_set.specs.Machine.Key.{RecordSet, set_cmp}
 use Rattle.zone_set.specs.Machine.Refusal.{IsOtherClass, IsRefusal, IsSetRefusal, stop_for}
 use Rattle.zone_set.specs.declared.refusal.Refusal.{Refusal}
 use Rattle.zone_set.specs.declared.refusal.Refusal.TheVariants as refusal
-use Rattle.zone_set.specs.Zone.{Has, InOneSet}
+use Rattle.zone_set.specs.Zone.{Has}
 
 abbrev Entries : Type 0
 Entries = List (RecordSet × SetData)

@@ -1,6 +1,6 @@
 -- Sets in order hold records that ascend in canonical order.
-use Rattle.std.proofs.Common.{◌≡◌, ℕ, zero, suc, Bool, true, false, ◌==◌, if◌then◌else◌, List, [], ◌∷◌, ◌++◌, map, take, Ordering, Less, Equal, Greater, nat_cmp, refl, sym, ap, ap₂, ◌∙◌, inl, inr, ⊎_elim}
-use Rattle.std.proofs.lemmas.Cmp.{nat_cmp_total, nat_list_cmp_total, tied_itself}
+use Rattle.std.proofs.Common.{◌≡◌, ℕ, zero, suc, Bool, true, false, ◌==◌, if◌then◌else◌, List, [], ◌∷◌, ◌++◌, map, take, Ordering, Less, Equal, Greater, nat_cmp, refl, sym, ap, ◌∙◌, inl, inr, ⊎_elim}
+use Rattle.std.proofs.lemmas.Cmp.{nat_cmp_total, tied_itself}
 use Rattle.std.proofs.lemmas.Map.Keys.{sorted_head, sorted_tail}
 use Rattle.std.proofs.lemmas.Map.Lookups.{exact_unsigned}
 use Rattle.std.specs.Cmp.Lexicographic.{slice_cmp}
@@ -11,10 +11,10 @@ use Rattle.std.specs.Ordering.{ordering_then}
 use Rattle.zone_name.specs.Order.{name_cmp}
 use Rattle.zone_rdata.specs.Record.{Record}
 use Rattle.zone_set.proofs.Entries.{Has-append, key_holds, of_set}
-use Rattle.zone_set.proofs.Together.{set_at, each_Has, each_from_Has}
+use Rattle.zone_set.proofs.Together.{set_at, each_from_Has}
 use Rattle.zone_set.specs.Machine.Datums.{AscendingOctets}
 use Rattle.zone_set.specs.Machine.Held.{SetData, set_record, entry_records, all_records, IsKept}
-use Rattle.zone_set.specs.Machine.Key.{RecordSet, set_for, set_cmp, names_total}
+use Rattle.zone_set.specs.Machine.Key.{RecordSet, set_cmp, names_total}
 use Rattle.zone_set.specs.Order.{soa_rank, canonical_cmp, Ascends}
 use Rattle.zone_set.specs.Zone.{Has}
 

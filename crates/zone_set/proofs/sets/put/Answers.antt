@@ -1,4 +1,4 @@
-use Rattle.std.proofs.Common.{rules, arith, ◌≡◌, sym, ◌∙◌}
+use Rattle.std.proofs.Common.{rules, arith}
 use Rattle.zone_set.proofs.Entries.{put_back}
 use Rattle.zone_set.proofs.sets.put.Goals as goal
 

@@ -1,4 +1,4 @@
-use Rattle.std.proofs.Common.{sym, ap, subst}
+use Rattle.std.proofs.Common.{sym, subst}
 use Rattle.zone_set.proofs.DatumOrder.{AreDatums-more}
 use Rattle.zone_set.specs.Machine.Datums.{datums_of, AscendingOctets}
 use Rattle.zone_set.specs.Machine.Held.{AreDatums}

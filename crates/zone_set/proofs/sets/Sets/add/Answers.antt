@@ -1,6 +1,6 @@
-use Rattle.std.proofs.Common.{◌≡◌, ◌≤◌, true, false, Option, Some, List, ℕ, sym, ap, ap₂, ◌∙◌, subst}
+use Rattle.std.proofs.Common.{◌≡◌, ◌≤◌, true, false, Some, sym, ap, ap₂, ◌∙◌, subst}
 use Rattle.zone_name.specs.Name.{IsName}
-use Rattle.zone_rdata.specs.Record.{Record, IsRecord, IsRdata, data_of}
+use Rattle.zone_rdata.specs.Record.{IsRecord, IsRdata}
 use Rattle.zone_rdata.specs.declared.fault.Fault.TheVariants.{ClassMismatch, MultipleSoa}
 use Rattle.zone_set.proofs.Adding.{refused_class, refused_soa, refused_put, accepted, Adds-with, HoldsSets-with}
 use Rattle.zone_set.proofs.Together.{set_at}

@@ -1,5 +1,5 @@
 use Rattle.std.proofs.Common.{◌∙◌}
-use Rattle.zone_set.proofs.Walking.{Counts-start, Counts-more, Counts-end}
+use Rattle.zone_set.proofs.Walking.{Counts-start, Counts-end}
 use Rattle.zone_set.specs.Machine.Held.{class_or_none}
 use Rattle.zone_set.proofs.sets.Sets.len.Goals as goal
 
