@@ -1,7 +1,7 @@
 -- The octets of a key: they embed the order of sets, and the set can be read back.
 use Rattle.std.proofs.Common.{◌≡◌, ℕ, zero, suc, ◌+◌, ◌-◌, ◌*◌, ◌/◌, ◌%◌, ◌<◌, ◌≤◌, List, [], ◌∷◌, ◌++◌, length, take, drop, reverse, get_or, Ordering, Less, Equal, Greater, nat_cmp, refl, sym, ap, ap₂, ◌∙◌, subst, arith, append_assoc, length-append, take_at, drop_at}
 use Rattle.std.proofs.lemmas.Cmp.{nat_list_cmp_total, tied_itself, ranked}
-use Rattle.std.proofs.lemmas.List.{reverse-append, get_or_at, same_from_push, flat_map_more}
+use Rattle.std.proofs.lemmas.List.{reverse-append, get_or_at, same_from_push}
 use Rattle.std.specs.Cmp.{nat_cmp_is}
 use Rattle.std.specs.Cmp.Lexicographic.{slice_cmp}
 use Rattle.std.specs.List.{flat_map, AllByRecursion}
@@ -25,9 +25,6 @@ greater : (a b : ℕ) → b < a → nat_cmp a b ≡ Greater
 greater a b h = sym (nat_cmp_is a b Greater h)
 
 -- an escaped octet compares as the octet, whatever follows
-one_way : (c d e f : ℕ) (o : Ordering) → c < d → e < f → ordering_then (nat_cmp c d) o ≡ ordering_then (nat_cmp e f) o
-one_way c d e f o h k = ap (λ p. ordering_then p o) (less c d h ∙ sym (less e f k))
-
 octet_embeds : (c d : ℕ) (x y : List ℕ) → slice_cmp nat_cmp (escaped_octet c ++ x) (escaped_octet d ++ y) ≡ ordering_then (nat_cmp c d) (slice_cmp nat_cmp x y)
 octet_embeds zero zero x y = refl
 octet_embeds zero (suc zero) x y = refl
@@ -212,12 +209,6 @@ flat_map-plain [] each = refl
 flat_map-plain (zero ∷ label) each = absurd (let h : 1 < 0 = each 0 (omega arith) in omega (arith, h))
 flat_map-plain (suc zero ∷ label) each = absurd (let h : 1 < 1 = each 0 (omega arith) in omega (arith, h))
 flat_map-plain (suc (suc c) ∷ label) each = ap (λ t. suc (suc c) ∷ t) (flat_map-plain label (λ k h. each (suc k) (omega (arith, h))))
-
--- one more label on the left goes behind
-pub labels-more : (out mid new : List ℕ) (label : List ℕ) (labels rest : List (List ℕ)) → labels ≡ label ∷ rest → mid ≡ out ++ flat_map label_key (reverse rest) → new ≡ mid ++ label_key label → new ≡ out ++ flat_map label_key (reverse labels)
-labels-more out mid new label labels rest parts first second =
-    second ∙ ap (λ t. t ++ label_key label) first ∙ flat_map_more label_key out (reverse rest) label
-    ∙ ap (λ ls. out ++ flat_map label_key ls) (sym (reverse-append (label ∷ []) rest) ∙ ap reverse (sym parts))
 
 -- a key as it is written, piece by piece
 pub written : (s : RecordSet) (a b c d e f g : List ℕ) → a ≡ set_rank s ∷ [] → b ≡ a ++ flat_map label_key (reverse s.owner) → c ≡ b ++ 0 ∷ [] → d ≡ c ++ s.kind / 256 ∷ s.kind % 256 ∷ []

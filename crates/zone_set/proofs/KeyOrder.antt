@@ -1,6 +1,5 @@
 -- The order of sets: it is total, and sets that it does not tell apart are equal.
-use Rattle.std.proofs.Common.{◌≡◌, ℕ, true, nat_eq, Decides, subst, List, [], ◌∷◌, reverse, Ordering, Less, Equal, Greater, nat_cmp, refl, sym, ap, ap₂, ◌∙◌, arith}
-use Rattle.std.proofs.lemmas.Map.Views.{exact_unsigned_eq}
+use Rattle.std.proofs.Common.{◌≡◌, ℕ, nat_eq, Decides, List, [], ◌∷◌, reverse, Ordering, Less, Equal, Greater, nat_cmp, refl, sym, ap, ap₂, ◌∙◌}
 use Rattle.std.proofs.lemmas.List.{reverse-reverse}
 use Rattle.std.proofs.lemmas.Map.Lookups.{CmpEqualImpliesEq, exact_unsigned, exact_bytes}
 use Rattle.std.specs.Cmp.Lexicographic.{slice_cmp, pointwise, pointwise_decides, bytes_decides}
@@ -32,12 +31,6 @@ exact_sets a b h =
     let e_kind : a.kind ≡ b.kind = exact_unsigned _ _ kind.0 in
     let e_covered : a.covered ≡ b.covered = exact_bytes _ _ kind.1 in
     λ i. record { owner = e_owner i; kind = e_kind i; covered = e_covered i }
-
-pub Decides-number : (a b : ℕ) → Decides (nat_eq a b) (a ≡ b)
-Decides-number a b = (exact_unsigned_eq a b, λ e. subst (λ n. nat_eq a n ≡ true) e (itself a))
-  where
-    itself : (n : ℕ) → nat_eq n n ≡ true
-    itself n = grind arith
 
 pub Decides-owner : (x y : List (List ℕ)) → Decides (on reverse (pointwise (pointwise nat_eq)) x y) (x ≡ y)
 Decides-owner x y =

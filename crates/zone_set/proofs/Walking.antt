@@ -1,11 +1,10 @@
 -- A walk over sets, and the records of those that are left.
-use Rattle.std.proofs.Common.{◌≡◌, ℕ, ◌+◌, ◌-◌, ◌^◌, ◌≤◌, min, List, [], ◌∷◌, ◌++◌, length, map, refl, sym, ap, ◌∙◌, subst, arith, length-append}
-use Rattle.std.proofs.lemmas.List.{length-map}
+use Rattle.std.proofs.Common.{◌≡◌, ℕ, ◌+◌, ◌-◌, ◌^◌, ◌≤◌, min, List, [], ◌∷◌, ◌++◌, length, map, refl, sym, ap, ◌∙◌, subst, arith}
 use Rattle.std.specs.List.{AllByRecursion}
 use Rattle.zone_name.specs.Name.{IsWithin}
 use Rattle.zone_rdata.specs.Record.{Record}
 use Rattle.zone_set.proofs.Finishing.{IsFirstOutside-later}
-use Rattle.zone_set.specs.Machine.Held.{SetData, set_record, entry_records, all_records, IsKept, IsFirstOutside}
+use Rattle.zone_set.specs.Machine.Held.{SetData, set_record, all_records, IsKept, IsFirstOutside}
 use Rattle.zone_set.specs.Machine.Key.{RecordSet}
 
 abbrev Entries : Type 0
@@ -61,9 +60,6 @@ module _ (whole : List Record) (apex : List (List ℕ)) (left rest : Entries) (k
       let now = here in
       now.outside owner (subst (IsFirstOutside (all_records now.class ((k, d) ∷ rest)) apex) (sym is) (first_outside now.class k d apex out d.rdatas (all_records now.class rest) now.kept.0.datums.some))
 
-pub Walks-end : (whole : List Record) (apex : List (List ℕ)) (left : Entries) → Walks whole apex left → left ≡ [] → AllByRecursion (λ r. IsWithin r.owner apex) whole
-Walks-end whole apex left walks none = let now : Walks whole apex [] = subst (Walks whole apex) none walks in now.inside tt
-
 -- the number so far and that of the records left
 pub record Counts (whole : List Record) (left : Entries) (n : ℕ) : Type 0 where
   pub class : ℕ
@@ -74,13 +70,6 @@ pub Counts-start : (class : ℕ) (es left : Entries) (whole : List Record) → a
 Counts-start class es left whole view is =
     let same : length (all_records class left) ≡ length whole = ap length (ap (all_records class) is ∙ view) in
     record { class = class; small = omega arith; sum = omega (arith, same) }
-
-pub Counts-more : (whole : List Record) (left rest : Entries) (k : RecordSet) (d : SetData) (n m : ℕ) → Counts whole left n → left ≡ (k, d) ∷ rest → m ≡ min (n + length d.rdatas) (2 ^ 64 - 1) → Counts whole rest m
-Counts-more whole left rest k d n m counts step is =
-    let one : length (entry_records counts.class (k, d)) ≡ length d.rdatas = length-map d.rdatas (set_record counts.class k d) in
-    let more : length (all_records counts.class left) ≡ length (entry_records counts.class (k, d)) + length (all_records counts.class rest) =
-    ap (λ es. length (all_records counts.class es)) step ∙ length-append (entry_records counts.class (k, d)) (all_records counts.class rest) in
-    record { class = counts.class; small = omega (arith, is); sum = omega (arith, counts.sum, one, more, is) }
 
 pub Counts-end : (whole : List Record) (left : Entries) (n : ℕ) → Counts whole left n → left ≡ [] → n ≡ min (length whole) (2 ^ 64 - 1)
 Counts-end whole left n counts none =
