@@ -2,3 +2,4 @@
 pub mod Units
 pub mod LabelWalk
 pub mod Seen
+pub mod Shown

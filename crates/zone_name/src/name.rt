@@ -103,7 +103,7 @@ impl Name {
     }
 
     /// The name of these octets, which are copied.
-    fn holding(octets: &[u8]) -> Name
+    pub(crate) fn holding(octets: &[u8]) -> Name
         requires { HoldsName octets.now }
         ensures { result ≡ labels_of octets.now }
     {

@@ -67,7 +67,7 @@ fn push_octet_text(text: &mut ArrayVec<u8, LONGEST>, octet: u8)
 }
 
 /// Whether the octet means something else inside a master file, and takes a backslash (RFC 1035 5.1).
-fn is_special_octet(octet: u8) -> bool
+pub(crate) fn is_special_octet(octet: u8) -> bool
     ensures { result ≡ is_special octet }
 {
     octet == b'"'

@@ -15,7 +15,7 @@ pub fn push_line<S: Sink>(out: &mut S, rr: &RrRef) -> Result<(), S::Error>
     ensures { OnOk result (S.takes out.old (line (record_of rr.now)) out.new) }
 {
     let mut digits = Buffer::new();
-    rr.owner.push_text(out)?;
+    rr.owner.print(out)?;
     out.push(b" ")?;
     out.push(digits.format(rr.ttl).as_bytes())?;
     out.push(b" ")?;

@@ -9,7 +9,7 @@ use Rattle.zone_rdata.specs.declared.fault.Fault.TheVariants.{NoSoa, OutOfZone}
 use Rattle.zone_rdata.specs.declared.fault.Place.TheVariants.{Whole}
 use Rattle.zone_rdata.specs.declared.fault.Stop.TheVariants.{Refused}
 use Rattle.zone_set.proofs.KeyOrder.{exact_names}
-use Rattle.zone_set.proofs.Sets.{each_Has, each_from_Has, soa_first}
+use Rattle.zone_set.proofs.Together.{each_Has, each_from_Has, soa_first}
 use Rattle.zone_set.specs.Builder.{HasNoSoa, IsLeastOutside, StopsFinish, no_soa, outside}
 use Rattle.zone_set.specs.Machine.Held.{IsFirstOutside}
 use Rattle.zone_set.specs.Order.{canonical_cmp, Ascends}
@@ -105,6 +105,18 @@ IsLeastOutside-from_first soa others owner compatible is_soa found = record {
         (⊎_elim (λ same. absurd (other (ap (λ s. s.owner) same ∙ found.named))) (λ later. after r later out other))
         (Has-parts found.before found.first found.others r (subst (λ rs. Has rs r) found.parts more))) has
 
+-- the apex itself is not outside
+IsFirstOutside-others : (soa : Record) (others : List Record) (owner : List (List ℕ)) → IsFirstOutside (soa ∷ others) soa.owner owner → IsFirstOutside others soa.owner owner
+IsFirstOutside-others soa others owner found = by found.before found.parts found.inside
+  where
+    by : (before : List Record) → soa ∷ others ≡ before ++ found.first ∷ found.others → AllByRecursion (λ r. IsWithin r.owner soa.owner) before → IsFirstOutside others soa.owner owner
+    by [] parts inside =
+        let same : soa ≡ found.first = cc in
+        absurd (found.outside (subst (λ o. IsWithin o soa.owner) (ap (λ r. r.owner) same ∙ found.named) (IsWithin-itself soa.owner)))
+    by (x ∷ before) parts inside =
+        let rest : others ≡ before ++ found.first ∷ found.others = cc in
+        record { before = before; first = found.first; others = found.others; parts = rest; inside = inside.1; named = found.named; outside = found.outside }
+
 -- the records held, of which the first and the others are known
 module _ (held : List Record) (first : Record) (others : List Record) (compatible : AreCompatible held) (parts : held ≡ first ∷ others) where
   known : AreCompatible (first ∷ others)
@@ -113,14 +125,16 @@ module _ (held : List Record) (first : Record) (others : List Record) (compatibl
   pub stops_without_soa : first.kind ≢ 6 → StopsFinish held (Refused NoSoa Whole)
   stops_without_soa other = no_soa (subst HasNoSoa (sym parts) (no_soa_of_first first others known other))
 
-  pub stops_outside : first.kind ≡ 6 → (owner named : List (List ℕ)) → IsFirstOutside others first.owner owner → named ≡ owner → StopsFinish held (Refused (OutOfZone named) Whole)
-  stops_outside soa owner named found is =
-      outside named (subst (λ o. IsLeastOutside held o) (sym is) (subst (λ rs. IsLeastOutside rs owner) (sym parts) (IsLeastOutside-from_first first others owner known soa found)))
+  pub stops_outside : first.kind ≡ 6 → (apex owner named : List (List ℕ)) → apex ≡ first.owner → IsFirstOutside held apex owner → named ≡ owner → StopsFinish held (Refused (OutOfZone named) Whole)
+  stops_outside soa apex owner named is_apex found is =
+      let behind : IsFirstOutside others first.owner owner = IsFirstOutside-others first others owner (subst (λ rs. IsFirstOutside rs first.owner owner) parts (subst (λ a. IsFirstOutside held a owner) is_apex found)) in
+      outside named (subst (λ o. IsLeastOutside held o) (sym is) (subst (λ rs. IsLeastOutside rs owner) (sym parts) (IsLeastOutside-from_first first others owner known soa behind)))
 
-  pub IsZone-from_parts : first.kind ≡ 6 → AllByRecursion (λ r. IsWithin r.owner first.owner) others → (apex : List (List ℕ)) → apex ≡ first.owner → IsZone (record { apex = apex; class = first.class; records = held })
-  IsZone-from_parts soa within apex is =
+  pub IsZone-from_parts : first.kind ≡ 6 → (apex : List (List ℕ)) → apex ≡ first.owner → AllByRecursion (λ r. IsWithin r.owner apex) held → IsZone (record { apex = apex; class = first.class; records = held })
+  IsZone-from_parts soa apex is within =
+      let whole : AllByRecursion (λ r. IsWithin r.owner first.owner) (first ∷ others) = subst (AllByRecursion (λ r. IsWithin r.owner first.owner)) parts (subst (λ a. AllByRecursion (λ r. IsWithin r.owner a) held) is within) in
       subst (λ a. IsZone (record { apex = a; class = first.class; records = held })) (sym is)
-      (subst (λ rs. IsZone (record { apex = first.owner; class = first.class; records = rs })) (sym parts) (IsZone-from_first first others known soa within))
+      (subst (λ rs. IsZone (record { apex = first.owner; class = first.class; records = rs })) (sym parts) (IsZone-from_first first others known soa whole.1))
 
 pub stops_with_none : (held : List Record) → held ≡ [] → StopsFinish held (Refused NoSoa Whole)
 stops_with_none held none = no_soa (subst HasNoSoa (sym none) no_soa_of_none)

@@ -1,7 +1,11 @@
 pub mod KeyOrder
+pub mod KeyOctets
+pub mod DatumOrder
+pub mod Together
 pub mod Entries
 pub mod Canonical
-pub mod Sets
 pub mod Inserting
 pub mod Finishing
 pub mod Taking
+pub mod Adding
+pub mod Walking

@@ -1,3 +1,6 @@
 -- What only private functions, invariants and proofs cite.
-pub mod Held
 pub mod Key
+pub mod Datums
+pub mod Held
+pub mod Records
+pub mod Refusal

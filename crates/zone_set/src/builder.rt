@@ -1,25 +1,18 @@
-ghost use Rattle.std.specs.Prelude.{◌≡◌, ◌≤◌, [], Some, IfNone, IfSome, OnOk, OnErr, IfOk, IfErr};
-ghost use Rattle.std.specs.List.{AllByRecursion};
-ghost use Rattle.zone_name.specs.Name.{IsWithin};
-ghost use Rattle.zone_rdata.specs.declared.record.TheConstants.{MAX_TTL};
+ghost use Rattle.std.specs.Prelude.{◌≡◌, [], OnOk, OnErr, IfOk, IfErr};
 ghost use Rattle.zone_set.specs.Builder.{Accepts, Adds, StopsAdd, TakesAll, StopsTaking, StopsFinish};
-ghost use Rattle.zone_set.specs.Machine.Held.{IsFirstOutside};
-ghost use Rattle.zone_set.specs.Machine.Key.{with_data};
 ghost use Rattle.zone_set.specs.Zone.{AreCompatible, IsZone};
 
-use crate::held::HeldRecords;
-use crate::key::{RecordKey, SetKey};
-use crate::records::Records;
+use crate::sets::Sets;
 use crate::zone::Zone;
 use std::alloc::Global;
 use std::marker::Model;
-use zone_name::Name;
-use zone_rdata::{Fault, Place, Placed, Rdata, Rr, RrSource, Stop};
+use zone_rdata::{Fault, Place, Placed, RrSource, Stop};
 
 /// The records of a zone so far. Contracts see their set, as its one list in canonical order.
 #[derive(Drop)]
 pub struct ZoneBuilder {
-    held: HeldRecords,
+    alloc: Global,
+    sets: Sets,
 }
 
 impl Model for ZoneBuilder {
@@ -28,7 +21,7 @@ impl Model for ZoneBuilder {
 
     ghost Value = { List Record };
 
-    ghost view = { λ b. b.held };
+    ghost view = { λ b. b.sets };
 }
 
 impl ZoneBuilder {
@@ -37,7 +30,8 @@ impl ZoneBuilder {
         ensures { result ≡ [] }
     {
         ZoneBuilder {
-            held: HeldRecords::new(alloc),
+            alloc,
+            sets: Sets::new(alloc),
         }
     }
 
@@ -56,23 +50,9 @@ impl ZoneBuilder {
         ensures returned { IfErr result (λ e. e.1 ≡ placed) }
         ensures unchanged { OnErr result (self.new ≡ self.old) }
     {
-        let Placed { rr, place } = placed;
-        let (owner, ttl, rdata) = rr.into_parts();
-        let mut key = RecordKey {
-            set: SetKey::new(owner, &rdata),
-            rdata: None,
-        };
-        if let Some(fault) = self.held.refusal(&key, ttl, &rdata) {
-            let placed = placed_again(key.set.owner, ttl, rdata, place);
-            return Err((Stop::Refused(fault, place), placed));
-        }
-        key.rdata = Some(rdata);
-        match self.held.insert(key, ttl) {
+        match self.sets.add(self.alloc, &placed.rr) {
             Ok(()) => Ok(()),
-            Err(RecordKey { set, rdata }) => match rdata {
-                Some(rdata) => Err((Stop::Memory, placed_again(set.owner, ttl, rdata, place))),
-                None => unreachable!(),
-            },
+            Err(refusal) => Err((refusal.stop_at(placed.place), placed)),
         }
     }
 
@@ -109,44 +89,19 @@ impl ZoneBuilder {
         ensures records { IfOk result (λ z. z.records ≡ self) }
         ensures stopped { IfErr result (StopsFinish self) }
     {
-        let mut records = self.held.iter();
-        // An SOA goes before all else.
-        let soa = match records.next() {
-            Some(first) if first.kind.is_soa() => first,
-            _ => return Err(Stop::Refused(Fault::NoSoa, Place::Whole)),
+        let sets = self.sets;
+        let Some(first) = sets.iter().next() else {
+            return Err(Stop::Refused(Fault::NoSoa, Place::Whole));
         };
-        if let Some(owner) = first_outside(records, soa.owner) {
-            return Err(Stop::Refused(Fault::OutOfZone(owner.copy()), Place::Whole));
+        // An SOA goes before all else.
+        if !first.kind.is_soa() {
+            return Err(Stop::Refused(Fault::NoSoa, Place::Whole));
         }
-        let (apex, class) = (soa.owner.copy(), soa.class);
-        Ok(Zone {
-            apex,
-            class,
-            held: self.held,
-        })
-    }
-}
-
-/// The first owner that lies outside the zone of an apex.
-fn first_outside<'z>(records: Records<'z>, apex: &Name) -> Option<&'z Name>
-    ensures within { IfNone result (AllByRecursion (λ r. IsWithin r.owner apex.now) records.entry) }
-    ensures outside { IfSome result (λ owner. IsFirstOutside records.entry apex.now owner.now) }
-{
-    for record in records {
-        if !record.owner.is_within(apex) {
-            return Some(record.owner);
+        let (apex, class) = (first.owner.to_name(), first.class);
+        if let Some(owner) = sets.first_outside(&apex) {
+            let outside = Fault::OutOfZone(owner.to_name());
+            return Err(Stop::Refused(outside, Place::Whole));
         }
-    }
-    None
-}
-
-/// The record that was taken apart.
-fn placed_again(owner: Name, ttl: u32, rdata: Rdata, place: Place) -> Placed
-    requires { ttl ≤ MAX_TTL }
-    ensures { result ≡ record { rr = with_data owner ttl (Some rdata); place = place } }
-{
-    match Rr::new(owner, ttl, rdata) {
-        Ok(rr) => Placed { rr, place },
-        Err(_) => unreachable!(),
+        Ok(Zone { apex, class, sets })
     }
 }

@@ -2,11 +2,17 @@
 #![tactic(auto)]
 
 mod builder;
+mod datum;
+mod datums;
 mod held;
 mod key;
 mod records;
+mod refusal;
+mod rr;
+mod sets;
 mod zone;
 
 pub use builder::ZoneBuilder;
-pub use records::{Records, RrRef};
+pub use records::Records;
+pub use rr::RrRef;
 pub use zone::Zone;

@@ -1,41 +1,43 @@
 ghost use Rattle.std.specs.Prelude.{◌≡◌};
+ghost use Rattle.zone_rdata.specs.Record.{IsRecord};
+ghost use Rattle.zone_set.specs.Machine.Held.{set_record};
+ghost use Rattle.zone_set.specs.View.{record_of};
 
-use crate::key::RecordKey;
+use crate::datum::Datum;
+use crate::datums::DatumIter;
+use crate::held::Held;
+use crate::key::SetKey;
+use crate::rr::RrRef;
 use std::collections::btree_map::Iter;
 use std::marker::Model;
-use zone_name::Name;
-use zone_rdata::{Class, Kind, Rdata};
+use zone_rdata::{Class, RdataRef};
 
-/// A record of a zone.
-#[derive(Clone, Copy)]
-pub struct RrRef<'z> {
-    pub owner: &'z Name,
-    pub class: Class,
-    pub kind: Kind,
-    /// In seconds.
-    pub ttl: u32,
-    pub rdata: &'z Rdata,
-    pub ghost same_class: { rdata.now.class ≡ class },
-    pub ghost same_kind: { rdata.now.kind ≡ kind },
+/// A set whose records are told one by one.
+#[derive(Drop)]
+pub(crate) struct Told<'z> {
+    pub(crate) key: &'z SetKey,
+    pub(crate) held: &'z Held,
+    pub(crate) left: DatumIter<'z>,
 }
 
 /// The records of a zone that are still to come, in canonical order.
 #[derive(Drop)]
 pub struct Records<'z> {
-    pub(crate) entries: Iter<'z, RecordKey, u32>,
+    pub(crate) class: Option<Class>,
+    pub(crate) told: Option<Told<'z>>,
+    pub(crate) entries: Iter<'z, SetKey, Held>,
 }
 
 impl<'z> Model for Records<'z> {
-    ghost use Rattle.std.specs.Prelude.{List, map};
-    ghost use Rattle.std.specs.List.{AllByRecursion};
+    ghost use Rattle.std.specs.Prelude.{List};
     ghost use Rattle.zone_rdata.specs.Record.{Record};
-    ghost use Rattle.zone_set.specs.Machine.Key.{entry_record, IsKeyed};
+    ghost use Rattle.zone_set.specs.Machine.Records.{records_to_come, AreToCome};
 
     ghost Value = { List Record };
 
-    ghost view = { λ r. map entry_record r.entries };
+    ghost view = { λ r. records_to_come r.class r.told r.entries };
 
-    ghost invariant = { λ r. AllByRecursion IsKeyed r.entries };
+    ghost invariant = { λ r. AreToCome r.class r.told r.entries };
 }
 
 impl<'z> Iterator for Records<'z> {
@@ -49,16 +51,36 @@ impl<'z> Iterator for Records<'z> {
     ghost remaining = { item_count (λ s. s) };
 
     fn next(&mut self) -> Option<RrRef<'z>> {
-        let (key, ttl) = self.entries.next()?;
-        match &key.rdata {
-            Some(rdata) => Some(RrRef {
-                owner: &key.set.owner,
-                class: rdata.class(),
-                kind: rdata.kind(),
-                ttl: *ttl,
-                rdata,
-            }),
+        let class = self.class?;
+        if let Some(mut told) = self.told.take() {
+            if let Some(datum) = told.left.next() {
+                let rr = lent(class, told.key, told.held, datum);
+                self.told = Some(told);
+                return Some(rr);
+            }
+        }
+        let (key, held) = self.entries.next()?;
+        let mut left = held.datums();
+        match left.next() {
+            Some(datum) => {
+                self.told = Some(Told { key, held, left });
+                Some(lent(class, key, held, datum))
+            }
             None => unreachable!(),
         }
+    }
+}
+
+/// The record of a set with this datum.
+fn lent<'z>(class: Class, key: &'z SetKey, held: &'z Held, datum: &'z Datum) -> RrRef<'z>
+    requires { IsRecord (set_record class key.now held.now datum.now) }
+    ensures { record_of result ≡ set_record class key.now held.now datum.now }
+{
+    RrRef {
+        owner: key.owner(),
+        class,
+        kind: held.kind,
+        ttl: held.ttl,
+        rdata: RdataRef::of_octets(class, held.kind, datum.octets()),
     }
 }

@@ -1,8 +1,8 @@
 ghost use Rattle.std.specs.Prelude.{◌≡◌, ◌-◌, ◌^◌, length, min};
 ghost use Rattle.zone_set.specs.Zone.{IsZone};
 
-use crate::held::HeldRecords;
 use crate::records::Records;
+use crate::sets::Sets;
 use std::marker::Model;
 use zone_name::Name;
 use zone_rdata::Class;
@@ -12,7 +12,7 @@ use zone_rdata::Class;
 pub struct Zone {
     pub(crate) apex: Name,
     pub(crate) class: Class,
-    pub(crate) held: HeldRecords,
+    pub(crate) sets: Sets,
 }
 
 impl Model for Zone {
@@ -20,9 +20,9 @@ impl Model for Zone {
 
     ghost Value = { Zone };
 
-    ghost view = { λ z. record { apex = z.apex; class = z.class; records = z.held } };
+    ghost view = { λ z. record { apex = z.apex; class = z.class; records = z.sets } };
 
-    ghost invariant = { λ z. IsZone (record { apex = z.apex; class = z.class; records = z.held }) };
+    ghost invariant = { λ z. IsZone (record { apex = z.apex; class = z.class; records = z.sets }) };
 }
 
 impl Zone {
@@ -44,7 +44,7 @@ impl Zone {
     pub fn len(&self) -> u64
         ensures { result ≡ min (length self.now.records) (2 ^ 64 - 1) }
     {
-        self.held.len()
+        self.sets.len()
     }
 
     /// The records in canonical order.
@@ -52,6 +52,6 @@ impl Zone {
         ensures records { result ≡ self.now.records }
         ensures zone { IsZone self.now }
     {
-        self.held.iter()
+        self.sets.iter()
     }
 }

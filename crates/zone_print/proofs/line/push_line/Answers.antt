@@ -7,9 +7,9 @@ pub returns : goal.returns
 returns g c =
     let rr = c.args.rr.now in
     let joins = g.met.S.Sink.joins in
-    let rdata = subst (λ text. g.S.Sink.takes c.push-5.new.self text c.print.new.out) (same_text _ _ _ _ rr.rdata.now.octets rr.same_class rr.same_kind) c.in_ok-print.ensures.ok in
+    let rdata = subst (λ text. g.S.Sink.takes c.push-5.new.self text c.print-2.new.out) (same_text _ _ _ _ rr.rdata.octets rr.same_class rr.same_kind) c.in_ok-print-2.ensures.ok in
     let digits = subst (λ text. g.S.Sink.takes c.push.new.self text c.push-2.new.self) (c.as_bytes.ensures.value ∙ c.format.ensures.text) c.in_ok-push-2.ensures.ok in
-    let ttl = joins _ _ _ _ _ c.in_ok-push_text.ensures.ok (joins _ _ _ _ _ c.in_ok-push.ensures.ok digits) in
+    let ttl = joins _ _ _ _ _ c.in_ok-print.ensures (joins _ _ _ _ _ c.in_ok-push.ensures.ok digits) in
     let class = joins _ _ _ _ _ ttl (joins _ _ _ _ _ c.in_ok-push-3.ensures.ok c.in_ok-push_word.ensures.ok) in
     let kind = joins _ _ _ _ _ class (joins _ _ _ _ _ c.in_ok-push-4.ensures.ok c.in_ok-push_word-2.ensures.ok) in
     let with_data = joins _ _ _ _ _ kind (joins _ _ _ _ _ c.in_ok-push-5.ensures.ok rdata) in

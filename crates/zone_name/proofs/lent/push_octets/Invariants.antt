@@ -1,0 +1,7 @@
+use Rattle.std.proofs.Common.{take}
+use Rattle.std.specs.List.{flat_map}
+use Rattle.zone_name.specs.Text.{octet_text}
+use Rattle.zone_name.proofs.lent.push_octets.Given as goal
+
+abbrev pub invariant-loop-octet : goal.invariant-loop-octet
+invariant-loop-octet g l = g.S.Sink.takes l.fn.out (flat_map octet_text (take l.octet-index l.label)) l.out

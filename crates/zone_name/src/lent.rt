@@ -1,0 +1,141 @@
+ghost use Rattle.std.specs.Prelude.{◌≡◌, ◌↔◌, slice_index, EachIndex, IsTrue, OnOk};
+ghost use Rattle.zone_name.specs.Name.{labels_of, wire, HoldsName, IsName, IsWithin};
+ghost use Rattle.std.specs.List.{flat_map};
+ghost use Rattle.zone_name.specs.Machine.Shown.{IsShown};
+ghost use Rattle.zone_name.specs.Text.{label_text, name_text, octet_text};
+
+use crate::labels::Labels;
+use crate::name::Name;
+use crate::sink::Sink;
+use crate::text::is_special_octet;
+use std::marker::Model;
+
+/// A domain name in octets that are lent: uncompressed (RFC 1035 3.1) and in lower case. Contracts see its labels.
+#[derive(Debug, Drop)]
+pub struct NameRef<'a> {
+    octets: &'a [u8],
+}
+
+impl<'a> Model for NameRef<'a> {
+    ghost use Rattle.std.specs.Prelude.{List, ℕ};
+    ghost use Rattle.zone_name.specs.Name.{labels_of, HoldsName};
+
+    ghost Value = { List (List ℕ) };
+
+    ghost view = { λ n. labels_of n.octets.now };
+
+    ghost invariant = { λ n. HoldsName n.octets.now };
+}
+
+impl<'a> NameRef<'a> {
+    /// The name of these uncompressed octets, which were judged before.
+    pub fn of_wire(octets: &'a [u8]) -> NameRef<'a>
+        requires { HoldsName octets.now }
+        ensures { result ≡ labels_of octets.now }
+    {
+        NameRef { octets }
+    }
+
+    /// The uncompressed octets in lower case, at most 255 (RFC 1035 3.1).
+    pub fn wire(&self) -> &'a [u8]
+        ensures octets { result.now ≡ wire self.now }
+        ensures name { IsName self.now }
+    {
+        self.octets
+    }
+
+    /// An equal name of its own.
+    pub fn to_name(&self) -> Name
+        ensures { result ≡ self.now }
+    {
+        Name::holding(self.octets)
+    }
+
+    /// Whether the name lies at or below the apex: the apex's labels end the name's.
+    pub fn is_within(&self, apex: &Name) -> bool
+        ensures { IsTrue result ↔ IsWithin self.now apex.now }
+    {
+        self.to_name().is_within(apex)
+    }
+
+    /// The labels, from the leftmost.
+    pub fn labels(&self) -> Labels<'a>
+        ensures value { result ≡ self.now }
+    {
+        Labels {
+            octets: self.octets,
+        }
+    }
+
+    /// Appends the canonical spelling, at most 1,021 octets.
+    ///
+    /// # Errors
+    ///
+    /// `out` refuses octets. A front of the spelling may have been appended.
+    pub fn print<S: Sink>(&self, out: &mut S) -> Result<(), S::Error>
+        ensures { OnOk result (S.takes out.old (name_text self.now) out.new) }
+    {
+        let mut labels = self.labels();
+        let Some(first) = labels.next() else {
+            return out.push(b".");
+        };
+        push_label(first, out)?;
+        for label in labels {
+            push_label(label, out)?;
+        }
+        Ok(())
+    }
+}
+
+/// Appends a label's spelling and the dot behind it.
+fn push_label<S: Sink>(label: &[u8], out: &mut S) -> Result<(), S::Error>
+    ensures { OnOk result (S.takes out.old (label_text label.now) out.new) }
+{
+    push_octets(label, out)?;
+    out.push(b".")
+}
+
+/// Appends the spelling of a label's octets.
+fn push_octets<S: Sink>(label: &[u8], out: &mut S) -> Result<(), S::Error>
+    ensures { OnOk result (S.takes out.old (flat_map octet_text label.now) out.new) }
+{
+    if is_shown(label) {
+        return out.push(label);
+    }
+    for octet in label {
+        push_octet(*octet, out)?;
+    }
+    Ok(())
+}
+
+/// Whether each octet spells itself.
+fn is_shown(label: &[u8]) -> bool
+    ensures { IsTrue result ↔ EachIndex label.now (λ k. IsShown (slice_index label.now k)) }
+{
+    label.iter().all(|octet| octet_is_shown(*octet))
+}
+
+/// Whether the octet spells itself.
+fn octet_is_shown(octet: u8) -> bool
+    ensures { IsTrue result ↔ IsShown octet }
+{
+    octet >= b'!' && octet <= b'~' && !is_special_octet(octet)
+}
+
+/// Appends an octet's spelling.
+fn push_octet<S: Sink>(octet: u8, out: &mut S) -> Result<(), S::Error>
+    ensures { OnOk result (S.takes out.old (octet_text octet) out.new) }
+{
+    if is_special_octet(octet) {
+        out.push(&[b'\\', octet])
+    } else if octet >= b'!' && octet <= b'~' {
+        out.push(&[octet])
+    } else {
+        out.push(&[
+            b'\\',
+            b'0' + octet / 100,
+            b'0' + octet / 10 % 10,
+            b'0' + octet % 10,
+        ])
+    }
+}

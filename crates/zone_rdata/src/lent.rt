@@ -1,0 +1,64 @@
+ghost use Rattle.std.specs.Prelude.{◌≡◌, OnOk, OnErr};
+ghost use Rattle.zone_name.specs.Sink.{TakesSome};
+ghost use Rattle.zone_rdata.specs.Record.{Data, IsRdata};
+ghost use Rattle.zone_rdata.specs.Text.{data_text};
+
+use crate::class::Class;
+use crate::kind::Kind;
+use crate::layout::layout_of;
+use crate::printing::push_data;
+use std::marker::Model;
+use zone_name::Sink;
+
+/// The data of a record in octets that are lent: class, type and canonical octets (RFC 1035 3.2.1). Contracts see these
+/// three.
+#[derive(Debug, Drop)]
+pub struct RdataRef<'a> {
+    class: Class,
+    kind: Kind,
+    octets: &'a [u8],
+}
+
+impl<'a> Model for RdataRef<'a> {
+    ghost use Rattle.zone_rdata.specs.Record.{Data, IsRdata};
+
+    ghost Value = { Data };
+
+    ghost view = { λ d. record { class = d.class; kind = d.kind; octets = d.octets.now } };
+
+    ghost invariant = { λ d.
+        IsRdata (record { class = d.class; kind = d.kind; octets = d.octets.now }) };
+}
+
+impl<'a> RdataRef<'a> {
+    /// The data of these canonical octets, which were judged before.
+    pub fn of_octets(class: Class, kind: Kind, octets: &'a [u8]) -> RdataRef<'a>
+        requires { IsRdata (record { class = class; kind = kind; octets = octets.now }) }
+        ensures { result ≡ record { class = class; kind = kind; octets = octets.now } }
+    {
+        RdataRef {
+            class,
+            kind,
+            octets,
+        }
+    }
+
+    /// The canonical octets, at most 65,535: names uncompressed and in lower case.
+    pub fn octets(&self) -> &'a [u8]
+        ensures { result.now ≡ self.now.octets }
+    {
+        self.octets
+    }
+
+    /// Appends the canonical text to any sink.
+    ///
+    /// # Errors
+    ///
+    /// `out` refuses octets. A front of the text may have been appended.
+    pub fn print<S: Sink>(&self, out: &mut S) -> Result<(), S::Error>
+        ensures ok { OnOk result (S.takes out.old (data_text self.now) out.new) }
+        ensures err { OnErr result (TakesSome S.takes out.old out.new) }
+    {
+        push_data(layout_of(self.class, self.kind), self.octets, out)
+    }
+}

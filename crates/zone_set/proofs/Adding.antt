@@ -1,0 +1,123 @@
+-- A record and the sets that are held: why it is refused, and what is held with it.
+use Rattle.std.proofs.Common.{◌≡◌, ◌≢◌, ◌⊎◌, ◌↔◌, ℕ, List, [], ◌∷◌, Option, Some, None, Ordering, Less, Equal, Greater, refl, sym, ap, ◌∙◌, subst, inl}
+use Rattle.std.specs.BTreeMap.{insert_entry, is_at}
+use Rattle.std.specs.List.{AllByRecursion}
+use Rattle.std.specs.List.Sorted.{IsStrictlySortedBy}
+use Rattle.std.specs.Map.{keys_of, lookup}
+use Rattle.std.specs.Option.{IfSome}
+use Rattle.std.specs.Ordering.{match_ordering}
+use Rattle.zone_rdata.specs.Record.{Record, IsRecord}
+use Rattle.zone_rdata.specs.declared.fault.Fault.TheVariants.{ClassMismatch, MultipleSoa, DifferingTtl}
+use Rattle.zone_set.proofs.Canonical.{class_of, all_ascend}
+use Rattle.zone_set.proofs.Entries.{Has-append, first_of, stands_at, StandsAt, holds_one, kept_at, Grows, grows_first, grows_more, kept_with, has_with}
+use Rattle.zone_set.proofs.Inserting.{AreCompatible-with}
+use Rattle.zone_set.proofs.Together.{set_at, key_from_set, set_from_key, stable_number}
+use Rattle.zone_rdata.specs.declared.record.Placed.{Placed}
+use Rattle.zone_set.specs.Builder.{OtherClass, OtherSoa, Accepts, Adds, IsRefusedFor, StopsAdd, fault, memory, class as by_class, soa as by_soa, ttl as by_ttl}
+use Rattle.zone_set.specs.Machine.Held.{SetData, with_datum, entry_records, all_records, class_or_none, IsKept, HoldsSets}
+use Rattle.zone_set.specs.Machine.Key.{RecordSet, set_cmp}
+use Rattle.zone_set.specs.Machine.Refusal.{IsOtherClass, IsRefusal, IsSetRefusal, stop_for}
+use Rattle.zone_set.specs.declared.refusal.Refusal.{Refusal}
+use Rattle.zone_set.specs.declared.refusal.Refusal.TheVariants as refusal
+use Rattle.zone_set.specs.Zone.{Has}
+
+abbrev Entries : Type 0
+Entries = List (RecordSet × SetData)
+
+pub refused_class : (class : Option ℕ) (es : Entries) (r : Record) → HoldsSets class es → IsOtherClass class r.class → IsRefusedFor (all_records (class_or_none class) es) r ClassMismatch
+refused_class None es r held other = absurd other
+refused_class (Some d) [] r held other = absurd (held.some refl)
+refused_class (Some d) (e ∷ es) r held other =
+    let one = first_of d e.0 e.1 e.1.rdatas held.kept.0.datums.some in
+    let has : Has (all_records d (e ∷ es)) one.0 = (Has-append (entry_records d e) (all_records d es) one.0).1 (inl one.1) in
+    by_class (one.0, has, λ same. other (sym (class_of d (e ∷ es) one.0 has) ∙ same))
+
+pub one_class : (class : Option ℕ) (es : Entries) (r : Record) → HoldsSets class es → (IsOtherClass class r.class → ⊥) → OtherClass (all_records (class_or_none class) es) r → ⊥
+one_class None es r held same (s, has, other) = subst (λ (fs : Entries). Has (all_records 0 fs) s) (held.none refl) has
+one_class (Some d) es r held same (s, has, other) = other (class_of d es s has ∙ stable_number d r.class same)
+
+-- with no class known there is nothing, so the records are those of any class that may be
+pub same_records : (class : Option ℕ) (es : Entries) (r : Record) → HoldsSets class es → (IsOtherClass class r.class → ⊥) → all_records (class_or_none class) es ≡ all_records r.class es
+same_records None es r held same = ap (all_records 0) (held.none refl) ∙ sym (ap (all_records r.class) (held.none refl))
+same_records (Some d) es r held same = ap (λ c. all_records c es) (stable_number d r.class same)
+
+pub refused_soa : (class : Option ℕ) (es : Entries) (r : Record) → HoldsSets class es → (IsOtherClass class r.class → ⊥) → OtherSoa (all_records (class_or_none class) es) r → IsRefusedFor (all_records (class_or_none class) es) r MultipleSoa
+refused_soa class es r held same other = by_soa (one_class class es r held same) other
+
+some_insert : (es : Entries) (k : RecordSet) (w : SetData) → insert_entry set_cmp es k w ≢ []
+some_insert [] k w e = cc
+some_insert (f ∷ es) k w e = by (set_cmp k f.0) e
+  where
+    by : (o : Ordering) → match_ordering o ((k, w) ∷ f ∷ es) ((f.0, w) ∷ es) (f ∷ insert_entry set_cmp es k w) ≡ [] → ⊥
+    by Less is = cc
+    by Equal is = cc
+    by Greater is = cc
+
+-- a record whose set, TTL, type and octets are these
+module _ (class : Option ℕ) (es : Entries) (r : Record) (k : RecordSet) (ttl : ℕ) (held : HoldsSets class es) (ordered : IsStrictlySortedBy set_cmp (keys_of es)) (is_k : k ≡ set_at r) (is_ttl : ttl ≡ r.ttl) (same : IsOtherClass class r.class → ⊥) (one_soa : OtherSoa (all_records (class_or_none class) es) r → ⊥) where
+  pub refused_ttl : IsSetRefusal (lookup (is_at (set_cmp k)) es) ttl refusal.OtherTtl → IsRefusedFor (all_records (class_or_none class) es) r DifferingTtl
+  refused_ttl (d, found, other) =
+      let one = holds_one (class_or_none class) es k d held.kept found in
+      by_ttl (one_class class es r held same) one_soa (one.one, one.held, set_from_key one.one r (one.set ∙ is_k), λ e. other (sym one.ttl ∙ e ∙ sym is_ttl))
+
+  pub refused_put : (e : Refusal) → IsSetRefusal (lookup (is_at (set_cmp k)) es) ttl e → IsRefusal (all_records (class_or_none class) es) r e
+  refused_put refusal.OtherClass why = absurd why
+  refused_put refusal.OtherSoa why = absurd why
+  refused_put refusal.OtherTtl why = refused_ttl why
+  refused_put refusal.Memory why = tt
+
+  module _ (agrees : IfSome (lookup (is_at (set_cmp k)) es) (λ d. d.ttl ≡ ttl)) where
+    agrees_here : IfSome (lookup (is_at (set_cmp (set_at r))) es) (λ d. d.ttl ≡ r.ttl)
+    agrees_here = subst (λ n. IfSome (lookup (is_at (set_cmp (set_at r))) es) (λ d. d.ttl ≡ n)) is_ttl (subst (λ (q : RecordSet). IfSome (lookup (is_at (set_cmp q)) es) (λ d. d.ttl ≡ ttl)) is_k agrees)
+
+    pub accepted : Accepts (all_records (class_or_none class) es) r
+    accepted = record {
+      one_class = one_class class es r held same;
+      one_soa = one_soa;
+      one_ttl = λ (s, has, one, other).
+          let stands : StandsAt (lookup (is_at (set_cmp (set_at r))) es) s.ttl =
+          subst (λ (q : RecordSet). StandsAt (lookup (is_at (set_cmp q)) es) s.ttl) (key_from_set s r one) (stands_at (class_or_none class) es s held.kept ordered has) in
+          other (stands.ttl ∙ subst (λ (o : Option SetData). IfSome o (λ d. d.ttl ≡ r.ttl)) stands.is agrees_here);
+    }
+
+    grows : (o : Option SetData) → lookup (is_at (set_cmp (set_at r))) es ≡ o → IfSome o (λ d. d.ttl ≡ r.ttl) → Grows r.class (set_at r) r o (with_datum o r.ttl r.kind r.octets)
+    grows None is agree = grows_first r
+    grows (Some d) is agree = grows_more r d (kept_at es (set_at r) d held.kept is) agree
+
+    module _ (new : Entries) (kind : ℕ) (octets : List ℕ) (is_kind : kind ≡ r.kind) (is_octets : octets ≡ r.octets) (is : new ≡ insert_entry set_cmp es k (with_datum (lookup (is_at (set_cmp k)) es) ttl kind octets)) (new_ordered : IsStrictlySortedBy set_cmp (keys_of new)) (whole : IsRecord r) where
+      value : SetData
+      value = with_datum (lookup (is_at (set_cmp (set_at r))) es) r.ttl r.kind r.octets
+
+      grown : Grows r.class (set_at r) r (lookup (is_at (set_cmp (set_at r))) es) value
+      unfolding value
+      grown = grows (lookup (is_at (set_cmp (set_at r))) es) refl agrees_here
+
+      shape : new ≡ insert_entry set_cmp es (set_at r) value
+      unfolding value
+      shape = is ∙ (λ i. insert_entry set_cmp es (is_k i) (with_datum (lookup (is_at (set_cmp (is_k i))) es) (is_ttl i) (is_kind i) (is_octets i)))
+
+      kept : AllByRecursion IsKept new
+      kept = subst (AllByRecursion IsKept) (sym shape) (kept_with r.class (set_at r) r value es grown.kept held.kept)
+
+      with_one : (s : Record) → Has (all_records r.class new) s ↔ ((s ≡ r) ⊎ Has (all_records (class_or_none class) es) s)
+      with_one s =
+          subst (λ (old : List Record). Has (all_records r.class new) s ↔ ((s ≡ r) ⊎ Has old s)) (sym (same_records class es r held same))
+          (subst (λ (fs : Entries). Has (all_records r.class fs) s ↔ ((s ≡ r) ⊎ Has (all_records r.class es) s)) (sym shape) (has_with r.class (set_at r) r value es ordered grown s))
+
+      pub Adds-with : Adds (all_records (class_or_none class) es) r (all_records r.class new)
+      Adds-with = record { ascend = all_ascend r.class new kept new_ordered; same = with_one }
+
+      pub HoldsSets-with : HoldsSets (Some r.class) new
+      HoldsSets-with = record {
+        kept = kept;
+        compatible = AreCompatible-with (all_records (class_or_none class) es) (all_records r.class new) r held.compatible accepted whole (λ s. (with_one s).0) (all_ascend r.class new kept new_ordered);
+        none = λ e. cc;
+        some = λ e. some_insert es (set_at r) value (sym shape ∙ e);
+      }
+
+-- the stop for a record that is handed back
+pub stops_add : (held : List Record) (p : Placed) (e : Refusal) → IsRefusal held p.rr e → StopsAdd held p (stop_for e p.place)
+stops_add held p refusal.OtherClass why = fault ClassMismatch why
+stops_add held p refusal.OtherSoa why = fault MultipleSoa why
+stops_add held p refusal.OtherTtl why = fault DifferingTtl why
+stops_add held p refusal.Memory why = memory

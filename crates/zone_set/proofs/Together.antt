@@ -1,0 +1,106 @@
+-- Records held: membership, sets, and what a refusal excludes.
+use Rattle.std.proofs.Common.{◌≡◌, ◌≢◌, ◌⊎◌, ℕ, Bool, true, false, not, Decides, ◌==◌, if◌then◌else◌, List, [], ◌∷◌, take, Ordering, Less, nat_cmp, eqb-true, eq-eqb, refl, sym, ap, ◌∙◌, subst, inl, inr, ⊎_elim}
+use Rattle.std.proofs.lemmas.Bool.{cases_eq}
+use Rattle.std.specs.Cmp.Lexicographic.{bytes_decides}
+use Rattle.std.specs.List.{AllByRecursion}
+use Rattle.zone_rdata.specs.Record.{Record, data_of}
+use Rattle.zone_set.specs.Order.{canonical_cmp, Ascends}
+use Rattle.std.specs.Ordering.{ordering_then}
+use Rattle.zone_set.proofs.KeyOrder.{Decides-owner}
+use Rattle.zone_set.specs.Builder.{AreTwoSoas, OtherSoa, Accepts}
+use Rattle.zone_set.specs.Machine.Key.{RecordSet, set_for}
+use Rattle.zone_set.specs.Zone.{Has, InOneSet, AreCompatible}
+
+-- what holds of each record, and of each that is held
+pub each_Has : (P : Record → Type 0) (records : List Record) (r : Record) → AllByRecursion P records → Has records r → P r
+each_Has P [] r each has = absurd has
+each_Has P (s ∷ records) r each has = ⊎_elim (λ same. subst P (sym same) each.0) (λ more. each_Has P records r each.1 more) has
+
+pub each_from_Has : (P : Record → Type 0) (records : List Record) → ((r : Record) → Has records r → P r) → AllByRecursion P records
+each_from_Has P [] holds = tt
+each_from_Has P (s ∷ records) holds = (holds s (inl refl), each_from_Has P records (λ r has. holds r (inr has)))
+
+-- what the opposite of a test says
+pub differs : {P : Type 0} (b r : Bool) → Decides b P → r ≡ not b → r ≡ true → P → ⊥
+differs true r decides is true_r p = cc
+differs false r decides is true_r p = let no : false ≡ true = decides.1 p in cc
+
+pub agrees : {P : Type 0} (b r : Bool) → Decides b P → r ≡ not b → r ≡ false → P
+agrees true r decides is false_r = decides.0 refl
+agrees false r decides is false_r = cc
+
+pub true_from : {P : Type 0} (b r : Bool) → Decides b P → r ≡ not b → (P → ⊥) → r ≡ true
+true_from true r decides is fails = absurd (fails (decides.0 refl))
+true_from false r decides is fails = is
+
+-- what is not false is true, where a test decides it
+stable : {P : Type 0} (b : Bool) → Decides b P → ((P → ⊥) → ⊥) → P
+stable true decides twice = decides.0 refl
+stable false decides twice = absurd (twice (λ p. let no : false ≡ true = decides.1 p in cc))
+
+pub stable_number : (a b : ℕ) → ((a ≢ b) → ⊥) → a ≡ b
+stable_number a b twice = ⊎_elim (λ e. e) (λ ne. absurd (twice ne)) (cases_eq a b)
+
+pub stable_octets : (a b : List ℕ) → ((a ≢ b) → ⊥) → a ≡ b
+stable_octets a b twice = stable _ (bytes_decides a b) twice
+
+pub stable_owner : (a b : List (List ℕ)) → ((a ≢ b) → ⊥) → a ≡ b
+stable_owner a b twice = stable _ (Decides-owner a b) twice
+
+-- the set of a record
+abbrev pub set_at : Record → RecordSet
+set_at r = set_for r.owner (data_of r)
+
+pub key_from_set : (r s : Record) → InOneSet r s → set_at r ≡ set_at s
+key_from_set r s one = λ i. record { owner = one.owner i; kind = one.kind i; covered = one.covers i }
+
+pub set_from_key : (r s : Record) → set_at r ≡ set_at s → InOneSet r s
+set_from_key r s same = record { owner = ap (λ k. k.owner) same; kind = ap (λ k. k.kind) same; covers = ap (λ k. k.covered) same }
+
+-- records with one owner, type and data are of one set
+pub one_set : (r s : Record) → r.owner ≡ s.owner → r.kind ≡ s.kind → r.octets ≡ s.octets → InOneSet r s
+one_set r s owner kind octets = record { owner = owner; kind = kind; covers = λ i. if kind i == 46 then take 2 (octets i) else [] }
+
+-- a record that may stand with those held
+module _ (held : List Record) (r : Record) (fits : Accepts held r) where
+  pub accepted_class : (s : Record) → Has held s → s.class ≡ r.class
+  accepted_class s has = stable_number _ _ (λ other. fits.one_class (s, has, other))
+
+  pub accepted_ttl : (s : Record) → Has held s → InOneSet s r → s.ttl ≡ r.ttl
+  accepted_ttl s has one = stable_number _ _ (λ other. fits.one_ttl (s, has, one, other))
+
+  pub accepted_soa : (s : Record) → Has held s → s.kind ≡ 6 → r.kind ≡ 6 → s ≡ r
+  accepted_soa s has soa_s soa_r =
+      let owner : s.owner ≡ r.owner = stable_owner _ _ (λ other. fits.one_soa (s, has, (soa_r, soa_s, inl other))) in
+      let octets : s.octets ≡ r.octets = stable_octets _ _ (λ other. fits.one_soa (s, has, (soa_r, soa_s, inr other))) in
+      let kind : s.kind ≡ r.kind = soa_s ∙ sym soa_r in
+      let class : s.class ≡ r.class = accepted_class s has in
+      let ttl : s.ttl ≡ r.ttl = accepted_ttl s has (one_set s r owner kind octets) in
+      λ i. record { owner = owner i; class = class i; kind = kind i; ttl = ttl i; octets = octets i }
+
+-- the first of these records is an SOA if any is
+soa_before : (b c : Bool) (o : Ordering) → ordering_then (nat_cmp (if b then 0 else 1) (if c then 0 else 1)) o ≡ Less → c ≡ true → b ≡ true
+soa_before true c o less is_soa = refl
+soa_before false true o less is_soa = cc
+soa_before false false o less is_soa = cc
+
+pub soa_first : (first : Record) (others : List Record) → Ascends (first ∷ others) → (s : Record) → Has (first ∷ others) s → s.kind ≡ 6 → first.kind ≡ 6
+soa_first first others ascend s has soa =
+    ⊎_elim (λ same. ap (λ r. r.kind) (sym same) ∙ soa)
+    (λ more. eqb-true first.kind 6 (soa_before (first.kind == 6) (s.kind == 6) _ (each_Has (λ t. canonical_cmp first t ≡ Less) others s ascend.0 more) (eq-eqb s.kind 6 soa))) has
+
+-- whether another SOA is held is told by the first record
+module _ (first : Record) (others : List Record) (compatible : AreCompatible (first ∷ others)) (r : Record) where
+  pub one_soa : (AreTwoSoas first r → ⊥) → OtherSoa (first ∷ others) r → ⊥
+  one_soa one (s, has, (soa_r, soa_s, other)) =
+      let soa_first_one : first.kind ≡ 6 = soa_first first others compatible.ascend s has soa_s in
+      let same : s ≡ first = compatible.one_soa s first has (inl refl) soa_s soa_first_one in
+      one (soa_r, soa_first_one, subst (λ t. (t.owner ≢ r.owner) ⊎ (t.octets ≢ r.octets)) same other)
+
+  pub other_soa : AreTwoSoas first r → OtherSoa (first ∷ others) r
+  other_soa two = (first, inl refl, two)
+
+-- a test that decides one thing decides another that stands and falls with it
+pub decides_other : {P Q : Type 0} (b : Bool) → (b ≡ true → P) → (P → b ≡ true) → (P → Q) → ((P → ⊥) → Q → ⊥) → (b ≡ true → Q) × (Q → b ≡ true)
+decides_other true holds tells more less = (λ h. more (holds refl), λ q. refl)
+decides_other false holds tells more less = (λ h. cc, λ q. absurd (less (λ p. let no : false ≡ true = tells p in cc) q))

@@ -1,0 +1,13 @@
+use Rattle.std.proofs.Common.{◌≡◌, true, sym, ◌∙◌, subst, ◌↔◌}
+use Rattle.zone_set.proofs.Together.{decides_other, one_soa, other_soa}
+use Rattle.zone_set.specs.Builder.{OtherSoa}
+use Rattle.zone_set.specs.View.{record_of}
+use Rattle.zone_set.specs.Zone.{AreCompatible}
+use Rattle.zone_set.proofs.sets.Sets.has_other_soa.Goals as goal
+
+pub returns-in-Some : goal.returns-in-Some
+returns-in-Some c =
+    let parts = sym c.iter.ensures.records ∙ c.in-Some.ensures.steps in
+    let compatible = subst AreCompatible parts c.iter.ensures.compatible in
+    subst (λ held. (c.is_other_soa.result ≡ true) ↔ OtherSoa held c.args.rr.now) (sym parts)
+    (decides_other c.is_other_soa.result c.is_other_soa.ensures.0 c.is_other_soa.ensures.1 (other_soa (record_of c.in-Some.first) _ compatible c.args.rr.now) (one_soa (record_of c.in-Some.first) _ compatible c.args.rr.now))
