@@ -7,8 +7,6 @@ use zone_name::{Name, NameFault};
 /// Why an input is refused.
 #[derive(Debug, Drop)]
 pub enum Fault {
-    /// This form isn't read yet.
-    NotYet,
     /// A label of a name has no octets, or the text is empty.
     EmptyLabel,
     /// A label has more than 63 octets.
@@ -107,7 +105,6 @@ impl Fault {
         ensures { result ≡ self.now }
     {
         match self {
-            Fault::NotYet => Fault::NotYet,
             Fault::EmptyLabel => Fault::EmptyLabel,
             Fault::LabelTooLong => Fault::LabelTooLong,
             Fault::NameTooLong => Fault::NameTooLong,

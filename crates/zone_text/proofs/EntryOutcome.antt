@@ -28,14 +28,18 @@ Choice P = ((n : ℕ) × P n) ⊎ ((n : ℕ) → P n → ⊥)
 
 -- ---- the TTL
 
-minimum_by : Lower → (origin : List (List ℕ)) (before : List Entry) (entry : Entry) (head : Head) (octets : List ℕ) (found : Option ℕ) → HasHead origin before entry head → StatesData origin before head octets → minimum (record { class = head.class; kind = head.kind; octets = octets }) ≡ found → Choice (StatesMinimum origin before entry)
-minimum_by lower origin before entry head octets (Some seconds) has rdata e = inl (seconds, record { head = head; octets = octets; has = has; rdata = rdata; field = e })
-minimum_by lower origin before entry head octets None has rdata e = inr (λ seconds x.
+-- data without a MINIMUM state none
+pub states_no_minimum : Lower → (origin : List (List ℕ)) (before : List Entry) (entry : Entry) (head : Head) (octets : List ℕ) → HasHead origin before entry head → StatesData origin before head octets → minimum (record { class = head.class; kind = head.kind; octets = octets }) ≡ None → (seconds : ℕ) → StatesMinimum origin before entry seconds → ⊥
+states_no_minimum lower origin before entry head octets has rdata e seconds x =
     let same : x.head ≡ head = head_once lower origin before entry x.head head x.has has in
     let texts : x.octets ≡ octets = states_once lower origin before head x.octets octets (subst (λ h. StatesData origin before h x.octets) same x.rdata) rdata in
     let left : minimum (record { class = x.head.class; kind = x.head.kind; octets = x.octets }) ≡ minimum (record { class = head.class; kind = head.kind; octets = octets }) = rw (same, texts) refl in
     let clash : Some seconds ≡ None = sym x.field ∙ (left ∙ e) in
-    cc)
+    cc
+
+minimum_by : Lower → (origin : List (List ℕ)) (before : List Entry) (entry : Entry) (head : Head) (octets : List ℕ) (found : Option ℕ) → HasHead origin before entry head → StatesData origin before head octets → minimum (record { class = head.class; kind = head.kind; octets = octets }) ≡ found → Choice (StatesMinimum origin before entry)
+minimum_by lower origin before entry head octets (Some seconds) has rdata e = inl (seconds, record { head = head; octets = octets; has = has; rdata = rdata; field = e })
+minimum_by lower origin before entry head octets None has rdata e = inr (states_no_minimum lower origin before entry head octets has rdata e)
 
 minimum_of : Lower → (origin : List (List ℕ)) (before : List Entry) (entry : Entry) (head : Head) (octets : List ℕ) → HasHead origin before entry head → StatesData origin before head octets → Choice (StatesMinimum origin before entry)
 minimum_of lower origin before entry head octets has rdata = minimum_by lower origin before entry head octets (minimum (record { class = head.class; kind = head.kind; octets = octets })) has rdata refl
@@ -44,7 +48,7 @@ minimum_in : Lower → (origin : List (List ℕ)) (before : List Entry) (entry :
 minimum_in lower origin before entry (inl n) = inr (λ seconds x. nothing_or_parts origin before (form_of entry) x.has.parts n x.has.split)
 minimum_in lower origin before entry (inr s) = minimum_of lower origin before entry (head_of s.0 s.1.items) s.0.octets s.1.head s.1.rdata
 
-no_minimum : (origin : List (List ℕ)) (before : List Entry) (entry : Entry) → ((n : ℕ) → StatesMinimum origin before entry n → ⊥) → ((n : ℕ) → IsLastMinimum origin before n → ⊥) → (n : ℕ) → IsLastMinimum origin (entry ∷ before) n → ⊥
+pub no_minimum : (origin : List (List ℕ)) (before : List Entry) (entry : Entry) → ((n : ℕ) → StatesMinimum origin before entry n → ⊥) → ((n : ℕ) → IsLastMinimum origin before n → ⊥) → (n : ℕ) → IsLastMinimum origin (entry ∷ before) n → ⊥
 no_minimum origin before entry here earlier n (inl x) = here n x
 no_minimum origin before entry here earlier n (inr x) = earlier n x.1
 

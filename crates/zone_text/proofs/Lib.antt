@@ -1,9 +1,4 @@
-pub mod Units
-pub mod Cut
-pub mod Parts
 pub mod ClassWords
-pub mod Stated
-pub mod Whole
 pub mod Once
 pub mod Inherits
 pub mod Outcomes
@@ -11,8 +6,8 @@ pub mod Entered
 pub mod EntryChoice
 pub mod EntryOutcome
 pub mod Files
-pub mod FileChoice
 pub mod Seconds
+pub mod FileChoice
 pub mod CutAgain
 pub mod Decides
 pub mod ExampleFacts
@@ -36,3 +31,10 @@ pub mod ScanSteps
 pub mod ScanReads
 pub mod ScanPieces
 pub mod Scanned
+pub mod PieceEnds
+pub mod ItemsLeft
+pub mod WordsLeft
+pub mod Heads
+pub mod Inheriting
+pub mod RecordsRead
+pub mod DirectivesRead

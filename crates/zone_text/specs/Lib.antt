@@ -14,6 +14,5 @@ pub mod File
 pub mod FileReads
 pub mod Decided
 pub mod Outcome
-pub mod Lines
 pub mod Source
 pub mod ExampleEntries

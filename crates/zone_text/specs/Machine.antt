@@ -4,7 +4,6 @@ pub mod EntryReading
 pub mod Feeding
 pub mod Form
 pub mod ItemLengths
-pub mod Items
 pub mod Lower
 pub mod Scan
 pub mod WordValues

@@ -1,4 +1,5 @@
-ghost use Rattle.std.specs.Prelude.{◌≡◌, map};
+ghost use Rattle.std.specs.Prelude.{◌≡◌, bytes_eq, map};
+ghost use Rattle.zone_name.specs.Name.{folded_label};
 ghost use Rattle.zone_rdata.specs.Item.{raw};
 ghost use Rattle.zone_text.specs.Entries.{first_octet};
 ghost use Rattle.zone_text.specs.Forms.{directive, form_by};
@@ -26,6 +27,13 @@ pub(crate) enum Form<'i, 't> {
     Unowned(&'i [Item<'t>]),
 }
 
+/// Whether two words are equal in any case of their letters.
+fn is_word(word: &[u8], wanted: &[u8]) -> bool
+    ensures { result ≡ bytes_eq (folded_label word.now) (folded_label wanted.now) }
+{
+    word.eq_ignore_ascii_case(wanted)
+}
+
 /// The directive of a word in any case.
 fn directive_of<'i, 't>(word: Item<'t>, items: &'i [Item<'t>]) -> Form<'i, 't>
     ensures { form_in result ≡ directive (raw word.entry) (map raw items.now) }
@@ -33,11 +41,11 @@ fn directive_of<'i, 't>(word: Item<'t>, items: &'i [Item<'t>]) -> Form<'i, 't>
     let Item::Bare(word) = word else {
         return Form::Unknown;
     };
-    if word.eq_ignore_ascii_case(b"$origin") {
+    if is_word(word, b"$origin") {
         Form::SetsOrigin(items)
-    } else if word.eq_ignore_ascii_case(b"$ttl") {
+    } else if is_word(word, b"$ttl") {
         Form::SetsTtl(items)
-    } else if word.eq_ignore_ascii_case(b"$include") {
+    } else if is_word(word, b"$include") {
         Form::Include
     } else {
         Form::Unknown

@@ -89,18 +89,18 @@ fn split_piece(text: &[u8]) -> Option<(Option<Item<'_>>, &[u8])>
     ensures shorter { IfSome result (λ found. length found.1.now < length text.now) }
 {
     let (first, after) = text.split_first()?;
-    match *first {
-        b' ' | b'\t' | b'\r' | b'\n' | b'(' | b')' => Some((None, after)),
-        b';' => Some((None, after.split_at(comment_len(after)).1)),
-        b'"' => {
-            let (inside, closing) = after.split_at(item_len(after, Extent::Quoted));
-            let (_, rest) = closing.split_at(closing.len().min(1));
-            Some((Some(Item::Quoted(inside)), rest))
-        }
-        _ => {
-            let (item, rest) = text.split_at(item_len(text, Extent::Bare));
-            Some((Some(Item::Bare(item)), rest))
-        }
+    if *first == b'"' {
+        let (inside, closing) = after.split_at(item_len(after, Extent::Quoted));
+        let (_, rest) = closing.split_at(closing.len().min(1));
+        Some((Some(Item::Quoted(inside)), rest))
+    } else if *first == b';' {
+        let (_, rest) = after.split_at(comment_len(after));
+        Some((None, rest))
+    } else if ends_item(*first) {
+        Some((None, after))
+    } else {
+        let (item, rest) = text.split_at(item_len(text, Extent::Bare));
+        Some((Some(Item::Bare(item)), rest))
     }
 }
 

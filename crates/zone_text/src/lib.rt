@@ -4,18 +4,15 @@
 mod defaults;
 mod directive;
 mod ended;
-mod entry;
 pub mod examples;
 mod form;
 mod intake;
 mod items;
 pub mod laws;
-mod line;
 mod reader;
 mod record;
 mod scan;
 mod source;
-mod ttl;
 mod words;
 
 pub use reader::read_file;

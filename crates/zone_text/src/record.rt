@@ -74,21 +74,21 @@ impl Defaults {
         items: &[Item],
     ) -> Result<Rr, Failing>
         ensures owner { self.new.owner ≡ self.old.owner }
-        ensures record { (origin : Labels) (before : List Entry) (entry : Entry)
+        ensures answers { (origin : Labels) (before : List Entry) (entry : Entry)
             → IsRecordEntry origin before entry self.old owner (map raw items.now)
             → AnswersRecord origin before entry result self.new }
     {
         lower_laws();
         let head = self.head_of(items)?;
         let rdata = Rdata::from_items(alloc, head.class, head.kind, head.rdata, &self.origin)?;
-        let last_ttl = head.ttl.or(self.last_ttl);
+        let stated = head.ttl.or(self.default_ttl).or(self.last_ttl);
         let minimum = rdata.soa_minimum().or(self.minimum);
-        let Some(ttl) = head.ttl.or(self.default_ttl).or(last_ttl).or(minimum) else {
+        let Some(ttl) = stated.or(minimum) else {
             return Err(Failing::Fault(Fault::NoTtl));
         };
         let rr = Rr::new(owner, ttl, rdata)?;
         self.class = head.class;
-        self.last_ttl = last_ttl;
+        self.last_ttl = head.ttl.or(self.last_ttl);
         self.minimum = minimum;
         Ok(rr)
     }
@@ -112,7 +112,8 @@ impl Defaults {
             → IsRecordEntry origin before entry self.now owner (map raw items.now)
             → IfErr result (EntryFault origin before entry) }
     {
-        let (words, rest) = words_of(items)?;
+        let (words, count) = words_of(items)?;
+        let (_, rest) = items.split_at(count);
         let Some((word, rdata)) = split_bare(rest) else {
             return Err(Fault::UnknownType);
         };

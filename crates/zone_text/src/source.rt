@@ -143,6 +143,14 @@ impl TextSource {
     {
         self.fed
     }
+
+    /// What it has still to give.
+    pub(crate) fn into_reading(self) -> Reading
+        ensures records { result.placed.items ≡ self.pending.records }
+        ensures ending { result.ending ≡ self.pending.ending }
+    {
+        self.intake.ended.decided
+    }
 }
 
 impl RrSource for TextSource {

@@ -1,9 +1,9 @@
-ghost use Rattle.std.specs.Prelude.{◌≡◌, ℕ, List, [], ◌∷◌, ◌++◌, map, None, IfOk, IfErr, IfSome, IfNone, IsSomeAnd};
+ghost use Rattle.std.specs.Prelude.{◌≡◌, ◌≤◌, drop, length, ℕ, List, [], ◌∷◌, ◌++◌, map, None, IfOk, IfErr, IfSome, IfNone, IsSomeAnd};
 ghost use Rattle.zone_name.specs.Common.{Octets};
 ghost use Rattle.zone_rdata.specs.Fault.{NoValue};
 ghost use Rattle.zone_rdata.specs.Item.{RawItem, bare, raw};
 ghost use Rattle.zone_text.specs.EntryFault.{WordFault, WordsFault};
-ghost use Rattle.zone_text.specs.Forms.{Word, parts_behind, word_behind};
+ghost use Rattle.zone_text.specs.Forms.{Word, begins_with_digit, parts_behind, word_behind};
 ghost use Rattle.zone_text.specs.Inherited.{IsTtl};
 ghost use Rattle.zone_text.specs.Machine.WordValues.{ArePartsOf, HaveValues};
 
@@ -21,6 +21,13 @@ pub(crate) fn split_bare<'i, 't>(items: &'i [Item<'t>]) -> Option<(&'t [u8], &'i
         Item::Bare(text) => Some((text, behind)),
         Item::Quoted(_) => None,
     }
+}
+
+/// Whether the first octet is a digit, as that of a TTL.
+fn begins_with_digit(text: &[u8]) -> bool
+    ensures { result ≡ begins_with_digit text.now }
+{
+    matches!(text, [b'0'..=b'9', ..])
 }
 
 /// The seconds of a TTL (RFC 2181 8).
@@ -60,13 +67,15 @@ impl Words {
         ensures fault { (words : List Word) → HaveValues words self.now → IfErr result (λ fault.
             IsSomeAnd (word_behind words (bare text.now)) (λ word. WordFault word fault)) }
     {
-        let mut next = *self;
-        if let [b'0'..=b'9', ..] = text {
+        if begins_with_digit(text) {
             if self.ttl.is_some() {
                 return Ok(None);
             }
-            next.ttl = Some(ttl_in(text)?);
-            return Ok(Some(next));
+            let ttl = ttl_in(text)?;
+            return Ok(Some(Words {
+                ttl: Some(ttl),
+                class: self.class,
+            }));
         }
         if self.class.is_some() {
             return Ok(None);
@@ -75,34 +84,36 @@ impl Words {
             return Ok(None);
         };
         class.known();
-        next.class = Some(class);
-        Ok(Some(next))
+        Ok(Some(Words {
+            ttl: self.ttl,
+            class: Some(class),
+        }))
     }
 }
 
-/// The values of the words before a record's type, and the items from the type on, where the owner is left out.
+/// The values of the words before a record's type, and how many they are, of the items behind the owner.
 ///
 /// # Errors
 ///
 /// `BadTtl` and `BadClass` for the leftmost word without a value.
-pub(crate) fn words_of<'i, 't>(items: &'i [Item<'t>]) -> Result<(Words, &'i [Item<'t>]), Fault>
+pub(crate) fn words_of(items: &[Item]) -> Result<(Words, usize), Fault>
     ensures found { IfOk result (λ found.
-        ArePartsOf (parts_behind [] (map raw items.now)) found.0 (map raw found.1.now)) }
+        ArePartsOf (parts_behind [] (map raw items.now)) found.0 (drop found.1 (map raw items.now))) }
+    ensures within { IfOk result (λ found. found.1 ≤ length items.now) }
     ensures fault { IfErr result (WordsFault (parts_behind [] (map raw items.now)).words) }
 {
     let mut words = Words {
         ttl: None,
         class: None,
     };
-    let mut rest = items;
-    loop {
-        let Some((text, behind)) = split_bare(rest) else {
-            return Ok((words, rest));
+    for (index, item) in items.iter().enumerate() {
+        let Item::Bare(text) = *item else {
+            return Ok((words, index));
         };
         let Some(next) = words.with(text)? else {
-            return Ok((words, rest));
+            return Ok((words, index));
         };
         words = next;
-        rest = behind;
     }
+    Ok((words, items.len()))
 }

@@ -15,7 +15,7 @@ use crate::laws::what_is_read_is_stated;
 use std::alloc::Global;
 use std::io::{Read, Write};
 use zone_print::{TEXT_LIMIT, push_zone, write_zone};
-use zone_rdata::{Fault, Place, Stop};
+use zone_rdata::Stop;
 use zone_set::Zone;
 use zone_text::TextSource;
 

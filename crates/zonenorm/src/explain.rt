@@ -58,7 +58,6 @@ struct Row {
 /// The row of a fault: one match, so that no fault can be without its row.
 fn row_of(fault: &Fault) -> Row {
     let (number, name, text) = match fault {
-        Fault::NotYet => (0, "NotYet", "this form isn't read yet"),
         Fault::EmptyLabel => (1, "EmptyLabel", "a label is empty"),
         Fault::LabelTooLong => (2, "LabelTooLong", "a label has more than 63 octets"),
         Fault::NameTooLong => (3, "NameTooLong", "a name has more than 255 octets"),

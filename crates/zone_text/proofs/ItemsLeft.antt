@@ -1,0 +1,225 @@
+-- The items of pieces, gathered from the left: the piece at the front of a text, and the items of those behind it.
+use Rattle.std.proofs.Common.{◌≡◌, ◌≢◌, ℕ, suc, ◌-◌, ◌<◌, ◌≤◌, min, if◌then◌else◌, Bool, true, false, ◌==◌, List, [], ◌∷◌, ◌++◌, length, take, drop, refl, sym, ap, ◌∙◌, subst, arith, append_assoc}
+use Rattle.std.specs.List.{flat_map, AllByRecursion}
+use Rattle.std.proofs.Math.Seq.{take-append_seam, drop-append_seam}
+use Rattle.std.proofs.lemmas.Bool.{both_ways}
+use Rattle.std.proofs.lemmas.List.{append-nil, length-drop}
+use Rattle.zone_name.specs.Spelling.{Written, plain, escaped, decimal, written_text}
+use Rattle.zone_rdata.specs.Item.{RawItem}
+use Rattle.zone_rdata.specs.Item as raw
+use Rattle.zone_rdata.specs.Strings.{is_quote}
+use Rattle.zone_text.specs.Entries.{item_of}
+use Rattle.zone_text.specs.Machine.Cutting.{before_line_feed}
+use Rattle.zone_text.specs.Machine.ItemLengths.{EndsBefore, item_len}
+use Rattle.zone_text.specs.Pieces.{Piece, blank, opening, closing, line_feed, comment, bare, quoted, piece_text, text, is_blank, ends_item, Cuts, IsPiece, AllFollow}
+use Rattle.zone_text.proofs.Cuttings.{follow_behind}
+use Rattle.zone_text.proofs.PieceEnds.{bare_ends, quoted_ends, item_len_of, comment_len_of}
+
+-- ---- the first octet of a piece
+
+abbrev IsFirstOf : Piece → ℕ → Type 0
+IsFirstOf (blank d) c = is_blank c ≡ true
+IsFirstOf opening c = c ≡ 40
+IsFirstOf closing c = c ≡ 41
+IsFirstOf line_feed c = c ≡ 10
+IsFirstOf (comment octets) c = c ≡ 59
+IsFirstOf (bare units) c = ends_item c ≡ false
+IsFirstOf (quoted units) c = c ≡ 34
+
+heads : (c d : ℕ) (xs ys : List ℕ) → c ∷ xs ≡ d ∷ ys → c ≡ d
+heads c d xs ys e = cc
+
+bare_first : (units : List Written) (c : ℕ) (after rest : List ℕ) → IsPiece (bare units) → c ∷ after ≡ written_text units ++ rest → ends_item c ≡ false
+bare_first [] c after rest is e = absurd (omega (arith, is.0))
+bare_first (plain d ∷ units) c after rest is e = ap ends_item (heads c d _ _ e) ∙ is.1.0.0
+bare_first (escaped d ∷ units) c after rest is e = ap ends_item (heads c 92 _ _ e)
+bare_first (decimal x y z ∷ units) c after rest is e = ap ends_item (heads c 92 _ _ e)
+
+piece_first : (p : Piece) (c : ℕ) (after rest : List ℕ) → IsPiece p → c ∷ after ≡ piece_text p ++ rest → IsFirstOf p c
+piece_first (blank d) c after rest is e = ap is_blank (heads c d _ _ e) ∙ is
+piece_first opening c after rest is e = heads c 40 _ _ e
+piece_first closing c after rest is e = heads c 41 _ _ e
+piece_first line_feed c after rest is e = heads c 10 _ _ e
+piece_first (comment octets) c after rest is e = heads c 59 _ _ e
+piece_first (bare units) c after rest is e = bare_first units c after rest is e
+piece_first (quoted units) c after rest is e = heads c 34 _ _ e
+
+bare_text_some : (units : List Written) (rest : List ℕ) → IsPiece (bare units) → [] ≡ written_text units ++ rest → ⊥
+bare_text_some [] rest is e = omega (arith, is.0)
+bare_text_some (plain d ∷ units) rest is e = cc
+bare_text_some (escaped d ∷ units) rest is e = cc
+bare_text_some (decimal x y z ∷ units) rest is e = cc
+
+-- a piece has octets
+piece_some : (p : Piece) (rest : List ℕ) → IsPiece p → [] ≡ piece_text p ++ rest → ⊥
+piece_some (blank d) rest is e = cc
+piece_some opening rest is e = cc
+piece_some closing rest is e = cc
+piece_some line_feed rest is e = cc
+piece_some (comment octets) rest is e = cc
+piece_some (bare units) rest is e = bare_text_some units rest is e
+piece_some (quoted units) rest is e = cc
+
+-- ---- the piece at the front by its first octet
+
+tails : (c d : ℕ) (xs ys : List ℕ) → c ∷ xs ≡ d ∷ ys → xs ≡ ys
+tails c d xs ys e = cc
+
+-- an item and what is behind the piece
+abbrev Front : List RawItem → List ℕ → Piece → List ℕ → Type 0
+Front raws left p rest = (raws ≡ item_of p) × (left ≡ rest)
+
+-- a piece found at the front of a text, whichever it is
+abbrev pub FrontIs : List ℕ → List RawItem → List ℕ → Type 0
+FrontIs octets raws left = (p : Piece) (rest : List ℕ) → IsPiece p → EndsBefore p rest → octets ≡ piece_text p ++ rest → (raws ≡ item_of p) × (left ≡ rest)
+
+-- an octet that ends an item and begins neither an item nor a comment
+pub plain_front : (octets after : List ℕ) (c : ℕ) → octets ≡ c ∷ after → c ≢ 34 → c ≢ 59 → ends_item c ≡ true → FrontIs octets [] after
+plain_front octets after c whole no_quote no_comment ends p rest is at e = by p is (sym whole ∙ e) (piece_first p c after rest is (sym whole ∙ e))
+  where
+    by : (p : Piece) → IsPiece p → c ∷ after ≡ piece_text p ++ rest → IsFirstOf p c → Front [] after p rest
+    by (blank d) is e first = (refl, tails _ _ _ _ e)
+    by opening is e first = (refl, tails _ _ _ _ e)
+    by closing is e first = (refl, tails _ _ _ _ e)
+    by line_feed is e first = (refl, tails _ _ _ _ e)
+    by (comment octets) is e first = absurd (no_comment first)
+    by (bare units) is e first = absurd (both_ways (ends_item c) first ends)
+    by (quoted units) is e first = absurd (no_quote first)
+
+no_blank : (c d : ℕ) → c ≡ d → is_blank d ≡ false → is_blank c ≡ true → ⊥
+no_blank c d e not_one is = both_ways (is_blank c) (ap is_blank e ∙ not_one) is
+
+pub comment_front : (octets after left : List ℕ) (c n : ℕ) → octets ≡ c ∷ after → c ≡ 59 → n ≡ length (before_line_feed after) → left ≡ drop n after → FrontIs octets [] left
+comment_front octets after left c n whole is_comment len behind p rest is at e = by p is at (sym whole ∙ e) (piece_first p c after rest is (sym whole ∙ e))
+  where
+    by : (p : Piece) → IsPiece p → EndsBefore p rest → c ∷ after ≡ piece_text p ++ rest → IsFirstOf p c → Front [] left p rest
+    by (blank d) is at e first = absurd (no_blank c 59 is_comment refl first)
+    by opening is at e first = absurd (omega arith)
+    by closing is at e first = absurd (omega arith)
+    by line_feed is at e first = absurd (omega arith)
+    by (comment octets) is at e first =
+        let text : after ≡ octets ++ rest = tails _ _ _ _ e in
+        let whole_len : n ≡ length octets = len ∙ (ap (λ t. length (before_line_feed t)) text ∙ comment_len_of octets rest is at) in
+        (refl, behind ∙ (rw (whole_len, text) (drop-append_seam octets rest)))
+    by (bare units) is at e first = absurd (both_ways (ends_item c) first (ap ends_item is_comment))
+    by (quoted units) is at e first = absurd (omega arith)
+
+pub quoted_front : (octets after inside close left : List ℕ) (c n m : ℕ) → octets ≡ c ∷ after → c ≡ 34 → n ≡ item_len is_quote false after → inside ≡ take n after → close ≡ drop n after → m ≡ min (length close) 1 → left ≡ drop m close → FrontIs octets (raw.quoted inside ∷ []) left
+quoted_front octets after inside close left c n m whole quote len front back one behind p rest is at e = by p is (sym whole ∙ e) (piece_first p c after rest is (sym whole ∙ e))
+  where
+    by : (p : Piece) → IsPiece p → c ∷ after ≡ piece_text p ++ rest → IsFirstOf p c → Front (raw.quoted inside ∷ []) left p rest
+    by (blank d) is e first = absurd (no_blank c 34 quote refl first)
+    by opening is e first = absurd (omega arith)
+    by closing is e first = absurd (omega arith)
+    by line_feed is e first = absurd (omega arith)
+    by (comment octets) is e first = absurd (omega arith)
+    by (bare units) is e first = absurd (both_ways (ends_item c) first (ap ends_item quote))
+    by (quoted units) is e first =
+        let text : after ≡ written_text units ++ 34 ∷ rest = tails _ _ _ _ e ∙ append_assoc (written_text units) (34 ∷ []) rest in
+        let whole_len : n ≡ length (written_text units) = len ∙ (ap (item_len is_quote false) text ∙ item_len_of is_quote units (34 ∷ rest) quoted_ends is refl) in
+        let inner : inside ≡ written_text units = front ∙ rw (whole_len, text) (take-append_seam (written_text units) (34 ∷ rest)) in
+        let outer : close ≡ 34 ∷ rest = back ∙ rw (whole_len, text) (drop-append_seam (written_text units) (34 ∷ rest)) in
+        let outer_len : length close ≡ suc (length rest) = ap length outer in
+        let first_one : m ≡ 1 = omega arith in
+        (ap (λ t. raw.quoted t ∷ []) inner, behind ∙ rw (first_one, outer) refl)
+
+pub bare_front : (octets after item left : List ℕ) (c n : ℕ) → octets ≡ c ∷ after → c ≢ 34 → c ≢ 59 → ends_item c ≡ false → n ≡ item_len ends_item false octets → item ≡ take n octets → left ≡ drop n octets → FrontIs octets (raw.bare item ∷ []) left
+bare_front octets after item left c n whole no_quote no_comment goes_on len front back p rest is at e = by p is at e (piece_first p c after rest is (sym whole ∙ e))
+  where
+    by : (p : Piece) → IsPiece p → EndsBefore p rest → octets ≡ piece_text p ++ rest → IsFirstOf p c → Front (raw.bare item ∷ []) left p rest
+    by (blank d) is at e first = absurd (both_ways (ends_item c) goes_on (rw first refl))
+    by opening is at e first = absurd (both_ways (ends_item c) goes_on (ap ends_item first))
+    by closing is at e first = absurd (both_ways (ends_item c) goes_on (ap ends_item first))
+    by line_feed is at e first = absurd (both_ways (ends_item c) goes_on (ap ends_item first))
+    by (comment octets) is at e first = absurd (no_comment first)
+    by (bare units) is at e first =
+        let whole_len : n ≡ length (written_text units) = len ∙ (ap (item_len ends_item false) e ∙ item_len_of ends_item units rest bare_ends is.1 at) in
+        let inner : item ≡ written_text units = front ∙ rw (whole_len, e) (take-append_seam (written_text units) rest) in
+        (ap (λ t. raw.bare t ∷ []) inner, back ∙ rw (whole_len, e) (drop-append_seam (written_text units) rest))
+    by (quoted units) is at e first = absurd (no_quote first)
+
+-- an octet that begins a bare item is taken
+some_octets : (octets after : List ℕ) (c n : ℕ) → octets ≡ c ∷ after → ends_item c ≡ false → n ≡ item_len ends_item false octets → 0 < n
+unfolding item_len
+some_octets octets after c n whole goes_on len = rw (len, whole, goes_on) (by (c == 92) _ _)
+  where
+    by : (b : Bool) (x y : ℕ) → 0 < (if b then suc x else suc y)
+    by true x y = omega arith
+    by false x y = omega arith
+
+pub bare_takes : (octets after left : List ℕ) (c n : ℕ) → octets ≡ c ∷ after → ends_item c ≡ false → n ≡ item_len ends_item false octets → n ≤ length octets → left ≡ drop n octets → length left < length octets
+bare_takes octets after left c n whole goes_on len within back =
+    let some : 0 < n = some_octets octets after c n whole goes_on len in
+    let less : length left ≡ length octets - n = ap length back ∙ length-drop n octets in
+    omega arith
+
+-- ---- all pieces of a text
+
+-- a piece ends before those behind it
+ends_behind : (p : Piece) (pieces : List Piece) → AllByRecursion IsPiece pieces → AllFollow (p ∷ pieces) → EndsBefore p (text pieces)
+ends_behind (blank c) pieces each follow = tt
+ends_behind opening pieces each follow = tt
+ends_behind closing pieces each follow = tt
+ends_behind line_feed pieces each follow = tt
+ends_behind (quoted units) pieces each follow = tt
+ends_behind (bare units) [] each follow = tt
+ends_behind (bare units) (blank c ∷ pieces) each follow = rw (each.0) refl
+ends_behind (bare units) (opening ∷ pieces) each follow = refl
+ends_behind (bare units) (closing ∷ pieces) each follow = refl
+ends_behind (bare units) (line_feed ∷ pieces) each follow = refl
+ends_behind (bare units) (comment octets ∷ pieces) each follow = refl
+ends_behind (bare units) (bare more ∷ pieces) each follow = absurd follow.0
+ends_behind (bare units) (quoted more ∷ pieces) each follow = refl
+ends_behind (comment octets) [] each follow = tt
+ends_behind (comment octets) (blank c ∷ pieces) each follow = absurd follow.0
+ends_behind (comment octets) (opening ∷ pieces) each follow = absurd follow.0
+ends_behind (comment octets) (closing ∷ pieces) each follow = absurd follow.0
+ends_behind (comment octets) (line_feed ∷ pieces) each follow = refl
+ends_behind (comment octets) (comment more ∷ pieces) each follow = absurd follow.0
+ends_behind (comment octets) (bare more ∷ pieces) each follow = absurd follow.0
+ends_behind (comment octets) (quoted more ∷ pieces) each follow = absurd follow.0
+
+-- the pieces that are left, and with their items all items
+pub record IsLeft (rest : List ℕ) (raws : List RawItem) (pieces : List Piece) : Type 0 where
+  pub more : List Piece
+  pub whole : rest ≡ text more
+  pub each : AllByRecursion IsPiece more
+  pub follow : AllFollow more
+  pub items : raws ++ flat_map item_of more ≡ flat_map item_of pieces
+
+abbrev pub LeavesItems : List ℕ → List ℕ → List RawItem → Type 0
+LeavesItems entry rest raws = (pieces : List Piece) → Cuts entry pieces → IsLeft rest raws pieces
+
+pub all_left : (entry : List ℕ) → LeavesItems entry entry []
+all_left entry pieces cuts = record { more = pieces; whole = cuts.whole; each = cuts.each; follow = cuts.follow; items = refl }
+
+left_by : (octets left : List ℕ) (raws item : List RawItem) (pieces more : List Piece) → 0 < length octets → FrontIs octets item left → octets ≡ text more → AllByRecursion IsPiece more → AllFollow more → raws ++ flat_map item_of more ≡ flat_map item_of pieces → IsLeft left (raws ++ item) pieces
+left_by octets left raws item pieces [] some front whole each follow items = absurd (let none : length octets ≡ 0 = ap length whole in omega arith)
+left_by octets left raws item pieces (p ∷ more) some front whole each follow items =
+    let found = front p (text more) each.0 (ends_behind p more each.1 follow) whole in
+    record {
+      more = more;
+      whole = found.1;
+      each = each.1;
+      follow = follow_behind p more follow;
+      items = rw (append_assoc, found.0) items;
+    }
+
+pub one_less : (entry octets left : List ℕ) (raws item : List RawItem) → 0 < length octets → FrontIs octets item left → LeavesItems entry octets raws → LeavesItems entry left (raws ++ item)
+one_less entry octets left raws item some front leaves pieces cuts =
+    let before = leaves pieces cuts in
+    left_by octets left raws item pieces before.more some front before.whole before.each before.follow before.items
+
+pub none_less : (entry octets left : List ℕ) (raws : List RawItem) → 0 < length octets → FrontIs octets [] left → LeavesItems entry octets raws → LeavesItems entry left raws
+none_less entry octets left raws some front leaves =
+    subst (LeavesItems entry left) (append-nil raws) (one_less entry octets left raws [] some front leaves)
+
+end_by : (raws : List RawItem) (pieces more : List Piece) → [] ≡ text more → AllByRecursion IsPiece more → raws ++ flat_map item_of more ≡ flat_map item_of pieces → raws ≡ flat_map item_of pieces
+end_by raws pieces [] whole each items = sym (append-nil raws) ∙ items
+end_by raws pieces (p ∷ more) whole each items = absurd (piece_some p (text more) each.0 whole)
+
+-- where nothing is left, the items are all
+pub all_taken : (entry rest : List ℕ) (raws : List RawItem) → rest ≡ [] → LeavesItems entry rest raws → (pieces : List Piece) → Cuts entry pieces → raws ≡ flat_map item_of pieces
+all_taken entry rest raws e leaves pieces cuts =
+    let before = leaves pieces cuts in
+    end_by raws pieces before.more (sym e ∙ before.whole) before.each before.items

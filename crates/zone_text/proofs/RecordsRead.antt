@@ -1,0 +1,121 @@
+-- A record entry whose parts are read behind known defaults: what it states, or why it is refused.
+use Rattle.std.proofs.Common.{◌≡◌, ℕ, ◌<◌, List, ◌∷◌, Option, Some, None, refl, sym, ap, ◌∙◌, subst}
+use Rattle.std.specs.Option.{option_or}
+use Rattle.zone_name.specs.Common.{Labels}
+use Rattle.zone_rdata.specs.DataFault.{IsDataFault}
+use Rattle.zone_rdata.specs.Item.{RawItem, bare, quoted}
+use Rattle.zone_rdata.specs.Minimum.{minimum}
+use Rattle.zone_rdata.specs.Record.{Data, Record, IsRecord}
+use Rattle.zone_rdata.specs.Spelling.{States}
+use Rattle.zone_rdata.specs.declared.fault.Fault.{Fault}
+use Rattle.zone_rdata.specs.declared.fault.Fault.TheVariants.{NoTtl, BadTtl}
+use Rattle.zone_text.specs.Defaults.{AreDefaults, IsOneOrNone, IsTtlOrNone}
+use Rattle.zone_text.specs.Entries.{Entry}
+use Rattle.zone_text.specs.EntryFault.{EntryFault, of_rdata, of_ttl, none, long}
+use Rattle.zone_text.specs.Forms.{owned, unowned, form_of, parts_in}
+use Rattle.zone_text.specs.Inherited.{IsLastOwner, IsOwner, owner_in, owner_text, ttl_text}
+use Rattle.zone_text.specs.Machine.EntryReading.{IsRecordEntry, with_owner}
+use Rattle.zone_text.specs.Machine.Lower.{Lower}
+use Rattle.zone_text.specs.Records.{Head, HasHead, HasTtl, IsLastMinimum, StatesData, StatesRecord}
+use Rattle.zone_text.specs.declared.defaults.Defaults.{Defaults}
+use Rattle.zone_text.proofs.Inheriting.{has_no_ttl, has_ttl, next_minimum, record_leaves, same_owner, ttl_stated}
+
+-- ---- the owner
+
+pub owned_entry : (origin : Labels) (before : List Entry) (entry : Entry) (d : Defaults) (name : Labels) (owner : RawItem) (items : List RawItem) → form_of entry ≡ owned owner items → AreDefaults origin before d → IsOwner origin before (owned owner items) name → IsRecordEntry origin before entry d name items
+owned_entry origin before entry d name owner items form so_far owns = record {
+  defaults = so_far;
+  owner = subst (λ f. IsOwner origin before f name) (sym form) owns;
+  parts = ap parts_in form;
+}
+
+owner_now : (origin : Labels) (before : List Entry) (entry : Entry) (name : Labels) (owner : RawItem) (items : List RawItem) → owner_text entry ≡ owner_in (owned owner items) → IsOwner origin before (owned owner items) name → IsLastOwner origin (entry ∷ before) name
+owner_now origin before entry name (bare text) items e owns = rw e owns
+owner_now origin before entry name (quoted text) items e owns = absurd owns
+
+pub owner_stated : (origin : Labels) (before : List Entry) (entry : Entry) (name : Labels) (owner : RawItem) (items : List RawItem) → form_of entry ≡ owned owner items → IsOwner origin before (owned owner items) name → IsLastOwner origin (entry ∷ before) name
+owner_stated origin before entry name owner items form owns = owner_now origin before entry name owner items (ap owner_in form) owns
+
+pub unowned_entry : (origin : Labels) (before : List Entry) (entry : Entry) (d : Defaults) (name : Labels) (items : List RawItem) → form_of entry ≡ unowned items → AreDefaults origin before d → d.owner ≡ Some name → IsRecordEntry origin before entry d name items
+unowned_entry origin before entry d name items form so_far owns =
+    let last : IsLastOwner origin before name = subst (IsOneOrNone (IsLastOwner origin before)) owns so_far.owner in
+    record {
+      defaults = so_far;
+      owner = subst (λ f. IsOwner origin before f name) (sym form) last;
+      parts = ap parts_in form;
+    }
+
+pub owner_kept : (origin : Labels) (before : List Entry) (entry : Entry) (d : Defaults) (owner : Option Labels) (items : List RawItem) → form_of entry ≡ unowned items → AreDefaults origin before d → owner ≡ d.owner → IsOneOrNone (IsLastOwner origin (entry ∷ before)) owner
+owner_kept origin before entry d owner items form so_far same =
+    same_owner origin before entry (unowned items) owner form refl (subst (IsOneOrNone (IsLastOwner origin before)) (sym same) so_far.owner)
+
+-- ---- data and TTL
+
+pub rdata_refused : (origin : Labels) (before : List Entry) (entry : Entry) (d : Defaults) (name : Labels) (items : List RawItem) (head : Head) (fault : Fault) → IsRecordEntry origin before entry d name items → HasHead origin before entry head → IsDataFault d.origin head.class head.kind head.items fault → EntryFault origin before entry fault
+rdata_refused origin before entry d name items head fault is has bad = of_rdata head d.origin has is.defaults.under bad
+
+-- a record entry up to its data, and the TTL that is looked for
+pub record IsReadTo (origin : Labels) (before : List Entry) (entry : Entry) (d : Defaults) (head : Head) (own : Option ℕ) (rdata : Data) (last found : Option ℕ) : Type 0 where
+  pub defaults : AreDefaults origin before d
+  pub has : HasHead origin before entry head
+  pub own_ttl : IsTtlOrNone (ttl_text entry) own
+  pub class : rdata.class ≡ head.class
+  pub kind : rdata.kind ≡ head.kind
+  pub states : States d.origin head.class head.kind head.items rdata.octets
+  pub least : last ≡ option_or (minimum rdata) d.minimum
+  pub ttl : found ≡ option_or (option_or (option_or own d.default_ttl) d.last_ttl) last
+
+pub read_to : (origin : Labels) (before : List Entry) (entry : Entry) (d : Defaults) (name : Labels) (items : List RawItem) (head : Head) (own : Option ℕ) (rdata : Data) (a stated soa last result found : Option ℕ) → IsRecordEntry origin before entry d name items → HasHead origin before entry head × IsTtlOrNone (ttl_text entry) own → rdata.class ≡ head.class → rdata.kind ≡ head.kind → States d.origin head.class head.kind head.items rdata.octets → a ≡ option_or own d.default_ttl → stated ≡ option_or a d.last_ttl → soa ≡ minimum rdata → last ≡ option_or soa d.minimum → result ≡ option_or stated last → result ≡ found → IsReadTo origin before entry d head own rdata last found
+read_to origin before entry d name items head own rdata a stated soa last result found is has class kind states first second of_soa least third is_found = record {
+  defaults = is.defaults;
+  has = has.0;
+  own_ttl = has.1;
+  class = class;
+  kind = kind;
+  states = states;
+  least = least ∙ ap (λ (o : Option ℕ). option_or o d.minimum) of_soa;
+  ttl = sym is_found ∙ (third ∙ ap (λ (o : Option ℕ). option_or o last) (second ∙ ap (λ (o : Option ℕ). option_or o d.last_ttl) first));
+}
+
+states_data : (origin : Labels) (before : List Entry) (entry : Entry) (d : Defaults) (head : Head) (own : Option ℕ) (rdata : Data) (last found : Option ℕ) → IsReadTo origin before entry d head own rdata last found → StatesData origin before head rdata.octets
+states_data origin before entry d head own rdata last found is = record { above = d.origin; under = is.defaults.under; states = is.states }
+
+same_data : (d : Data) (class kind : ℕ) → d.class ≡ class → d.kind ≡ kind → d ≡ record { class = class; kind = kind; octets = d.octets }
+same_data d class kind a b = rw (a, b) refl
+
+last_is : Lower → (origin : Labels) (before : List Entry) (entry : Entry) (d : Defaults) (head : Head) (own : Option ℕ) (rdata : Data) (last found : Option ℕ) → IsReadTo origin before entry d head own rdata last found → IsOneOrNone (IsLastMinimum origin (entry ∷ before)) last
+last_is lower origin before entry d head own rdata last found is =
+    subst (IsOneOrNone (IsLastMinimum origin (entry ∷ before))) (sym is.least)
+    (next_minimum lower origin before entry head rdata.octets (minimum rdata) d.minimum is.has (states_data origin before entry d head own rdata last found is) (ap minimum (same_data rdata head.class head.kind is.class is.kind)) is.defaults.minimum)
+
+pub no_ttl : Lower → (origin : Labels) (before : List Entry) (entry : Entry) (d : Defaults) (head : Head) (own : Option ℕ) (rdata : Data) (last : Option ℕ) → IsReadTo origin before entry d head own rdata last None → EntryFault origin before entry NoTtl
+no_ttl lower origin before entry d head own rdata last is =
+    of_ttl head rdata.octets is.has (states_data origin before entry d head own rdata last None is)
+    (none (has_no_ttl origin before entry (option_or (option_or own d.default_ttl) d.last_ttl) last (ttl_stated origin before entry d own is.defaults is.own_ttl) (last_is lower origin before entry d head own rdata last None is) (sym is.ttl)))
+
+ttl_is : Lower → (origin : Labels) (before : List Entry) (entry : Entry) (d : Defaults) (head : Head) (own : Option ℕ) (rdata : Data) (last : Option ℕ) (n : ℕ) → IsReadTo origin before entry d head own rdata last (Some n) → HasTtl origin before entry n
+ttl_is lower origin before entry d head own rdata last n is =
+    has_ttl origin before entry (option_or (option_or own d.default_ttl) d.last_ttl) last n (ttl_stated origin before entry d own is.defaults is.own_ttl) (last_is lower origin before entry d head own rdata last (Some n) is) (sym is.ttl)
+
+pub long_ttl : Lower → (origin : Labels) (before : List Entry) (entry : Entry) (d : Defaults) (head : Head) (own : Option ℕ) (rdata : Data) (last : Option ℕ) (n : ℕ) → IsReadTo origin before entry d head own rdata last (Some n) → 2147483647 < n → EntryFault origin before entry BadTtl
+long_ttl lower origin before entry d head own rdata last n is over =
+    of_ttl head rdata.octets is.has (states_data origin before entry d head own rdata last (Some n) is) (long n (ttl_is lower origin before entry d head own rdata last n is) over)
+
+-- ---- the record
+
+pub states_record : Lower → (origin : Labels) (before : List Entry) (entry : Entry) (d : Defaults) (head : Head) (own : Option ℕ) (rdata : Data) (last : Option ℕ) (n : ℕ) (r : Record) → IsReadTo origin before entry d head own rdata last (Some n) → r ≡ record { owner = head.owner; class = rdata.class; kind = rdata.kind; ttl = n; octets = rdata.octets } → IsRecord r → StatesRecord origin before entry r
+states_record lower origin before entry d head own rdata last n r is e fits =
+    let same : r ≡ record { owner = head.owner; class = head.class; kind = head.kind; ttl = n; octets = rdata.octets } = e ∙ rw (is.class, is.kind) refl in
+    subst (StatesRecord origin before entry) (sym same) (record {
+      items = head.items;
+      head = is.has;
+      rdata = states_data origin before entry d head own rdata last (Some n) is;
+      ttl = ttl_is lower origin before entry d head own rdata last n is;
+      fits = subst IsRecord same fits;
+    })
+
+pub record_left : Lower → (origin : Labels) (before : List Entry) (entry : Entry) (d next : Defaults) (head : Head) (own : Option ℕ) (rdata : Data) (last found : Option ℕ) (owner : Option Labels) → IsReadTo origin before entry d head own rdata last found → next.origin ≡ d.origin → next.class ≡ head.class → next.default_ttl ≡ d.default_ttl → next.last_ttl ≡ option_or own d.last_ttl → next.minimum ≡ last → IsOneOrNone (IsLastOwner origin (entry ∷ before)) owner → AreDefaults origin (entry ∷ before) (with_owner owner next)
+record_left lower origin before entry d next head own rdata last found owner is above class default_ttl last_ttl least owner_is =
+    record_leaves origin before entry d next head own owner is.defaults is.has is.own_ttl above class default_ttl last_ttl
+    (subst (IsOneOrNone (IsLastMinimum origin (entry ∷ before))) (sym least) (last_is lower origin before entry d head own rdata last found is))
+    owner_is

@@ -1,0 +1,182 @@
+-- The words before a record's type, read from the left.
+use Rattle.std.proofs.Common.{◌≡◌, ℕ, ◌+◌, ◌<◌, Bool, true, false, List, [], ◌∷◌, ◌++◌, length, get_or, drop, map, Option, Some, None, MatchOption, inl, inr, refl, sym, ap, ◌∙◌, subst, append_assoc, add-one, drop-cons}
+use Rattle.std.specs.List.{AllByRecursion}
+use Rattle.std.specs.Prelude.{is_some, IsSomeAnd}
+use Rattle.std.proofs.lemmas.List.{append-nil, drop-map}
+use Rattle.zone_name.specs.Common.{NothingIs}
+use Rattle.zone_name.proofs.Pushing.{AllByRecursion-append}
+use Rattle.zone_rdata.specs.Item.{RawItem, bare, raw}
+use Rattle.zone_rdata.specs.Words.{IsClass, IsClassWord}
+use Rattle.zone_rdata.specs.declared.fault.Fault.{Fault}
+use Rattle.zone_rdata.specs.declared.item.Item.{Item}
+use Rattle.zone_text.specs.EntryFault.{WordFault, WordsFault}
+use Rattle.zone_text.specs.Forms.{Word, ttl, class, ttl_among, class_among, Parts, parts_behind, word_behind, unless_stated, begins_with_digit, is_class_word}
+use Rattle.zone_text.specs.Inherited.{IsTtl}
+use Rattle.zone_text.specs.Machine.WordValues.{HaveValues, ArePartsOf}
+use Rattle.zone_text.specs.Records.{HasValue}
+use Rattle.zone_text.specs.declared.words.Words.{Words}
+use Rattle.zone_text.proofs.ClassWords.{class_word_of, class_word_known}
+
+-- ---- whether a word was stated before
+
+-- a value is there where its text is
+stated_too : (o : Option (List ℕ)) (v : Option ℕ) (Is : List ℕ → ℕ → Type 0) → MatchOption o (v ≡ None) (λ text. IsSomeAnd v (Is text)) → is_some o ≡ is_some v
+stated_too None v Is h = ap is_some (sym h)
+stated_too (Some text) None Is h = absurd h
+stated_too (Some text) (Some n) Is h = refl
+
+unstated : (o : Option (List ℕ)) (word : Word) → is_some o ≡ false → unless_stated o word ≡ Some word
+unstated None word e = refl
+unstated (Some text) word e = absurd (let clash : ⊥ = cc in clash)
+
+ttl_word : (words : List Word) (v : Words) (text : List ℕ) → HaveValues words v → begins_with_digit text ≡ true → is_some v.ttl ≡ false → word_behind words (bare text) ≡ Some (ttl text)
+ttl_word words v text have digit none =
+    rw digit (unstated (ttl_among words) (ttl text) (stated_too (ttl_among words) v.ttl IsTtl have.ttl ∙ none))
+
+class_behind : (words : List Word) (v : Words) (text : List ℕ) → HaveValues words v → begins_with_digit text ≡ false → is_some v.class ≡ false → is_class_word text ≡ true → word_behind words (bare text) ≡ Some (class text)
+class_behind words v text have no_digit none is =
+    rw (no_digit, is) (unstated (class_among words) (class text) (stated_too (class_among words) v.class IsClassWord have.class ∙ none))
+
+-- ---- one word more
+
+ttl_pushed : (words : List Word) (text : List ℕ) → is_some (ttl_among words) ≡ false → ttl_among (words ++ ttl text ∷ []) ≡ Some text
+ttl_pushed [] text none = refl
+ttl_pushed (ttl other ∷ words) text none = absurd (let clash : ⊥ = cc in clash)
+ttl_pushed (class other ∷ words) text none = ttl_pushed words text none
+
+class_kept : (words : List Word) (text : List ℕ) → class_among (words ++ ttl text ∷ []) ≡ class_among words
+class_kept [] text = refl
+class_kept (ttl other ∷ words) text = class_kept words text
+class_kept (class other ∷ words) text = refl
+
+class_pushed : (words : List Word) (text : List ℕ) → is_some (class_among words) ≡ false → class_among (words ++ class text ∷ []) ≡ Some text
+class_pushed [] text none = refl
+class_pushed (class other ∷ words) text none = absurd (let clash : ⊥ = cc in clash)
+class_pushed (ttl other ∷ words) text none = class_pushed words text none
+
+ttl_kept : (words : List Word) (text : List ℕ) → ttl_among (words ++ class text ∷ []) ≡ ttl_among words
+ttl_kept [] text = refl
+ttl_kept (class other ∷ words) text = ttl_kept words text
+ttl_kept (ttl other ∷ words) text = refl
+
+abbrev NextHas : List Word → Words → Word → Type 0
+NextHas words next word = HaveValues (words ++ word ∷ []) next
+
+pub takes_ttl : (words : List Word) (v next : Words) (text : List ℕ) (n : ℕ) → HaveValues words v → begins_with_digit text ≡ true → is_some v.ttl ≡ false → IsTtl text n → next.ttl ≡ Some n → next.class ≡ v.class → IsSomeAnd (word_behind words (bare text)) (λ word. HaveValues (words ++ word ∷ []) next)
+takes_ttl words v next text n have digit none is own same =
+    let before : is_some (ttl_among words) ≡ false = stated_too (ttl_among words) v.ttl IsTtl have.ttl ∙ none in
+    let P : Option Word → Type 0 = λ o. IsSomeAnd o (NextHas words next) in
+    subst P (sym (ttl_word words v text have digit none)) (record {
+      each = AllByRecursion-append HasValue words (ttl text ∷ []) have.each ((n, is), tt);
+      ttl = rw (ttl_pushed words text before, own) is;
+      class = rw (class_kept words text, same) (have.class);
+    })
+
+pub takes_class : (words : List Word) (v next : Words) (text : List ℕ) (n : ℕ) → HaveValues words v → begins_with_digit text ≡ false → is_some v.class ≡ false → IsClassWord text n → IsClass n → next.class ≡ Some n → next.ttl ≡ v.ttl → IsSomeAnd (word_behind words (bare text)) (λ word. HaveValues (words ++ word ∷ []) next)
+takes_class words v next text n have no_digit none is good own same =
+    let before : is_some (class_among words) ≡ false = stated_too (class_among words) v.class IsClassWord have.class ∙ none in
+    let P : Option Word → Type 0 = λ o. IsSomeAnd o (NextHas words next) in
+    subst P (sym (class_behind words v text have no_digit none (class_word_known text n is))) (record {
+      each = AllByRecursion-append HasValue words (class text ∷ []) have.each ((n, (is, good)), tt);
+      ttl = rw (ttl_kept words text, same) (have.ttl);
+      class = rw (class_pushed words text before, own) is;
+    })
+
+-- a class that holds no zone data
+pub refuses_class : (words : List Word) (v : Words) (text : List ℕ) (n : ℕ) (fault : Fault) → HaveValues words v → begins_with_digit text ≡ false → is_some v.class ≡ false → IsClassWord text n → WordFault (class text) fault → IsSomeAnd (word_behind words (bare text)) (λ word. WordFault word fault)
+refuses_class words v text n fault have no_digit none is bad =
+    let P : Option Word → Type 0 = λ o. IsSomeAnd o (λ word. WordFault word fault) in
+    subst P (sym (class_behind words v text have no_digit none (class_word_known text n is))) bad
+
+no_class_word : (text : List ℕ) (b : Bool) → is_class_word text ≡ b → NothingIs (IsClassWord text) → b ≡ false
+no_class_word text true e none = let found = class_word_of text e in absurd (none found.0 found.1)
+no_class_word text false e none = refl
+
+-- neither a digit nor a class's word
+pub no_word : (words : List Word) (text : List ℕ) → begins_with_digit text ≡ false → NothingIs (IsClassWord text) → word_behind words (bare text) ≡ None
+no_word words text no_digit none = rw (no_digit, no_class_word text (is_class_word text) refl none) refl
+
+-- ---- all words
+
+-- the parts by what the next item is
+abbrev parts_by : List Word → RawItem → List RawItem → Option Word → Parts
+parts_by words item items None = record { words = words; rest = item ∷ items }
+parts_by words item items (Some word) = parts_behind (words ++ word ∷ []) items
+
+next_part : (words : List Word) (item : RawItem) (items : List RawItem) (o : Option Word) → word_behind words item ≡ o → parts_behind words (item ∷ items) ≡ parts_by words item items o
+next_part words item items o e = ap (parts_by words item items) e
+
+-- the words read so far have these values, and the items left are behind them
+pub record ReadsWords (items : List RawItem) (values : Words) (rest : List RawItem) : Type 0 where
+  pub words : List Word
+  pub have : HaveValues words values
+  pub parts : parts_behind [] items ≡ parts_behind words rest
+
+pub none_read : (items : List RawItem) (v : Words) → v.ttl ≡ None → v.class ≡ None → ReadsWords items v items
+none_read items v no_ttl no_class = record { words = []; have = record { each = tt; ttl = no_ttl; class = no_class }; parts = refl }
+
+parts_are : (parts : Parts) (words : List Word) (v : Words) (rest : List RawItem) → HaveValues words v → parts ≡ record { words = words; rest = rest } → ArePartsOf parts v rest
+parts_are parts words v rest have e = rw e (record { words = have; rest = refl })
+
+-- the next item is no word
+pub read_to : (items rest more : List RawItem) (v : Words) (item : RawItem) → ReadsWords items v rest → rest ≡ item ∷ more → ((words : List Word) → HaveValues words v → word_behind words item ≡ None) → ArePartsOf (parts_behind [] items) v rest
+read_to items rest more v item reads front none =
+    parts_are _ reads.words v rest reads.have (
+    reads.parts ∙ (ap (parts_behind reads.words) front ∙ (next_part reads.words item more None (none reads.words reads.have) ∙ ap (λ t. record { words = reads.words; rest = t }) (sym front)))
+    )
+
+pub read_all : (items rest : List RawItem) (v : Words) → ReadsWords items v rest → rest ≡ [] → ArePartsOf (parts_behind [] items) v rest
+read_all items rest v reads none =
+    parts_are _ reads.words v rest reads.have (reads.parts ∙ (ap (parts_behind reads.words) none ∙ ap (λ t. record { words = reads.words; rest = t }) (sym none)))
+
+some_of : (P : Word → Type 0) (o : Option Word) → IsSomeAnd o P → (word : Word) × ((o ≡ Some word) × P word)
+some_of P None h = absurd h
+some_of P (Some word) h = (word, (refl, h))
+
+-- the next item is a word
+pub read_on : (items rest more : List RawItem) (v next : Words) (item : RawItem) → ReadsWords items v rest → rest ≡ item ∷ more → ((words : List Word) → HaveValues words v → IsSomeAnd (word_behind words item) (λ word. HaveValues (words ++ word ∷ []) next)) → ReadsWords items next more
+read_on items rest more v next item reads front some =
+    let found = some_of (NextHas reads.words next) (word_behind reads.words item) (some reads.words reads.have) in
+    record {
+      words = reads.words ++ found.0 ∷ [];
+      have = found.1.1;
+      parts = reads.parts ∙ (ap (parts_behind reads.words) front ∙ next_part reads.words item more (Some found.0) found.1.0);
+    }
+
+-- whatever comes behind words, they stand in front
+abbrev Extends : List RawItem → Type 0
+Extends items = (words : List Word) → (others : List Word) × ((parts_behind words items).words ≡ words ++ others)
+
+extend_by : (words : List Word) (item : RawItem) (items : List RawItem) (o : Option Word) → Extends items → (others : List Word) × ((parts_by words item items o).words ≡ words ++ others)
+extend_by words item items None goes = ([], sym (append-nil words))
+extend_by words item items (Some word) goes =
+    let more = goes (words ++ word ∷ []) in
+    (word ∷ more.0, more.1 ∙ append_assoc words (word ∷ []) more.0)
+
+extends : (items : List RawItem) → Extends items
+extends [] words = ([], sym (append-nil words))
+extends (item ∷ items) words = extend_by words item items (word_behind words item) (extends items)
+
+leftmost : (words others : List Word) (word : Word) (fault : Fault) → AllByRecursion HasValue words → WordFault word fault → WordsFault (words ++ word ∷ others) fault
+leftmost [] others word fault have bad = inl bad
+leftmost (w ∷ words) others word fault have bad = inr (have.0, leftmost words others word fault have.1 bad)
+
+-- the next item is a word without a value
+pub read_fault : (items rest more : List RawItem) (v : Words) (item : RawItem) (fault : Fault) → ReadsWords items v rest → rest ≡ item ∷ more → ((words : List Word) → HaveValues words v → IsSomeAnd (word_behind words item) (λ word. WordFault word fault)) → WordsFault (parts_behind [] items).words fault
+read_fault items rest more v item fault reads front some =
+    let found = some_of (λ word. WordFault word fault) (word_behind reads.words item) (some reads.words reads.have) in
+    let parts : parts_behind [] items ≡ parts_behind (reads.words ++ found.0 ∷ []) more =
+    reads.parts ∙ (ap (parts_behind reads.words) front ∙ next_part reads.words item more (Some found.0) found.1.0)
+    in
+    let others = extends more (reads.words ++ found.0 ∷ []) in
+    let words : (parts_behind [] items).words ≡ reads.words ++ found.0 ∷ others.0 =
+    ap (λ p. p.words) parts ∙ (others.1 ∙ append_assoc reads.words (found.0 ∷ []) others.0)
+    in
+    let P : List Word → Type 0 = λ ws. WordsFault ws fault in
+    subst P (sym words) (leftmost reads.words others.0 found.0 fault reads.have.each found.1.1)
+
+-- the item at an index is the first of those from there on
+pub item_at : (items : List Item) (i : ℕ) (d x : Item) → i < length items → get_or items i d ≡ x → drop i (map raw items) ≡ raw x ∷ drop (i + 1) (map raw items)
+item_at items i d x less is =
+    let first : drop i items ≡ x ∷ drop (i + 1) items = rw (add-one, drop-cons items i d, is) refl in
+    drop-map raw i items ∙ (ap (map raw) first ∙ ap (λ t. raw x ∷ t) (sym (drop-map raw (i + 1) items)))

@@ -1,0 +1,6 @@
+use Rattle.std.proofs.Common.{◌≡◌, ◌+◌, drop, length}
+use Rattle.zone_text.specs.Machine.Cutting.{before_line_feed}
+use Rattle.zone_text.proofs.items.comment_len.Given as goal
+
+abbrev pub invariant-loop-index : goal.invariant-loop-index
+invariant-loop-index l = length (before_line_feed l.text) ≡ l.index + length (before_line_feed (drop l.index l.text))

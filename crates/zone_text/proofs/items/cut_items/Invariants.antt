@@ -1,0 +1,10 @@
+use Rattle.std.proofs.Common.{length, map}
+use Rattle.zone_rdata.specs.Item.{raw}
+use Rattle.zone_text.proofs.ItemsLeft.{LeavesItems}
+use Rattle.zone_text.proofs.items.cut_items.Given as goal
+
+abbrev pub invariant-loop-item : goal.invariant-loop-item
+invariant-loop-item l = LeavesItems l.entry l.rest (map raw l.items.items)
+
+abbrev pub decreases-loop-item : goal.decreases-loop-item
+decreases-loop-item l = length l.rest

@@ -1,0 +1,7 @@
+use Rattle.std.proofs.Common.{drop, map}
+use Rattle.zone_rdata.specs.Item.{raw}
+use Rattle.zone_text.proofs.WordsLeft.{ReadsWords}
+use Rattle.zone_text.proofs.words.words_of.Given as goal
+
+abbrev pub invariant-loop-index : goal.invariant-loop-index
+invariant-loop-index l = ReadsWords (map raw l.items) l.words (drop l.index (map raw l.items))
