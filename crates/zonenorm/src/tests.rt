@@ -5,7 +5,6 @@ use std::test::Fail;
 use zone_rdata::{Failing, Fault, Stop};
 
 mod addresses;
-mod answers;
 mod devices;
 mod explained;
 mod fed_files;
@@ -19,6 +18,7 @@ mod orders;
 mod pieces;
 mod readings;
 mod records;
+mod runs;
 mod scripts;
 mod vectors;
 mod wire;
