@@ -44,7 +44,7 @@ parts_octets None zero octets held = sym held
 parts_octets None (suc n) octets held = append-nil octets
 parts_octets (Some row) n octets held = held.1.whole
 
-octets_push : (values : List FieldValue) (v : FieldValue) → octets_of (values ++ v ∷ []) ≡ octets_of values ++ field_octets v
+pub octets_push : (values : List FieldValue) (v : FieldValue) → octets_of (values ++ v ∷ []) ≡ octets_of values ++ field_octets v
 octets_push values v = flat_map-append field_octets values (v ∷ []) ∙ ap (λ o. octets_of values ++ o) (append-nil (field_octets v))
 
 -- ---- one more part

@@ -17,7 +17,7 @@ held_data class kind row values e held short = record {
 }
 
 -- a field that is no strings takes at most 256 octets: a name at most 255, a string its length and at most 255
-short_value : (f : Field) (v : FieldValue) → f ≢ Strings → IsSized f → Holds f v → length (field_octets v) ≤ 256
+pub short_value : (f : Field) (v : FieldValue) → f ≢ Strings → IsSized f → Holds f v → length (field_octets v) ≤ 256
 short_value Name (name labels) other sized held = omega (arith, held.short)
 short_value Serial (u32_value n) other sized held = omega arith
 short_value Time (u32_value n) other sized held = omega arith

@@ -10,10 +10,12 @@ use Rattle.zone_rdata.specs.Record.{Record}
 use Rattle.zone_rdata.specs.declared.fault.Fault.{Fault}
 use Rattle.zone_rdata.specs.declared.fault.Place.{Place}
 use Rattle.zone_rdata.specs.declared.record.Placed.{Placed}
-use Rattle.zone_wire.specs.Answers.{zone_of, agrees, same_record, Answered, answers_of}
+use Rattle.zone_wire.specs.Answers.{zone_of, questions_of, handed_on, is_closed}
+use Rattle.zone_wire.specs.Machine.Answers.{agrees, same_record, Answered, answers_of}
 use Rattle.zone_wire.specs.Message.{QuestionAt, Sections, IsMessage}
-use Rattle.zone_wire.specs.Sections.{sections_of}
-use Rattle.zone_wire.specs.Stream.{questions_of, has_first_id, ask_for_zone, message_of, unless_refused, followed_by, records_of, handed_on, is_closed, ending_of, StreamReads}
+use Rattle.zone_wire.specs.Machine.Sections.{sections_of}
+use Rattle.zone_wire.specs.Machine.Stream.{has_first_id, ask_for_zone, message_of, unless_refused, followed_by, records_of, ending_of}
+use Rattle.zone_wire.specs.Stream.{StreamReads}
 use Rattle.zone_wire.specs.Transfer.{StatedMessage, AreStatedMessages, AsksFor, frame, StreamStates}
 use Rattle.zone_wire.proofs.Answering.{OpensWith, zone_agrees, is_soa, InOrder, all_read, answers_are_read, differ, records_same}
 use Rattle.zone_wire.proofs.Sectioning.{and_then_ok, sections_read}

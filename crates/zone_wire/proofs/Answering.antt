@@ -10,8 +10,9 @@ use Rattle.zone_rdata.specs.Words.{IsClass, is_meta}
 use Rattle.zone_rdata.specs.declared.fault.Fault.{Fault}
 use Rattle.zone_rdata.specs.declared.fault.Place.TheVariants.{Message}
 use Rattle.zone_rdata.specs.declared.record.Placed.{Placed}
-use Rattle.zone_wire.specs.Answers.{same_name, same_record, is_no_class, record_of, zone_of, agrees, order_fault, answer_of, Answered, before_others, answers_of}
-use Rattle.zone_wire.specs.Data.{data_at}
+use Rattle.zone_wire.specs.Machine.Answers.{same_name, same_record, is_no_class, record_of, agrees, order_fault, answer_of, Answered, before_others, answers_of}
+use Rattle.zone_wire.specs.Answers.{zone_of}
+use Rattle.zone_wire.specs.Machine.Data.{data_at}
 use Rattle.zone_wire.specs.Message.{QuestionAt, RecordAt, AreRecordsAt}
 use Rattle.zone_wire.specs.Transfer.{ttl_of, compressible, StatesRecord, StateEach, AsksFor}
 use Rattle.zone_wire.proofs.Fielding.{data_reads}
@@ -20,15 +21,15 @@ use Rattle.zone_wire.proofs.Sectioning.{and_then_ok}
 pub differ : (a b : ℕ) → a ≢ b → nat_eq a b ≡ false
 differ a b h = grind (arith, nat_tests)
 
-holds_data : (n : ℕ) → IsClass n → is_no_class n ≡ false
+pub holds_data : (n : ℕ) → IsClass n → is_no_class n ≡ false
 holds_data n is = or_from (n == 0 || n == 254) (n == 255) (or_from (n == 0) (n == 254) (differ n 0 is.not_zero) (differ n 254 is.not_none)) (differ n 255 is.not_any)
 
-none_of : (kind : ℕ) (kinds : List ℕ) → AllByRecursion (λ k. kind ≢ k) kinds → list_any (nat_eq kind) kinds ≡ false
+pub none_of : (kind : ℕ) (kinds : List ℕ) → AllByRecursion (λ k. kind ≢ k) kinds → list_any (nat_eq kind) kinds ≡ false
 none_of kind [] each = refl
 none_of kind (k ∷ kinds) each = or_from (nat_eq kind k) (list_any (nat_eq kind) kinds) (differ kind k each.0) (none_of kind kinds each.1)
 
 -- the record of an answer by itself
-record_is_read : (octets : List ℕ) (a : RecordAt) (r : Record) → a.end ≤ length octets → StatesRecord octets a r → record_of octets a ≡ Ok r
+pub record_is_read : (octets : List ℕ) (a : RecordAt) (r : Record) → a.end ≤ length octets → StatesRecord octets a r → record_of octets a ≡ Ok r
 unfolding record_of
 record_is_read octets a r within s =
     let class : is_no_class a.class ≡ false = ap is_no_class (sym s.class) ∙ holds_data r.class s.fits.rdata.class in
@@ -40,7 +41,7 @@ record_is_read octets a r within s =
     ∙ ap (λ (x : ℕ). Ok (record r { kind = x; ttl = ttl_of a.ttl })) (sym s.kind)
     ∙ ap (λ (x : ℕ). Ok (record r { ttl = x })) (sym s.ttl)
 
-names_same : (n m : List (List ℕ)) → n ≡ m → same_name n m ≡ true
+pub names_same : (n m : List (List ℕ)) → n ≡ m → same_name n m ≡ true
 names_same n m e = (pointwise_decides bytes_decides n m).1 e
 
 pub records_same : (r s : Record) → r ≡ s → same_record r s ≡ true

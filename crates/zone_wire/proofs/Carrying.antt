@@ -10,8 +10,9 @@ use Rattle.zone_name.specs.Spelling.{IsLabelFault}
 use Rattle.zone_name.specs.declared.fault.NameFault.{NameFault}
 use Rattle.zone_name.specs.declared.fault.NameFault.TheVariants.{EmptyLabel, LabelTooLong, NameTooLong, BadEscape, RelativeName}
 use Rattle.zone_wire.specs.Name.{label_at}
-use Rattle.zone_wire.specs.Walk.{Spot, Standing, at_root, at_label, at_pointer, at_fault, walk, outset, past_label, past_pointer, place_of}
-use Rattle.zone_wire.specs.Finding.{Outcome, named, refused, outcome, behind_label, behind_pointer}
+use Rattle.zone_wire.specs.Walk.{Spot, Standing, at_root, at_label, at_pointer, at_fault, place_of}
+use Rattle.zone_wire.specs.Machine.Walk.{walk, outset, past_label, past_pointer}
+use Rattle.zone_wire.specs.Machine.Finding.{Outcome, named, refused, outcome, behind_label, behind_pointer}
 use Rattle.zone_rdata.specs.declared.fault.Fault.{Fault}
 use Rattle.zone_rdata.specs.declared.fault.Fault.TheVariants.{ShortMessage}
 use Rattle.zone_wire.proofs.Places.{Shows, IsLabelHere, IsPointerHere, place_shows}

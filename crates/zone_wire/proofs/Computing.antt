@@ -1,18 +1,23 @@
 -- Names and walks that compute.
 use Rattle.std.proofs.Common.{◌≡◌, ℕ, zero, suc, ◌+◌, ◌<◌, ◌≤◌, ◌++◌, length, nat_le, Bool, true, ◌&&◌, nat_lt, List, [], ◌∷◌, lit<, refl, ap, sym}
-use Rattle.std.specs.Prelude.{get_or}
+use Rattle.std.specs.Prelude.{get_or, Option}
 use Rattle.std.specs.List.{flat_map, AllByRecursion, list_all}
 use Rattle.std.proofs.lemmas.Bool.{and_parts, ltb-true, leb-true}
 use Rattle.zone_rdata.specs.declared.fault.Fault.{Fault}
 use Rattle.zone_rdata.specs.declared.fault.Place.{Place}
-use Rattle.zone_wire.specs.Answers.{Answered}
+use Rattle.zone_wire.specs.Machine.Answers.{Answered}
 use Rattle.zone_wire.specs.Message.{u16_at}
-use Rattle.zone_wire.specs.Stream.{records_of, handed_on, ending_of, StreamReads}
+use Rattle.zone_wire.specs.Machine.Stream.{records_of, ending_of}
+use Rattle.zone_wire.specs.Answers.{handed_on}
+use Rattle.zone_wire.specs.Stream.{StreamReads}
 use Rattle.zone_wire.specs.Transfer.{frame}
 use Rattle.zone_wire.specs.Name.{Found, IsNameAt}
-use Rattle.zone_wire.specs.Finding.{named, outcome}
-use Rattle.zone_wire.specs.Walk.{walk}
+use Rattle.zone_wire.specs.Machine.Finding.{named, outcome}
+use Rattle.zone_wire.specs.Machine.Walk.{walk}
+use Rattle.zone_wire.specs.Examples.{behind_zeros, WalkEnds}
+use Rattle.zone_wire.specs.Walk.{ending}
 use Rattle.zone_wire.proofs.Walking.{walk_names}
+use Rattle.zone_wire.proofs.WholeWalks.{walk_is}
 
 abbrev pub all_octets : List ℕ → Bool
 all_octets [] = true
@@ -26,6 +31,10 @@ octets_below (c ∷ octets) e (suc k) = octets_below octets (and_parts (nat_lt c
 -- a name that the walk finds by computing
 pub name_computes : (message : List ℕ) (offset : ℕ) (found : Found) → all_octets message ≡ true → outcome message (walk message offset) ≡ named found → IsNameAt message offset found
 name_computes message offset found octets e = walk_names message offset found (octets_below message octets) e
+
+-- a walk that ends so by computing
+pub walk_computes : (octets : List ℕ) (offset : ℕ) (fault : Option Fault) (places : ℕ) → ending (walk (behind_zeros octets) offset) ≡ fault → length (walk (behind_zeros octets) offset) ≡ places → WalkEnds octets offset fault places
+walk_computes octets offset fault places ends count = record { visits = walk (behind_zeros octets) offset; walk = walk_is (behind_zeros octets) offset _ refl; ends = ends; count = count }
 
 all_short : (messages : List (List ℕ)) → list_all (λ octets. nat_le (length octets) 65535) messages ≡ true → AllByRecursion (λ octets. length octets ≤ 65535) messages
 all_short [] e = tt

@@ -17,13 +17,13 @@ use Rattle.zone_rdata.specs.declared.field.Field.TheVariants.{Name, Serial, Time
 use Rattle.zone_name.proofs.Octets.{length-frames}
 use Rattle.zone_rdata.proofs.StringFields.{strings_back}
 use Rattle.zone_rdata.proofs.Tables.{table_row}
-use Rattle.zone_wire.specs.Data.{name_before, sized_before, strings_before, value_at, values_at, data_at}
+use Rattle.zone_wire.specs.Machine.Data.{name_before, sized_before, strings_before, value_at, values_at, data_at}
 use Rattle.zone_wire.specs.Message.{RecordAt}
 use Rattle.zone_wire.specs.Name.{Found}
-use Rattle.zone_wire.specs.Finding.{Outcome, named, outcome}
-use Rattle.zone_wire.specs.Sections.{and_then}
+use Rattle.zone_wire.specs.Machine.Finding.{Outcome, named, outcome}
+use Rattle.zone_wire.specs.Machine.Sections.{and_then}
 use Rattle.zone_wire.specs.Transfer.{octets_between, StandsAt, StandEach, AreFieldsAt, IsDataAt}
-use Rattle.zone_wire.specs.Walk.{walk}
+use Rattle.zone_wire.specs.Machine.Walk.{walk}
 use Rattle.zone_wire.proofs.Sectioning.{and_then_ok}
 use Rattle.zone_wire.proofs.Walking.{name_walks}
 
@@ -34,7 +34,7 @@ part_text octets start end text order inside e =
     let same : length (octets_between octets start end) ≡ length text = ap length e in
     omega arith
 
-name_reads : (end : ℕ) (found : Found) (o : Outcome) → o ≡ named found → found.end ≤ end → name_before end o ≡ Ok (name found.labels, found.end)
+pub name_reads : (end : ℕ) (found : Found) (o : Outcome) → o ≡ named found → found.end ≤ end → name_before end o ≡ Ok (name found.labels, found.end)
 name_reads end found o e h = ap (name_before end) e ∙ cond-true _ _ _ (le-leb _ _ h)
 
 -- a value of this many octets
@@ -60,7 +60,7 @@ part_first octets start past h = first (past - start) (drop start octets) (omega
     first (suc n) [] some = refl
     first (suc n) (x ∷ xs) some = refl
 
-strings_read : (octets : List ℕ) (end : ℕ) (many : List (List ℕ)) → AreStrings many → octets ≡ flat_map with_length many → strings_before end octets ≡ Ok (strings many, end)
+pub strings_read : (octets : List ℕ) (end : ℕ) (many : List (List ℕ)) → AreStrings many → octets ≡ flat_map with_length many → strings_before end octets ≡ Ok (strings many, end)
 strings_read octets end many are is =
     let cut : strings_of octets ≡ many = ap strings_of is ∙ strings_back many in
     let some : 0 < length octets = omega (arith, are.some, length-frames many, ap length is) in
@@ -76,7 +76,7 @@ string_size octets start next text within stands =
     omega (arith, same)
 
 -- the value of a field, where strings go on to the end
-value_reads : (octets : List ℕ) (end start next : ℕ) (field : Field) (v : FieldValue) → (field ≡ Strings → next ≡ end) → Holds field v → next ≤ end → end ≤ length octets → StandsAt octets start next v → value_at octets end start field ≡ Ok (v, next)
+pub value_reads : (octets : List ℕ) (end start next : ℕ) (field : Field) (v : FieldValue) → (field ≡ Strings → next ≡ end) → Holds field v → next ≤ end → end ≤ length octets → StandsAt octets start next v → value_at octets end start field ≡ Ok (v, next)
 unfolding value_at
 value_reads octets end start next Name (name labels) last h before within s =
     name_reads end s.0 (outcome octets (walk octets start)) (name_walks octets start s.0 s.1) (omega (arith, s.3))

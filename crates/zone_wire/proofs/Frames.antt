@@ -5,7 +5,7 @@ use Rattle.std.specs.List.{flat_map}
 use Rattle.std.proofs.lemmas.Bool.{ltb-true, ltb-false}
 use Rattle.std.proofs.lemmas.List.{length-take-le, length-drop, take-append-drop}
 use Rattle.zone_wire.specs.Message.{u16_at}
-use Rattle.zone_wire.specs.Stream.{IsFramed}
+use Rattle.zone_wire.specs.Frames.{IsFramed}
 use Rattle.zone_wire.specs.Transfer.{frame}
 use Rattle.zone_wire.proofs.Transfers.{frame_unique}
 

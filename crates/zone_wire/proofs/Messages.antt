@@ -3,10 +3,10 @@ use Rattle.std.proofs.Common.{◌≡◌, ℕ, List, [], ◌∷◌, length, refl,
 use Rattle.zone_wire.specs.Message.{QuestionAt, RecordAt, Sections, question_by, record_by, IsQuestionAt, IsRecordAt, AreQuestionsAt, AreRecordsAt, IsMessage}
 use Rattle.zone_wire.proofs.Walking.{one_name}
 
-one_question : (octets : List ℕ) (offset : ℕ) (q r : QuestionAt) → IsQuestionAt octets offset q → IsQuestionAt octets offset r → q ≡ r
+pub one_question : (octets : List ℕ) (offset : ℕ) (q r : QuestionAt) → IsQuestionAt octets offset q → IsQuestionAt octets offset r → q ≡ r
 one_question octets offset q r is too = is.stands ∙ ap (question_by octets) (one_name octets offset is.found too.found is.name too.name) ∙ sym too.stands
 
-one_record : (octets : List ℕ) (offset : ℕ) (q r : RecordAt) → IsRecordAt octets offset q → IsRecordAt octets offset r → q ≡ r
+pub one_record : (octets : List ℕ) (offset : ℕ) (q r : RecordAt) → IsRecordAt octets offset q → IsRecordAt octets offset r → q ≡ r
 one_record octets offset q r is too = is.stands ∙ ap (record_by octets offset) (one_name octets offset is.found too.found is.name too.name) ∙ sym too.stands
 
 same_count : {X : Type 0} (q r : X) (qs rs : List X) → length (q ∷ qs) ≡ length (r ∷ rs) → length qs ≡ length rs

@@ -1,11 +1,15 @@
 -- What a result of the walk says of the name.
 use Rattle.std.proofs.Common.{◌≡◌, ℕ, ◌<◌, ◌≤◌, List, length, refl, sym, subst}
-use Rattle.std.specs.Prelude.{get_or, Result, Ok, Err, Some, IfOk, IfErr, IsOk, MatchResult}
+use Rattle.std.specs.Prelude.{get_or, Result, Ok, Err, IfOk, IfErr, IsOk, MatchResult}
 use Rattle.zone_wire.specs.Name.{Found, IsNameAt, found_by}
-use Rattle.zone_wire.specs.Walk.{walk, ending}
-use Rattle.zone_wire.specs.Finding.{Outcome, refused, outcome, Says}
+use Rattle.zone_wire.specs.Machine.Walk.{walk}
+use Rattle.zone_wire.specs.Walk.{Visit}
+use Rattle.zone_wire.specs.WholeWalk.{IsWalk, NameFault}
+use Rattle.zone_wire.specs.Machine.Finding.{Outcome, refused, outcome, Says}
 use Rattle.zone_rdata.specs.declared.fault.Fault.{Fault}
 use Rattle.zone_wire.specs.declared.name.Decoded.{Decoded}
+use Rattle.zone_wire.proofs.MessageFaults.{name_refused}
+use Rattle.zone_wire.proofs.WalkLaws.{of_walk}
 use Rattle.zone_wire.proofs.Walking.{Measures, name_walks, walk_names, walk_measures, walk_is_short, name_bounds}
 
 module _ (message : List ℕ) (offset : ℕ) (each : (k : ℕ) → get_or message k 0 < 256) where
@@ -24,13 +28,13 @@ module _ (message : List ℕ) (offset : ℕ) (each : (k : ℕ) → get_or messag
   measured : (o : Outcome) → outcome message (walk message offset) ≡ o → Measures o (walk message offset)
   measured o e = subst (λ (p : Outcome). Measures p (walk message offset)) e (walk_measures message offset)
 
-  pub says_fault : (r : Result Decoded (Fault × ℕ)) → Says r (outcome message (walk message offset)) → IfErr r (λ e. ending (walk message offset) ≡ Some e.0)
+  pub says_fault : (r : Result Decoded (Fault × ℕ)) → Says r (outcome message (walk message offset)) → IfErr r (λ e. NameFault message offset e.0)
   says_fault (Ok d) says = tt
-  says_fault (Err e) says = (measured (refused e.0 e.1) says).1
+  says_fault (Err e) says = name_refused message offset e.0 e.1 says
 
-  pub says_places : (r : Result Decoded (Fault × ℕ)) → Says r (outcome message (walk message offset)) → IfErr r (λ e. e.1 ≡ length (walk message offset))
+  pub says_places : (r : Result Decoded (Fault × ℕ)) → Says r (outcome message (walk message offset)) → IfErr r (λ e. (visits : List Visit) → IsWalk message offset visits → e.1 ≡ length visits)
   says_places (Ok d) says = tt
-  says_places (Err e) says = sym (measured (refused e.0 e.1) says).0
+  says_places (Err e) says = λ visits is. of_walk (λ v. e.1 ≡ length v) message offset visits is (sym (measured (refused e.0 e.1) says).0)
 
   pub says_few : (r : Result Decoded (Fault × ℕ)) → Says r (outcome message (walk message offset)) → MatchResult r (λ d. d.steps ≤ 256) (λ e. e.1 ≤ 256)
   says_few (Ok d) says = (name_bounds message offset _ (walk_names message offset (found_by d says.0) each says.1)).steps

@@ -10,8 +10,9 @@ use Rattle.zone_rdata.specs.declared.fault.Fault.{Fault}
 use Rattle.zone_rdata.specs.declared.fault.Fault.TheVariants.{BadClass, MetaType, CompressibleType}
 use Rattle.zone_rdata.specs.declared.fault.Place.TheVariants.{Message}
 use Rattle.zone_rdata.specs.declared.record.Placed.{Placed}
-use Rattle.zone_wire.specs.Answers.{same_name, same_record, is_no_class, record_of, zone_of, agrees, order_fault, answer_of, Answered, before_others, answers_of}
-use Rattle.zone_wire.specs.Data.{data_at}
+use Rattle.zone_wire.specs.Machine.Answers.{same_name, same_record, is_no_class, record_of, agrees, order_fault, answer_of, Answered, before_others, answers_of}
+use Rattle.zone_wire.specs.Answers.{zone_of}
+use Rattle.zone_wire.specs.Machine.Data.{data_at}
 use Rattle.zone_wire.specs.Message.{QuestionAt, RecordAt, AreRecordsAt}
 use Rattle.zone_wire.specs.Transfer.{ttl_of, compressible, StatesRecord, StateEach}
 use Rattle.zone_wire.proofs.Answering.{is_soa}
@@ -22,11 +23,11 @@ use Rattle.zone_wire.proofs.Transfers.{equal_parts}
 pub unequal : (a b : ℕ) → nat_eq a b ≡ false → a ≢ b
 unequal a b e same = let yes : nat_eq a b ≡ true = eq-eqb a b same in cc
 
-each_other : (kind : ℕ) (kinds : List ℕ) → list_any (nat_eq kind) kinds ≡ false → AllByRecursion (λ k. kind ≢ k) kinds
+pub each_other : (kind : ℕ) (kinds : List ℕ) → list_any (nat_eq kind) kinds ≡ false → AllByRecursion (λ k. kind ≢ k) kinds
 each_other kind [] e = tt
 each_other kind (k ∷ kinds) e = let parts = or_parts (nat_eq kind k) (list_any (nat_eq kind) kinds) e in (unequal kind k parts.0, each_other kind kinds parts.1)
 
-record_shown : (octets : List ℕ) (a : RecordAt) (r : Record) → ((k : ℕ) → get_or octets k 0 < 256) → a.end ≤ length octets → record_of octets a ≡ Ok r → IsRecord r → StatesRecord octets a r
+pub record_shown : (octets : List ℕ) (a : RecordAt) (r : Record) → ((k : ℕ) → get_or octets k 0 < 256) → a.end ≤ length octets → record_of octets a ≡ Ok r → IsRecord r → StatesRecord octets a r
 unfolding record_of
 record_shown octets a r each within e =
     let class = passes_on (is_no_class a.class) BadClass _ r e in
@@ -37,10 +38,10 @@ record_shown octets a r each within e =
     let stated : IsRecord (record { owner = a.owner; class = a.class; kind = a.kind; ttl = ttl_of a.ttl; octets = l.first }) → StatesRecord octets a (record { owner = a.owner; class = a.class; kind = a.kind; ttl = ttl_of a.ttl; octets = l.first }) = λ fits. record { owner = refl; class = refl; kind = refl; ttl = refl; rdata = data_shown octets a l.first each within l.is; fits = fits; readable = each_other a.kind compressible read.0 } in
     subst (λ (x : Record). IsRecord x → StatesRecord octets a x) (ok_same _ _ l.goes_on) stated
 
-names_equal : (n m : List (List ℕ)) → same_name n m ≡ true → n ≡ m
+pub names_equal : (n m : List (List ℕ)) → same_name n m ≡ true → n ≡ m
 names_equal n m e = (pointwise_decides bytes_decides n m).0 e
 
-records_equal : (r s : Record) → same_record r s ≡ true → r ≡ s
+pub records_equal : (r s : Record) → same_record r s ≡ true → r ≡ s
 records_equal r s e =
     let d = and_parts (same_name r.owner s.owner && r.class == s.class && r.kind == s.kind && r.ttl == s.ttl) (pointwise nat_eq r.octets s.octets) e in
     let c = and_parts (same_name r.owner s.owner && r.class == s.class && r.kind == s.kind) (r.ttl == s.ttl) d.0 in

@@ -16,12 +16,12 @@ use Rattle.zone_rdata.specs.Strings.{IsString}
 use Rattle.zone_rdata.specs.declared.fault.Fault.{Fault}
 use Rattle.zone_rdata.specs.declared.field.Field.{Field}
 use Rattle.zone_rdata.specs.declared.field.Field.TheVariants.{Name, Serial, Time, U16, Octets, OneString, Strings}
-use Rattle.zone_wire.specs.Data.{name_before, sized_before, strings_before, value_at, values_at, data_at}
+use Rattle.zone_wire.specs.Machine.Data.{name_before, sized_before, strings_before, value_at, values_at, data_at}
 use Rattle.zone_wire.specs.Message.{RecordAt}
-use Rattle.zone_wire.specs.Finding.{Outcome, named, refused, outcome}
-use Rattle.zone_wire.specs.Sections.{and_then}
+use Rattle.zone_wire.specs.Machine.Finding.{Outcome, named, refused, outcome}
+use Rattle.zone_wire.specs.Machine.Sections.{and_then}
 use Rattle.zone_wire.specs.Transfer.{octets_between, StandsAt, StandEach, AreFieldsAt, IsDataAt}
-use Rattle.zone_wire.specs.Walk.{walk}
+use Rattle.zone_wire.specs.Machine.Walk.{walk}
 use Rattle.zone_wire.proofs.Fielding.{part_first}
 use Rattle.zone_wire.proofs.ReadSections.{ok_same, leads, passes}
 use Rattle.zone_wire.proofs.Walking.{walk_names, take_each, drop_each}
@@ -40,11 +40,11 @@ strings_each_by (suc n) [] small = tt
 strings_each_by (suc n) (c ∷ octets) small =
     (record { short = omega (arith, length-take c octets, small 0); each = bytes_each (take c octets) (take_each c octets (λ k. small (suc k))) }, strings_each_by n (drop c octets) (drop_each c octets (λ k. small (suc k))))
 
-strings_each : (octets : List ℕ) → ((k : ℕ) → get_or octets k 0 < 256) → AllByRecursion IsString (strings_of octets)
+pub strings_each : (octets : List ℕ) → ((k : ℕ) → get_or octets k 0 < 256) → AllByRecursion IsString (strings_of octets)
 unfolding strings_of
 strings_each octets small = strings_each_by (length octets) octets small
 
-some_strings : (many : List (List ℕ)) → 0 < length (flat_map with_length many) → 0 < length many
+pub some_strings : (many : List (List ℕ)) → 0 < length (flat_map with_length many) → 0 < length many
 some_strings [] h = absurd (omega arith)
 some_strings (text ∷ many) h = omega arith
 
@@ -61,7 +61,7 @@ module _ (octets : List ℕ) (each : (k : ℕ) → get_or octets k 0 < 256) (end
       let p = passes (nat_le (start + size) end) _ v _ e in
       subst (Shown octets end start field) p.1 (shows (leb-true _ _ p.0))
 
-  part_bytes : (start past : ℕ) (k : ℕ) → get_or (octets_between octets start past) k 0 < 256
+  pub part_bytes : (start past : ℕ) (k : ℕ) → get_or (octets_between octets start past) k 0 < 256
   part_bytes start past = take_each (past - start) (drop start octets) (drop_each start octets each)
 
   part_size : (start size : ℕ) → start + size ≤ end → length (octets_between octets start (start + size)) ≡ size
@@ -123,7 +123,7 @@ module _ (octets : List ℕ) (each : (k : ℕ) → get_or octets k 0 < 256) (end
       subst (Shown octets end start Strings) p.1 (record { some = some_strings (strings_of bs) (omega (arith, some, ap length whole)); each = strings_each bs (part_bytes start end) }, omega arith, (order, sym whole))
 
   -- what is read for a field stands there
-  value_shows : (start : ℕ) (field : Field) (v : FieldValue × ℕ) → value_at octets end start field ≡ Ok v → Shown octets end start field v
+  pub value_shows : (start : ℕ) (field : Field) (v : FieldValue × ℕ) → value_at octets end start field ≡ Ok v → Shown octets end start field v
   unfolding value_at
   value_shows start Name v e = name_shows start (outcome octets (walk octets start)) v refl e
   value_shows start Serial v e = sized_shows start 4 Serial v (λ fits. (long_short _ (take_each 4 _ (part_bytes start (start + 4))), fits, long_stands start fits)) e
@@ -133,7 +133,7 @@ module _ (octets : List ℕ) (each : (k : ℕ) → get_or octets k 0 < 256) (end
   value_shows start Strings v e = strings_show start v e
   value_shows start U16 v e = sized_shows start 2 U16 v (λ fits. (two_short _ (take_each 2 _ (part_bytes start (start + 2))), fits, two_stands start fits)) e
 
-  values_show : (fields : List Field) (start : ℕ) (values : List FieldValue) → values_at octets end start fields ≡ Ok values → HoldEach fields values × StandEach octets start end values
+  pub values_show : (fields : List Field) (start : ℕ) (values : List FieldValue) → values_at octets end start fields ≡ Ok values → HoldEach fields values × StandEach octets start end values
   values_show [] start values e =
       let p = passes (start == end) [] values _ e in
       subst (λ (vs : List FieldValue). HoldEach [] vs × StandEach octets start end vs) p.1 (tt, eqb-true start end p.0)

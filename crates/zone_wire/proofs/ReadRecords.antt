@@ -17,11 +17,13 @@ use Rattle.zone_rdata.specs.declared.field.Field.{Field}
 use Rattle.zone_rdata.specs.declared.field.Field.TheVariants.{Strings}
 use Rattle.zone_rdata.specs.declared.record.Placed.{Placed}
 use Rattle.zone_rdata.proofs.Tables.{each_layout}
-use Rattle.zone_wire.specs.Answers.{is_no_class, record_of, Answered, before_others, answer_of, answers_of}
-use Rattle.zone_wire.specs.Data.{data_at}
+use Rattle.zone_wire.specs.Machine.Answers.{is_no_class, record_of, Answered, before_others, answer_of, answers_of}
+use Rattle.zone_wire.specs.Machine.Data.{data_at}
 use Rattle.zone_wire.specs.Message.{u16_at, QuestionAt, RecordAt, IsRecordAt, AreRecordsAt, Sections, IsMessage}
-use Rattle.zone_wire.specs.Sections.{sections_of}
-use Rattle.zone_wire.specs.Stream.{questions_of, has_first_id, message_of, unless_refused, followed_by, records_of, handed_on, StreamReads}
+use Rattle.zone_wire.specs.Machine.Sections.{sections_of}
+use Rattle.zone_wire.specs.Answers.{questions_of, handed_on}
+use Rattle.zone_wire.specs.Machine.Stream.{has_first_id, message_of, unless_refused, followed_by, records_of}
+use Rattle.zone_wire.specs.Stream.{StreamReads}
 use Rattle.zone_wire.specs.Transfer.{octets_between, StandsAt, StandEach, AreFieldsAt, ttl_of, compressible, frame}
 use Rattle.zone_wire.proofs.Accepting.{all_append}
 use Rattle.zone_wire.proofs.ReadAnswers.{unequal, answer_shown}
@@ -31,7 +33,7 @@ use Rattle.zone_wire.proofs.ReadStreams.{Bytes, asked_same, front_bytes, message
 use Rattle.zone_wire.proofs.Walking.{take_each, drop_each}
 
 -- a layout holds no strings, or strings alone
-abbrev IsRow : Option (List Field) → Type 0
+abbrev pub IsRow : Option (List Field) → Type 0
 IsRow None = ⊤
 IsRow (Some fields) = AllByRecursion (λ field. field ≢ Strings) fields ⊎ (fields ≡ Strings ∷ [])
 
@@ -62,7 +64,7 @@ row_by : (laid : Option (List Field)) → ((fields : List Field) → laid ≡ So
 row_by None each = tt
 row_by (Some fields) each = row_of fields (each fields refl)
 
-each_row : (class kind : ℕ) → IsRow (layout class kind)
+pub each_row : (class kind : ℕ) → IsRow (layout class kind)
 each_row class kind = row_by (layout class kind) (each_layout (λ fields. unstrung fields || strings_alone fields) refl class kind)
 
 part_short : (octets : List ℕ) (start end : ℕ) → length (octets_between octets start end) ≤ length octets
@@ -78,7 +80,7 @@ strings_short octets start end [] held stand = absurd held
 strings_short octets start end (v ∷ []) held stand = omega (arith, held_strings_short octets start stand.0 v held.0 stand.2, ap length (append-nil (field_octets v)))
 strings_short octets start end (v ∷ w ∷ values) held stand = absurd held.1
 
-no_class_parts : (n : ℕ) → is_no_class n ≡ false → (n ≢ 0) × (n ≢ 254) × (n ≢ 255)
+pub no_class_parts : (n : ℕ) → is_no_class n ≡ false → (n ≢ 0) × (n ≢ 254) × (n ≢ 255)
 no_class_parts n e =
     let last = or_parts (n == 0 || n == 254) (n == 255) e in
     let others = or_parts (n == 0) (n == 254) last.0 in
@@ -159,7 +161,7 @@ module _ (are_data : HeldAreData) (are_short : UnstrungAreShort) where
     word_short offset = omega (arith, each offset, each (offset + 1))
 
     -- the record of an answer
-    record_fits : (offset : ℕ) (a : RecordAt) (r : Record) → IsRecordAt octets offset a → record_of octets a ≡ Ok r → IsRecord r
+    pub record_fits : (offset : ℕ) (a : RecordAt) (r : Record) → IsRecordAt octets offset a → record_of octets a ≡ Ok r → IsRecord r
     unfolding record_of
     record_fits offset a r at e =
         let class = passes_on (is_no_class a.class) BadClass _ r e in

@@ -1,13 +1,13 @@
 -- What is read as the sections of a message are its sections.
-use Rattle.std.proofs.Common.{◌≡◌, ℕ, zero, suc, ◌<◌, ◌≤◌, List, length, refl, ap, sym, subst, Bool, true, false, nat_le}
-use Rattle.std.specs.Prelude.{get_or, ◌==◌, Option, Some, None, Result, Ok, Err, if◌then◌else◌}
+use Rattle.std.proofs.Common.{◌≡◌, ℕ, zero, suc, ◌/◌, arith, ◌<◌, ◌≤◌, List, length, refl, ap, sym, subst, Bool, true, false, nat_le}
+use Rattle.std.specs.Prelude.{get_or, slice_index, ◌==◌, Option, Some, None, Result, Ok, Err, if◌then◌else◌}
 use Rattle.std.proofs.lemmas.Bool.{and_parts, leb-true, ltb-false, eqb-true, not-false}
 use Rattle.zone_rdata.specs.declared.fault.Fault.{Fault}
-use Rattle.zone_wire.specs.Message.{u16_at, HasHeader, QuestionAt, question_by, IsQuestionAt, RecordAt, record_by, IsRecordAt, AreAt, Sections, IsMessage}
+use Rattle.zone_wire.specs.Message.{u16_at, IsResponse, HasHeader, QuestionAt, question_by, IsQuestionAt, RecordAt, record_by, IsRecordAt, AreAt, Sections, IsMessage}
 use Rattle.zone_wire.specs.Name.{Found}
-use Rattle.zone_wire.specs.Finding.{Outcome, named, refused, outcome}
-use Rattle.zone_wire.specs.Sections.{and_then, at_offset, header_fault, inside, question_at, record_at, each_from, questions_from, records_from, behind_header, sections_of}
-use Rattle.zone_wire.specs.Walk.{walk}
+use Rattle.zone_wire.specs.Machine.Finding.{Outcome, named, refused, outcome}
+use Rattle.zone_wire.specs.Machine.Sections.{and_then, at_offset, header_fault, inside, question_at, record_at, each_from, questions_from, records_from, behind_header, sections_of}
+use Rattle.zone_wire.specs.Machine.Walk.{walk}
 use Rattle.zone_wire.proofs.Walking.{walk_names}
 
 pub ok_same : {X E : Type 0} (x y : X) → (let r : Result X E = Ok x in r) ≡ Ok y → x ≡ y
@@ -36,7 +36,10 @@ pub no_fault : (test : Bool) (fault : Fault) (rest : Option Fault) → (if test 
 no_fault true fault rest e = cc
 no_fault false fault rest e = (refl, e)
 
-header_shows : (octets : List ℕ) → header_fault octets ≡ None → HasHeader octets
+pub response_of : (octets : List ℕ) → slice_index octets 2 / 8 ≡ 16 → IsResponse octets
+response_of octets e = (omega (arith, e), omega (arith, e))
+
+pub header_shows : (octets : List ℕ) → header_fault octets ≡ None → HasHeader octets
 unfolding header_fault
 header_shows octets e =
     let a = no_fault _ _ _ e in
@@ -46,11 +49,10 @@ header_shows octets e =
     let counts = and_parts (nat_le (u16_at octets 4) 1) (u16_at octets 8 == 0) (not-false _ (no_fault _ _ _ d.1).0) in
     record {
       twelve = ltb-false _ _ a.0;
-      response = eqb-true _ _ (not-false _ b.0);
+      response = response_of octets (eqb-true _ _ (not-false _ b.0));
       whole = eqb-true _ _ (not-false _ c.0);
       no_error = eqb-true _ _ (not-false _ d.0);
-      questions = leb-true _ _ counts.0;
-      no_authority = eqb-true _ _ counts.1;
+      counts = (leb-true _ _ counts.0, eqb-true _ _ counts.1);
     }
 
 -- what stands behind a name inside the message
@@ -66,13 +68,13 @@ inside_shows octets by end_of (named found) x e =
     record { found = found; is = refl; stands = p.1; fits = leb-true _ _ p.0 }
 inside_shows octets by end_of (refused fault steps) x e = cc
 
-question_shows : (octets : List ℕ) → ((k : ℕ) → get_or octets k 0 < 256) → (offset : ℕ) (q : QuestionAt) → question_at octets offset ≡ Ok q → IsQuestionAt octets offset q
+pub question_shows : (octets : List ℕ) → ((k : ℕ) → get_or octets k 0 < 256) → (offset : ℕ) (q : QuestionAt) → question_at octets offset ≡ Ok q → IsQuestionAt octets offset q
 unfolding question_at
 question_shows octets each offset q e =
     let s = inside_shows octets (question_by octets) (λ (x : QuestionAt). x.end) (outcome octets (walk octets offset)) q e in
     record { found = s.found; name = walk_names octets offset s.found each s.is; stands = sym s.stands; inside = subst (λ (x : QuestionAt). x.end ≤ length octets) s.stands s.fits }
 
-record_shows : (octets : List ℕ) → ((k : ℕ) → get_or octets k 0 < 256) → (offset : ℕ) (r : RecordAt) → record_at octets offset ≡ Ok r → IsRecordAt octets offset r
+pub record_shows : (octets : List ℕ) → ((k : ℕ) → get_or octets k 0 < 256) → (offset : ℕ) (r : RecordAt) → record_at octets offset ≡ Ok r → IsRecordAt octets offset r
 unfolding record_at
 record_shows octets each offset r e =
     let s = inside_shows octets (record_by octets offset) (λ (x : RecordAt). x.end) (outcome octets (walk octets offset)) r e in
@@ -82,7 +84,7 @@ at_offset_shows : {X : Type 0} (offset : ℕ) (r : Result X Fault) (x : X) → a
 at_offset_shows offset (Ok y) x e = ap Ok (ok_same y x e)
 at_offset_shows offset (Err fault) x e = cc
 
-each_shows : {X : Type 0} (read : ℕ → Result X Fault) (end_of : X → ℕ) (Is : ℕ → X → Type 0) → ((offset : ℕ) (x : X) → read offset ≡ Ok x → Is offset x) → (count offset : ℕ) (run : List X × ℕ) → each_from read end_of count offset ≡ Ok run → (length run.0 ≡ count) × AreAt Is end_of offset run.0 run.1
+pub each_shows : {X : Type 0} (read : ℕ → Result X Fault) (end_of : X → ℕ) (Is : ℕ → X → Type 0) → ((offset : ℕ) (x : X) → read offset ≡ Ok x → Is offset x) → (count offset : ℕ) (run : List X × ℕ) → each_from read end_of count offset ≡ Ok run → (length run.0 ≡ count) × AreAt Is end_of offset run.0 run.1
 each_shows {X} read end_of Is shows zero offset run e = subst (λ (x : List X × ℕ). (length x.0 ≡ zero) × AreAt Is end_of offset x.0 x.1) (ok_same _ _ e) (refl, refl)
 each_shows {X} read end_of Is shows (suc count) offset run e =
     let one = leads (at_offset offset (read offset)) _ run e in

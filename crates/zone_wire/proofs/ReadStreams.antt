@@ -11,10 +11,12 @@ use Rattle.zone_rdata.specs.declared.fault.Fault.TheVariants.{NoClosingSoa}
 use Rattle.zone_rdata.specs.declared.fault.Place.{Place}
 use Rattle.zone_rdata.specs.declared.fault.Place.TheVariants.{Message}
 use Rattle.zone_rdata.specs.declared.record.Placed.{Placed}
-use Rattle.zone_wire.specs.Answers.{Zone, zone_of, agrees, Answered, answers_of}
+use Rattle.zone_wire.specs.Answers.{Zone, zone_of, questions_of, handed_on, is_closed}
+use Rattle.zone_wire.specs.Machine.Answers.{agrees, Answered, answers_of}
 use Rattle.zone_wire.specs.Message.{QuestionAt, Sections, IsMessage}
-use Rattle.zone_wire.specs.Sections.{sections_of}
-use Rattle.zone_wire.specs.Stream.{questions_of, has_first_id, ask_for_zone, message_of, unless_refused, followed_by, records_of, handed_on, is_closed, ending_of, StreamReads}
+use Rattle.zone_wire.specs.Machine.Sections.{sections_of}
+use Rattle.zone_wire.specs.Machine.Stream.{has_first_id, ask_for_zone, message_of, unless_refused, followed_by, records_of, ending_of}
+use Rattle.zone_wire.specs.Stream.{StreamReads}
 use Rattle.zone_wire.specs.Transfer.{StatedMessage, AreStatedMessages, AsksFor, StateEach, frame, StreamStates}
 use Rattle.zone_wire.proofs.Accepting.{all_append, octets_of_parts, placed_of_parts, any_append, framed_parts, handed_transfer}
 use Rattle.zone_wire.proofs.Answering.{is_soa}
@@ -120,7 +122,7 @@ message_shown before placed octets s each ids zone e =
     let last : b.first ≡ s = asked_same (questions_of before) placed b.first s b.first.questions b.goes_on in
     let same : a.first ≡ s = id.0 ∙ last in
     let is : IsMessage octets s = subst (IsMessage octets) same (sections_shown octets a.first each a.is) in
-    let few : length s.questions ≤ 1 = omega (arith, is.question_count, is.header.questions) in
+    let few : length s.questions ≤ 1 = omega (arith, is.question_count, is.header.counts.0) in
     let asks : ask_for_zone (questions_of before) placed s s.questions ≡ Ok s = subst (λ (x : Sections). ask_for_zone (questions_of before) placed x x.questions ≡ Ok s) last b.goes_on in
     record {
       message = is;

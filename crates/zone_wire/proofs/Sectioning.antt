@@ -1,13 +1,13 @@
 -- The sections of a message are read.
-use Rattle.std.proofs.Common.{◌≡◌, ℕ, ◌≤◌, List, [], ◌∷◌, length, refl, ap, sym, ◌∙◌, subst, false, nat_le}
-use Rattle.std.specs.Prelude.{◌==◌, not, Option, Some, None, Result, Ok, Err}
+use Rattle.std.proofs.Common.{◌≡◌, ℕ, ◌/◌, arith, ◌≤◌, List, [], ◌∷◌, length, refl, ap, sym, ◌∙◌, subst, false, nat_le}
+use Rattle.std.specs.Prelude.{slice_index, ◌==◌, not, Option, Some, None, Result, Ok, Err}
 use Rattle.std.proofs.lemmas.Bool.{cond-true, cond-false, le-leb, le-ltb, eq-eqb, and_from}
 use Rattle.zone_rdata.specs.declared.fault.Fault.{Fault}
-use Rattle.zone_wire.specs.Message.{u16_at, HasHeader, QuestionAt, question_by, IsQuestionAt, RecordAt, record_by, IsRecordAt, AreAt, Sections, IsMessage}
+use Rattle.zone_wire.specs.Message.{u16_at, IsResponse, HasHeader, QuestionAt, question_by, IsQuestionAt, RecordAt, record_by, IsRecordAt, AreAt, Sections, IsMessage}
 use Rattle.zone_wire.specs.Name.{Found}
-use Rattle.zone_wire.specs.Finding.{Outcome, named, outcome}
-use Rattle.zone_wire.specs.Sections.{and_then, at_offset, header_fault, inside, question_at, record_at, each_from, behind_header, sections_of}
-use Rattle.zone_wire.specs.Walk.{walk}
+use Rattle.zone_wire.specs.Machine.Finding.{Outcome, named, outcome}
+use Rattle.zone_wire.specs.Machine.Sections.{and_then, at_offset, header_fault, inside, question_at, record_at, each_from, behind_header, sections_of}
+use Rattle.zone_wire.specs.Machine.Walk.{walk}
 use Rattle.zone_wire.proofs.Walking.{name_walks}
 
 pub and_then_ok : {X Y E : Type 0} (r : Result X E) (x : X) (next : X → Result Y E) → r ≡ Ok x → and_then r next ≡ next x
@@ -16,26 +16,30 @@ and_then_ok r x next e = ap (λ z. and_then z next) e
 not_other : (a b : ℕ) → a ≡ b → not (a == b) ≡ false
 not_other a b e = ap not (eq-eqb a b e)
 
-header_reads : (octets : List ℕ) → HasHeader octets → header_fault octets ≡ None
+-- a response to a query, by the first five bits of its third octet
+pub sixteen : (octets : List ℕ) → IsResponse octets → slice_index octets 2 / 8 ≡ 16
+sixteen octets is = omega (arith, is.0, is.1)
+
+pub header_reads : (octets : List ℕ) → HasHeader octets → header_fault octets ≡ None
 unfolding header_fault
 header_reads octets is =
-    cond-false _ _ _ (le-ltb _ _ is.twelve) ∙ cond-false _ _ _ (not_other _ _ is.response) ∙ cond-false _ _ _ (not_other _ _ is.whole)
-    ∙ cond-false _ _ _ (not_other _ _ is.no_error) ∙ cond-false _ _ _ (ap not (and_from (nat_le (u16_at octets 4) 1) (u16_at octets 8 == 0) (le-leb _ _ is.questions) (eq-eqb _ _ is.no_authority)))
+    cond-false _ _ _ (le-ltb _ _ is.twelve) ∙ cond-false _ _ _ (not_other _ _ (sixteen octets is.response)) ∙ cond-false _ _ _ (not_other _ _ is.whole)
+    ∙ cond-false _ _ _ (not_other _ _ is.no_error) ∙ cond-false _ _ _ (ap not (and_from (nat_le (u16_at octets 4) 1) (u16_at octets 8 == 0) (le-leb _ _ is.counts.0) (eq-eqb _ _ is.counts.1)))
 
 inside_reads : {X : Type 0} (octets : List ℕ) (by : Found → X) (end : X → ℕ) (found : Found) (o : Outcome) → o ≡ named found → end (by found) ≤ length octets → inside octets by end o ≡ Ok (by found)
 inside_reads octets by end found o e h = ap (inside octets by end) e ∙ cond-true _ _ _ (le-leb _ _ h)
 
-question_reads : (octets : List ℕ) (offset : ℕ) (q : QuestionAt) → IsQuestionAt octets offset q → question_at octets offset ≡ Ok q
+pub question_reads : (octets : List ℕ) (offset : ℕ) (q : QuestionAt) → IsQuestionAt octets offset q → question_at octets offset ≡ Ok q
 unfolding question_at
 question_reads octets offset q is =
     inside_reads octets (question_by octets) (λ (x : QuestionAt). x.end) is.found (outcome octets (walk octets offset)) (name_walks octets offset is.found is.name) (subst (λ (x : QuestionAt). x.end ≤ length octets) is.stands is.inside) ∙ ap Ok (sym is.stands)
 
-record_reads : (octets : List ℕ) (offset : ℕ) (r : RecordAt) → IsRecordAt octets offset r → record_at octets offset ≡ Ok r
+pub record_reads : (octets : List ℕ) (offset : ℕ) (r : RecordAt) → IsRecordAt octets offset r → record_at octets offset ≡ Ok r
 unfolding record_at
 record_reads octets offset r is =
     inside_reads octets (record_by octets offset) (λ (x : RecordAt). x.end) is.found (outcome octets (walk octets offset)) (name_walks octets offset is.found is.name) (subst (λ (x : RecordAt). x.end ≤ length octets) is.stands is.inside) ∙ ap Ok (sym is.stands)
 
-each_reads : {X : Type 0} (read : ℕ → Result X Fault) (end_of : X → ℕ) (Is : ℕ → X → Type 0) → ((offset : ℕ) (x : X) → Is offset x → read offset ≡ Ok x) → (xs : List X) (count offset past : ℕ) → length xs ≡ count → AreAt Is end_of offset xs past → each_from read end_of count offset ≡ Ok (xs, past)
+pub each_reads : {X : Type 0} (read : ℕ → Result X Fault) (end_of : X → ℕ) (Is : ℕ → X → Type 0) → ((offset : ℕ) (x : X) → Is offset x → read offset ≡ Ok x) → (xs : List X) (count offset past : ℕ) → length xs ≡ count → AreAt Is end_of offset xs past → each_from read end_of count offset ≡ Ok (xs, past)
 each_reads {X} read end_of Is reads xs count offset past size are = subst (λ n. each_from read end_of n offset ≡ Ok (xs, past)) size (by xs offset are)
   where
     by : (parts : List X) (start : ℕ) → AreAt Is end_of start parts past → each_from read end_of (length parts) start ≡ Ok (parts, past)
@@ -44,7 +48,7 @@ each_reads {X} read end_of Is reads xs count offset past size are = subst (λ n.
         and_then_ok (at_offset start (read start)) x _ (ap (at_offset start) (reads start x at.0))
         ∙ and_then_ok (each_from read end_of (length parts) (end_of x)) (parts, past) _ (by parts (end_of x) at.1)
 
-opens : (octets : List ℕ) (fault : Option Fault) → fault ≡ None → (let r : Result Sections (Fault × ℕ) = elim fault [ Some f ↦ Err (f, 0) | None ↦ behind_header octets ] in r) ≡ behind_header octets
+pub opens : (octets : List ℕ) (fault : Option Fault) → fault ≡ None → (let r : Result Sections (Fault × ℕ) = elim fault [ Some f ↦ Err (f, 0) | None ↦ behind_header octets ] in r) ≡ behind_header octets
 opens octets None e = refl
 opens octets (Some f) e = cc
 

@@ -7,9 +7,12 @@ use Rattle.std.proofs.lemmas.List.Elements.{filter-append}
 use Rattle.zone_rdata.specs.declared.fault.Fault.{Fault}
 use Rattle.zone_rdata.specs.declared.fault.Place.{Place}
 use Rattle.zone_rdata.specs.declared.record.Placed.{Placed}
-use Rattle.zone_wire.specs.Answers.{Answered, answers_of}
+use Rattle.zone_wire.specs.Machine.Answers.{Answered, answers_of}
 use Rattle.zone_wire.specs.Message.{Sections}
-use Rattle.zone_wire.specs.Stream.{IsFramed, unless_refused, followed_by, questions_of, message_of, records_of, handed_on, ending_of, StreamReads, Decided}
+use Rattle.zone_wire.specs.Frames.{IsFramed}
+use Rattle.zone_wire.specs.Machine.Stream.{unless_refused, followed_by, message_of, records_of, ending_of}
+use Rattle.zone_wire.specs.Answers.{questions_of, handed_on}
+use Rattle.zone_wire.specs.Stream.{StreamReads, Decided}
 use Rattle.zone_wire.proofs.Frames.{framed_unique, framed_extends, framing}
 
 pub one_reading : (stream : List ℕ) (placed other : List Placed) (ending late : Option (Fault × Place)) → StreamReads stream placed ending → StreamReads stream other late → (placed ≡ other) × (ending ≡ late)

@@ -3,7 +3,8 @@ use Rattle.std.proofs.Common.{◌≡◌, ℕ, zero, suc, ◌+◌, ◌*◌, ◌�
 use Rattle.std.specs.Prelude.{if◌then◌else◌}
 use Rattle.std.proofs.lemmas.List.Sums.{sum_by-cons}
 use Rattle.zone_wire.specs.Visits.{is_label, is_pointer, labels_in, pointers_in, LeadToLast}
-use Rattle.zone_wire.specs.Walk.{Standing, at_root, at_label, at_pointer, at_fault, Spot, Visit, visit, walk_on, walk_by, walk, outset, past_label, past_pointer, place_of}
+use Rattle.zone_wire.specs.Walk.{Standing, at_root, at_label, at_pointer, at_fault, Spot, Visit, place_of}
+use Rattle.zone_wire.specs.Machine.Walk.{visit, walk_on, walk_by, walk, outset, past_label, past_pointer}
 use Rattle.zone_wire.proofs.Places.{Shows, place_shows}
 
 -- each label takes two octets or more of the 254 that labels can have

@@ -3,7 +3,8 @@ use Rattle.std.proofs.Common.{◌≡◌, ℕ, zero, suc, ◌+◌, ◌*◌, ◌�
 use Rattle.std.specs.Prelude.{Option, Some, None, if◌then◌else◌}
 use Rattle.std.proofs.lemmas.List.{append-nil}
 use Rattle.std.proofs.lemmas.List.Sums.{sum_by-append}
-use Rattle.zone_wire.specs.Walk.{Spot, Standing, at_root, at_label, at_pointer, at_fault, Visit, visit, walk_on, walk_by, walk, outset, past_label, past_pointer, place_of}
+use Rattle.zone_wire.specs.Walk.{Spot, Standing, at_root, at_label, at_pointer, at_fault, Visit, place_of}
+use Rattle.zone_wire.specs.Machine.Walk.{visit, walk_on, walk_by, walk, outset, past_label, past_pointer}
 use Rattle.zone_wire.specs.Visits.{is_pointer}
 use Rattle.zone_wire.specs.WholeWalk.{next_offset, led_to, run_start, octets_at, spot_behind, IsNext, IsWalk}
 use Rattle.zone_wire.proofs.Places.{Shows, IsLabelHere, IsPointerHere, place_shows, place_outside}

@@ -1,37 +1,9 @@
--- The records that the answers of a message state, up to the first answer that has a fault. An answer is judged by what
--- stands before it in the stream: all questions, and the records of all answers (RFC 5936 2.2, 3).
-use Rattle.std.specs.Prelude.{ℕ, List, [], ◌∷◌, ◌++◌, ◌==◌, ◌&&◌, ◌||◌, nat_eq, not, if◌then◌else◌, Bool, true, Option, Some, None, Result, Ok, Err}
-use Rattle.std.specs.List.{list_any}
-use Rattle.std.specs.Cmp.Lexicographic.{pointwise}
+-- What stands before an answer in a stream: the questions, and the records of the answers (RFC 5936 2.2, 3).
+use Rattle.std.specs.Prelude.{◌≡◌, ℕ, List, [], ◌∷◌, ◌++◌, ◌==◌, not, Bool, false, Option, Some, None, MatchOption, ⊤}
+use Rattle.std.specs.List.{flat_map, filter, list_any}
 use Rattle.zone_rdata.specs.Record.{Record}
-use Rattle.zone_rdata.specs.Words.{is_meta}
-use Rattle.zone_rdata.specs.declared.fault.Fault.{Fault}
-use Rattle.zone_rdata.specs.declared.fault.Fault.TheVariants.{BadClass, MetaType, CompressibleType, AfterClosing, NoOpeningSoa, BadQuestion, SoaMismatch}
-use Rattle.zone_rdata.specs.declared.fault.Place.TheVariants.{Message}
 use Rattle.zone_rdata.specs.declared.record.Placed.{Placed}
-use Rattle.zone_wire.specs.Data.{data_at}
-use Rattle.zone_wire.specs.Message.{QuestionAt, RecordAt}
-use Rattle.zone_wire.specs.Sections.{and_then}
-use Rattle.zone_wire.specs.Transfer.{ttl_of, compressible}
-
--- the same name, and the same record, letters being folded
-abbrev pub same_name : List (List ℕ) → List (List ℕ) → Bool
-same_name n m = pointwise (pointwise nat_eq) n m
-
-abbrev pub same_record : Record → Record → Bool
-same_record r s = same_name r.owner s.owner && r.class == s.class && r.kind == s.kind && r.ttl == s.ttl && pointwise nat_eq r.octets s.octets
-
--- a class that holds no zone data (RFC 6895 3.2): 0, which is reserved, NONE 254 and ANY 255 (RFC 2136 1.3, RFC 1035 3.2.5)
-abbrev pub is_no_class : ℕ → Bool
-is_no_class n = n == 0 || n == 254 || n == 255
-
--- the record that an answer states by itself: its class and type can be in a zone, its type is read, and so is its data
-unfoldable pub record_of : List ℕ → RecordAt → Result Record Fault
-record_of octets a =
-    if is_no_class a.class then Err BadClass
-    else if is_meta a.kind then Err MetaType
-    else if list_any (nat_eq a.kind) compressible then Err CompressibleType
-    else and_then (data_at octets a) (λ canonical. Ok (record { owner = a.owner; class = a.class; kind = a.kind; ttl = ttl_of a.ttl; octets = canonical }))
+use Rattle.zone_wire.specs.Message.{QuestionAt, Sections}
 
 -- a zone's name and class
 pub record Zone : Type 0 where
@@ -45,40 +17,30 @@ zone_of [] (opening ∷ placed) = Some (record { name = opening.rr.owner; class 
 zone_of [] [] = None
 
 -- a name and a class are those of the zone, if it is fixed
-abbrev pub agrees : Option Zone → List (List ℕ) → ℕ → Bool
-agrees None name class = true
-agrees (Some zone) name class = same_name name zone.name && class == zone.class
+abbrev pub AgreeWith : Option Zone → List (List ℕ) → ℕ → Type 0
+AgreeWith zone name class = MatchOption zone ⊤ (λ z. (name ≡ z.name) × (class ≡ z.class))
 
--- The fault of a record behind others: the first is an SOA of the zone that a question fixed, another SOA is the first
--- again, and nothing is behind that.
-abbrev pub order_fault : List QuestionAt → List Placed → Record → Option Fault
-order_fault questions [] r =
-    if not (r.kind == 6) then Some NoOpeningSoa
-    else if agrees (zone_of questions []) r.owner r.class then None
-    else Some BadQuestion
-order_fault questions (opening ∷ others) r =
-    if list_any (λ p. p.rr.kind == 6) others then Some AfterClosing
-    else if r.kind == 6 && not (same_record r opening.rr) then Some SoaMismatch
-    else None
+-- the questions of messages
+abbrev pub questions_of : List Sections → List QuestionAt
+questions_of messages = flat_map (λ s. s.questions) messages
 
--- the record of an answer behind questions and records, or its first fault
-unfoldable pub answer_of : List ℕ → List QuestionAt → List Placed → RecordAt → Result Record Fault
-answer_of octets questions before a = and_then (record_of octets a) (λ r. elim (order_fault questions before r) [ Some fault ↦ Err fault | None ↦ Ok r ])
+-- the opening SOA and the records that are none: the closing SOA isn't handed on
+abbrev pub handed_on : List Placed → List Placed
+handed_on [] = []
+handed_on (opening ∷ others) = opening ∷ filter (λ p. not (p.rr.kind == 6)) others
 
--- records, and the fault after them
-pub record Answered (E : Type 0) : Type 0 where
-  pub placed : List Placed
-  pub fault : Option E
+-- an SOA stands behind the opening one
+abbrev pub is_closed : List Placed → Bool
+is_closed [] = false
+is_closed (opening ∷ others) = list_any (λ p. p.rr.kind == 6) others
 
--- the record of an answer, and then those of the answers after it, if it has no fault
-abbrev pub before_others : ℕ → ℕ → Result Record Fault → (Placed → Answered (Fault × ℕ)) → Answered (Fault × ℕ)
-before_others number offset (Err fault) next = record { placed = []; fault = Some (fault, offset) }
-before_others number offset (Ok r) next =
-    let p : Placed = record { rr = r; place = Message number offset } in
-    let others = next p in
-    record others { placed = p ∷ others.placed }
+-- Where a record can stand behind questions and records: as the opening SOA, of the zone that a question fixed; or behind
+-- that, the transfer not being closed, as no SOA or the opening one again.
+pub data StandsBehind (questions : List QuestionAt) (before : List Placed) (r : Record) : Type 0 where
+  opens : before ≡ [] → r.kind ≡ 6 → AgreeWith (zone_of questions []) r.owner r.class → StandsBehind questions before r
+  follows : (opening : Placed) (others : List Placed) → before ≡ opening ∷ others → is_closed before ≡ false → (r.kind ≡ 6 → r ≡ opening.rr) → StandsBehind questions before r
 
--- the records of the answers of the message of this number, each at its answer's offset, and the first fault after them
-abbrev pub answers_of : ℕ → List ℕ → List QuestionAt → List Placed → List RecordAt → Answered (Fault × ℕ)
-answers_of number octets questions before [] = record { placed = []; fault = None }
-answers_of number octets questions before (a ∷ answers) = before_others number a.offset (answer_of octets questions before a) (λ p. answers_of number octets questions (before ++ p ∷ []) answers)
+-- each behind those before it
+abbrev pub StandInOrder : List QuestionAt → List Placed → List Placed → Type 0
+StandInOrder questions before [] = ⊤
+StandInOrder questions before (p ∷ placed) = StandsBehind questions before p.rr × StandInOrder questions (before ++ p ∷ []) placed

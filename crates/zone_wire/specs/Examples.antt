@@ -4,7 +4,8 @@ use Rattle.std.specs.List.{flat_map}
 use Rattle.zone_rdata.specs.Record.{Record}
 use Rattle.zone_rdata.specs.declared.fault.Place.TheVariants.{Message}
 use Rattle.zone_rdata.specs.declared.record.Placed.{Placed}
-use Rattle.zone_wire.specs.Walk.{walk, ending}
+use Rattle.zone_wire.specs.Walk.{Visit, ending}
+use Rattle.zone_wire.specs.WholeWalk.{IsWalk}
 use Rattle.zone_rdata.specs.declared.fault.Fault.{Fault}
 
 -- octets behind a header of twelve zeros
@@ -13,8 +14,10 @@ behind_zeros octets = replicate 12 0 ++ octets
 
 -- the walk of the name at an offset of octets behind twelve zeros ends so, after so many places
 pub record WalkEnds (octets : List ℕ) (offset : ℕ) (fault : Option Fault) (places : ℕ) : Type 0 where
-  pub ends : ending (walk (behind_zeros octets) offset) ≡ fault
-  pub count : length (walk (behind_zeros octets) offset) ≡ places
+  pub visits : List Visit
+  pub walk : IsWalk (behind_zeros octets) offset visits
+  pub ends : ending visits ≡ fault
+  pub count : length visits ≡ places
 
 -- n pointers one after another, the first at an offset and to a target, each other one to the one before it
 abbrev pub chain : ℕ → ℕ → ℕ → List ℕ

@@ -1,12 +1,14 @@
+pub mod AnswerFault
 pub mod Answers
-pub mod Data
+pub mod DataFault
 pub mod Examples
+pub mod Frames
 pub mod Message
+pub mod MessageFault
 pub mod Name
-pub mod Finding
-pub mod Sections
 pub mod Stream
 pub mod Transfer
+pub mod View
 pub mod Visits
 pub mod Walk
 pub mod WholeWalk

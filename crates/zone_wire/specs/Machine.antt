@@ -1,2 +1,10 @@
 -- What only private functions, invariants and proofs cite.
+pub mod Answers
+pub mod Data
+pub mod DataReading
+pub mod Finding
+pub mod Parsing
 pub mod Place
+pub mod Sections
+pub mod Stream
+pub mod Walk

@@ -9,15 +9,51 @@ u16_at octets offset = slice_index octets offset * 256 + slice_index octets (off
 abbrev pub u32_at : List ℕ → ℕ → ℕ
 u32_at octets offset = u16_at octets offset * 65536 + u16_at octets (offset + 2)
 
--- The header of a response to a query, whole and without an error, with at most one question and no authority
--- (RFC 1035 4.1.1, RFC 5936 2.2.1).
+-- the parts of a header by their names: the ID, and QR, which is 1 in a response (RFC 1035 4.1.1)
+abbrev pub id_of : List ℕ → ℕ
+id_of octets = u16_at octets 0
+
+abbrev pub qr_of : List ℕ → ℕ
+qr_of octets = slice_index octets 2 / 128
+
+-- OPCODE, 0 for a query and its response; TC, 1 where the message is truncated; RCODE, 0 where there is no error
+abbrev pub opcode_of : List ℕ → ℕ
+opcode_of octets = slice_index octets 2 / 8 % 16
+
+abbrev pub tc_of : List ℕ → ℕ
+tc_of octets = slice_index octets 2 / 2 % 2
+
+abbrev pub rcode_of : List ℕ → ℕ
+rcode_of octets = slice_index octets 3 % 16
+
+-- QDCOUNT, ANCOUNT, NSCOUNT and ARCOUNT: how many questions, answers, authority and additional records there are
+abbrev pub qdcount_of : List ℕ → ℕ
+qdcount_of octets = u16_at octets 4
+
+abbrev pub ancount_of : List ℕ → ℕ
+ancount_of octets = u16_at octets 6
+
+abbrev pub nscount_of : List ℕ → ℕ
+nscount_of octets = u16_at octets 8
+
+abbrev pub arcount_of : List ℕ → ℕ
+arcount_of octets = u16_at octets 10
+
+-- a response to a query
+abbrev pub IsResponse : List ℕ → Type 0
+IsResponse octets = (qr_of octets ≡ 1) × (opcode_of octets ≡ 0)
+
+-- the counts of a message of a transfer: at most one question, and no authority record (RFC 5936 2.2)
+abbrev pub HasCounts : List ℕ → Type 0
+HasCounts octets = (qdcount_of octets ≤ 1) × (nscount_of octets ≡ 0)
+
+-- the header of a message of a transfer: whole, of a response that isn't truncated and has no error (RFC 5936 2.2.1)
 pub record HasHeader (octets : List ℕ) : Type 0 where
   pub twelve : 12 ≤ length octets
-  pub response : slice_index octets 2 / 8 ≡ 16
-  pub whole : slice_index octets 2 / 2 % 2 ≡ 0
-  pub no_error : slice_index octets 3 % 16 ≡ 0
-  pub questions : u16_at octets 4 ≤ 1
-  pub no_authority : u16_at octets 8 ≡ 0
+  pub response : IsResponse octets
+  pub whole : tc_of octets ≡ 0
+  pub no_error : rcode_of octets ≡ 0
+  pub counts : HasCounts octets
 
 -- a question, and the offset after it (RFC 1035 4.1.2)
 pub record QuestionAt : Type 0 where
@@ -83,10 +119,10 @@ pub record Sections : Type 0 where
 -- the octets are a message of a transfer: as many questions and records as the header counts, and nothing after them
 pub record IsMessage (octets : List ℕ) (s : Sections) : Type 0 where
   pub header : HasHeader octets
-  pub id : s.id ≡ u16_at octets 0
-  pub question_count : length s.questions ≡ u16_at octets 4
-  pub answer_count : length s.answers ≡ u16_at octets 6
-  pub additional_count : length s.additional ≡ u16_at octets 10
+  pub id : s.id ≡ id_of octets
+  pub question_count : length s.questions ≡ qdcount_of octets
+  pub answer_count : length s.answers ≡ ancount_of octets
+  pub additional_count : length s.additional ≡ arcount_of octets
   pub past_questions : ℕ
   pub past_answers : ℕ
   pub questions : AreQuestionsAt octets 12 s.questions past_questions

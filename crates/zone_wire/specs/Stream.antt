@@ -1,83 +1,12 @@
 -- What a stream of messages states, each behind its length, up to the first fault of its frames and messages
 -- (RFC 1035 4.2.2; RFC 5936 2.2, 3).
-use Rattle.std.specs.Prelude.{◌≡◌, ℕ, ◌+◌, ◌<◌, ◌≤◌, List, [], ◌∷◌, ◌++◌, length, ◌==◌, ◌&&◌, not, if◌then◌else◌, Bool, false, Option, Some, None, Result, Ok, Err}
-use Rattle.std.specs.List.{flat_map, AllByRecursion, filter, list_any}
+use Rattle.std.specs.Prelude.{◌≡◌, ℕ, ◌+◌, List, [], length, Option}
 use Rattle.zone_rdata.specs.declared.fault.Fault.{Fault}
-use Rattle.zone_rdata.specs.declared.fault.Fault.TheVariants.{ShortFrame, IdMismatch, BadQuestion, NoClosingSoa}
 use Rattle.zone_rdata.specs.declared.fault.Place.{Place}
-use Rattle.zone_rdata.specs.declared.fault.Place.TheVariants.{Message}
 use Rattle.zone_rdata.specs.declared.record.Placed.{Placed}
-use Rattle.zone_wire.specs.Answers.{zone_of, agrees, Answered, answers_of}
-use Rattle.zone_wire.specs.Message.{u16_at, QuestionAt, Sections}
-use Rattle.zone_wire.specs.Sections.{and_then, sections_of}
-use Rattle.zone_wire.specs.Transfer.{frame}
-
--- a stream is the frames of messages, and the octets of a last frame that is cut off
-pub record IsFramed (stream : List ℕ) (messages : List (List ℕ)) (rest : List ℕ) : Type 0 where
-  pub whole : stream ≡ flat_map frame messages ++ rest
-  pub short : AllByRecursion (λ octets. length octets ≤ 65535) messages
-  pub cut : length rest < 2 + u16_at rest 0
-
--- the questions of messages
-abbrev pub questions_of : List Sections → List QuestionAt
-questions_of messages = flat_map (λ s. s.questions) messages
-
--- the ID is that of the first message
-abbrev pub has_first_id : List Sections → Sections → Result Sections (Fault × ℕ)
-has_first_id [] s = Ok s
-has_first_id (first ∷ messages) s = if s.id == first.id then Ok s else Err (IdMismatch, 0)
-
--- each question asks for the whole of the zone that the questions and records before fix (RFC 5936 2.2.2)
-abbrev pub ask_for_zone : List QuestionAt → List Placed → Sections → List QuestionAt → Result Sections (Fault × ℕ)
-ask_for_zone before placed s [] = Ok s
-ask_for_zone before placed s (q ∷ questions) = if q.kind == 252 && agrees (zone_of before placed) q.name q.class then ask_for_zone before placed s questions else Err (BadQuestion, 12)
-
--- The sections of a message behind others, whose records are these, or its first fault that comes before all faults of
--- answers, and the offset at which it stands.
-unfoldable pub message_of : List Sections → List Placed → List ℕ → Result Sections (Fault × ℕ)
-message_of before placed octets =
-    and_then (sections_of octets) (λ s.
-    and_then (has_first_id before s) (λ s.
-    ask_for_zone (questions_of before) placed s s.questions))
-
-abbrev pub at_message : ℕ → Fault × ℕ → Fault × Place
-at_message number e = (e.0, Message number e.1)
-
--- the records of a message, and then those of the messages after it, if it has no fault
-abbrev pub followed_by : ℕ → Answered (Fault × ℕ) → (List Placed → Answered (Fault × Place)) → Answered (Fault × Place)
-followed_by number answered next = elim answered.fault [ Some e ↦ record { placed = answered.placed; fault = Some (at_message number e) } | None ↦ let rest = next answered.placed in record rest { placed = answered.placed ++ rest.placed } ]
-
--- a fault of the whole message comes before its answers
-abbrev pub unless_refused : ℕ → Result Sections (Fault × ℕ) → (Sections → Answered (Fault × Place)) → Answered (Fault × Place)
-unless_refused number (Err e) next = record { placed = []; fault = Some (at_message number e) }
-unless_refused number (Ok s) next = next s
-
--- the records of messages behind others, whose records are these, up to the first fault, and that fault with its place
-unfoldable pub records_of : List Sections → List Placed → List (List ℕ) → Answered (Fault × Place)
-records_of before placed [] = record { placed = []; fault = None }
-records_of before placed (octets ∷ messages) =
-    let number : ℕ = length before + 1 in
-    unless_refused number (message_of before placed octets) (λ s.
-    followed_by number (answers_of number octets (questions_of (before ++ s ∷ [])) placed s.answers) (λ here.
-    records_of (before ++ s ∷ []) (placed ++ here) messages))
-
--- the opening SOA and the records that are none: the closing SOA isn't handed on
-abbrev pub handed_on : List Placed → List Placed
-handed_on [] = []
-handed_on (opening ∷ others) = opening ∷ filter (λ p. not (p.rr.kind == 6)) others
-
--- an SOA stands behind the opening one
-abbrev pub is_closed : List Placed → Bool
-is_closed [] = false
-is_closed (opening ∷ others) = list_any (λ p. p.rr.kind == 6) others
-
--- the fault of the stream's end, where no message has one: in a frame, or before the closing SOA
-abbrev pub end_fault : ℕ → List Placed → List ℕ → Option (Fault × Place)
-end_fault number placed (c ∷ rest) = Some (ShortFrame, Message number 0)
-end_fault number placed [] = if is_closed placed then None else Some (NoClosingSoa, Message number 0)
-
-abbrev pub ending_of : ℕ → Answered (Fault × Place) → List ℕ → Option (Fault × Place)
-ending_of number answered rest = elim answered.fault [ Some e ↦ Some e | None ↦ end_fault number answered.placed rest ]
+use Rattle.zone_wire.specs.Answers.{handed_on}
+use Rattle.zone_wire.specs.Frames.{IsFramed}
+use Rattle.zone_wire.specs.Machine.Stream.{records_of, ending_of}
 
 -- what a stream is read as: the records before its first fault, and that fault with its place
 pub record StreamReads (stream : List ℕ) (placed : List Placed) (ending : Option (Fault × Place)) : Type 0 where

@@ -45,6 +45,9 @@ ttl_of n = if nat_lt 2147483647 n then 0 else n
 abbrev pub compressible : List ℕ
 compressible = 3 ∷ 4 ∷ 7 ∷ 8 ∷ 9 ∷ 14 ∷ 17 ∷ 18 ∷ 21 ∷ 24 ∷ 26 ∷ 30 ∷ []
 
+abbrev pub IsReadable : ℕ → Type 0
+IsReadable kind = AllByRecursion (λ k. kind ≢ k) compressible
+
 -- an answer of a message states a record
 pub record StatesRecord (octets : List ℕ) (a : RecordAt) (r : Record) : Type 0 where
   pub owner : r.owner ≡ a.owner
@@ -53,7 +56,7 @@ pub record StatesRecord (octets : List ℕ) (a : RecordAt) (r : Record) : Type 0
   pub ttl : r.ttl ≡ ttl_of a.ttl
   pub rdata : IsDataAt octets a r.octets
   pub fits : IsRecord r
-  pub readable : AllByRecursion (λ kind. a.kind ≢ kind) compressible
+  pub readable : IsReadable a.kind
 
 -- each answer of the message of this number states its record, which stands at the answer's offset
 abbrev pub StateEach : ℕ → List ℕ → List RecordAt → List Placed → Type 0

@@ -1,5 +1,5 @@
--- The walk along a name in a message, place by place, to its root or its first fault (RFC 1035 3.1, 4.1.4).
-use Rattle.std.specs.Prelude.{ℕ, zero, suc, ◌+◌, List, [], ◌∷◌, length, slice_index, nat_le, nat_lt, nat_eq, ◌||◌, if◌then◌else◌, Option, Some, None}
+-- The places of a walk along a name in a message, and what stands there (RFC 1035 3.1, 4.1.4).
+use Rattle.std.specs.Prelude.{ℕ, ◌+◌, List, [], ◌∷◌, length, slice_index, nat_le, nat_lt, nat_eq, ◌||◌, if◌then◌else◌, Option, Some, None}
 use Rattle.zone_wire.specs.Name.{target_at}
 use Rattle.zone_rdata.specs.declared.fault.Fault.{Fault}
 use Rattle.zone_rdata.specs.declared.fault.Fault.TheVariants.{ShortMessage, NameTooLong, ReservedLabel, BadPointer, TooManyPointers}
@@ -23,10 +23,6 @@ pub record Spot : Type 0 where
   pub bound : ℕ
   pub pointers : ℕ
   pub octets : ℕ
-
--- where the walk of the name at an offset begins
-abbrev pub outset : ℕ → Spot
-outset offset = record { offset = offset; bound = offset; pointers = 0; octets = 0 }
 
 -- a label: its octets lie in the message, and with it and the root the name has at most 255 octets
 abbrev pub label_of : List ℕ → Spot → ℕ → Standing
@@ -55,33 +51,6 @@ standing_at message spot =
 -- what stands at a place, none where it doesn't lie in the message
 unfoldable pub place_of : List ℕ → Spot → Option Standing
 place_of message spot = if nat_le (length message) spot.offset then None else Some (standing_at message spot)
-
-abbrev pub past_label : Spot → ℕ → Spot
-past_label spot size = record spot { offset = spot.offset + 1 + size; octets = spot.octets + 1 + size }
-
-abbrev pub past_pointer : Spot → ℕ → Spot
-past_pointer spot target = record spot { offset = target; bound = target; pointers = spot.pointers + 1 }
-
-abbrev pub visit : Spot → Standing → Visit
-visit spot standing = record { offset = spot.offset; standing = standing }
-
--- a walk from a place on, where `rest` walks on
-abbrev pub walk_on : (Spot → List Visit) → Spot → Option Standing → List Visit
-walk_on rest spot None = []
-walk_on rest spot (Some at_root) = visit spot at_root ∷ []
-walk_on rest spot (Some (at_label size)) = visit spot (at_label size) ∷ rest (past_label spot size)
-walk_on rest spot (Some (at_pointer target)) = visit spot (at_pointer target) ∷ rest (past_pointer spot target)
-walk_on rest spot (Some (at_fault fault)) = visit spot (at_fault fault) ∷ []
-
--- n places at the most
-unfoldable pub walk_by : ℕ → List ℕ → Spot → List Visit
-walk_by zero message spot = []
-walk_by (suc n) message spot = walk_on (walk_by n message) spot (place_of message spot)
-
--- The places of the name at an offset, found one after another; `IsWalk` says of a whole list that it is these. 256 are
--- enough for each walk: 127 labels, 128 pointers and the last place.
-unfoldable pub walk : List ℕ → ℕ → List Visit
-walk message offset = walk_by 256 message (outset offset)
 
 -- The fault with which a walk ends, none where it ends at the root. One that ends at no fault and no root ends before a
 -- place outside the message.

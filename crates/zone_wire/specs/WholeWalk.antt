@@ -2,7 +2,8 @@
 use Rattle.std.specs.Prelude.{◌≡◌, ℕ, ◌+◌, ◌≤◌, List, [], ◌∷◌, ◌++◌, length, Option, Some, None}
 use Rattle.std.specs.List.{sum_by}
 use Rattle.zone_wire.specs.Visits.{pointers_in}
-use Rattle.zone_wire.specs.Walk.{at_root, at_label, at_pointer, at_fault, Visit, Spot, place_of}
+use Rattle.zone_rdata.specs.declared.fault.Fault.{Fault}
+use Rattle.zone_wire.specs.Walk.{at_root, at_label, at_pointer, at_fault, Visit, Spot, place_of, ending}
 
 -- where a place leads: behind its label or to its pointer's target, and nowhere from the root and from a fault
 abbrev pub next_offset : Visit → Option ℕ
@@ -35,3 +36,9 @@ pub record IsNext (message : List ℕ) (start : ℕ) (before : List Visit) (visi
 pub record IsWalk (message : List ℕ) (start : ℕ) (visits : List Visit) : Type 0 where
   pub each : (before after : List Visit) (visit : Visit) → visits ≡ before ++ visit ∷ after → IsNext message start before visit
   pub whole : (offset : ℕ) → led_to (Some start) visits ≡ Some offset → length message ≤ offset
+
+-- the walk of the name at an offset ends with a fault
+pub record NameFault (message : List ℕ) (start : ℕ) (fault : Fault) : Type 0 where
+  pub visits : List Visit
+  pub walk : IsWalk message start visits
+  pub ends : ending visits ≡ Some fault

@@ -1,7 +1,6 @@
 //! Names in messages, zone transfers and the faults of both, computed from the definitions.
 ghost use Rattle.std.specs.Prelude.{◌∷◌, ◌++◌, [], Some, None};
-ghost use Rattle.zone_wire.specs.Examples.{behind_zeros, chain, labels_a, longest_walk, root_soa, soa_message, placed_soa, WalkEnds};
-ghost use Rattle.zone_wire.specs.Examples.{answer_header, numbers, question_x, opening_x, server_x, record_of_class, record_x, closing_x, ends_with, message_with, small_body, small_message, first_message, second_message, soa_x, ns_x, srv_x, naptr_x, address_n, placed_at, small_records};
+ghost use Rattle.zone_wire.specs.Examples.{behind_zeros, chain, labels_a, longest_walk, root_soa, soa_message, placed_soa, WalkEnds, answer_header, numbers, question_x, opening_x, server_x, record_of_class, record_x, closing_x, ends_with, message_with, small_body, small_message, first_message, second_message, soa_x, ns_x, srv_x, naptr_x, address_n, placed_at, small_records};
 ghost use Rattle.std.specs.List.{AllByRecursion};
 ghost use Rattle.zone_wire.specs.Name.{IsNameAt};
 ghost use Rattle.zone_wire.specs.Stream.{StreamReads};

@@ -1,21 +1,23 @@
 //! Laws over the definitions alone.
+pub mod record;
 pub mod walk;
 
-ghost use Rattle.std.specs.Prelude.{◌++◌, Some, Ok, ◌≡◌, ◌+◌, ◌≤◌, ◌<◌, ℕ, List, length, slice_index, Option, None};
+ghost use Rattle.std.specs.Prelude.{◌++◌, Some, ◌≡◌, ◌+◌, ◌≤◌, ◌<◌, ℕ, List, length, slice_index, Option, None};
 ghost use Rattle.std.specs.List.{AllByRecursion};
-ghost use Rattle.zone_name.specs.Common.{AtMostOneIs, Octets};
-ghost use Rattle.zone_wire.specs.Message.{RecordAt, Sections, IsMessage};
+ghost use Rattle.zone_name.specs.Common.{AtMostOneIs, IsVerdict, Octets};
+ghost use Rattle.zone_wire.specs.Message.{RecordAt, IsMessage};
 ghost use Rattle.zone_wire.specs.Name.{Found, IsNameAt};
 ghost use Rattle.zone_wire.specs.Transfer.{IsDataAt, StreamStates};
-ghost use Rattle.zone_wire.specs.Data.{data_at};
-ghost use Rattle.zone_wire.specs.Sections.{sections_of};
+ghost use Rattle.zone_wire.specs.DataFault.{DataFault};
+ghost use Rattle.zone_wire.specs.MessageFault.{MessageFault};
 ghost use Rattle.zone_wire.specs.Stream.{StreamReads, Decided};
 ghost use Rattle.zone_rdata.specs.Record.{IsRecord};
 ghost use Rattle.zone_rdata.specs.declared.fault.Fault.{Fault};
 ghost use Rattle.zone_rdata.specs.declared.fault.Place.{Place};
 ghost use Rattle.zone_rdata.specs.declared.record.Placed.{Placed};
 ghost use Rattle.zone_wire.specs.Visits.{labels_in, pointers_in, LeadToLast};
-ghost use Rattle.zone_wire.specs.Walk.{walk, walk_by, outset, ending};
+ghost use Rattle.zone_wire.specs.Walk.{Visit, ending};
+ghost use Rattle.zone_wire.specs.WholeWalk.{IsWalk};
 
 use zone_rdata::laws::value::{held_values_are_data, values_without_strings_are_short};
 
@@ -38,30 +40,33 @@ pub fn a_name_is_bounded()
         → found.end ≤ length message }
 {}
 
-/// A walk has at most 256 places, all of them in the message, and a greater bound gives no other walk: at most 127 labels
-/// and 128 pointers, and what is neither stands at the last place alone.
+/// A walk has at most 256 places, all of them in the message: at most 127 labels and 128 pointers, and what is neither
+/// stands at the last place alone.
 pub fn a_walk_is_bounded()
-    ensures places { (message : Octets) (offset : ℕ) → length (walk message offset) ≤ 256 }
-    ensures labels { (message : Octets) (offset : ℕ) → labels_in (walk message offset) ≤ 127 }
-    ensures pointers { (message : Octets) (offset : ℕ) → pointers_in (walk message offset) ≤ 128 }
-    ensures last { (message : Octets) (offset : ℕ) → LeadToLast (walk message offset) }
-    ensures inside { (message : Octets) (offset : ℕ)
-        → AllByRecursion (λ visit. visit.offset < length message) (walk message offset) }
-    ensures whole { (message : Octets) (offset more : ℕ) → walk_by (256 + more) message (outset offset) ≡ walk message offset }
+    ensures places { (message : Octets) (offset : ℕ) (visits : List Visit) → IsWalk message offset visits
+        → length visits ≤ 256 }
+    ensures labels { (message : Octets) (offset : ℕ) (visits : List Visit) → IsWalk message offset visits
+        → labels_in visits ≤ 127 }
+    ensures pointers { (message : Octets) (offset : ℕ) (visits : List Visit) → IsWalk message offset visits
+        → pointers_in visits ≤ 128 }
+    ensures last { (message : Octets) (offset : ℕ) (visits : List Visit) → IsWalk message offset visits
+        → LeadToLast visits }
+    ensures inside { (message : Octets) (offset : ℕ) (visits : List Visit) → IsWalk message offset visits
+        → AllByRecursion (λ visit. visit.offset < length message) visits }
 {}
 
 /// The walk of a name ends at the root, after as many places as the name has steps.
 pub fn a_name_is_walked()
-    ensures ending { (message : Octets) (offset : ℕ) (found : Found) → IsNameAt message offset found
-        → ending (walk message offset) ≡ None }
-    ensures steps { (message : Octets) (offset : ℕ) (found : Found) → IsNameAt message offset found
-        → length (walk message offset) ≡ found.steps }
+    ensures ending { (message : Octets) (offset : ℕ) (found : Found) (visits : List Visit) → IsNameAt message offset found
+        → IsWalk message offset visits → ending visits ≡ None }
+    ensures steps { (message : Octets) (offset : ℕ) (found : Found) (visits : List Visit) → IsNameAt message offset found
+        → IsWalk message offset visits → length visits ≡ found.steps }
 {}
 
 /// Where the walk ends at the root, a name stands.
 pub fn a_walk_to_the_root_is_a_name()
-    ensures { (message : Octets) (offset : ℕ) → ((i : ℕ) → slice_index message i < 256)
-        → ending (walk message offset) ≡ None → (found : Found) × IsNameAt message offset found }
+    ensures { (message : Octets) (offset : ℕ) (visits : List Visit) → ((i : ℕ) → slice_index message i < 256)
+        → IsWalk message offset visits → ending visits ≡ None → (found : Found) × IsNameAt message offset found }
 {}
 
 /// Octets are a message in at most one way.
@@ -109,20 +114,16 @@ pub fn what_is_decided_is_read()
         → (other ≡ placed) × (late ≡ Some e) }
 {}
 
-/// A message is read as its sections, and octets that are read as sections are that message.
-pub fn a_message_is_read()
-    ensures found { (octets : Octets) (sections : Sections) → ((i : ℕ) → slice_index octets i < 256)
-        → sections_of octets ≡ Ok sections → IsMessage octets sections }
-    ensures only { (octets : Octets) (sections : Sections) → IsMessage octets sections
-        → sections_of octets ≡ Ok sections }
+/// Octets are a message, or their structure has one first fault, at one offset.
+pub fn a_message_or_a_fault()
+    ensures { (octets : Octets) → ((i : ℕ) → slice_index octets i < 256)
+        → IsVerdict (IsMessage octets) (λ (e : Fault × ℕ). MessageFault octets e.0 e.1) }
 {}
 
-/// The data that is read for a record is its data.
+/// A record that stands in octets has data, or its data has one first fault.
 pub fn the_data_of_a_record()
-    ensures found { (octets canonical : Octets) (a : RecordAt) → ((i : ℕ) → slice_index octets i < 256)
-        → a.end ≤ length octets → data_at octets a ≡ Ok canonical → IsDataAt octets a canonical }
-    ensures only { (octets canonical : Octets) (a : RecordAt)
-        → a.end ≤ length octets → IsDataAt octets a canonical → data_at octets a ≡ Ok canonical }
+    ensures { (octets : Octets) (a : RecordAt) → ((i : ℕ) → slice_index octets i < 256)
+        → a.end ≤ length octets → IsVerdict (IsDataAt octets a) (DataFault octets a) }
 {}
 
 /// What a stream of octets is read as is records.

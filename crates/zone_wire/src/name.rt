@@ -1,7 +1,9 @@
-ghost use Rattle.std.specs.Prelude.{◌≡◌, ◌<◌, ◌≤◌, ℕ, length, IfOk, IfErr, IsOk, MatchResult, Some};
+ghost use Rattle.std.specs.Prelude.{◌≡◌, ◌<◌, ◌≤◌, ℕ, length, IfOk, IfErr, IsOk, MatchResult, List};
 ghost use Rattle.zone_wire.specs.Name.{Found, IsNameAt, found_by};
-ghost use Rattle.zone_wire.specs.Finding.{Says, outcome};
-ghost use Rattle.zone_wire.specs.Walk.{walk, ending};
+ghost use Rattle.zone_wire.specs.Machine.Finding.{Says, outcome};
+ghost use Rattle.zone_wire.specs.Machine.Walk.{walk};
+ghost use Rattle.zone_wire.specs.Walk.{Visit};
+ghost use Rattle.zone_wire.specs.WholeWalk.{IsWalk, NameFault};
 
 use crate::place::{Spot, Standing, place_at};
 use crate::ticks::Ticks;
@@ -27,8 +29,8 @@ pub fn name_at(message: &[u8], offset: usize) -> Result<Decoded, (Fault, u16)>
     ensures found { IfOk result (λ d. (pointers : ℕ) × IsNameAt message.now offset (found_by d pointers)) }
     ensures only { (found : Found) → IsNameAt message.now offset found → IsOk result }
     ensures within { IfOk result (λ d. (offset < d.end) × (d.end ≤ length message.now)) }
-    ensures fault { IfErr result (λ e. ending (walk message.now offset) ≡ Some e.0) }
-    ensures places { IfErr result (λ e. e.1 ≡ length (walk message.now offset)) }
+    ensures fault { IfErr result (λ e. NameFault message.now offset e.0) }
+    ensures places { IfErr result (λ e. (visits : List Visit) → IsWalk message.now offset visits → e.1 ≡ length visits) }
     ensures few { MatchResult result (λ d. d.steps ≤ 256) (λ e. e.1 ≤ 256) }
 {
     walked(message, offset)

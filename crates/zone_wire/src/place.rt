@@ -1,13 +1,14 @@
 ghost use Rattle.std.specs.Prelude.{◌≡◌, ◌+◌, ◌^◌, ◌<◌, ◌≤◌, length, slice_index, Some};
 ghost use Rattle.zone_wire.specs.Name.{target_at};
 ghost use Rattle.zone_wire.specs.Machine.Place.{spot_of, standing_of, ticks_at};
-ghost use Rattle.zone_wire.specs.Walk.{place_of, label_of, pointer_of, outset, past_label, past_pointer};
+ghost use Rattle.zone_wire.specs.Walk.{place_of, label_of, pointer_of};
+ghost use Rattle.zone_wire.specs.Machine.Walk.{outset, past_label, past_pointer};
 
 use crate::ticks::Ticks;
 use zone_rdata::Fault;
 
 /// The octets of a message's header (RFC 1035 4.1.1).
-const HEADER_LEN: usize = 12;
+pub(crate) const HEADER_LEN: usize = 12;
 
 /// The greatest number of octets of a name: its labels, each with its length, and the root (RFC 1035 2.3.4, 3.1).
 const MAX_NAME_LEN: usize = 255;

@@ -5,6 +5,7 @@ use std::test::Fail;
 use zone_rdata::{Failing, Fault, Stop};
 
 mod addresses;
+mod answers;
 mod devices;
 mod explained;
 mod fed_files;

@@ -1,11 +1,18 @@
 //! Laws of the walks along names.
-ghost use Rattle.std.specs.Prelude.{◌≡◌, ◌↔◌, ℕ, List};
-ghost use Rattle.zone_name.specs.Common.{Octets};
-ghost use Rattle.zone_wire.specs.Walk.{Visit, walk};
-ghost use Rattle.zone_wire.specs.WholeWalk.{IsWalk};
+ghost use Rattle.std.specs.Prelude.{◌<◌, ℕ, List, slice_index};
+ghost use Rattle.zone_name.specs.Common.{AtMostOneIs, IsVerdict, Octets};
+ghost use Rattle.zone_wire.specs.Name.{IsNameAt};
+ghost use Rattle.zone_wire.specs.Walk.{Visit};
+ghost use Rattle.zone_wire.specs.WholeWalk.{IsWalk, NameFault};
 
 /// One list is the walk from an offset: each of its places is the next behind those before it, and it is whole.
 pub fn one_walk_from_an_offset()
-    ensures { (message : Octets) (offset : ℕ) (visits : List Visit)
-        → IsWalk message offset visits ↔ (visits ≡ walk message offset) }
+    ensures one { (message : Octets) (offset : ℕ) → AtMostOneIs (IsWalk message offset) }
+    ensures some { (message : Octets) (offset : ℕ) → (visits : List Visit) × IsWalk message offset visits }
+{}
+
+/// At each offset of octets stands a name, or the walk from there ends with one fault, never both.
+pub fn a_name_or_a_fault()
+    ensures { (message : Octets) (offset : ℕ) → ((i : ℕ) → slice_index message i < 256)
+        → IsVerdict (IsNameAt message offset) (NameFault message offset) }
 {}

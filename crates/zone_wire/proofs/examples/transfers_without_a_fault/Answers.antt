@@ -1,12 +1,13 @@
 use Rattle.std.proofs.Common.{[], ◌∷◌, refl}
 use Rattle.zone_rdata.specs.Fields.Strings.{strings_of}
-use Rattle.zone_wire.specs.Answers.{record_of, answer_of}
-use Rattle.zone_wire.specs.Data.{value_at, data_at}
+use Rattle.zone_wire.specs.Machine.Answers.{record_of, answer_of}
+use Rattle.zone_wire.specs.Machine.Data.{value_at, data_at}
 use Rattle.zone_wire.specs.Examples.{record_x, message_with, small_message, first_message, second_message}
-use Rattle.zone_wire.specs.Finding.{outcome}
-use Rattle.zone_wire.specs.Sections.{header_fault, question_at, record_at, sections_of}
-use Rattle.zone_wire.specs.Stream.{message_of, records_of}
-use Rattle.zone_wire.specs.Walk.{place_of, walk_by, walk}
+use Rattle.zone_wire.specs.Machine.Finding.{outcome}
+use Rattle.zone_wire.specs.Machine.Sections.{header_fault, question_at, record_at, sections_of}
+use Rattle.zone_wire.specs.Machine.Stream.{message_of, records_of}
+use Rattle.zone_wire.specs.Walk.{place_of}
+use Rattle.zone_wire.specs.Machine.Walk.{walk_by, walk}
 use Rattle.zone_wire.proofs.Computing.{reads}
 use Rattle.zone_wire.proofs.examples.transfers_without_a_fault.Goals as goal
 

@@ -1,6 +1,16 @@
+use Rattle.std.proofs.Common.{◌≤◌, ◌<◌, length}
+use Rattle.std.specs.List.{AllByRecursion}
+use Rattle.zone_wire.specs.Visits.{labels_in, pointers_in, LeadToLast}
 use Rattle.zone_wire.proofs.Visits.{few_labels, few_pointers, walk_leads}
-use Rattle.zone_wire.proofs.Walking.{walk_is_short, walk_lies_inside, walk_ends}
+use Rattle.zone_wire.proofs.WalkLaws.{of_walk}
+use Rattle.zone_wire.proofs.Walking.{walk_is_short, walk_lies_inside}
 use Rattle.zone_wire.proofs.laws.a_walk_is_bounded.Goals as goal
 
 pub returns : goal.returns
-returns c = record { places = walk_is_short; labels = few_labels; pointers = few_pointers; last = walk_leads; inside = walk_lies_inside; whole = λ message offset more. walk_ends more message offset }
+returns c = record {
+  places = λ message offset visits is. of_walk (λ v. length v ≤ 256) message offset visits is (walk_is_short message offset);
+  labels = λ message offset visits is. of_walk (λ v. labels_in v ≤ 127) message offset visits is (few_labels message offset);
+  pointers = λ message offset visits is. of_walk (λ v. pointers_in v ≤ 128) message offset visits is (few_pointers message offset);
+  last = λ message offset visits is. of_walk LeadToLast message offset visits is (walk_leads message offset);
+  inside = λ message offset visits is. of_walk (AllByRecursion (λ visit. visit.offset < length message)) message offset visits is (walk_lies_inside message offset);
+}

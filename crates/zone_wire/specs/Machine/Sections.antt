@@ -4,8 +4,8 @@ use Rattle.zone_rdata.specs.declared.fault.Fault.{Fault}
 use Rattle.zone_rdata.specs.declared.fault.Fault.TheVariants.{ShortMessage, NotAResponse, Truncated, ErrorCode, BadCounts, TrailingOctets}
 use Rattle.zone_wire.specs.Message.{u16_at, QuestionAt, question_by, RecordAt, record_by, Sections}
 use Rattle.zone_wire.specs.Name.{Found}
-use Rattle.zone_wire.specs.Finding.{Outcome, named, refused, outcome}
-use Rattle.zone_wire.specs.Walk.{walk}
+use Rattle.zone_wire.specs.Machine.Finding.{Outcome, named, refused, outcome}
+use Rattle.zone_wire.specs.Machine.Walk.{walk}
 
 -- what a value leads to, where there is one
 abbrev pub and_then : {X Y E : Type 0} → Result X E → (X → Result Y E) → Result Y E

@@ -1,0 +1,140 @@
+-- The faults of a record's data are those at which its fields stop being read.
+use Rattle.std.proofs.Common.{◌≡◌, ℕ, ◌+◌, ◌<◌, ◌≤◌, List, [], ◌∷◌, length, refl, ap, sym, ◌∙◌, subst, true, false, nat_le, nat_lt, nat_eq, inl, inr, arith}
+use Rattle.std.specs.Prelude.{get_or, slice_index, ◌==◌, ◌&&◌, Option, Some, None, MatchOption, Result, Ok, Err}
+use Rattle.std.specs.Cmp.Lexicographic.{pointwise}
+use Rattle.std.specs.List.{flat_map}
+use Rattle.std.proofs.lemmas.Bool.{cond-false, leb-true, leb-false, eqb-true, eq-eqb, false_from_ne_true}
+use Rattle.zone_name.specs.Name.{with_length}
+use Rattle.zone_name.specs.Common.{IsVerdict}
+use Rattle.zone_rdata.specs.Field.{FieldValue, name, strings, field_at, octets_of}
+use Rattle.zone_rdata.specs.Fields.Strings.{strings_of}
+use Rattle.zone_rdata.specs.Layout.{layout}
+use Rattle.zone_rdata.specs.declared.fault.Fault.{Fault}
+use Rattle.zone_rdata.specs.declared.fault.Fault.TheVariants.{BadRdata}
+use Rattle.zone_rdata.specs.declared.field.Field.{Field}
+use Rattle.zone_rdata.specs.declared.field.Field.TheVariants.{Name, Serial, Time, U16, Octets, OneString, Strings}
+use Rattle.zone_wire.specs.DataFault.{HasValueAt, FieldFault, FieldsFault, DataFault}
+use Rattle.zone_wire.specs.Machine.Data.{name_before, sized_before, strings_before, value_at, values_at, data_at}
+use Rattle.zone_wire.specs.Machine.Finding.{Outcome, named, refused, outcome}
+use Rattle.zone_wire.specs.Machine.Sections.{and_then}
+use Rattle.zone_wire.specs.Machine.Walk.{walk}
+use Rattle.zone_wire.specs.Message.{RecordAt}
+use Rattle.zone_wire.specs.Transfer.{octets_between, IsDataAt}
+use Rattle.zone_wire.proofs.Fielding.{value_reads, data_reads}
+use Rattle.zone_wire.proofs.MessageFaults.{err_same, fails, stops, and_then_err, name_refused, name_refuses}
+use Rattle.zone_wire.proofs.ReadFields.{value_shows, data_shown}
+use Rattle.zone_wire.proofs.ReadSections.{passes}
+use Rattle.zone_wire.proofs.Sectioning.{and_then_ok}
+use Rattle.zone_wire.proofs.Verdicts.{decides}
+use Rattle.zone_wire.proofs.Walking.{name_walks, walk_names}
+
+-- what is read for a field is its value, and conversely
+module _ (octets : List ℕ) (each : (k : ℕ) → get_or octets k 0 < 256) (end : ℕ) (within : end ≤ length octets) where
+  strings_end : (bs : List ℕ) (v : FieldValue × ℕ) → strings_before end bs ≡ Ok v → v.1 ≡ end
+  strings_end bs v e = sym (ap (λ (x : FieldValue × ℕ). x.1) (passes (nat_lt 0 (length bs) && pointwise nat_eq (flat_map with_length (strings_of bs)) bs) (strings (strings_of bs), end) v BadRdata e).1)
+
+  strings_at_end : (start : ℕ) (v : FieldValue × ℕ) → value_at octets end start Strings ≡ Ok v → v.1 ≡ end
+  unfolding value_at
+  strings_at_end start v e = strings_end (octets_between octets start end) v e
+
+  pub value_has : (start : ℕ) (field : Field) (v : FieldValue × ℕ) → value_at octets end start field ≡ Ok v → HasValueAt octets end field start v.1 v.0
+  value_has start field v e =
+      let shown = value_shows octets each end within start field v e in
+      record { held = shown.0; stands = shown.2; inside = shown.1; last = λ is. strings_at_end start v (subst (λ f. value_at octets end start f ≡ Ok v) is e) }
+
+  pub value_is : (start past : ℕ) (field : Field) (value : FieldValue) → HasValueAt octets end field start past value → value_at octets end start field ≡ Ok (value, past)
+  value_is start past field value h = value_reads octets end start past field value h.last h.held h.inside within h.stands
+
+  name_fault : (start : ℕ) (o : Outcome) (fault : Fault) → outcome octets (walk octets start) ≡ o → name_before end o ≡ Err fault → FieldFault octets end Name start fault
+  name_fault start (refused f steps) fault is e = inl (name_refused octets start fault steps (is ∙ ap (λ x. refused x steps) (err_same f fault e)))
+  name_fault start (named found) fault is e =
+      let f = fails (nat_le found.end end) (name found.labels, found.end) BadRdata fault e in
+      inr (sym f.1, found, walk_names octets start found each is, leb-false _ _ f.0)
+
+  no_value : (start : ℕ) (field : Field) (fault : Fault) → value_at octets end start field ≡ Err fault → (past : ℕ) (value : FieldValue) → HasValueAt octets end field start past value → ⊥
+  no_value start field fault e past value h = let is = value_is start past field value h in cc
+
+  sized_fault : (start : ℕ) (field : Field) (size : ℕ) (fault : Fault) → sized_before octets end start field size ≡ Err fault → fault ≡ BadRdata
+  sized_fault start field size fault e = sym (fails (nat_le (start + size) end) (field_at field (octets_between octets start (start + size)), start + size) BadRdata fault e).1
+
+  strings_fault : (bs : List ℕ) (fault : Fault) → strings_before end bs ≡ Err fault → fault ≡ BadRdata
+  strings_fault bs fault e = sym (fails (nat_lt 0 (length bs) && pointwise nat_eq (flat_map with_length (strings_of bs)) bs) (strings (strings_of bs), end) BadRdata fault e).1
+
+  -- where a field has no value, this is why
+  pub field_faults : (start : ℕ) (field : Field) (fault : Fault) → value_at octets end start field ≡ Err fault → FieldFault octets end field start fault
+  unfolding value_at
+  field_faults start Name fault e = name_fault start (outcome octets (walk octets start)) fault refl e
+  field_faults start Serial fault e = (sized_fault start Serial 4 fault e, no_value start Serial fault e)
+  field_faults start Time fault e = (sized_fault start Time 4 fault e, no_value start Time fault e)
+  field_faults start U16 fault e = (sized_fault start U16 2 fault e, no_value start U16 fault e)
+  field_faults start (Octets n) fault e = (sized_fault start (Octets n) n fault e, no_value start (Octets n) fault e)
+  field_faults start OneString fault e = (sized_fault start OneString (1 + slice_index octets start) fault e, no_value start OneString fault e)
+  field_faults start Strings fault e = (strings_fault (octets_between octets start end) fault e, no_value start Strings fault e)
+
+  other_refuses : (start : ℕ) (field : Field) (fault : Fault) → ((f : Fault) → value_at octets end start field ≡ Err f → f ≡ BadRdata) → (fault ≡ BadRdata) × ((past : ℕ) (value : FieldValue) → HasValueAt octets end field start past value → ⊥) → value_at octets end start field ≡ Err fault
+  other_refuses start field fault only is = by (value_at octets end start field) refl
+    where
+      by : (r : Result (FieldValue × ℕ) Fault) → value_at octets end start field ≡ r → value_at octets end start field ≡ Err fault
+      by (Ok v) e = absurd (is.1 v.1 v.0 (value_has start field v e))
+      by (Err f) e = e ∙ ap Err (only f e ∙ sym is.0)
+
+  pub field_refuses : (start : ℕ) (field : Field) (fault : Fault) → FieldFault octets end field start fault → value_at octets end start field ≡ Err fault
+  unfolding value_at
+  field_refuses start Name fault (inl is) = ap (name_before end) (name_refuses octets start fault is).1
+  field_refuses start Name fault (inr is) =
+      let past : nat_le is.1.end end ≡ false = false_from_ne_true (nat_le is.1.end end) (λ t. let le : is.1.end ≤ end = leb-true _ _ t in omega (arith, le, is.3)) in
+      ap (name_before end) (name_walks octets start is.1 is.2) ∙ cond-false _ _ _ past ∙ ap Err (sym is.0)
+  field_refuses start Serial fault is = other_refuses start Serial fault (λ f e. sized_fault start Serial 4 f e) is
+  field_refuses start Time fault is = other_refuses start Time fault (λ f e. sized_fault start Time 4 f e) is
+  field_refuses start U16 fault is = other_refuses start U16 fault (λ f e. sized_fault start U16 2 f e) is
+  field_refuses start (Octets n) fault is = other_refuses start (Octets n) fault (λ f e. sized_fault start (Octets n) n f e) is
+  field_refuses start OneString fault is = other_refuses start OneString fault (λ f e. sized_fault start OneString (1 + slice_index octets start) f e) is
+  field_refuses start Strings fault is = other_refuses start Strings fault (λ f e. strings_fault (octets_between octets start end) f e) is
+
+  -- the first of fields that has no value
+  pub values_fault : (fields : List Field) (start : ℕ) (fault : Fault) → values_at octets end start fields ≡ Err fault → FieldsFault octets end fields start fault
+  values_fault [] start fault e =
+      let f = fails (start == end) (let vs : List FieldValue = [] in vs) BadRdata fault e in
+      (sym f.1, λ same. let yes : (start == end) ≡ true = eq-eqb start end same in let no = f.0 in cc)
+  values_fault (field ∷ fields) start fault e =
+      elim (stops (value_at octets end start field) _ fault e) [
+        | inl h ↦ inl (field_faults start field fault h)
+        | inr v ↦ elim (stops (values_at octets end v.0.1 fields) _ fault v.1.1) [
+          | inl h ↦ inr (v.0.1, v.0.0, value_has start field v.0 v.1.0, values_fault fields v.0.1 fault h)
+          | inr h ↦ (let t : ⊥ = cc in absurd t)
+        ]
+      ]
+
+  pub values_refuse : (fields : List Field) (start : ℕ) (fault : Fault) → FieldsFault octets end fields start fault → values_at octets end start fields ≡ Err fault
+  values_refuse [] start fault is = cond-false _ _ _ (false_from_ne_true (start == end) (λ t. is.1 (eqb-true start end t))) ∙ ap Err (sym is.0)
+  values_refuse (field ∷ fields) start fault (inl is) = and_then_err (value_at octets end start field) fault _ (field_refuses start field fault is)
+  values_refuse (field ∷ fields) start fault (inr is) =
+      and_then_ok (value_at octets end start field) (is.1, is.0) _ (value_is start is.0 field is.1 is.2)
+      ∙ and_then_err (values_at octets end is.0 fields) fault _ (values_refuse fields is.0 fault is.3)
+
+  layout_fault : (start : ℕ) (fault : Fault) (o : Option (List Field)) → (let r : Result (List ℕ) Fault = elim o [ None ↦ Ok (octets_between octets start end) | Some fields ↦ and_then (values_at octets end start fields) (λ values. Ok (octets_of values)) ] in r) ≡ Err fault → MatchOption o ⊥ (λ fields. FieldsFault octets end fields start fault)
+  layout_fault start fault None e = cc
+  layout_fault start fault (Some fields) e = elim (stops (values_at octets end start fields) _ fault e) [
+    | inl h ↦ values_fault fields start fault h
+    | inr h ↦ (let t : ⊥ = cc in absurd t)
+  ]
+
+  layout_refuses : (start : ℕ) (fault : Fault) (o : Option (List Field)) → MatchOption o ⊥ (λ fields. FieldsFault octets end fields start fault) → (let r : Result (List ℕ) Fault = elim o [ None ↦ Ok (octets_between octets start end) | Some fields ↦ and_then (values_at octets end start fields) (λ values. Ok (octets_of values)) ] in r) ≡ Err fault
+  layout_refuses start fault None is = absurd is
+  layout_refuses start fault (Some fields) is = and_then_err (values_at octets end start fields) fault _ (values_refuse fields start fault is)
+
+-- data that is refused has this first fault, and data that has one is refused with it
+pub data_faults : (octets : List ℕ) (a : RecordAt) (fault : Fault) → ((k : ℕ) → get_or octets k 0 < 256) → a.end ≤ length octets → data_at octets a ≡ Err fault → DataFault octets a fault
+unfolding data_at
+data_faults octets a fault each within e = layout_fault octets each a.end within a.start fault (layout a.class a.kind) e
+
+pub data_refuses : (octets : List ℕ) (a : RecordAt) (fault : Fault) → ((k : ℕ) → get_or octets k 0 < 256) → a.end ≤ length octets → DataFault octets a fault → data_at octets a ≡ Err fault
+unfolding data_at
+data_refuses octets a fault each within is = layout_refuses octets each a.end within a.start fault (layout a.class a.kind) is
+
+-- a record has data, or its data a first fault
+pub data_verdict : (octets : List ℕ) (a : RecordAt) → ((k : ℕ) → get_or octets k 0 < 256) → a.end ≤ length octets → IsVerdict (IsDataAt octets a) (DataFault octets a)
+data_verdict octets a each within =
+    decides (IsDataAt octets a) (DataFault octets a) (data_at octets a)
+    (λ canonical e. data_shown octets a canonical each within e) (λ canonical is. data_reads octets a canonical within is)
+    (λ f e. data_faults octets a f each within e) (λ f is. data_refuses octets a f each within is)

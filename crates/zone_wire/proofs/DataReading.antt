@@ -1,0 +1,290 @@
+-- The data of a record is read into a builder.
+use Rattle.std.proofs.Common.{◌≡◌, ◌≢◌, ℕ, zero, suc, ◌+◌, ◌-◌, ◌*◌, ◌<◌, ◌≤◌, List, [], ◌∷◌, ◌++◌, length, drop, get_or, refl, sym, ap, ◌∙◌, subst, arith, false, inl, inr, append_assoc, length-append}
+use Rattle.std.specs.Prelude.{slice_get, ◌==◌, if◌then◌else◌, Option, Some, None, Result, Ok, Err}
+use Rattle.std.specs.List.{flat_map, AllByRecursion}
+use Rattle.std.specs.Option.{option_or}
+use Rattle.std.proofs.lemmas.Bool.{eq-eqb, cond-true, cond-false}
+use Rattle.std.proofs.lemmas.Bool.Decides.{nat_tests}
+use Rattle.std.proofs.lemmas.List.{drop_all, length-take, append-nil}
+use Rattle.std.proofs.lemmas.List.Concat.{flat_map-append}
+use Rattle.zone_name.specs.Name.{with_length}
+use Rattle.zone_rdata.specs.declared.fault.Fault.{Fault}
+use Rattle.zone_rdata.specs.declared.fault.Fault.TheVariants.{BadRdata}
+use Rattle.zone_rdata.specs.declared.field.Field.{Field}
+use Rattle.zone_rdata.specs.declared.field.Field.TheVariants.{Strings}
+use Rattle.zone_rdata.specs.Builder.{Built, IsNext, IsWhole, ends_with_strings, part_at, Pushes, IsPushFault, misplaced, long_string, too_long}
+use Rattle.zone_rdata.specs.Field.{FieldValue, name, u32_value, u16_value, fixed, string, strings, field_octets, octets_of, Suits, Holds, HoldEach}
+use Rattle.zone_rdata.specs.Layout.{IsSized, layout}
+use Rattle.zone_rdata.proofs.Building.{octets_push}
+use Rattle.zone_rdata.proofs.Tables.{table_row}
+use Rattle.zone_rdata.proofs.ValueLaws.{short_value}
+use Rattle.zone_wire.specs.Machine.Data.{value_at, values_at, data_at}
+use Rattle.zone_wire.specs.Machine.DataReading.{parts_for, put_behind, Awaits, AwaitsStrings, IsReadyFor, IsRead, PutsValue, PutsValues}
+use Rattle.zone_wire.specs.Machine.Sections.{and_then}
+use Rattle.zone_wire.specs.Message.{u16_at, IsRecordAt, RecordAt}
+use Rattle.zone_wire.specs.Transfer.{octets_between}
+use Rattle.zone_wire.specs.View.{RawRecord}
+use Rattle.zone_wire.proofs.ReadFields.{value_shows, values_show}
+use Rattle.zone_wire.proofs.MessageFaults.{and_then_err}
+use Rattle.zone_wire.proofs.ReadRecords.{IsRow, each_row}
+use Rattle.zone_wire.proofs.Sectioning.{and_then_ok}
+use Rattle.zone_wire.proofs.StringReading.{length-strings, octets_of_strings, put_none}
+
+-- ---- the fields of a layout
+from_here : (fields : List Field) (i : ℕ) (field : Field) → slice_get fields i ≡ Some field → drop i fields ≡ field ∷ drop (i + 1) fields
+from_here [] i field e = absurd (let t : ⊥ = cc in t)
+from_here (f ∷ fields) zero field e = let same : f ≡ field = cc in ap (λ g. g ∷ fields) same
+from_here (f ∷ fields) (suc i) field e = rw (let n : suc i + 1 ≡ suc (i + 1) = omega arith in n) (from_here fields i field e)
+
+none_here : (fields : List Field) (i : ℕ) → slice_get fields i ≡ None → drop i fields ≡ []
+none_here [] i e = drop_all i (let fs : List Field = [] in fs) (omega arith)
+none_here (f ∷ fields) zero e = absurd (let t : ⊥ = cc in t)
+none_here (f ∷ fields) (suc i) e = none_here fields i e
+
+-- what holds of each field holds of this one
+field_of : (P : Field → Type 0) (fields : List Field) (i : ℕ) (field : Field) → slice_get fields i ≡ Some field → AllByRecursion P fields → P field
+field_of P [] i field e each = absurd (let t : ⊥ = cc in t)
+field_of P (f ∷ fields) zero field e each = let same : f ≡ field = cc in subst P same each.0
+field_of P (f ∷ fields) (suc i) field e each = field_of P fields i field e each.1
+
+within_fields : (fields : List Field) (i : ℕ) (field : Field) → slice_get fields i ≡ Some field → i < length fields
+within_fields [] i field e = absurd (let t : ⊥ = cc in t)
+within_fields (f ∷ fields) zero field e = omega arith
+within_fields (f ∷ fields) (suc i) field e = let h = within_fields fields i field e in omega arith
+
+only_strings : (i : ℕ) (field : Field) → slice_get (Strings ∷ []) i ≡ Some field → (i ≡ 0) × (field ≡ Strings)
+only_strings zero field e = (refl, cc)
+only_strings (suc i) field e = absurd (let t : ⊥ = cc in t)
+
+-- the values of the fields before a place were put
+pub record HaveValues (octets : List ℕ) (end start : ℕ) (fields : List Field) (old now : Built) (count place : ℕ) : Type 0 where
+  pub values : List FieldValue
+  pub number : length values ≡ count
+  pub put : now ≡ put_behind old (flat_map parts_for values)
+  pub plain : AllByRecursion (λ f. f ≢ Strings) fields → (length (flat_map parts_for values) ≡ count) × (length (octets_of (flat_map parts_for values)) ≤ 256 * count)
+  pub leads : (others : List FieldValue) → values_at octets end place (drop count fields) ≡ Ok others → values_at octets end start fields ≡ Ok (values ++ others)
+  pub fails : (fault : Fault) → values_at octets end place (drop count fields) ≡ Err fault → values_at octets end start fields ≡ Err fault
+  pub past : start ≤ place
+  pub inside : place ≤ end
+
+pub no_values : (octets : List ℕ) (end start : ℕ) (fields : List Field) (b : Built) → start ≤ end → HaveValues octets end start fields b b 0 start
+no_values octets end start fields b order = record { values = []; number = refl; put = put_none b; plain = λ each. (refl, omega arith); leads = λ others e. e; fails = λ fault e. e; past = omega arith; inside = order }
+
+plain_ready : (octets : List ℕ) (end start : ℕ) (b : Built) (field : Field) → field ≢ Strings → Awaits octets end start b field → IsReadyFor octets end start b field
+plain_ready octets end start b Strings other w = absurd (other refl)
+plain_ready octets end start b field other w = w
+
+strings_next : (n : ℕ) → part_at (Strings ∷ []) n ≡ Some Strings
+strings_next zero = refl
+strings_next (suc n) = refl
+
+plain_parts : (field : Field) (value : FieldValue) → field ≢ Strings → Holds field value → parts_for value ≡ value ∷ []
+plain_parts Strings value other held = absurd (other refl)
+plain_parts field (strings many) other held = absurd held
+plain_parts field value other held = refl
+
+module _ (octets : List ℕ) (each : (k : ℕ) → get_or octets k 0 < 256) (end start : ℕ) (within : end ≤ length octets) (fields : List Field) (old : Built) (laid : layout old.class old.kind ≡ Some fields) (new : old.parts ≡ []) where
+  own_parts : (now : Built) (count place : ℕ) (h : HaveValues octets end start fields old now count place) → now.parts ≡ flat_map parts_for h.values
+  own_parts now count place h = ap (λ (b : Built). b.parts) h.put ∙ ap (λ ps. ps ++ flat_map parts_for h.values) new
+
+  same_laid : (now : Built) (count place : ℕ) → HaveValues octets end start fields old now count place → layout now.class now.kind ≡ Some fields
+  same_laid now count place h = ap (λ (b : Built). layout b.class b.kind) h.put ∙ laid
+
+  plain_next : (now : Built) (count place : ℕ) (field : Field) → AllByRecursion (λ f. f ≢ Strings) fields → slice_get fields count ≡ Some field → HaveValues octets end start fields old now count place → Awaits octets end place now field
+  plain_next now count place field others here h =
+      let table = table_row old.class old.kind fields laid in
+      let sized = field_of IsSized fields count field here table.sized in
+      let other = field_of (λ f. f ≢ Strings) fields count field here others in
+      let plain = h.plain others in
+      let parts = own_parts now count place h in
+      let number : length now.parts ≡ count = ap length parts ∙ plain.0 in
+      let at : part_at fields (length now.parts) ≡ Some field = ap (part_at fields) number ∙ ap (λ o. option_or o (if ends_with_strings fields then Some Strings else None)) here in
+      record {
+        next = λ part suits. subst (λ o. IsNext o (length now.parts) part) (sym (same_laid now count place h)) (subst (λ o. Suits o part) (sym at) suits);
+        sized = sized;
+        room = λ value past read.
+            let shows = value_shows octets each end within place field (value, past) read in
+            let one = short_value field value other sized shows.0 in
+            omega (arith, one, plain.1, table.few, within_fields fields count field here, ap (λ ps. length (octets_of ps)) parts);
+      }
+
+  strings_ready : (now : Built) (count place : ℕ) (field : Field) → end ≤ start + 65535 → fields ≡ Strings ∷ [] → slice_get fields count ≡ Some field → HaveValues octets end start fields old now count place → IsReadyFor octets end place now field
+  strings_ready now count place field short alone here h =
+      let only = only_strings count field (ap (λ fs. slice_get fs count) (sym alone) ∙ here) in
+      let none : h.values ≡ [] = nothing h.values (h.number ∙ only.0) in
+      let parts : now.parts ≡ [] = own_parts now count place h ∙ ap (flat_map parts_for) none in
+      let row : layout now.class now.kind ≡ Some (Strings ∷ []) = same_laid now count place h ∙ ap Some alone in
+      let ready : AwaitsStrings end place now = record {
+        next = λ n part suits. subst (λ o. IsNext o (length now.parts + n) part) (sym row) (subst (λ o. Suits o part) (sym (strings_next (length now.parts + n))) suits);
+        room = omega (arith, h.past, ap (λ ps. length (octets_of ps)) parts);
+      } in
+      subst (IsReadyFor octets end place now) (sym only.1) ready
+    where
+      nothing : (values : List FieldValue) → length values ≡ 0 → values ≡ []
+      nothing [] e = refl
+      nothing (v ∷ values) e = absurd (omega arith)
+
+  pub field_ready : (now : Built) (count place : ℕ) (field : Field) → end ≤ start + 65535 → slice_get fields count ≡ Some field → HaveValues octets end start fields old now count place → IsReadyFor octets end place now field
+  field_ready now count place field short here h = elim (subst IsRow laid (each_row old.class old.kind)) [
+    | inl others ↦ plain_ready octets end place now field (field_of (λ f. f ≢ Strings) fields count field here others) (plain_next now count place field others here h)
+    | inr alone ↦ strings_ready now count place field short alone here h
+  ]
+
+  pub field_put : (now next : Built) (count place past : ℕ) (field : Field) → slice_get fields count ≡ Some field → HaveValues octets end start fields old now count place → PutsValue octets end place field now next past → HaveValues octets end start fields old next (count + 1) past
+  field_put now next count place past field here h p =
+      let shows = value_shows octets each end within place field (p.value, past) p.read in
+      let rest : List Field = drop (count + 1) fields in
+      let more : flat_map parts_for (h.values ++ p.value ∷ []) ≡ flat_map parts_for h.values ++ parts_for p.value = flat_map-append parts_for h.values (p.value ∷ []) ∙ ap (λ t. flat_map parts_for h.values ++ t) (append-nil (parts_for p.value)) in
+      let goes : values_at octets end place (drop count fields) ≡ and_then (values_at octets end past rest) (λ others. Ok (p.value ∷ others)) = ap (values_at octets end place) (from_here fields count field here) ∙ and_then_ok (value_at octets end place field) (p.value, past) _ p.read in
+      record {
+        values = h.values ++ p.value ∷ [];
+        number = length-append h.values (p.value ∷ []) ∙ ap (λ n. n + 1) h.number;
+        put = p.put ∙ ap (λ (b : Built). put_behind b (parts_for p.value)) h.put
+            ∙ ap (λ (ps : List FieldValue). let v : Built = record old { parts = ps } in v) (append_assoc old.parts (flat_map parts_for h.values) (parts_for p.value) ∙ ap (λ t. old.parts ++ t) (sym more));
+        plain = λ others.
+            let before = h.plain others in
+            let other = field_of (λ f. f ≢ Strings) fields count field here others in
+            let one : flat_map parts_for (h.values ++ p.value ∷ []) ≡ flat_map parts_for h.values ++ p.value ∷ [] = more ∙ ap (λ t. flat_map parts_for h.values ++ t) (plain_parts field p.value other shows.0) in
+            let short = short_value field p.value other (field_of IsSized fields count field here (table_row old.class old.kind fields laid).sized) shows.0 in (
+              ap length one ∙ length-append (flat_map parts_for h.values) (p.value ∷ []) ∙ ap (λ n. n + 1) before.0,
+              omega (arith, short, before.1, ap (λ ps. length (octets_of ps)) one, ap length (octets_push (flat_map parts_for h.values) p.value), length-append (octets_of (flat_map parts_for h.values)) (field_octets p.value)),
+            );
+        leads = λ others e. h.leads (p.value ∷ others) (goes ∙ and_then_ok (values_at octets end past rest) others _ e) ∙ ap Ok (sym (append_assoc h.values (p.value ∷ []) others));
+        fails = λ fault e. h.fails fault (goes ∙ and_then_err (values_at octets end past rest) fault _ e);
+        past = omega (arith, h.past, p.past);
+        inside = p.inside;
+      }
+
+  pub field_bad : (now : Built) (count place : ℕ) (field : Field) (fault : Fault) → slice_get fields count ≡ Some field → HaveValues octets end start fields old now count place → value_at octets end place field ≡ Err fault → values_at octets end start fields ≡ Err fault
+  field_bad now count place field fault here h e = h.fails fault (ap (values_at octets end place) (from_here fields count field here) ∙ and_then_err (value_at octets end place field) fault _ e)
+
+  pub left_over : (now : Built) (count place : ℕ) → slice_get fields count ≡ None → place < end → HaveValues octets end start fields old now count place → values_at octets end start fields ≡ Err BadRdata
+  left_over now count place here some h = h.fails BadRdata (ap (values_at octets end place) (none_here fields count here) ∙ cond-false _ _ _ (differs place end (omega arith)))
+    where
+      differs : (a b : ℕ) → a < b → (a == b) ≡ false
+      differs a b h = grind (arith, nat_tests)
+
+  parts_whole : (fs : List Field) (values : List FieldValue) → HoldEach fs values → length fs ≤ length (flat_map parts_for values)
+  parts_whole [] [] held = omega arith
+  parts_whole [] (v ∷ values) held = absurd held
+  parts_whole (f ∷ fs) [] held = absurd held
+  parts_whole (f ∷ fs) (v ∷ values) held = omega (arith, some_part f v held.0, parts_whole fs values held.1, length-append (parts_for v) (flat_map parts_for values))
+    where
+      some_part : (f : Field) (v : FieldValue) → Holds f v → 0 < length (parts_for v)
+      some_part Strings (strings many) held = omega (arith, held.some, length-strings many)
+      some_part f (strings many) held = absurd held
+      some_part f v held = omega arith
+
+  pub all_values : (now : Built) (count place : ℕ) → slice_get fields count ≡ None → end ≤ place → HaveValues octets end start fields old now count place → PutsValues octets end start fields old now
+  all_values now count place here done h =
+      let same : place ≡ end = omega (arith, h.inside) in
+      let read : values_at octets end start fields ≡ Ok h.values = h.leads [] (ap (values_at octets end place) (none_here fields count here) ∙ cond-true _ _ _ (eq-eqb place end same)) ∙ ap Ok (append-nil h.values) in
+      record {
+        values = h.values;
+        read = read;
+        put = h.put;
+        whole = omega (arith, parts_whole fields h.values (values_show octets each end within fields start h.values read).0, ap length (own_parts now count place h));
+      }
+
+-- ---- the data of a record
+-- its length is a number of 16 bits
+pub data_short : (octets : List ℕ) (offset : ℕ) (a : RecordAt) → ((k : ℕ) → get_or octets k 0 < 256) → IsRecordAt octets offset a → (a.start ≤ a.end) × (a.end ≤ a.start + 65535)
+data_short octets offset a each is =
+    let start : a.start ≡ is.found.end + 10 = ap (λ (x : RecordAt). x.start) is.stands in
+    let end : a.end ≡ is.found.end + 10 + u16_at octets (is.found.end + 8) = ap (λ (x : RecordAt). x.end) is.stands in
+    (omega (arith, start, end), omega (arith, start, end, each (is.found.end + 8), each (is.found.end + 8 + 1)))
+
+-- the data of a record whose values are read
+laid_data : (octets : List ℕ) (a : RecordAt) (fields : List Field) → layout a.class a.kind ≡ Some fields → data_at octets a ≡ and_then (values_at octets a.end a.start fields) (λ values. Ok (octets_of values))
+unfolding data_at
+laid_data octets a fields e = ap (λ (o : Option (List Field)). let r : Result (List ℕ) Fault = elim o [ None ↦ Ok (octets_between octets a.start a.end) | Some fs ↦ and_then (values_at octets a.end a.start fs) (λ values. Ok (octets_of values)) ] in r) e
+
+opaque_data : (octets : List ℕ) (a : RecordAt) → layout a.class a.kind ≡ None → data_at octets a ≡ Ok (octets_between octets a.start a.end)
+unfolding data_at
+opaque_data octets a e = ap (λ (o : Option (List Field)). let r : Result (List ℕ) Fault = elim o [ None ↦ Ok (octets_between octets a.start a.end) | Some fs ↦ and_then (values_at octets a.end a.start fs) (λ values. Ok (octets_of values)) ] in r) e
+
+part_octets : (v : FieldValue) → octets_of (parts_for v) ≡ field_octets v
+part_octets (strings many) = octets_of_strings many
+part_octets (name labels) = append-nil (field_octets (name labels))
+part_octets (u32_value n) = append-nil (field_octets (u32_value n))
+part_octets (u16_value n) = append-nil (field_octets (u16_value n))
+part_octets (fixed octets) = append-nil octets
+part_octets (string text) = append-nil (with_length text)
+
+all_octets : (values : List FieldValue) → octets_of (flat_map parts_for values) ≡ octets_of values
+all_octets [] = refl
+all_octets (v ∷ values) = flat_map-append field_octets (parts_for v) (flat_map parts_for values) ∙ ap (λ t. t ++ octets_of (flat_map parts_for values)) (part_octets v) ∙ ap (λ t. field_octets v ++ t) (all_octets values)
+
+module _ (octets : List ℕ) (a : RecordAt) (class kind : ℕ) (same_class : class ≡ a.class) (same_kind : kind ≡ a.kind) (old : Built) (new : old ≡ record { class = class; kind = kind; parts = [] }) where
+  own_class : (now : Built) (parts : List FieldValue) → now ≡ put_behind old parts → (now.class ≡ a.class) × (now.kind ≡ a.kind)
+  own_class now parts e = (ap (λ (b : Built). b.class) e ∙ ap (λ (b : Built). b.class) new ∙ same_class, ap (λ (b : Built). b.kind) e ∙ ap (λ (b : Built). b.kind) new ∙ same_kind)
+
+  no_parts : (now : Built) (parts : List FieldValue) → now ≡ put_behind old parts → now.parts ≡ parts
+  no_parts now parts e = ap (λ (b : Built). b.parts) e ∙ ap (λ (b : Built). b.parts ++ parts) new
+
+  record_laid : (laid : Option (List Field)) → laid ≡ layout class kind → layout a.class a.kind ≡ laid
+  record_laid laid e = ap (λ n. layout n a.kind) (sym same_class) ∙ ap (λ n. layout class n) (sym same_kind) ∙ sym e
+
+  pub builder_laid : (laid : Option (List Field)) → laid ≡ layout class kind → layout old.class old.kind ≡ laid
+  builder_laid laid e = ap (λ (b : Built). layout b.class b.kind) new ∙ sym e
+
+  pub values_are_read : (fields : List Field) (now : Built) → Some fields ≡ layout class kind → PutsValues octets a.end a.start fields old now → IsRead octets a now
+  values_are_read fields now row p =
+      let own = own_class now (flat_map parts_for p.values) p.put in
+      let laid = record_laid (Some fields) row in
+      record {
+        class = own.0;
+        kind = own.1;
+        read = laid_data octets a fields laid ∙ and_then_ok (values_at octets a.end a.start fields) p.values _ p.read ∙ ap Ok (sym (all_octets p.values) ∙ ap octets_of (sym (no_parts now (flat_map parts_for p.values) p.put)));
+        whole = subst (λ o. IsWhole o now.parts) (sym laid ∙ ap (λ n. layout n a.kind) (sym own.0) ∙ ap (λ n. layout now.class n) (sym own.1)) p.whole;
+      }
+
+  pub values_are_refused : (fields : List Field) (fault : Fault) → Some fields ≡ layout class kind → values_at octets a.end a.start fields ≡ Err fault → data_at octets a ≡ Err fault
+  values_are_refused fields fault row e = laid_data octets a fields (record_laid (Some fields) row) ∙ and_then_err (values_at octets a.end a.start fields) fault _ e
+
+  pub octets_are_read : (now : Built) → None ≡ layout class kind → Pushes old (fixed (octets_between octets a.start a.end)) now → IsRead octets a now
+  octets_are_read now row p =
+      let part : List FieldValue = fixed (octets_between octets a.start a.end) ∷ [] in
+      let own = own_class now part p.made in
+      let laid = record_laid None row in
+      let parts = no_parts now part p.made in
+      record {
+        class = own.0;
+        kind = own.1;
+        read = opaque_data octets a laid ∙ ap Ok (sym (append-nil (octets_between octets a.start a.end)) ∙ ap octets_of (sym parts));
+        whole = subst (λ o. IsWhole o now.parts) (sym laid ∙ ap (λ n. layout n a.kind) (sym own.0) ∙ ap (λ n. layout now.class n) (sym own.1)) (omega (arith, ap length parts));
+      }
+
+  -- opaque data is at most 65,535 octets
+  pub octets_are_taken : (fault : Fault) → None ≡ layout class kind → a.end ≤ a.start + 65535 → IsPushFault old (fixed (octets_between octets a.start a.end)) fault → ⊥
+  octets_are_taken fault row short bad = by fault bad
+    where
+      part : FieldValue
+      part = fixed (octets_between octets a.start a.end)
+
+      none : old.parts ≡ []
+      none = ap (λ (b : Built). b.parts) new
+
+      next : IsNext (layout old.class old.kind) (length old.parts) (fixed (octets_between octets a.start a.end))
+      next = subst (λ o. IsNext o (length old.parts) (fixed (octets_between octets a.start a.end))) (sym (builder_laid None row)) (subst (λ (ps : List FieldValue). IsNext None (length ps) (fixed (octets_between octets a.start a.end))) (sym none) tt)
+
+      by : (fault : Fault) → IsPushFault old (fixed (octets_between octets a.start a.end)) fault → ⊥
+      by _ (misplaced wrong) = wrong next
+      by _ (long_string n long) = long tt
+      by _ (too_long n fits over) =
+          let size : length (octets_of (old.parts ++ fixed (octets_between octets a.start a.end) ∷ [])) ≡ length (octets_between octets a.start a.end) = ap (λ ps. length (octets_of (ps ++ fixed (octets_between octets a.start a.end) ∷ []))) none ∙ ap length (append-nil (octets_between octets a.start a.end)) in
+          omega (arith, over, size, short, length-take (a.end - a.start) (drop a.start octets))
+
+-- likewise of a record as it is kept
+module _ (raw now : RawRecord) (view : raw ≡ now) (class kind : ℕ) (same_class : class ≡ now.at.class) (same_kind : kind ≡ now.at.kind) (old : Built) (new : old ≡ record { class = class; kind = kind; parts = [] }) where
+  pub laid_read : (fields : List Field) (built : Built) → Some fields ≡ layout class kind → PutsValues raw.octets raw.at.end raw.at.start fields old built → IsRead now.octets now.at built
+  laid_read fields built row p = values_are_read now.octets now.at class kind same_class same_kind old new fields built row (subst (λ (v : RawRecord). PutsValues v.octets v.at.end v.at.start fields old built) view p)
+
+  pub laid_refused : (fields : List Field) (fault : Fault) → Some fields ≡ layout class kind → values_at raw.octets raw.at.end raw.at.start fields ≡ Err fault → data_at now.octets now.at ≡ Err fault
+  laid_refused fields fault row e = values_are_refused now.octets now.at class kind same_class same_kind old new fields fault row (subst (λ (v : RawRecord). values_at v.octets v.at.end v.at.start fields ≡ Err fault) view e)
+
+  pub opaque_read : (built : Built) → None ≡ layout class kind → Pushes old (fixed (octets_between raw.octets raw.at.start raw.at.end)) built → IsRead now.octets now.at built
+  opaque_read built row p = octets_are_read now.octets now.at class kind same_class same_kind old new built row (subst (λ (v : RawRecord). Pushes old (fixed (octets_between v.octets v.at.start v.at.end)) built) view p)
+
+  pub opaque_taken : (fault : Fault) → None ≡ layout class kind → raw.at.end ≤ raw.at.start + 65535 → IsPushFault old (fixed (octets_between raw.octets raw.at.start raw.at.end)) fault → ⊥
+  opaque_taken fault row short bad = octets_are_taken raw.octets raw.at class kind (same_class ∙ ap (λ (v : RawRecord). v.at.class) (sym view)) (same_kind ∙ ap (λ (v : RawRecord). v.at.kind) (sym view)) old new fault row short bad

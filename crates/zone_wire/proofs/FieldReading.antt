@@ -1,0 +1,182 @@
+-- The values of fields are read in a message: parts of its octets, numbers, and names.
+use Rattle.std.proofs.Common.{◌≡◌, ℕ, zero, suc, ◌+◌, ◌-◌, ◌<◌, ◌≤◌, List, [], ◌∷◌, ◌++◌, length, take, drop, get_or, refl, sym, ap, ◌∙◌, subst, arith, Bool, true, false, nat_le, inl, inr, length-append}
+use Rattle.std.specs.Prelude.{slice_index, if◌then◌else◌, ◌⊎◌, Some, Result, Ok, Err}
+use Rattle.std.specs.Int.{w16, w32, from_be_bytes}
+use Rattle.std.proofs.lemmas.Bool.{cond-true, cond-false, le-leb, lt-leb, leb-false}
+use Rattle.std.proofs.lemmas.List.{take_all, take-append-drop, drop-take, drop-drop, drop_more, length-take-le, length-drop, get_or-take, get_or-drop}
+use Rattle.zone_rdata.specs.declared.fault.Fault.{Fault}
+use Rattle.zone_rdata.specs.declared.fault.Fault.TheVariants.{BadRdata}
+use Rattle.zone_rdata.specs.declared.field.Field.{Field}
+use Rattle.zone_rdata.specs.declared.field.Field.TheVariants.{Name, Serial, Time, U16, Octets, OneString}
+use Rattle.zone_rdata.specs.Builder.{Built, FitsString, Pushes, IsPushFault, misplaced, long_string, too_long}
+use Rattle.zone_rdata.specs.Field.{FieldValue, name, u32_value, u16_value, fixed, string, field_octets, octets_of, Suits, field_at}
+use Rattle.zone_rdata.specs.Fields.OneString.{string_at}
+use Rattle.zone_rdata.specs.Layout.{IsSized}
+use Rattle.zone_rdata.proofs.Building.{octets_push}
+use Rattle.zone_wire.specs.Machine.Data.{name_before, sized_before, value_at}
+use Rattle.zone_wire.specs.Machine.DataReading.{parts_for, put_behind, Awaits, IsReadyFor, PutsValue}
+use Rattle.zone_wire.specs.Machine.Finding.{outcome}
+use Rattle.zone_wire.specs.Machine.Walk.{walk}
+use Rattle.zone_wire.specs.Message.{u16_at, u32_at}
+use Rattle.zone_wire.specs.Name.{Found, IsNameAt}
+use Rattle.zone_wire.specs.Transfer.{octets_between}
+use Rattle.zone_wire.specs.WholeWalk.{NameFault}
+use Rattle.zone_wire.proofs.Fielding.{name_reads}
+use Rattle.zone_wire.proofs.MessageFaults.{name_refuses}
+use Rattle.zone_wire.proofs.Walking.{name_walks}
+
+-- ---- parts of octets
+part_get : (octets : List ℕ) (start past k i : ℕ) → i ≡ start + k → i < past → get_or (octets_between octets start past) k 0 ≡ get_or octets i 0
+part_get octets start past k i at h = get_or-take (past - start) (drop start octets) k 0 (omega arith) ∙ get_or-drop start octets k 0 ∙ ap (λ n. get_or octets n 0) (sym at)
+
+pub part_len : (octets : List ℕ) (start past : ℕ) → past ≤ length octets → length (octets_between octets start past) ≡ past - start
+part_len octets start past within = length-take-le (past - start) (drop start octets) (omega (arith, length-drop start octets))
+
+-- a part is cut in two
+pub between_join : (octets : List ℕ) (start mid end : ℕ) → start ≤ mid → mid ≤ end → octets_between octets start end ≡ octets_between octets start mid ++ octets_between octets mid end
+between_join octets start mid end before after =
+    let n : ℕ = mid - start in
+    let m : ℕ = end - mid in
+    let whole : end - start ≡ n + m = omega arith in
+    let at : start + n ≡ mid = omega arith in
+    let xs : List ℕ = drop start octets in
+    ap (λ k. take k xs) whole
+    ∙ sym (take-append-drop n (take (n + m) xs))
+    ∙ ap (λ t. t ++ drop n (take (n + m) xs)) (take_less n m xs)
+    ∙ ap (λ t. take n xs ++ t) (drop-take n m xs ∙ ap (take m) (drop-drop n start octets ∙ ap (λ k. drop k octets) at))
+  where
+    take_less : (n m : ℕ) (xs : List ℕ) → take n (take (n + m) xs) ≡ take n xs
+    take_less zero m xs = refl
+    take_less (suc n) m [] = rw (let e : suc n + m ≡ suc (n + m) = omega arith in e) refl
+    take_less (suc n) m (x ∷ xs) = rw (let e : suc n + m ≡ suc (n + m) = omega arith in e) (ap (λ t. x ∷ t) (take_less n m xs))
+
+-- the octets from an offset on by the first of them
+pub between_first : (octets : List ℕ) (start past : ℕ) → start < past → start < length octets → octets_between octets start past ≡ get_or octets start 0 ∷ octets_between octets (start + 1) past
+between_first octets start past some inside =
+    let n : past - start ≡ suc (past - (start + 1)) = omega arith in
+    ap (λ k. take k (drop start octets)) n ∙ ap (take (suc (past - (start + 1)))) (drop_more octets start 0 inside)
+
+-- ---- fields of so many octets
+abbrev pub IsSizedAt : List ℕ → ℕ → ℕ → Field → ℕ → Type 0
+IsSizedAt octets end start field size = value_at octets end start field ≡ sized_before octets end start field size
+
+pub serial_sized : (octets : List ℕ) (end start : ℕ) → IsSizedAt octets end start Serial 4
+unfolding value_at
+serial_sized octets end start = refl
+
+pub two_sized : (octets : List ℕ) (end start : ℕ) → IsSizedAt octets end start U16 2
+unfolding value_at
+two_sized octets end start = refl
+
+pub fixed_sized : (octets : List ℕ) (end start size : ℕ) → IsSizedAt octets end start (Octets size) size
+unfolding value_at
+fixed_sized octets end start size = refl
+
+pub string_sized : (octets : List ℕ) (end start : ℕ) → IsSizedAt octets end start OneString (1 + slice_index octets start)
+unfolding value_at
+string_sized octets end start = refl
+
+pub sized_bad : (octets : List ℕ) (end start size : ℕ) (field : Field) → IsSizedAt octets end start field size → end < start + size → value_at octets end start field ≡ Err BadRdata
+sized_bad octets end start size field is over = is ∙ cond-false _ _ _ (lt-leb (start + size) end over)
+
+pub sized_refused : (octets : List ℕ) (end start size : ℕ) (field : Field) (fault : Fault) → IsSizedAt octets end start field size → (fault ≡ BadRdata) × (end < start + size) → value_at octets end start field ≡ Err fault
+sized_refused octets end start size field fault is bad = sized_bad octets end start size field is bad.1 ∙ ap Err (sym bad.0)
+
+sized_ok : (octets : List ℕ) (end start size past : ℕ) (field : Field) (value : FieldValue) → IsSizedAt octets end start field size → past ≡ start + size → past ≤ end → field_at field (octets_between octets start past) ≡ value → value_at octets end start field ≡ Ok (value, past)
+sized_ok octets end start size past field value is at inside same =
+    is ∙ cond-true _ _ _ (le-leb (start + size) end (omega arith))
+    ∙ ap (λ n. Ok (field_at field (octets_between octets start n), n)) (sym at) ∙ ap (λ v. Ok (v, past)) same
+
+pub sized_fails : (octets : List ℕ) (end start size : ℕ) (field : Field) (fault : Fault) → sized_before octets end start field size ≡ Err fault → (fault ≡ BadRdata) × (end < start + size)
+sized_fails octets end start size field fault e = by (nat_le (start + size) end) refl e
+  where
+    by : (t : Bool) → nat_le (start + size) end ≡ t → (let r : Result (FieldValue × ℕ) Fault = if t then Ok (field_at field (octets_between octets start (start + size)), start + size) else Err BadRdata in r) ≡ Err fault → (fault ≡ BadRdata) × (end < start + size)
+    by true is bad = absurd (let t : ⊥ = cc in t)
+    by false is bad = (cc, leb-false (start + size) end is)
+
+-- a part that is pushed is the value that stands there
+pub puts_sized : (octets : List ℕ) (end start size past : ℕ) (field : Field) (value : FieldValue) (old new : Built) → IsSizedAt octets end start field size → past ≡ start + size → past ≤ end → field_at field (octets_between octets start past) ≡ value → parts_for value ≡ value ∷ [] → Pushes old value new → PutsValue octets end start field old new past
+puts_sized octets end start size past field value old new is at inside same one pushed = record {
+  value = value;
+  read = sized_ok octets end start size past field value is at inside same;
+  put = pushed.made ∙ ap (put_behind old) (sym one);
+  past = omega arith;
+  inside = inside;
+}
+
+-- a part that is awaited isn't refused
+pub unrefused : (octets : List ℕ) (end start past : ℕ) (b : Built) (field : Field) (value : FieldValue) → Awaits octets end start b field → Suits (Some field) value → FitsString value → value_at octets end start field ≡ Ok (value, past) → (fault : Fault) → IsPushFault b value fault → ⊥
+unrefused octets end start past b field value w suits fits read _ (misplaced wrong) = wrong (w.next value suits)
+unrefused octets end start past b field value w suits fits read _ (long_string next long) = long fits
+unrefused octets end start past b field value w suits fits read _ (too_long next f over) =
+    let room = w.room value past read in
+    omega (arith, room, over, ap length (octets_push b.parts value), length-append (octets_of b.parts) (field_octets value))
+
+pub unrefused_sized : (octets : List ℕ) (end start size past : ℕ) (b : Built) (field : Field) (value : FieldValue) → Awaits octets end start b field → Suits (Some field) value → FitsString value → IsSizedAt octets end start field size → past ≡ start + size → past ≤ end → field_at field (octets_between octets start past) ≡ value → (fault : Fault) → IsPushFault b value fault → ⊥
+unrefused_sized octets end start size past b field value w suits fits is at inside same =
+    unrefused octets end start past b field value w suits fits (sized_ok octets end start size past field value is at inside same)
+
+pub two_value : (octets : List ℕ) (start past n : ℕ) → past ≡ start + 2 → past ≤ length octets → n ≡ u16_at octets start → field_at U16 (octets_between octets start past) ≡ u16_value n
+two_value octets start past n at within is =
+    let bs : List ℕ = octets_between octets start past in
+    let whole : take 2 bs ≡ bs = take_all 2 bs (omega (arith, part_len octets start past within)) in
+    let number : from_be_bytes w16 bs ≡ n = omega (arith, is, part_get octets start past 0 start (omega arith) (omega arith), part_get octets start past 1 (start + 1) refl (omega arith)) in
+    ap u16_value (ap (from_be_bytes w16) whole ∙ number)
+
+pub long_value : (octets : List ℕ) (start past n : ℕ) → past ≡ start + 4 → past ≤ length octets → n ≡ u32_at octets start → field_at Serial (octets_between octets start past) ≡ u32_value n
+long_value octets start past n at within is =
+    let bs : List ℕ = octets_between octets start past in
+    let whole : take 4 bs ≡ bs = take_all 4 bs (omega (arith, part_len octets start past within)) in
+    let number : from_be_bytes w32 bs ≡ n = omega (arith, is, part_get octets start past 0 start (omega arith) (omega arith), part_get octets start past 1 (start + 1) refl (omega arith), part_get octets start past 2 (start + 2) refl (omega arith), part_get octets start past 3 (start + 2 + 1) (omega arith) (omega arith)) in
+    ap u32_value (ap (from_be_bytes w32) whole ∙ number)
+
+pub fixed_value : (octets : List ℕ) (start size past : ℕ) → past ≡ start + size → past ≤ length octets → field_at (Octets size) (octets_between octets start past) ≡ fixed (octets_between octets start past)
+fixed_value octets start size past at within = ap fixed (take_all size (octets_between octets start past) (omega (arith, part_len octets start past within)))
+
+-- the string behind its length
+pub string_value : (octets : List ℕ) (start past : ℕ) → past ≡ start + (1 + slice_index octets start) → past ≤ length octets → field_at OneString (octets_between octets start past) ≡ string (octets_between octets (start + 1) past)
+string_value octets start past at within =
+    let text : List ℕ = octets_between octets (start + 1) past in
+    ap (λ bs. string (string_at bs)) (between_first octets start past (omega arith) (omega arith))
+    ∙ ap string (take_all (get_or octets start 0) text (omega (arith, part_len octets (start + 1) past within)))
+
+pub string_short : (octets : List ℕ) (start past : ℕ) → past ≡ start + (1 + slice_index octets start) → past ≤ length octets → slice_index octets start < 256 → length (octets_between octets (start + 1) past) ≤ 255
+string_short octets start past at within low = omega (arith, part_len octets (start + 1) past within)
+
+pub fixed_suits : (octets : List ℕ) (start size past : ℕ) → past ≡ start + size → past ≤ length octets → IsSized (Octets size) → Suits (Some (Octets size)) (fixed (octets_between octets start past))
+fixed_suits octets start size past at within sized = (omega (arith, part_len octets start past within), omega (arith, sized))
+
+-- ---- numbers of 32 bits, serials and times alike
+long_same : (octets : List ℕ) (end start : ℕ) (field : Field) → (field ≡ Serial) ⊎ (field ≡ Time) → value_at octets end start field ≡ value_at octets end start Serial
+unfolding value_at
+long_same octets end start field (inl is) = ap (value_at octets end start) is
+long_same octets end start field (inr is) = ap (value_at octets end start) is
+
+long_suits : (part : FieldValue) → Suits (Some Serial) part → Suits (Some Time) part
+long_suits (u32_value n) s = tt
+long_suits part s = absurd s
+
+pub long_ready : (octets : List ℕ) (end start : ℕ) (b : Built) (field : Field) → (field ≡ Serial) ⊎ (field ≡ Time) → IsReadyFor octets end start b field → Awaits octets end start b Serial
+long_ready octets end start b field (inl is) ready = subst (IsReadyFor octets end start b) is ready
+long_ready octets end start b field (inr is) ready =
+    let w : Awaits octets end start b Time = subst (IsReadyFor octets end start b) is ready in
+    record { next = λ part suits. w.next part (long_suits part suits); sized = tt; room = λ value past read. w.room value past (long_same octets end start Time (inr refl) ∙ read) }
+
+pub long_puts : (octets : List ℕ) (end start : ℕ) (field : Field) (old new : Built) (place : ℕ) → (field ≡ Serial) ⊎ (field ≡ Time) → PutsValue octets end start Serial old new place → PutsValue octets end start field old new place
+long_puts octets end start field old new place is p = record { value = p.value; read = long_same octets end start field is ∙ p.read; put = p.put; past = p.past; inside = p.inside }
+
+pub long_fails : (octets : List ℕ) (end start : ℕ) (field : Field) (fault : Fault) → (field ≡ Serial) ⊎ (field ≡ Time) → value_at octets end start Serial ≡ Err fault → value_at octets end start field ≡ Err fault
+long_fails octets end start field fault is e = long_same octets end start field is ∙ e
+
+-- ---- names
+pub name_read : (octets : List ℕ) (end start : ℕ) (found : Found) → IsNameAt octets start found → found.end ≤ end → value_at octets end start Name ≡ Ok (name found.labels, found.end)
+unfolding value_at
+name_read octets end start found is fits = name_reads end found (outcome octets (walk octets start)) (name_walks octets start found is) fits
+
+pub name_over : (octets : List ℕ) (end start : ℕ) (found : Found) → IsNameAt octets start found → end < found.end → value_at octets end start Name ≡ Err BadRdata
+unfolding value_at
+name_over octets end start found is over = ap (name_before end) (name_walks octets start found is) ∙ cond-false _ _ _ (lt-leb found.end end over)
+
+pub name_faulty : (octets : List ℕ) (end start : ℕ) (fault : Fault) → NameFault octets start fault → value_at octets end start Name ≡ Err fault
+unfolding value_at
+name_faulty octets end start fault is = ap (name_before end) (name_refuses octets start fault is).1

@@ -1,0 +1,14 @@
+use Rattle.std.proofs.Common.{ap}
+use Rattle.zone_rdata.specs.Record.{Data}
+use Rattle.zone_rdata.proofs.Failings.{if_fault_passed}
+use Rattle.zone_wire.proofs.RecordReading.{data_is_refused, data_is_read}
+use Rattle.zone_wire.proofs.answers.RawRr.rdata.Goals as goal
+
+pub returns-in_err-push_data-clause-fault : goal.returns-in_err-push_data-clause-fault
+returns-in_err-push_data-clause-fault c =
+    if_fault_passed c.from_residual.result c.in_err-push_data.field-0.0 _ _ c.from_residual.ensures.1
+    (λ fault bad. data_is_refused _ c.args.self.now c.self.view_is c.self.inside.offset c.are_octets.ensures c.self.invariant fault bad)
+    c.in_err-push_data.ensures.fault
+
+pub returns-clause-found : goal.returns-clause-found
+returns-clause-found c = data_is_read _ c.args.self.now c.self.view_is c.self.inside.offset c.are_octets.ensures c.self.invariant c.push_data.new.builder c.in_ok-finish.field-0.octets c.in_ok-push_data.ensures.found (ap (λ (d : Data). d.octets) c.in_ok-finish.ensures.ok)

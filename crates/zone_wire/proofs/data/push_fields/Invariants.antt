@@ -1,0 +1,10 @@
+use Rattle.std.proofs.Common.{◌-◌, length}
+use Rattle.zone_rdata.specs.Layout.{fields_of}
+use Rattle.zone_wire.proofs.DataReading.{HaveValues}
+use Rattle.zone_wire.proofs.data.push_fields.Given as goal
+
+abbrev pub invariant-loop-field : goal.invariant-loop-field
+invariant-loop-field l = HaveValues l.message l.end l.start (fields_of l.fields) l.fn.builder l.builder l.count l.place
+
+abbrev pub decreases-loop-field : goal.decreases-loop-field
+decreases-loop-field l = length (fields_of l.fields) - l.count

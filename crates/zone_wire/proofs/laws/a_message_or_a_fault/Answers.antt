@@ -1,0 +1,5 @@
+use Rattle.zone_wire.proofs.MessageFaults.{message_verdict}
+use Rattle.zone_wire.proofs.laws.a_message_or_a_fault.Goals as goal
+
+pub returns : goal.returns
+returns c = message_verdict

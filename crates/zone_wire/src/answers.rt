@@ -1,0 +1,155 @@
+ghost use Rattle.std.specs.Prelude.{◌≡◌};
+ghost use Rattle.zone_wire.specs.Message.{RecordAt, IsRecordAt};
+
+use crate::name::{Decoded, name_at};
+use crate::number::{u16_at, u32_at};
+use std::marker::Model;
+use zone_name::Name;
+
+/// A record of a message as it stands there, its data not read (RFC 1035 4.1.3).
+#[derive(Debug, Drop)]
+pub struct RawRr<'m> {
+    /// The octets of the whole message.
+    pub(crate) message: &'m [u8],
+    pub(crate) offset: usize,
+    pub(crate) owner: Name,
+    pub(crate) kind: u16,
+    pub(crate) class: u16,
+    pub(crate) ttl: u32,
+    /// The offset at which the data begins.
+    pub(crate) start: usize,
+    /// The offset after the data.
+    pub(crate) end: usize,
+}
+
+impl<'m> Model for RawRr<'m> {
+    ghost use Rattle.zone_wire.specs.Message.{IsRecordAt};
+    ghost use Rattle.zone_wire.specs.View.{RawRecord};
+
+    ghost Value = { RawRecord };
+
+    ghost view = { λ r. record {
+      octets = r.message.now;
+      at = record {
+        offset = r.offset;
+        owner = r.owner;
+        kind = r.kind;
+        class = r.class;
+        ttl = r.ttl;
+        start = r.start;
+        end = r.end;
+      };
+    } };
+
+    ghost invariant = { λ r. IsRecordAt r.message.now r.offset (record {
+      offset = r.offset;
+      owner = r.owner;
+      kind = r.kind;
+      class = r.class;
+      ttl = r.ttl;
+      start = r.start;
+      end = r.end;
+    }) };
+}
+
+impl<'m> RawRr<'m> {
+    /// The offset at which the record begins.
+    pub fn offset(&self) -> usize
+        ensures { result ≡ self.now.at.offset }
+    {
+        self.offset
+    }
+
+    /// The name that the record stands at.
+    pub fn owner(&self) -> &Name
+        ensures { result.now ≡ self.now.at.owner }
+    {
+        &self.owner
+    }
+
+    /// The number of the record's class, which need be none that zone data has.
+    pub fn class(&self) -> u16
+        ensures { result ≡ self.now.at.class }
+    {
+        self.class
+    }
+
+    /// The number of the record's type, which need be none that zone data has.
+    pub fn kind(&self) -> u16
+        ensures { result ≡ self.now.at.kind }
+    {
+        self.kind
+    }
+
+    /// The TTL in seconds as it stands there, which may be over 2147483647.
+    pub fn ttl(&self) -> u32
+        ensures { result ≡ self.now.at.ttl }
+    {
+        self.ttl
+    }
+}
+
+/// The answers of a message that are still to come, in order (RFC 1035 4.1). Contracts see their list.
+#[derive(Debug, Drop)]
+pub struct Answers<'m> {
+    /// The octets of the whole message.
+    pub(crate) message: &'m [u8],
+    /// The offset at which the next answer begins.
+    pub(crate) offset: usize,
+    /// How many answers are still to come.
+    pub(crate) left: u16,
+}
+
+impl<'m> Model for Answers<'m> {
+    ghost use Rattle.std.specs.Prelude.{List};
+    ghost use Rattle.zone_wire.specs.View.{RawRecord};
+
+    ghost Value = { List RawRecord };
+
+    ghost use Rattle.zone_wire.specs.Machine.Parsing.{raw_from, StandFrom};
+
+    ghost view = { λ a. raw_from a.message.now a.left a.offset };
+
+    ghost invariant = { λ a. StandFrom a.message.now a.left a.offset };
+}
+
+impl<'m> Iterator for Answers<'m> {
+    type Item = RawRr<'m>;
+
+    ghost use Rattle.std.specs.Iterator.{YieldsFirst, item_count};
+
+    ghost next_gives = { YieldsFirst (λ s. s) };
+
+    ghost remaining = { item_count (λ s. s) };
+
+    fn next(&mut self) -> Option<RawRr<'m>> {
+        if self.left == 0 {
+            return None;
+        }
+        let answer = record_at(self.message, self.offset);
+        self.left -= 1;
+        self.offset = answer.end;
+        Some(answer)
+    }
+}
+
+/// The record that begins at an offset of a message.
+fn record_at<'m>(message: &'m [u8], offset: usize) -> RawRr<'m>
+    requires { (r : RecordAt) × IsRecordAt message.now offset r }
+    ensures octets { result.octets ≡ message.now }
+    ensures at { IsRecordAt message.now offset result.at }
+{
+    match name_at(message, offset) {
+        Ok(Decoded { name, end, .. }) => RawRr {
+            message,
+            offset,
+            owner: name,
+            kind: u16_at(message, end),
+            class: u16_at(message, end + 2),
+            ttl: u32_at(message, end + 4),
+            start: end + 10,
+            end: end + 10 + u16_at(message, end + 8) as usize,
+        },
+        Err(_) => unreachable!(),
+    }
+}

@@ -1,0 +1,136 @@
+ghost use Rattle.std.specs.Prelude.{◌≡◌, ◌≤◌, length, MatchResult, Err};
+ghost use Rattle.zone_wire.specs.Machine.Parsing.{IsParsed, name_end_of, part_end_of, run_end_of};
+ghost use Rattle.zone_wire.specs.Machine.Sections.{header_fault, question_at, record_at, questions_from, records_from, sections_of};
+ghost use Rattle.zone_wire.specs.Machine.Finding.{outcome};
+ghost use Rattle.zone_wire.specs.Machine.Walk.{walk};
+
+use crate::number::u16_at;
+use crate::place::{HEADER_LEN, Spot, Standing, place_at};
+use crate::ticks::Ticks;
+use zone_rdata::Fault;
+
+/// The offset at which the answers of a message begin.
+///
+/// # Errors
+///
+/// The first fault of the message's structure and the offset at which it stands.
+pub(crate) fn answers_start(octets: &[u8]) -> Result<usize, (Fault, usize)>
+    ensures { MatchResult result (IsParsed octets.now) (λ e. sections_of octets.now ≡ Err e) }
+{
+    if let Some(fault) = header_fault(octets) {
+        return Err((fault, 0));
+    }
+    let answers = questions_end(octets, u16_at(octets, 4), HEADER_LEN)?;
+    let additional = records_end(octets, u16_at(octets, 6), answers)?;
+    let end = records_end(octets, u16_at(octets, 10), additional)?;
+    if end != octets.len() {
+        return Err((Fault::TrailingOctets, 0));
+    }
+    Ok(answers)
+}
+
+/// The first fault of a message's header.
+#[tactic(auto, unfolding(crate::specs::Machine::Sections::header_fault))]
+fn header_fault(octets: &[u8]) -> Option<Fault>
+    ensures { result ≡ header_fault octets.now }
+{
+    if octets.len() < HEADER_LEN {
+        return Some(Fault::ShortMessage);
+    }
+    // QR, of one bit, and the opcode, of four, stand above AA, TC and RD; RA and Z above RCODE, of four (RFC 1035 4.1.1).
+    if octets[2] >> 3 != 0b10000 {
+        Some(Fault::NotAResponse)
+    } else if octets[2] >> 1 & 1 != 0 {
+        Some(Fault::Truncated)
+    } else if octets[3] & 0x0f != 0 {
+        Some(Fault::ErrorCode(octets[3] & 0x0f))
+    } else if u16_at(octets, 4) > 1 || u16_at(octets, 8) != 0 {
+        Some(Fault::BadCounts)
+    } else {
+        None
+    }
+}
+
+/// The offset after the name at an offset.
+fn name_end(message: &[u8], offset: usize) -> Result<usize, Fault>
+    ensures { result ≡ name_end_of (outcome message.now (walk message.now offset)) }
+{
+    let mut ticks = Ticks::new();
+    let mut end = None;
+    let mut spot = Spot::outset(offset);
+    'places: loop {
+        match place_at(message, spot, &mut ticks) {
+            Standing::Outside => return Err(Fault::ShortMessage),
+            Standing::Bad(fault) => return Err(fault),
+            Standing::Root => return Ok(end.unwrap_or(spot.offset + 1)),
+            Standing::Label(size) => spot = spot.past_label(size),
+            Standing::Pointer(target) => {
+                end = Some(end.unwrap_or(spot.offset + 2));
+                spot = spot.past_pointer(target);
+            }
+        }
+    }
+}
+
+/// The offset after the question at an offset: its name, type and class (RFC 1035 4.1.2).
+fn question_end(message: &[u8], offset: usize) -> Result<usize, Fault>
+    ensures { result ≡ part_end_of (λ q. q.end) (question_at message.now offset) }
+{
+    let end = name_end(message, offset)?;
+    if message.len() - end < 4 {
+        return Err(Fault::ShortMessage);
+    }
+    Ok(end + 4)
+}
+
+/// The offset after the record at an offset: its name, type, class, TTL, and its data behind its length (RFC 1035 4.1.3).
+fn record_end(message: &[u8], offset: usize) -> Result<usize, Fault>
+    ensures { result ≡ part_end_of (λ r. r.end) (record_at message.now offset) }
+{
+    let end = name_end(message, offset)?;
+    if message.len() - end < 10 {
+        return Err(Fault::ShortMessage);
+    }
+    let start = end + 10;
+    let size = u16_at(message, end + 8) as usize;
+    if message.len() - start < size {
+        return Err(Fault::ShortMessage);
+    }
+    Ok(start + size)
+}
+
+/// The offset after so many questions, of which there is at most one.
+///
+/// # Errors
+///
+/// The question's fault and the offset at which it begins.
+fn questions_end(message: &[u8], count: u16, offset: usize) -> Result<usize, (Fault, usize)>
+    requires { count ≤ 1 }
+    ensures { result ≡ run_end_of (questions_from message.now count offset) }
+{
+    if count == 0 {
+        return Ok(offset);
+    }
+    match question_end(message, offset) {
+        Ok(end) => Ok(end),
+        Err(fault) => Err((fault, offset)),
+    }
+}
+
+/// The offset after so many records.
+///
+/// # Errors
+///
+/// The first fault and the offset at which its record begins.
+fn records_end(message: &[u8], count: u16, offset: usize) -> Result<usize, (Fault, usize)>
+    ensures { result ≡ run_end_of (records_from message.now count offset) }
+{
+    let mut end = offset;
+    for _ in 0..count {
+        end = match record_end(message, end) {
+            Ok(next) => next,
+            Err(fault) => return Err((fault, end)),
+        };
+    }
+    Ok(end)
+}
