@@ -16,6 +16,7 @@ mod items;
 mod messages;
 mod names;
 mod orders;
+mod parsing;
 mod pieces;
 mod readings;
 mod records;
