@@ -30,7 +30,7 @@ pub(super) trait Fed: RrSource + Drop {
 }
 
 /// More octets than a test feeds.
-const MOST: u64 = 1 << 30;
+pub(super) const MOST: u64 = 1 << 30;
 
 impl Fed for TextSource {
     fn begin(alloc: Global, origin: &Name) -> TextSource {
