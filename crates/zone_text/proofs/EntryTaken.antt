@@ -43,14 +43,14 @@ line_of octets old new pieces behind cut = behind.count ∙ ap (λ t. old.line +
 pub takes_nothing : (octets : List ℕ) (old new : EndedEntries) (result : Result (Option Record) Failing) → AnswersOctets octets old.defaults result new.defaults → result ≡ Ok None → old.decided.ending ≡ None → new.decided ≡ old.decided → IsLineBehind octets old new → ReadsOctets octets old new
 takes_nothing octets old new result answers e none same behind = record {
   reads = λ origin before pieces are cut.
-    let stated = rw e at (answers origin before old.line pieces are cut) in
-    record {
-      others = [];
-      read = gives_none stated.0 (refl, ap (λ d. d.ending) same ∙ none);
-      records = ap (λ d. d.placed.items) same ∙ sym (append-nil old.decided.placed.items);
-      defaults = λ _. stated.1;
-      line = λ _. line_of octets old new pieces behind cut;
-    };
+      let stated = rw e at (answers origin before old.line pieces are cut) in
+      record {
+        others = [];
+        read = gives_none stated.0 (refl, ap (λ d. d.ending) same ∙ none);
+        records = ap (λ d. d.placed.items) same ∙ sym (append-nil old.decided.placed.items);
+        defaults = λ _. stated.1;
+        line = λ _. line_of octets old new pieces behind cut;
+      };
   later = omega (arith, behind.count);
   near = omega (arith, behind.count, behind.few);
 }
@@ -60,14 +60,14 @@ takes_record octets old new result r answers e none same more behind =
     let p : Placed = record { rr = r; place = Line old.line } in
     record {
       reads = λ origin before pieces are cut.
-        let stated = rw e at (answers origin before old.line pieces are cut) in
-        record {
-          others = p ∷ [];
-          read = gives_one p [] stated.0 refl refl (refl, same ∙ none);
-          records = more;
-          defaults = λ _. stated.1;
-          line = λ _. line_of octets old new pieces behind cut;
-        };
+          let stated = rw e at (answers origin before old.line pieces are cut) in
+          record {
+            others = p ∷ [];
+            read = gives_one p [] stated.0 refl refl (refl, same ∙ none);
+            records = more;
+            defaults = λ _. stated.1;
+            line = λ _. line_of octets old new pieces behind cut;
+          };
       later = omega (arith, behind.count);
       near = omega (arith, behind.count, behind.few);
     }
@@ -75,14 +75,14 @@ takes_record octets old new result r answers e none same more behind =
 pub takes_fault : (octets : List ℕ) (old new : EndedEntries) (result : Result (Option Record) Failing) (fault : Fault) → AnswersOctets octets old.defaults result new.defaults → result ≡ Err (failing.Fault fault) → new.decided.ending ≡ Some (fault, Line old.line) → new.decided.placed.items ≡ old.decided.placed.items → IsLineBehind octets old new → ReadsOctets octets old new
 takes_fault octets old new result fault answers e ending same behind = record {
   reads = λ origin before pieces are cut.
-    let stated = rw e at (answers origin before old.line pieces are cut) in
-    record {
-      others = [];
-      read = refused fault stated refl ending;
-      records = same ∙ sym (append-nil old.decided.placed.items);
-      defaults = λ none. absurd (let t : ⊥ = cc in t);
-      line = λ none. absurd (let t : ⊥ = cc in t);
-    };
+      let stated = rw e at (answers origin before old.line pieces are cut) in
+      record {
+        others = [];
+        read = refused fault stated refl ending;
+        records = same ∙ sym (append-nil old.decided.placed.items);
+        defaults = λ none. absurd (let t : ⊥ = cc in t);
+        line = λ none. absurd (let t : ⊥ = cc in t);
+      };
   later = omega (arith, behind.count);
   near = omega (arith, behind.count, behind.few);
 }

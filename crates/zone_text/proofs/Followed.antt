@@ -43,13 +43,15 @@ pub record IsRead (origin : Labels) (ended : List (List Piece)) (entries : Ended
 pub is_read : (origin : Labels) (entries : EndedEntries) (unfinished fed : List ℕ) (given : List Placed) → entries.decided.ending ≡ None → Follow origin entries unfinished fed given → (ended : List (List Piece)) × IsRead origin ended entries unfinished fed given
 is_read origin entries unfinished fed given none follow =
     let leave : Leave origin fed entries.defaults entries.line unfinished = follow.leave none in
-    let found : Decided origin fed (given ++ entries.decided.placed.items) None = subst (λ e. Decided origin fed (given ++ entries.decided.placed.items) e) none follow.decided in
-    ((cut_from zero leave.octets.pieces).ended, record {
-      parts = split fed leave.octets.pieces unfinished leave.octets.are leave.octets.whole;
-      defaults = leave.inherited;
-      line = leave.numbered;
-      read = reads_so_far origin fed leave.octets.pieces (given ++ entries.decided.placed.items) found leave.octets.are;
-    })
+    let found : Decided origin fed (given ++ entries.decided.placed.items) None = subst (λ e. Decided origin fed (given ++ entries.decided.placed.items) e) none follow.decided in (
+      (cut_from zero leave.octets.pieces).ended,
+      record {
+        parts = split fed leave.octets.pieces unfinished leave.octets.are leave.octets.whole;
+        defaults = leave.inherited;
+        line = leave.numbered;
+        read = reads_so_far origin fed leave.octets.pieces (given ++ entries.decided.placed.items) found leave.octets.are;
+      },
+    )
 
 -- ---- the octets of the unfinished entry and others behind them
 
@@ -102,10 +104,10 @@ left_behind : (origin : Labels) (ended : List (List Piece)) (old new : EndedEntr
 left_behind origin ended old new unfinished part fed given pieces is one read none =
     let all : (cut_from zero (joined ended ++ pieces)).ended ≡ ended ++ pieces ∷ [] = one_ended ended pieces is.parts.stays one.ended in
     let octets : fed ++ part ≡ flat_map text (ended ++ pieces ∷ []) ++ [] =
-      whole_behind fed part ended unfinished is.parts
-      ∙ ap (λ t. flat_map text ended ++ t) one.cut.whole
-      ∙ flat_map_more text [] ended pieces
-      ∙ sym (append-nil (flat_map text (ended ++ pieces ∷ []))) in
+    whole_behind fed part ended unfinished is.parts
+    ∙ ap (λ t. flat_map text ended ++ t) one.cut.whole
+    ∙ flat_map_more text [] ended pieces
+    ∙ sym (append-nil (flat_map text (ended ++ pieces ∷ []))) in
     record {
       octets = record {
         pieces = joined ended ++ pieces;

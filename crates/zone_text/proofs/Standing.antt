@@ -13,6 +13,7 @@ use Rattle.zone_text.specs.FileReads.{FileReads}
 use Rattle.zone_text.specs.Given.{Ending}
 use Rattle.zone_rdata.specs.Source.{Pending, answer_of, first_answer, after, others}
 use Rattle.zone_rdata.specs.declared.fault.Stop.{Stop}
+use Rattle.zone_rdata.specs.declared.source.Reading.{Reading}
 use Rattle.zone_text.proofs.Followed.{Reads}
 use Rattle.zone_text.proofs.PartTaken.{FollowsOn}
 
@@ -124,3 +125,8 @@ stands_none origin old new fed given behind same answer stands =
 pub stands_stop : (origin : Labels) (old new : SourceState) (stop : Stop) (fed : List ℕ) (given : List Placed) → new.pending ≡ after old.pending → new.held ≡ old.held → answer_of old.pending ≡ Err stop → Stands origin old fed given → Stands origin new fed given
 stands_stop origin old new stop fed given behind same answer stands =
     none_given origin old new fed given behind same (answers_stop old.pending.records old.pending.ending stop (working old.pending (Err stop) stands.works answer)) stands
+
+-- ---- the whole file
+
+pub reads_whole : (origin : Labels) (source : SourceState) (reading : Reading) (octets : List ℕ) → source.held.finished ≡ true → Stands origin source octets [] → reading.placed.items ≡ source.pending.records → reading.ending ≡ source.pending.ending → FileReads origin octets reading.placed.items reading.ending
+reads_whole origin source reading octets ended stands records ending = rw (records, ending) (stands.read ended)

@@ -28,7 +28,7 @@ pub returns-clause-follow : goal.returns-clause-follow
 returns-clause-follow c =
     elim c.loop-self-test.branch [
       | then-loop-self-test+else-is_none w ↦
-        let found = some_found c.loop-self.self.ended.decided.ending w.if-is_none.ensures in
-        fed_fault c.args.self.now c.loop-self.self c.args.piece.now c.loop-self.rest.now found.0 c.loop-self.invariant found.1
+          let found = some_found c.loop-self.self.ended.decided.ending w.if-is_none.ensures in
+          fed_fault c.args.self.now c.loop-self.self c.args.piece.now c.loop-self.rest.now found.0 c.loop-self.invariant found.1
       | else-loop-self-test w ↦ fed_all c.args.self.now c.loop-self.self c.args.piece.now c.loop-self.rest.now c.loop-self.invariant (none_left c.loop-self.rest.now (length c.loop-self.rest.now) true refl w.loop-self-test.ensures refl)
     ]

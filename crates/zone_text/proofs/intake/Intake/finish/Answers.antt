@@ -23,6 +23,6 @@ returns-clause-reads c origin fed given follow =
     (elim c.if-is_none.branch [
       | then-is_none+in_ok-end_last w ↦ subst (λ (s : Intake). Reads origin fed given s.ended) (sym w.self-is) (w.in_ok-end_last.ensures.reads origin fed given follow)
       | else-is_none w ↦
-        let found = some_found c.args.self.now.ended.decided.ending w.if-is_none.ensures in
-        subst (λ (s : Intake). Reads origin fed given s.ended) (sym w.self-is) (end_of_fault origin c.args.self.now.ended found.0 c.args.self.now.unfinished.items fed given found.1 follow)
+          let found = some_found c.args.self.now.ended.decided.ending w.if-is_none.ensures in
+          subst (λ (s : Intake). Reads origin fed given s.ended) (sym w.self-is) (end_of_fault origin c.args.self.now.ended found.0 c.args.self.now.unfinished.items fed given found.1 follow)
     ])
