@@ -1,6 +1,6 @@
 -- What refuses a front of an input refuses all of it.
-use Rattle.std.proofs.Common.{◌≡◌, ℕ, ◌<◌, List, [], ◌∷◌, ◌++◌, refl, sym, ap, ◌∙◌, subst, append_assoc}
-use Rattle.std.specs.Prelude.{get_or, Option, Some, None}
+use Rattle.std.proofs.Common.{◌≡◌, ℕ, ◌<◌, List, ◌∷◌, ◌++◌, sym, ap, ◌∙◌, subst, append_assoc}
+use Rattle.std.specs.Prelude.{get_or, Option, Some}
 use Rattle.std.specs.List.{AllByRecursion}
 use Rattle.zone_name.specs.Name.{IsName}
 use Rattle.zone_rdata.specs.declared.fault.Fault.{Fault}
@@ -9,10 +9,10 @@ use Rattle.zone_rdata.specs.declared.record.Placed.{Placed}
 use Rattle.zone_text.specs.Decided as file_decides
 use Rattle.zone_text.specs.Decided.{Stays}
 use Rattle.zone_text.specs.FileReads.{FileReads}
-use Rattle.zone_set.specs.Refusal.{AllAccepted, IsFirstRefused, records_of}
+use Rattle.zone_set.specs.Refusal.{AllAccepted, IsFirstRefused}
 use Rattle.zone_wire.specs.Stream.{StreamReads}
 use Rattle.zone_wire.specs.Stream as stream_decides
-use Rattle.zonenorm.specs.Input.{InputForm, as_file, as_transfer, input_of, Decides, IsForm, Reads}
+use Rattle.zonenorm.specs.Input.{InputForm, as_file, as_transfer, input_of, Decides, IsForm}
 use Rattle.zonenorm.specs.Machine.Taking.{RefusesFront, by_record, by_ending, RefusesRead}
 use Rattle.zonenorm.specs.Refusal.{RefusesReading, refused, unread}
 use Rattle.zonenorm.proofs.Inputs.{octet_at}

@@ -12,3 +12,4 @@ pub mod Accepted
 pub mod Taken
 pub mod Feeding
 pub mod Written
+pub mod FedFiles

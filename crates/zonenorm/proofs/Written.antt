@@ -1,8 +1,7 @@
 -- From the zone that an input is read as to the canonical text that is written of it.
-use Rattle.std.proofs.Common.{◌≡◌, ℕ, ◌<◌, ◌≤◌, ◌-◌, ◌^◌, List, length, min, refl, inl, inr, Vec}
-use Rattle.std.specs.Prelude.{Option, Some, None, Result, Ok, Err, IfOk, OnOk}
-use Rattle.std.specs.Io.KnownBytes.{Appends, Keeps}
-use Rattle.std.specs.List.{AllByRecursion}
+use Rattle.std.proofs.Common.{◌≡◌, ℕ, ◌<◌, ◌≤◌, ◌-◌, ◌^◌, List, length, min, refl, inl, inr, Vec, Global}
+use Rattle.std.specs.Prelude.{Option, None, Result, Ok, Err, IfOk, OnOk}
+use Rattle.std.specs.Io.KnownBytes.{Appends}
 use Rattle.zone_name.specs.Common.{Octets}
 use Rattle.zone_rdata.specs.declared.fault.Fault.TheVariants.{ZoneTooLarge}
 use Rattle.zone_rdata.specs.declared.fault.Place.TheVariants.{Whole}
@@ -52,6 +51,6 @@ nothing_written limit text old new _ (printing.write front) = tt
 pub normalises : (input : Input) (z : Zone) → ReadsZoneWithin text_limit input z → ReadIsStated → IsInput input → (old new : Option Octets) (count : ℕ) → Appends old new (canon z) → length (canon z) ≤ text_limit → count ≡ min (length z.records) (2 ^ 64 - 1) → Normalises input old new count
 normalises input z reads stated is old new count written short counted = record { zone = z; denotes = denotes_zone input z reads stated is short; written = written; counted = counted }
 
-pub normalises_to : (input : Input) (z : Zone) → ReadsZoneWithin text_limit input z → ReadIsStated → IsInput input → (r : Result (Vec ℕ) Stop) → IfOk r (λ text. text.items ≡ canon z) → OnOk r (length (canon z) ≤ text_limit) → IfOk r (λ text. NormalisesTo input text.items)
+pub normalises_to : (input : Input) (z : Zone) → ReadsZoneWithin text_limit input z → ReadIsStated → IsInput input → (r : Result (Vec ℕ Global) Stop) → IfOk r (λ text. text.items ≡ canon z) → OnOk r (length (canon z) ≤ text_limit) → IfOk r (λ text. NormalisesTo input text.items)
 normalises_to input z reads stated is (Ok text) same short = record { zone = z; denotes = denotes_zone input z reads stated is short; canonical = same }
 normalises_to input z reads stated is (Err stop) same short = tt

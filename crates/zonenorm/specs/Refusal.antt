@@ -1,6 +1,6 @@
 -- Why an input is refused, and where: the first fault of a file (RFC 1035 5) or of a transfer (RFC 5936 2.2). The order
 -- of faults is this project's choice.
-use Rattle.std.specs.Prelude.{◌≡◌, ℕ, ◌<◌, ◌≤◌, List, [], ◌++◌, length, Option, Some, None, IfSome}
+use Rattle.std.specs.Prelude.{◌≡◌, ℕ, ◌<◌, ◌≤◌, List, length, Option, Some, None}
 use Rattle.zone_rdata.specs.declared.fault.Fault.{Fault}
 use Rattle.zone_rdata.specs.declared.fault.Fault.TheVariants.{ZoneTooLarge, InputTooLong}
 use Rattle.zone_rdata.specs.declared.fault.Place.{Place}

@@ -1,9 +1,10 @@
 ghost use Rattle.std.specs.Prelude.{◌≡◌, ◌+◌, ◌≤◌, length, IfOk, IfErr, IfSome};
 ghost use Rattle.std.specs.Io.KnownBytes.{Consumes};
 ghost use Rattle.zone_name.specs.Common.{Octets};
+ghost use Rattle.zone_name.specs.Name.{IsName};
 ghost use Rattle.zone_print.specs.Canonical.{text_limit};
 ghost use Rattle.zonenorm.specs.Form.{form_of};
-ghost use Rattle.zonenorm.specs.Input.{input_of, IsForm};
+ghost use Rattle.zonenorm.specs.Input.{file, input_of, IsForm};
 ghost use Rattle.zonenorm.specs.Machine.Stops.{IsOfReading};
 ghost use Rattle.zonenorm.specs.Machine.Taking.{ReadsZoneWithin};
 ghost use Rattle.zonenorm.specs.Normalise.{Normalises, NormalisesTo, WritesNothing, WritesPrefix, IsOfBytes};
@@ -14,10 +15,12 @@ use crate::input::{read_zone, zone_of_octets};
 use crate::laws::what_is_read_is_stated;
 use std::alloc::Global;
 use std::io::{Read, Write};
+use zone_name::Name;
 use zone_print::{TEXT_LIMIT, push_zone, write_zone};
 use zone_rdata::Stop;
 use zone_set::Zone;
 use zone_text::TextSource;
+use zone_text::laws::file::of_nothing_nothing_is_decided;
 
 /// Writes the canonical text of the zone that the reader's octets denote, and answers the number of its records. The
 /// reader is read to its end, or to the octet behind [`TEXT_LIMIT`], in pieces.
@@ -85,11 +88,29 @@ fn zone_of<R: Read>(alloc: Global, form: Form<'_>, reader: &mut R) -> Result<Zon
         × Consumes (R.remaining reader.old) (R.remaining reader.new) given }
 {
     match form {
-        Form::File(origin) => {
-            origin.known();
-            read_zone(alloc, &mut TextSource::new(alloc, origin), reader, TEXT_LIMIT)
-        }
+        Form::File(origin) => zone_of_file(alloc, origin, reader),
     }
+}
+
+/// `zone_of` for a master file.
+fn zone_of_file<R: Read>(alloc: Global, origin: &Name, reader: &mut R) -> Result<Zone, Stop>
+    ensures zone { IfOk result (λ z. IfSome (R.remaining reader.old) (λ octets.
+        ReadsZoneWithin text_limit (file origin.now octets) z)) }
+    ensures fault { IfErr result (λ stop. IfSome (R.remaining reader.old) (λ octets.
+        IfRefused stop (IsRefusal (file origin.now octets)))) }
+    ensures name { IsName origin.now }
+    ensures stopped { IfErr result IsOfReading }
+    ensures few { (given : Octets) × (length given ≤ text_limit + 1)
+        × Consumes (R.remaining reader.old) (R.remaining reader.new) given }
+{
+    origin.known();
+    of_nothing_nothing_is_decided();
+    read_zone(
+        alloc,
+        &mut TextSource::new(alloc, origin),
+        reader,
+        TEXT_LIMIT,
+    )
 }
 
 /// The zone of the records that the octets state.
@@ -106,9 +127,23 @@ fn zone_of_bytes(alloc: Global, form: Form<'_>, octets: &[u8]) -> Result<Zone, S
     ensures stopped { IfErr result IsOfBytes }
 {
     match form {
-        Form::File(origin) => {
-            origin.known();
-            zone_of_octets(alloc, &mut TextSource::new(alloc, origin), octets, TEXT_LIMIT)
-        }
+        Form::File(origin) => zone_of_file_bytes(alloc, origin, octets),
     }
+}
+
+/// `zone_of_bytes` for a master file.
+fn zone_of_file_bytes(alloc: Global, origin: &Name, octets: &[u8]) -> Result<Zone, Stop>
+    ensures zone { IfOk result (λ z. ReadsZoneWithin text_limit (file origin.now octets.now) z) }
+    ensures fault { IfErr result (λ stop. IfRefused stop (IsRefusal (file origin.now octets.now))) }
+    ensures name { IsName origin.now }
+    ensures stopped { IfErr result IsOfBytes }
+{
+    origin.known();
+    of_nothing_nothing_is_decided();
+    zone_of_octets(
+        alloc,
+        &mut TextSource::new(alloc, origin),
+        octets,
+        TEXT_LIMIT,
+    )
 }

@@ -73,7 +73,6 @@ pub(crate) trait FedSource: RrSource {
 }
 
 impl FedSource for TextSource {
-    ghost use Rattle.std.specs.Prelude.{refl, ap};
     ghost use Rattle.zone_text.specs.Source.{Held};
     ghost use Rattle.zonenorm.specs.Machine.Fed.{FileStands, file_decides, file_gives, file_reads};
 

@@ -1,5 +1,6 @@
 -- A source of a master file as one of the sources that are fed.
-use Rattle.std.specs.Prelude.{◌≡◌, ℕ, List, ◌++◌, Bool, true, false, subst, sym, ap, ◌∙◌, append_assoc}
+use Rattle.std.proofs.Common.{subst, sym, ap, ◌∙◌, append_assoc}
+use Rattle.std.specs.Prelude.{◌≡◌, List, ◌++◌, true, false}
 use Rattle.zone_name.specs.Common.{Octets}
 use Rattle.zone_rdata.specs.Source.{Pending}
 use Rattle.zone_rdata.specs.declared.record.Placed.{Placed}
