@@ -103,6 +103,7 @@ impl<'r> Taken<'r> {
                     self.count = self.count.wrapping_add(1);
                 }
                 Err(Stop::Refused(fault, place)) => return self.is_ending(alloc, &fault, place),
+                Err(Stop::Memory) => return Err(Fail::from("memory")),
                 _ => return Ok(false),
             }
         }
@@ -114,11 +115,12 @@ impl<'r> Taken<'r> {
         if !self.is_right(alloc, source)? || self.count != self.wanted.placed.len() {
             return Ok(false);
         }
-        Ok(match source.next() {
-            Ok(None) => self.wanted.ending.is_none(),
-            Err(Stop::Refused(..)) => self.wanted.ending.is_some(),
-            _ => false,
-        })
+        match source.next() {
+            Ok(None) => Ok(self.wanted.ending.is_none()),
+            Err(Stop::Refused(..)) => Ok(self.wanted.ending.is_some()),
+            Err(Stop::Memory) => Err(Fail::from("memory")),
+            _ => Ok(false),
+        }
     }
 }
 

@@ -99,6 +99,7 @@ fn refusal_line(alloc: Global, vector: &Vector) -> Result<String, Fail> {
     let answered = normalise_bytes(alloc, Form::File(&vector.origin()?), vector.file);
     let mut line = explain_line(alloc, &answered.err().ok_or("accepted")?)?;
     line.push('\n')?;
+    had_memory(line.as_bytes())?;
     Ok(line)
 }
 
