@@ -6,16 +6,23 @@ use zone_rdata::{Failing, Fault, Stop};
 
 mod addresses;
 mod answers;
-mod data;
 mod devices;
 mod explained;
+mod fed_files;
 mod files;
+mod generated;
 mod growth;
 mod items;
 mod messages;
 mod names;
 mod orders;
+mod parsing;
+mod pieces;
+mod readings;
 mod records;
+mod runs;
+mod scripts;
+mod vectors;
 mod wire;
 mod words;
 mod zones;
@@ -35,6 +42,21 @@ fn first_wrong<C: Case>(alloc: Global, cases: &[C]) -> Result<Option<usize>, Fai
     for (at, case) in cases.iter().enumerate() {
         if !case.is_right(alloc)? {
             return Ok(Some(at));
+        }
+    }
+    Ok(None)
+}
+
+/// A row that has a name.
+trait Named: Case {
+    fn name(&self) -> &'static str;
+}
+
+/// The name of the first row that gets another answer.
+fn first_wrong_name<C: Named>(alloc: Global, cases: &[C]) -> Result<Option<&'static str>, Fail> {
+    for case in cases {
+        if !case.is_right(alloc)? {
+            return Ok(Some(case.name()));
         }
     }
     Ok(None)

@@ -1,5 +1,4 @@
 //! Addresses of IPv4 and IPv6, and the short text of the latter (RFC 1035 3.4.1, RFC 4291 2.2, RFC 5952 4).
-use crate::tests::data::{BAD_RDATA, BadLine, Lines};
 use crate::tests::first_wrong;
 use crate::tests::items::Stated;
 use std::test::Fail;
@@ -92,77 +91,5 @@ static IPV4: [Stated; 12] = [
 #[test]
 fn addresses_of_ipv4(rt: HostRuntime) -> Result<(), Fail> {
     assert_eq!(rt; first_wrong(rt.alloc(), &IPV4)?, None);
-    Ok(())
-}
-
-/// Data of type AAAA and its short form (RFC 5952).
-static GROUPS: [Lines; 14] = [
-    Lines(
-        "@ 60 IN MX 010 M\nv 60 IN AAAA ::FFFF:10.0.0.1\n",
-        "x. 60 IN MX 10 m.x.\nv.x. 60 IN AAAA ::ffff:a00:1\n",
-    ),
-    Lines("v 60 IN AAAA 0:0:0:0:0:0:0:0\n", "v.x. 60 IN AAAA ::\n"),
-    Lines("v 60 IN AAAA 1:0:0:0:0:0:0:0\n", "v.x. 60 IN AAAA 1::\n"),
-    Lines(
-        "v 60 IN AAAA 0:0:0:1:0:0:0:1\n",
-        "v.x. 60 IN AAAA ::1:0:0:0:1\n",
-    ),
-    Lines(
-        "v 60 IN AAAA 1:0:0:2:0:0:0:3\n",
-        "v.x. 60 IN AAAA 1:0:0:2::3\n",
-    ),
-    Lines(
-        "v 60 IN AAAA 1:0:2:3:4:5:6:7\n",
-        "v.x. 60 IN AAAA 1:0:2:3:4:5:6:7\n",
-    ),
-    Lines(
-        "v 60 IN AAAA 1::2:3:4:5:6:7\n",
-        "v.x. 60 IN AAAA 1:0:2:3:4:5:6:7\n",
-    ),
-    Lines(
-        "v 60 IN AAAA 0:1:2:3:4:5:0:0\n",
-        "v.x. 60 IN AAAA 0:1:2:3:4:5::\n",
-    ),
-    Lines(
-        "v 60 IN AAAA 2001:0DB8::0001\n",
-        "v.x. 60 IN AAAA 2001:db8::1\n",
-    ),
-    Lines(
-        "v 60 IN AAAA 1:2:3:4:5:6:7::\n",
-        "v.x. 60 IN AAAA 1:2:3:4:5:6:7:0\n",
-    ),
-    Lines(
-        "v 60 IN AAAA ::2:3:4:5:6:7:8\n",
-        "v.x. 60 IN AAAA 0:2:3:4:5:6:7:8\n",
-    ),
-    Lines(
-        "v 60 IN AAAA 1:2:3:4:5:6:010.0.0.1\n",
-        "v.x. 60 IN AAAA 1:2:3:4:5:6:a00:1\n",
-    ),
-    Lines(
-        "v 60 IN AAAA 1:2:0:0:3:4:5:6\n",
-        "v.x. 60 IN AAAA 1:2::3:4:5:6\n",
-    ),
-    Lines(
-        "v 60 IN AAAA \\# 16 20010db8000000000000000000000001\n",
-        "v.x. 60 IN AAAA 2001:db8::1\n",
-    ),
-];
-
-/// Data of type AAAA that is no address.
-static BAD_GROUPS: [BadLine; 7] = [
-    BadLine("v 60 IN AAAA 1:2:3:4:5:6:7::8\n", BAD_RDATA),
-    BadLine("v 60 IN AAAA 1::2::3\n", BAD_RDATA),
-    BadLine("v 60 IN AAAA 12345::\n", BAD_RDATA),
-    BadLine("v 60 IN AAAA :::\n", BAD_RDATA),
-    BadLine("v 60 IN AAAA 1:2:3:4:5:6:7\n", BAD_RDATA),
-    BadLine("v 60 IN AAAA ::ffff:10.0.0.256\n", BAD_RDATA),
-    BadLine("v 60 IN AAAA ::10.0.0.1:1\n", BAD_RDATA),
-];
-
-#[test]
-fn addresses_in_files(rt: HostRuntime) -> Result<(), Fail> {
-    assert_eq!(rt; first_wrong(rt.alloc(), &GROUPS)?, None);
-    assert_eq!(rt; first_wrong(rt.alloc(), &BAD_GROUPS)?, None);
     Ok(())
 }

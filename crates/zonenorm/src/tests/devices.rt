@@ -11,7 +11,7 @@ use zone_name::Name;
 use zone_print::write_zone;
 use zone_rdata::Stop;
 
-const FILE: &[u8] = b"x. 3600 IN NS n.x.\nx. 3600 IN SOA n.x. h.x. 1 2 3 4 5\n";
+const FILE: &[u8] = b"$TTL 1h\n@ SOA N h 1 2 3 4 5\n  NS n\n";
 
 const TEXT: &[u8] = b"x. 3600 IN SOA n.x. h.x. 1 2 3 4 5\nx. 3600 IN NS n.x.\n";
 
@@ -21,9 +21,9 @@ fn order() -> Result<Order, Fail> {
 
 /// A reader that answers an error after its octets.
 #[derive(Drop)]
-struct Breaking {
-    left: &'static [u8],
-    error: ErrorKind,
+pub(super) struct Breaking {
+    pub(super) left: &'static [u8],
+    pub(super) error: ErrorKind,
 }
 
 impl Read for Breaking {
@@ -32,6 +32,23 @@ impl Read for Breaking {
             return Err(io::Error::from(self.error));
         }
         self.left.read(buf)
+    }
+}
+
+/// A reader that gives its octets one at a time.
+#[derive(Drop)]
+pub(super) struct Sparing {
+    pub(super) left: &'static [u8],
+}
+
+impl Read for Sparing {
+    fn read(&mut self, buf: &mut [u8]) -> io::Result<usize> {
+        let (mut first, rest) = self.left.split_at(self.left.len().min(1));
+        let count = first.read(buf)?;
+        if count > 0 {
+            self.left = rest;
+        }
+        Ok(count)
     }
 }
 
@@ -51,7 +68,13 @@ impl Case for Broken {
     }
 }
 
-static BROKEN: [Broken; 3] = [
+static BROKEN: [Broken; 6] = [
+    Broken(b"$TTL 1h\n@ ", ErrorKind::Other),
+    Broken(b"$TTL 1h\n@ ", ErrorKind::Interrupted),
+    Broken(
+        b"@ 60 SOA n h 1 2 3 4 5\na 300 A 10.0.0.1\na 600 A 10.0.0.2\n",
+        ErrorKind::Other,
+    ),
     Broken(b"x. 60 IN N", ErrorKind::Other),
     Broken(b"x. 60 IN N", ErrorKind::Interrupted),
     Broken(b"x. 60 IN NS n.x.\nx. 61 IN NS m.x.\n", ErrorKind::Other),

@@ -1,5 +1,6 @@
 //! Master files as records, and the first fault (RFC 1035 5.1).
-use crate::tests::{Case, first_wrong, is_explained};
+use crate::tests::readings::{Given, is_read};
+use crate::tests::{Case, Named, first_wrong, first_wrong_name, is_explained};
 use std::alloc::Global;
 use std::test::Fail;
 use zone_name::Name;
@@ -46,7 +47,7 @@ fn are_recorded(reading: Reading, records: &[Recorded]) -> bool {
     wanted.next().is_none()
 }
 
-static FILED: [Filed; 3] = [
+static FILED: [Filed; 9] = [
     Filed(
         b"x. 3600 IN NS n.x.\nx. 3600 IN SOA n.x. h.x. 1 2 3 4 5\n",
         &[
@@ -64,6 +65,18 @@ static FILED: [Filed; 3] = [
             Recorded(1, 2, b"\x01n\x01x\x00"),
             Recorded(2, 2, b"\x01n\x01x\x00"),
         ],
+    ),
+    Filed(b"\n", &[]),
+    Filed(b" \n", &[]),
+    Filed(b"$TTL 3600\n", &[]),
+    Filed(b"x. 3600 IN NS n.x.", &[Recorded(1, 2, b"\x01n\x01x\x00")]),
+    Filed(
+        b"x. IN 3600 NS n.x. ; comment\n",
+        &[Recorded(1, 2, b"\x01n\x01x\x00")],
+    ),
+    Filed(
+        b"x. 3600 IN NS ( n.x. )\n",
+        &[Recorded(1, 2, b"\x01n\x01x\x00")],
     ),
     Filed(
         b"x. 3600 IN NS \\ \\;.x.\nx. 3600 IN NS \x00\xff.x.\n",
@@ -87,7 +100,7 @@ impl Case for Refused {
     }
 }
 
-static REFUSED: [Refused; 22] = [
+static REFUSED: [Refused; 15] = [
     Refused(
         b"x. 60 IN NS n.x.\na..x. 60 IN NS n.x.\nb 60 IN NS n.x.\n",
         1,
@@ -112,21 +125,67 @@ static REFUSED: [Refused; 22] = [
         0,
         "F13 BadNumber at line 1",
     ),
-    Refused(b"\n", 0, "F0 NotYet at line 1"),
-    Refused(b" \n", 0, "F0 NotYet at line 1"),
-    Refused(b" NS n.x.\n", 0, "F0 NotYet at line 1"),
-    Refused(b"x. 60 IN NS n.x.", 0, "F0 NotYet at line 1"),
-    Refused(b"$TTL 3600\n", 0, "F0 NotYet at line 1"),
-    Refused(b"x. NS n.x.\n", 0, "F0 NotYet at line 1"),
-    Refused(b"x. IN 60 NS n.x.\n", 0, "F0 NotYet at line 1"),
-    Refused(b"x. 60 IN NS n.x. ; comment\n", 0, "F0 NotYet at line 1"),
-    Refused(b"x. 60 IN NS ( n.x. )\n", 0, "F0 NotYet at line 1"),
-    Refused(b"x. 60 IN NS \"n.x.\"\n", 0, "F0 NotYet at line 1"),
+    Refused(b" NS n.x.\n", 0, "F19 NoOwner at line 1"),
+    Refused(b"x. NS n.x.\n", 0, "F20 NoTtl at line 1"),
+    Refused(b"x. 60 IN NS \"n.x.\"\n", 0, "F9 BadRdata at line 1"),
 ];
 
 #[test]
 fn files_as_records(rt: HostRuntime) -> Result<(), Fail> {
     assert_eq!(rt; first_wrong(rt.alloc(), &FILED)?, None);
     assert_eq!(rt; first_wrong(rt.alloc(), &REFUSED)?, None);
+    Ok(())
+}
+
+/// A file under an origin, the records before its first fault, and that fault.
+struct Read {
+    name: &'static str,
+    origin: &'static [u8],
+    file: &'static [u8],
+    placed: &'static [Given],
+    ending: Option<&'static str>,
+}
+
+impl Case for Read {
+    fn is_right(&self, alloc: Global) -> Result<bool, Fail> {
+        let origin = Name::from_text(self.origin, None)?;
+        let reading = read_file(alloc, &origin, self.file)?;
+        is_read(alloc, &reading, self.placed, self.ending)
+    }
+}
+
+impl Named for Read {
+    fn name(&self) -> &'static str {
+        self.name
+    }
+}
+
+static READ: [Read; 2] = [
+    Read {
+        name: "reader_of_a_file_gives_the_records_before_a_fault",
+        origin: b"x.",
+        file: b"@ 60 SOA n h 1 2 3 4 5\na 60 A 10.0.0.1\nb 60 TXT \"\n",
+        placed: &[
+            Given(b"x. 60 IN SOA n.x. h.x. 1 2 3 4 5", Place::Line(1)),
+            Given(b"a.x. 60 IN A 10.0.0.1", Place::Line(2)),
+        ],
+        ending: Some("F14 UnclosedQuote at line 3"),
+    },
+    Read {
+        name: "reader_of_a_file_gives_every_record",
+        origin: b"x.",
+        file: b"a 300 A 10.0.0.1\na 300 A 10.0.0.1\na 600 A 10.0.0.2\n",
+        placed: &[
+            Given(b"a.x. 300 IN A 10.0.0.1", Place::Line(1)),
+            Given(b"a.x. 300 IN A 10.0.0.1", Place::Line(2)),
+            Given(b"a.x. 600 IN A 10.0.0.2", Place::Line(3)),
+        ],
+        ending: None,
+    },
+];
+
+#[test]
+fn files_are_read(rt: HostRuntime) -> Result<(), Fail> {
+    assert_eq!(rt; first_wrong_name(rt.alloc(), &READ)?, None);
     Ok(())
 }

@@ -1,11 +1,11 @@
 //! Names in messages (RFC 1035 4.1.4).
-use crate::tests::{Case, fault_name, first_wrong};
+use crate::tests::{Case, Named, fault_name, first_wrong_name};
 use std::alloc::Global;
 use std::test::Fail;
 use zone_wire::name_at;
 
 /// A name's octets, the offset after it and its steps; or the fault, and the steps made.
-type Found = Result<(&'static [u8], usize, u16), (&'static str, u16)>;
+type Found<'f> = Result<(&'f [u8], usize, u16), (&'static str, u16)>;
 
 /// Whether this is found at the offset of a message.
 fn is_found(alloc: Global, message: &[u8], offset: usize, found: Found) -> Result<bool, Fail> {
@@ -20,76 +20,190 @@ fn is_found(alloc: Global, message: &[u8], offset: usize, found: Found) -> Resul
     }
 }
 
-/// A message, an offset, and what is found there.
-struct InMessage(&'static [u8], usize, Found);
+/// What is behind the header of a message, an offset, and what is found there.
+struct InMessage {
+    name: &'static str,
+    behind: &'static [u8],
+    offset: usize,
+    found: Found<'static>,
+}
 
 impl Case for InMessage {
     fn is_right(&self, alloc: Global) -> Result<bool, Fail> {
-        is_found(alloc, self.0, self.1, self.2)
+        let mut message = Vec::new(alloc);
+        message.resize(12, 0)?;
+        message.extend_from_slice(self.behind)?;
+        is_found(alloc, &message, self.offset, self.found)
     }
 }
 
-static IN_MESSAGES: [InMessage; 7] = [
-    InMessage(
-        b"\0\0\0\0\0\0\0\0\0\0\0\0\x01X\0\x01A\xc0\x0c",
-        15,
-        Ok((b"\x01a\x01x\0", 19, 4)),
-    ),
-    InMessage(b"\0\0\0\0\0\0\0\0\0\0\0\0\0", 12, Ok((b"\0", 13, 1))),
-    InMessage(
-        b"\0\0\0\0\0\0\0\0\0\0\0\0\xc0\x0c",
-        12,
-        Err(("BadPointer", 1)),
-    ),
-    InMessage(
-        b"\0\0\0\0\0\0\0\0\0\0\0\0\xc0\x0b",
-        12,
-        Err(("BadPointer", 1)),
-    ),
-    InMessage(
-        b"\0\0\0\0\0\0\0\0\0\0\0\0\x05a",
-        12,
-        Err(("ShortMessage", 1)),
-    ),
-    InMessage(b"\0\0\0\0\0\0\0\0\0\0\0\0", 12, Err(("ShortMessage", 0))),
-    InMessage(
-        b"\0\0\0\0\0\0\0\0\0\0\0\0\x40",
-        12,
-        Err(("ReservedLabel", 1)),
-    ),
+impl Named for InMessage {
+    fn name(&self) -> &'static str {
+        self.name
+    }
+}
+
+static IN_MESSAGES: [InMessage; 11] = [
+    InMessage {
+        name: "pointer_to_itself",
+        behind: b"\xc0\x0c",
+        offset: 12,
+        found: Err(("BadPointer", 1)),
+    },
+    InMessage {
+        name: "pointer_back_into_its_own_run_of_labels",
+        behind: b"\x01a\xc0\x0c",
+        offset: 12,
+        found: Err(("BadPointer", 2)),
+    },
+    InMessage {
+        name: "pointer_into_the_header",
+        behind: b"\xc0\x0b",
+        offset: 12,
+        found: Err(("BadPointer", 1)),
+    },
+    InMessage {
+        name: "label_runs_past_the_message",
+        behind: b"\x05a",
+        offset: 12,
+        found: Err(("ShortMessage", 1)),
+    },
+    InMessage {
+        name: "name_ends_after_a_label",
+        behind: b"\x01a",
+        offset: 12,
+        found: Err(("ShortMessage", 1)),
+    },
+    InMessage {
+        name: "reserved_label_form",
+        behind: b"@",
+        offset: 12,
+        found: Err(("ReservedLabel", 1)),
+    },
+    InMessage {
+        name: "half_a_pointer",
+        behind: b"\xc0",
+        offset: 12,
+        found: Err(("ShortMessage", 1)),
+    },
+    InMessage {
+        name: "root_octet_alone",
+        behind: b"\0",
+        offset: 12,
+        found: Ok((b"\0", 13, 1)),
+    },
+    InMessage {
+        name: "offset_at_the_end_of_the_message",
+        behind: b"",
+        offset: 12,
+        found: Err(("ShortMessage", 0)),
+    },
+    InMessage {
+        name: "second_reserved_label_form",
+        behind: b"\x80",
+        offset: 12,
+        found: Err(("ReservedLabel", 1)),
+    },
+    InMessage {
+        name: "letters_of_a_wire_name_are_folded",
+        behind: b"\x01X\0\x01A\xc0\x0c",
+        offset: 15,
+        found: Ok((b"\x01a\x01x\0", 19, 4)),
+    },
 ];
 
-/// How many pointers a chain has, an offset in it, and what is found there.
-struct InChain(u16, usize, Found);
+/// A message with a name of so many labels `a` at offset 12, behind it so many pointers, and other octets behind them; an
+/// offset; and what is found there: that name and the offset after it, or the fault; and the steps.
+struct InChain {
+    name: &'static str,
+    labels: usize,
+    pointers: u16,
+    behind: &'static [u8],
+    offset: usize,
+    found: Result<(usize, u16), (&'static str, u16)>,
+}
 
-/// So many pointers behind a header and a root: the first to the root, each other one to the one before it.
-fn chain(alloc: Global, pointers: u16) -> Result<Vec<u8>, Fail> {
-    let mut message = Vec::new(alloc);
-    message.extend_from_slice(b"\0\0\0\0\0\0\0\0\0\0\0\0\0")?;
+/// A name of so many labels `a`.
+fn labels(alloc: Global, count: usize) -> Result<Vec<u8>, Fail> {
+    let mut name = Vec::new(alloc);
+    for _ in 0..count {
+        name.extend_from_slice(b"\x01a")?;
+    }
+    name.push(0)?;
+    Ok(name)
+}
+
+/// Appends so many pointers: the first to the name at offset 12, each other one to the one before it.
+fn push_pointers(message: &mut Vec<u8>, count: u16) -> Result<(), Fail> {
     let mut target: u16 = 12;
-    let mut offset: u16 = 13;
-    for _ in 0..pointers {
+    for _ in 0..count {
+        let offset = u16::try_from(message.len())?;
         message.extend_from_slice(&(0xc000 | target).to_be_bytes())?;
         target = offset;
-        offset = offset.wrapping_add(2);
     }
-    Ok(message)
+    Ok(())
 }
 
 impl Case for InChain {
     fn is_right(&self, alloc: Global) -> Result<bool, Fail> {
-        is_found(alloc, &chain(alloc, self.0)?, self.1, self.2)
+        let name = labels(alloc, self.labels)?;
+        let mut message = Vec::new(alloc);
+        message.resize(12, 0)?;
+        message.extend_from_slice(&name)?;
+        push_pointers(&mut message, self.pointers)?;
+        message.extend_from_slice(self.behind)?;
+        let found = match self.found {
+            Ok((end, steps)) => Ok((name.as_slice(), end, steps)),
+            Err(fault) => Err(fault),
+        };
+        is_found(alloc, &message, self.offset, found)
     }
 }
 
-static IN_CHAINS: [InChain; 2] = [
-    InChain(128, 267, Ok((b"\0", 269, 129))),
-    InChain(129, 269, Err(("TooManyPointers", 129))),
+impl Named for InChain {
+    fn name(&self) -> &'static str {
+        self.name
+    }
+}
+
+static IN_CHAINS: [InChain; 4] = [
+    InChain {
+        name: "chain_of_128_pointers",
+        labels: 0,
+        pointers: 129,
+        behind: b"",
+        offset: 267,
+        found: Ok((269, 129)),
+    },
+    InChain {
+        name: "chain_of_129_pointers",
+        labels: 0,
+        pointers: 129,
+        behind: b"",
+        offset: 269,
+        found: Err(("TooManyPointers", 129)),
+    },
+    InChain {
+        name: "greatest_count_of_steps",
+        labels: 127,
+        pointers: 128,
+        behind: b"",
+        offset: 521,
+        found: Ok((523, 256)),
+    },
+    InChain {
+        name: "label_too_many_behind_a_pointer",
+        labels: 127,
+        pointers: 128,
+        behind: b"\x01a\xc0\x0c",
+        offset: 523,
+        found: Err(("NameTooLong", 129)),
+    },
 ];
 
 #[test]
 fn names_in_messages(rt: HostRuntime) -> Result<(), Fail> {
-    assert_eq!(rt; first_wrong(rt.alloc(), &IN_MESSAGES)?, None);
-    assert_eq!(rt; first_wrong(rt.alloc(), &IN_CHAINS)?, None);
+    assert_eq!(rt; first_wrong_name(rt.alloc(), &IN_MESSAGES)?, None);
+    assert_eq!(rt; first_wrong_name(rt.alloc(), &IN_CHAINS)?, None);
     Ok(())
 }

@@ -1,0 +1,180 @@
+//! Files that are too long to be written out, and inputs that have no end.
+use crate::form::Form;
+use crate::input::read_zone;
+use crate::normalise_bytes;
+use crate::tests::{Case, Named, first_wrong_name, is_explained};
+use std::alloc::{AllocError, Global};
+use std::io;
+use std::io::Read;
+use std::test::Fail;
+use zone_name::Name;
+use zone_text::TextSource;
+
+/// How many owners a file has.
+const OWNERS: u64 = 1000;
+
+/// Appends the line of an address whose owner is `a` with this number and what is behind it.
+fn push_address(
+    alloc: Global,
+    file: &mut Vec<u8>,
+    number: u64,
+    behind: &str,
+) -> Result<(), AllocError> {
+    let line = format!(in alloc; "a{number}{behind} A 10.0.0.1\n")?;
+    file.extend_from_slice(line.as_bytes())
+}
+
+/// The owners from the highest number down, behind the SOA.
+fn descending(alloc: Global) -> Result<Vec<u8>, AllocError> {
+    let mut file = Vec::new(alloc);
+    file.extend_from_slice(b"@ 60 SOA n h 1 2 3 4 5\n")?;
+    for number in 0..OWNERS {
+        push_address(alloc, &mut file, 999u64.wrapping_sub(number), " 60")?;
+    }
+    Ok(file)
+}
+
+/// The owners from the lowest number up, before the SOA.
+fn ascending(alloc: Global) -> Result<Vec<u8>, AllocError> {
+    let mut file = Vec::new(alloc);
+    for number in 0..OWNERS {
+        push_address(alloc, &mut file, number, " 60")?;
+    }
+    file.extend_from_slice(b"@ 60 SOA n h 1 2 3 4 5\n")?;
+    Ok(file)
+}
+
+/// The number below 1000 whose digits are the next in the order of texts, in which 1, 10 and 100 come before 11.
+fn after(number: u64) -> u64 {
+    if number == 0 {
+        return 1;
+    }
+    if number < 100 {
+        return number.wrapping_mul(10);
+    }
+    if number % 10 != 9 {
+        return number.wrapping_add(1);
+    }
+    match number / 10 % 10 {
+        9 => (number / 100).wrapping_add(1),
+        _ => (number / 10).wrapping_add(1),
+    }
+}
+
+/// The canonical text of both files.
+fn canonical(alloc: Global) -> Result<Vec<u8>, AllocError> {
+    let mut text = Vec::new(alloc);
+    text.extend_from_slice(b"x. 60 IN SOA n.x. h.x. 1 2 3 4 5\n")?;
+    let mut number = 0;
+    for _ in 0..OWNERS {
+        push_address(alloc, &mut text, number, ".x. 60 IN")?;
+        number = after(number);
+    }
+    Ok(text)
+}
+
+/// What `normalise_bytes` makes of a file under the origin `x.`.
+fn text_of(alloc: Global, file: &[u8]) -> Result<Vec<u8>, Fail> {
+    let origin = Name::from_text(b"x.", None)?;
+    Ok(normalise_bytes(alloc, Form::File(&origin), file)?)
+}
+
+#[test]
+fn a_thousand_owners_are_sorted(rt: HostRuntime) -> Result<(), Fail> {
+    let text = canonical(rt.alloc())?;
+    let descending = text_of(rt.alloc(), &descending(rt.alloc())?)?;
+    let ascending = text_of(rt.alloc(), &ascending(rt.alloc())?)?;
+    assert_eq!(rt; text.len(), 24923);
+    assert!(rt; descending.as_slice() == text.as_slice());
+    assert!(rt; ascending.as_slice() == text.as_slice());
+    Ok(())
+}
+
+#[test]
+fn a_million_open_parentheses(rt: HostRuntime) -> Result<(), Fail> {
+    let mut file = Vec::new(rt.alloc());
+    file.resize(1_000_000, b'(')?;
+    let origin = Name::from_text(b"x.", None)?;
+    let answered = normalise_bytes(rt.alloc(), Form::File(&origin), &file);
+    let stop = answered.err().ok_or("accepted")?;
+    assert!(rt; is_explained(rt.alloc(), &stop, "F15 UnbalancedParenthesis at line 1")?);
+    Ok(())
+}
+
+/// A reader that gives its octets and then line feeds without an end.
+#[derive(Drop)]
+struct Endless {
+    left: &'static [u8],
+    /// How many octets it gave.
+    given: u64,
+}
+
+impl Read for Endless {
+    fn read(&mut self, buf: &mut [u8]) -> io::Result<usize> {
+        let count = if self.left.is_empty() {
+            buf.fill(b'\n');
+            buf.len()
+        } else {
+            self.left.read(buf)?
+        };
+        self.given = self.given.wrapping_add(count as u64);
+        Ok(count)
+    }
+}
+
+/// A front of an endless file under the origin `x.`, and the most octets that an input may have.
+struct Unending {
+    name: &'static str,
+    front: &'static [u8],
+    limit: u64,
+}
+
+impl Case for Unending {
+    fn is_right(&self, alloc: Global) -> Result<bool, Fail> {
+        let mut reader = Endless {
+            left: self.front,
+            given: 0,
+        };
+        let mut source = TextSource::new(alloc, &Name::from_text(b"x.", None)?);
+        let limit = self.limit.min(100_000);
+        let answered = read_zone(alloc, &mut source, &mut reader, limit);
+        let stop = answered.err().ok_or("accepted")?;
+        let is_so = is_explained(alloc, &stop, "F45 InputTooLong in the input")?;
+        Ok(is_so && reader.given == limit.wrapping_add(1))
+    }
+}
+
+impl Named for Unending {
+    fn name(&self) -> &'static str {
+        self.name
+    }
+}
+
+static UNENDING: [Unending; 4] = [
+    Unending {
+        name: "line_feeds_for_ever",
+        front: b"",
+        limit: 1000,
+    },
+    Unending {
+        name: "soa_and_then_line_feeds_for_ever",
+        front: b"@ 60 SOA n h 1 2 3 4 5\n",
+        limit: 1000,
+    },
+    Unending {
+        name: "line_feeds_for_ever_in_many_pieces",
+        front: b"",
+        limit: 70_000,
+    },
+    Unending {
+        name: "fault_and_then_line_feeds_for_ever",
+        front: b")",
+        limit: 1000,
+    },
+];
+
+#[test]
+fn endless_inputs_are_too_long(rt: HostRuntime) -> Result<(), Fail> {
+    assert_eq!(rt; first_wrong_name(rt.alloc(), &UNENDING)?, None);
+    Ok(())
+}
