@@ -21,6 +21,7 @@ fn is_wanted(
 ) -> Result<bool, Fail> {
     match (answered, answer) {
         (Ok(text), Answer::Text(wanted)) => Ok(text.as_slice() == *wanted),
+        (Err(Stop::Memory), _) => Err(Fail::from("memory")),
         (Err(stop), Answer::Refused(front)) => is_explained(alloc, &stop, front),
         _ => Ok(false),
     }
@@ -59,6 +60,7 @@ impl Question for OfAReader {
             (Ok(count), Answer::Text(wanted)) => {
                 Ok(written.as_slice() == *wanted && count == line_count(wanted))
             }
+            (Err(Stop::Memory), _) => Err(Fail::from("memory")),
             (Err(stop), Answer::Refused(front)) => {
                 Ok(written.is_empty() && is_explained(alloc, &stop, front)?)
             }
