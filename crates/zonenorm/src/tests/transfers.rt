@@ -29,6 +29,7 @@ fn is_wanted(
 ) -> Result<bool, Fail> {
     match (answered, answer) {
         (Ok(text), Answer::Text(wanted)) => Ok(text.as_slice() == *wanted),
+        (Err(Stop::Memory), _) => Err(Fail::from("memory")),
         (Err(stop), Answer::Refused(front)) => is_explained(alloc, &stop, front),
         _ => Ok(false),
     }
