@@ -22,6 +22,8 @@ mod readings;
 mod records;
 mod runs;
 mod scripts;
+mod streams;
+mod transfers;
 mod vectors;
 mod wire;
 mod words;
