@@ -9,6 +9,8 @@ use std::test::Fail;
 enum Given {
     /// An order to normalise, with this origin.
     Origin(&'static [u8]),
+    /// An order to normalise a transfer.
+    Transfer,
     BadOrigin,
     Clap,
 }
@@ -44,6 +46,7 @@ impl Case for Line {
                 name.push_text(&mut spelling)?;
                 Ok(spelling.as_slice() == text)
             }
+            (Ok(Order::Normalise(None)), Given::Transfer) => Ok(true),
             (Err(LineFault::Memory), _) => Err(Fail::from("memory")),
             (Err(fault), given) => Ok(is_told(&fault, given)),
             _ => Ok(false),
@@ -60,7 +63,7 @@ static LINES: [Line; 16] = [
     Line(&["normalise", "@"], Given::BadOrigin),
     Line(&["normalise", "a.."], Given::BadOrigin),
     Line(&["normalise", "Transfer"], Given::BadOrigin),
-    Line(&["normalise", "transfer"], Given::BadOrigin),
+    Line(&["normalise", "transfer"], Given::Transfer),
     Line(&["normalise", ""], Given::BadOrigin),
     Line(&[], Given::Clap),
     Line(&["sort", "x."], Given::Clap),

@@ -85,7 +85,7 @@ struct Run {
 
 /// What a run over a reader does.
 fn ran<R: Read>(alloc: Global, origin: Name, reader: &mut R) -> Result<Run, Fail> {
-    let order = Order::Normalise(origin);
+    let order = Order::Normalise(Some(origin));
     let (mut output, mut told) = (roomy(alloc)?, roomy(alloc)?);
     let status = run(alloc, &order, reader, &mut output, &mut told);
     had_memory(&told)?;
