@@ -2,7 +2,7 @@
 use crate::tests::transfers::Stream;
 use crate::tests::vectors::Answer;
 
-pub(super) static FIRST: [Stream; 7] = [
+pub(super) static FIRST_STREAMS: [Stream; 7] = [
     Stream {
         name: "small_transfer_gives_two_lines",
         octets: "006d00018400000100030000000001780000fc0001c00c0006000100000e10001c016ec00c0168c00c0000000100000002000000030000000400000005c00c0002000100000e100002c01fc00c0006000100000e100018c01fc0230000000100000002000000030000000400000005",
@@ -42,7 +42,7 @@ pub(super) static FIRST: [Stream; 7] = [
     },
 ];
 
-pub(super) static SECOND: [Stream; 7] = [
+pub(super) static SECOND_STREAMS: [Stream; 7] = [
     Stream {
         name: "message_with_an_error_code",
         octets: "006d00018405000100030000000001780000fc0001c00c0006000100000e10001c016ec00c0168c00c0000000100000002000000030000000400000005c00c0002000100000e100002c01fc00c0006000100000e100018c01fc0230000000100000002000000030000000400000005",
@@ -80,7 +80,7 @@ pub(super) static SECOND: [Stream; 7] = [
     },
 ];
 
-pub(super) static THIRD: [Stream; 7] = [
+pub(super) static THIRD_STREAMS: [Stream; 7] = [
     Stream {
         name: "first_answer_is_not_an_soa",
         octets: "002100018400000100010000000001780000fc0001c00c0002000100000e100002c00c",
@@ -118,7 +118,7 @@ pub(super) static THIRD: [Stream; 7] = [
     },
 ];
 
-pub(super) static FOURTH: [Stream; 7] = [
+pub(super) static FOURTH_STREAMS: [Stream; 7] = [
     Stream {
         name: "question_counted_as_missing",
         octets: "006d00018400000000030000000001780000fc0001c00c0006000100000e10001c016ec00c0168c00c0000000100000002000000030000000400000005c00c0002000100000e100002c01fc00c0006000100000e100018c01fc0230000000100000002000000030000000400000005",
@@ -156,7 +156,7 @@ pub(super) static FOURTH: [Stream; 7] = [
     },
 ];
 
-pub(super) static FIFTH: [Stream; 7] = [
+pub(super) static FIFTH_STREAMS: [Stream; 7] = [
     Stream {
         name: "structural_fault_before_a_fault_of_data",
         octets: "006d00018400000100030000000001780000fc0001c00c0006000100000e10001c016ec00c0168c00c0000000100000002000000030000000400000005c00c0002000100000e100002c047c0490006000100000e100018c01fc0230000000100000002000000030000000400000005",
@@ -194,7 +194,7 @@ pub(super) static FIFTH: [Stream; 7] = [
     },
 ];
 
-pub(super) static SIXTH: [Stream; 7] = [
+pub(super) static SIXTH_STREAMS: [Stream; 7] = [
     Stream {
         name: "txt_of_no_octets_in_a_transfer",
         octets: "006b00018400000100030000000001780000fc0001c00c0006000100000e10001c016ec00c0168c00c0000000100000002000000030000000400000005c00c0010000100000e100000c00c0006000100000e100018c01fc0230000000100000002000000030000000400000005",

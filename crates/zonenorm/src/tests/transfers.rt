@@ -4,7 +4,9 @@ use crate::tests::parsing::octets_of;
 use crate::tests::pieces::{Fed, MOST, is_right_in_two, is_right_singly};
 use crate::tests::readings::{Given, is_read, line_of};
 use crate::tests::scripts::{Script, Step, wrong_script};
-use crate::tests::streams::{FIFTH, FIRST, FOURTH, SECOND, SIXTH, THIRD};
+use crate::tests::streams::{
+    FIFTH_STREAMS, FIRST_STREAMS, FOURTH_STREAMS, SECOND_STREAMS, SIXTH_STREAMS, THIRD_STREAMS,
+};
 use crate::tests::vectors::Answer;
 use crate::tests::{Case, Named, first_wrong_name, is_explained, roomy};
 use crate::{normalise, normalise_bytes};
@@ -64,37 +66,37 @@ impl Named for Stream {
 
 #[test]
 fn first_streams_are_normalised(rt: HostRuntime) -> Result<(), Fail> {
-    assert_eq!(rt; first_wrong_name(rt.alloc(), &FIRST)?, None);
+    assert_eq!(rt; first_wrong_name(rt.alloc(), &FIRST_STREAMS)?, None);
     Ok(())
 }
 
 #[test]
 fn second_streams_are_normalised(rt: HostRuntime) -> Result<(), Fail> {
-    assert_eq!(rt; first_wrong_name(rt.alloc(), &SECOND)?, None);
+    assert_eq!(rt; first_wrong_name(rt.alloc(), &SECOND_STREAMS)?, None);
     Ok(())
 }
 
 #[test]
 fn third_streams_are_normalised(rt: HostRuntime) -> Result<(), Fail> {
-    assert_eq!(rt; first_wrong_name(rt.alloc(), &THIRD)?, None);
+    assert_eq!(rt; first_wrong_name(rt.alloc(), &THIRD_STREAMS)?, None);
     Ok(())
 }
 
 #[test]
 fn fourth_streams_are_normalised(rt: HostRuntime) -> Result<(), Fail> {
-    assert_eq!(rt; first_wrong_name(rt.alloc(), &FOURTH)?, None);
+    assert_eq!(rt; first_wrong_name(rt.alloc(), &FOURTH_STREAMS)?, None);
     Ok(())
 }
 
 #[test]
 fn fifth_streams_are_normalised(rt: HostRuntime) -> Result<(), Fail> {
-    assert_eq!(rt; first_wrong_name(rt.alloc(), &FIFTH)?, None);
+    assert_eq!(rt; first_wrong_name(rt.alloc(), &FIFTH_STREAMS)?, None);
     Ok(())
 }
 
 #[test]
 fn sixth_streams_are_normalised(rt: HostRuntime) -> Result<(), Fail> {
-    assert_eq!(rt; first_wrong_name(rt.alloc(), &SIXTH)?, None);
+    assert_eq!(rt; first_wrong_name(rt.alloc(), &SIXTH_STREAMS)?, None);
     Ok(())
 }
 
@@ -139,37 +141,37 @@ fn first_miscut(alloc: Global, streams: &[Stream]) -> Result<Option<&'static str
 
 #[test]
 fn first_streams_in_pieces(rt: HostRuntime) -> Result<(), Fail> {
-    assert_eq!(rt; first_miscut(rt.alloc(), &FIRST)?, None);
+    assert_eq!(rt; first_miscut(rt.alloc(), &FIRST_STREAMS)?, None);
     Ok(())
 }
 
 #[test]
 fn second_streams_in_pieces(rt: HostRuntime) -> Result<(), Fail> {
-    assert_eq!(rt; first_miscut(rt.alloc(), &SECOND)?, None);
+    assert_eq!(rt; first_miscut(rt.alloc(), &SECOND_STREAMS)?, None);
     Ok(())
 }
 
 #[test]
 fn third_streams_in_pieces(rt: HostRuntime) -> Result<(), Fail> {
-    assert_eq!(rt; first_miscut(rt.alloc(), &THIRD)?, None);
+    assert_eq!(rt; first_miscut(rt.alloc(), &THIRD_STREAMS)?, None);
     Ok(())
 }
 
 #[test]
 fn fourth_streams_in_pieces(rt: HostRuntime) -> Result<(), Fail> {
-    assert_eq!(rt; first_miscut(rt.alloc(), &FOURTH)?, None);
+    assert_eq!(rt; first_miscut(rt.alloc(), &FOURTH_STREAMS)?, None);
     Ok(())
 }
 
 #[test]
 fn fifth_streams_in_pieces(rt: HostRuntime) -> Result<(), Fail> {
-    assert_eq!(rt; first_miscut(rt.alloc(), &FIFTH)?, None);
+    assert_eq!(rt; first_miscut(rt.alloc(), &FIFTH_STREAMS)?, None);
     Ok(())
 }
 
 #[test]
 fn sixth_streams_in_pieces(rt: HostRuntime) -> Result<(), Fail> {
-    assert_eq!(rt; first_miscut(rt.alloc(), &SIXTH)?, None);
+    assert_eq!(rt; first_miscut(rt.alloc(), &SIXTH_STREAMS)?, None);
     Ok(())
 }
 
