@@ -38,3 +38,4 @@ pub mod Heads
 pub mod Inheriting
 pub mod RecordsRead
 pub mod DirectivesRead
+pub mod Lines

@@ -99,11 +99,11 @@ no_word words text no_digit none = rw (no_digit, no_class_word text (is_class_wo
 -- ---- all words
 
 -- the parts by what the next item is
-abbrev parts_by : List Word → RawItem → List RawItem → Option Word → Parts
+abbrev pub parts_by : List Word → RawItem → List RawItem → Option Word → Parts
 parts_by words item items None = record { words = words; rest = item ∷ items }
 parts_by words item items (Some word) = parts_behind (words ++ word ∷ []) items
 
-next_part : (words : List Word) (item : RawItem) (items : List RawItem) (o : Option Word) → word_behind words item ≡ o → parts_behind words (item ∷ items) ≡ parts_by words item items o
+pub next_part : (words : List Word) (item : RawItem) (items : List RawItem) (o : Option Word) → word_behind words item ≡ o → parts_behind words (item ∷ items) ≡ parts_by words item items o
 next_part words item items o e = ap (parts_by words item items) e
 
 -- the words read so far have these values, and the items left are behind them

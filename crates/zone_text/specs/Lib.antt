@@ -15,4 +15,5 @@ pub mod FileReads
 pub mod Decided
 pub mod Outcome
 pub mod Source
+pub mod Line
 pub mod ExampleEntries

@@ -1,5 +1,6 @@
 //! Laws over the definitions alone.
 pub mod entry;
 pub mod file;
+pub mod line;
 pub mod pieces;
 pub mod source;

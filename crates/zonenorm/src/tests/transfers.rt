@@ -1,5 +1,7 @@
 //! Zone transfers: what `normalise` and `normalise_bytes` answer to a stream, and what is read of it in pieces.
 use crate::form::Form;
+use crate::order::Order;
+use crate::run::run;
 use crate::tests::parsing::octets_of;
 use crate::tests::pieces::{Fed, MOST, is_right_in_two, is_right_singly};
 use crate::tests::readings::{Given, is_read, line_of};
@@ -8,7 +10,7 @@ use crate::tests::streams::{
     FIFTH_STREAMS, FIRST_STREAMS, FOURTH_STREAMS, SECOND_STREAMS, SIXTH_STREAMS, THIRD_STREAMS,
 };
 use crate::tests::vectors::Answer;
-use crate::tests::{Case, Named, first_wrong_name, is_explained, roomy};
+use crate::tests::{Case, Named, first_wrong_name, had_memory, is_explained, roomy};
 use crate::{normalise, normalise_bytes};
 use std::alloc::Global;
 use std::test::Fail;
@@ -47,13 +49,30 @@ fn written(alloc: Global, octets: &[u8]) -> Result<Result<Vec<u8>, Stop>, Fail> 
     }
 }
 
+/// Whether a run over the stream has the status of this answer, writes what it says and tells what it says.
+fn is_ran(alloc: Global, answer: &Answer, octets: &[u8]) -> Result<bool, Fail> {
+    let mut reader = octets;
+    let (mut output, mut told) = (roomy(alloc)?, roomy(alloc)?);
+    let order = Order::Normalise(None);
+    let status = run(alloc, &order, &mut reader, &mut output, &mut told);
+    had_memory(&told)?;
+    match answer {
+        Answer::Text(text) => Ok(status == 0 && output.as_slice() == *text && told.is_empty()),
+        Answer::Refused(front) => {
+            let is_told = told.as_slice().starts_with(front.as_bytes());
+            Ok(status == 3 && output.is_empty() && is_told)
+        }
+    }
+}
+
 impl Case for Stream {
     fn is_right(&self, alloc: Global) -> Result<bool, Fail> {
         let octets = octets_of(alloc, self.octets)?;
         let answered = normalise_bytes(alloc, Form::Transfer, &octets);
         Ok(
             is_wanted(alloc, &self.answer, answered)?
-                && is_wanted(alloc, &self.answer, written(alloc, &octets)?)?,
+                && is_wanted(alloc, &self.answer, written(alloc, &octets)?)?
+                && is_ran(alloc, &self.answer, &octets)?,
         )
     }
 }

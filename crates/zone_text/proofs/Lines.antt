@@ -1,0 +1,122 @@
+-- Lines of items, and entries that state every part of a record.
+use Rattle.std.proofs.Common.{◌≡◌, ◌≢◌, ℕ, zero, List, [], ◌∷◌, ◌++◌, true, false, ◌==◌, Option, Some, None, refl, ap, ◌∙◌, cond, arith}
+use Rattle.std.specs.Prelude.{IfSome}
+use Rattle.std.specs.List.{flat_map, AllByRecursion}
+use Rattle.std.proofs.lemmas.Bool.Decides.{nat_tests}
+use Rattle.zone_name.specs.Common.{Labels}
+use Rattle.zone_rdata.specs.Record.{Record}
+use Rattle.zone_rdata.specs.Spelling.{RawItem}
+use Rattle.zone_rdata.specs.Spelling as raw
+use Rattle.zone_text.specs.Entries.{Cut, in_front_of, cut_from, and_last, Entry, entry_of, numbered, entries_of, item_of}
+use Rattle.zone_text.specs.Forms.{form_by, form_of, owned, Word, ttl, class, word_behind, Parts, parts_behind, parts_of, begins_with_digit, is_class_word}
+use Rattle.zone_text.specs.Inherited.{IsOrigin}
+use Rattle.zone_text.specs.Line.{IsItem, line_of, StatesWhole}
+use Rattle.zone_text.specs.Pieces.{Piece, blank, line_feed, bare, quoted, text, is_blank, IsPiece, MayFollow, AllFollow, depth_after, Cuts}
+use Rattle.zone_text.specs.Records.{StatesRecord}
+use Rattle.zone_text.proofs.ClassWords.{time_first, class_word_first, class_word_known}
+use Rattle.zone_text.proofs.WordsLeft.{next_part}
+
+-- ---- the line of items
+
+piece_of : (item : Piece) → IsItem item → IsPiece item
+piece_of (bare units) is = is
+piece_of (quoted units) is = is
+piece_of item is = absurd is
+
+each_piece : (items : List Piece) → AllByRecursion IsItem items → AllByRecursion IsPiece (line_of items)
+each_piece [] are = (tt, tt)
+each_piece (item ∷ []) are = (piece_of item are.0, (tt, tt))
+each_piece (item ∷ next ∷ items) are = (piece_of item are.0, (refl, each_piece (next ∷ items) are.1))
+
+behind_item : (item : Piece) → IsItem item → MayFollow item (blank 32) × MayFollow item line_feed
+behind_item (bare units) is = (tt, tt)
+behind_item (quoted units) is = (tt, tt)
+behind_item item is = absurd is
+
+behind_blank : (pieces : List Piece) → AllFollow pieces → AllFollow (blank 32 ∷ pieces)
+behind_blank [] follow = tt
+behind_blank (p ∷ pieces) follow = (tt, follow)
+
+all_follow : (items : List Piece) → AllByRecursion IsItem items → AllFollow (line_of items)
+all_follow [] are = tt
+all_follow (item ∷ []) are = ((behind_item item are.0).1, tt)
+all_follow (item ∷ next ∷ items) are = ((behind_item item are.0).0, behind_blank (line_of (next ∷ items)) (all_follow (next ∷ items) are.1))
+
+item_depth : (item : Piece) (pieces : List Piece) → IsItem item → depth_after zero (item ∷ pieces) ≡ depth_after zero pieces
+item_depth (bare units) pieces is = refl
+item_depth (quoted units) pieces is = refl
+item_depth item pieces is = absurd is
+
+line_depth : (items : List Piece) → AllByRecursion IsItem items → depth_after zero (line_of items) ≡ Some zero
+line_depth [] are = refl
+line_depth (item ∷ []) are = item_depth item (line_feed ∷ []) are.0
+line_depth (item ∷ next ∷ items) are = item_depth item (blank 32 ∷ line_of (next ∷ items)) are.0 ∙ line_depth (next ∷ items) are.1
+
+pub line_cut : (items : List Piece) → AllByRecursion IsItem items → Cuts (text (line_of items)) (line_of items)
+line_cut items are = record { whole = refl; each = each_piece items are; follow = all_follow items are; balanced = line_depth items are }
+
+item_front : (item : Piece) (pieces : List Piece) → IsItem item → cut_from zero (item ∷ pieces) ≡ in_front_of item (cut_from zero pieces)
+item_front (bare units) pieces is = refl
+item_front (quoted units) pieces is = refl
+item_front item pieces is = absurd is
+
+line_ended : (items : List Piece) → AllByRecursion IsItem items → cut_from zero (line_of items) ≡ record { ended = line_of items ∷ []; open_pieces = [] }
+line_ended [] are = refl
+line_ended (item ∷ []) are = item_front item (line_feed ∷ []) are.0
+line_ended (item ∷ next ∷ items) are =
+    item_front item (blank 32 ∷ line_of (next ∷ items)) are.0
+    ∙ ap (λ (c : Cut). in_front_of item (in_front_of (blank 32) c)) (line_ended (next ∷ items) are.1)
+
+pub line_entry : (items : List Piece) → AllByRecursion IsItem items → entries_of (line_of items) ≡ entry_of 1 (line_of items) ∷ []
+line_entry items are = ap (λ (c : Cut). numbered 1 (and_last c.ended c.open_pieces)) (line_ended items are)
+
+pub line_items : (items : List Piece) → flat_map item_of (line_of items) ≡ flat_map item_of items
+line_items [] = refl
+line_items (item ∷ []) = refl
+line_items (item ∷ next ∷ items) = ap (λ (raws : List RawItem). item_of item ++ raws) (line_items (next ∷ items))
+
+-- ---- the entry that states every part
+
+not_equal : (a b : ℕ) → (a ≢ b) → (a == b) ≡ false
+not_equal a b other = grind (arith, nat_tests)
+
+owned_form : (first : Option ℕ) (item : RawItem) (items : List RawItem) → IfSome first (λ c. (is_blank c ≡ false) × (c ≢ 36)) → form_by first (item ∷ items) ≡ owned item items
+owned_form None item items plain = refl
+owned_form (Some c) item items plain = rw (not_equal c 36 plain.1, plain.0) refl
+
+-- behind a TTL and a class stands no further word
+no_third : (ttl_word class_word word : List ℕ) → word_behind (ttl ttl_word ∷ class class_word ∷ []) (raw.bare word) ≡ None
+no_third ttl_word class_word word =
+    elim (begins_with_digit word) as (λ b. cond {A = Option Word} b None (cond {A = Option Word} (is_class_word word) None None) ≡ None) [
+      | true ↦ refl
+      | false ↦ elim (is_class_word word) as (λ b. cond {A = Option Word} b None None ≡ None) [ true ↦ refl | false ↦ refl ]
+    ]
+
+whole_parts : (ttl_word class_word kind_word : List ℕ) (items : List RawItem) → begins_with_digit ttl_word ≡ true → begins_with_digit class_word ≡ false → is_class_word class_word ≡ true → parts_behind [] (raw.bare ttl_word ∷ raw.bare class_word ∷ raw.bare kind_word ∷ items) ≡ record { words = ttl ttl_word ∷ class class_word ∷ []; rest = raw.bare kind_word ∷ items }
+whole_parts ttl_word class_word kind_word items is_ttl no_ttl is_class =
+    next_part [] (raw.bare ttl_word) (raw.bare class_word ∷ raw.bare kind_word ∷ items) (Some (ttl ttl_word)) (rw is_ttl refl)
+    ∙ (next_part (ttl ttl_word ∷ []) (raw.bare class_word) (raw.bare kind_word ∷ items) (Some (class class_word)) (rw (no_ttl, is_class) refl)
+    ∙ next_part (ttl ttl_word ∷ class class_word ∷ []) (raw.bare kind_word) items None (no_third ttl_word class_word kind_word))
+
+pub whole_stated : (origin above : Labels) (before : List Entry) (entry : Entry) (r : Record) → IsOrigin origin before above → StatesWhole entry r → StatesRecord origin before entry r
+whole_stated origin above before entry r under s =
+    let parts : Parts = record { words = ttl s.ttl_text ∷ class s.class_word ∷ []; rest = raw.bare s.kind_word ∷ s.items } in
+    let form : form_of entry ≡ owned (raw.bare s.owner_text) (raw.bare s.ttl_text ∷ raw.bare s.class_word ∷ raw.bare s.kind_word ∷ s.items) = rw s.whole (owned_form entry.first (raw.bare s.owner_text) _ s.begins) in
+    let split : parts_of entry ≡ Some parts = rw (form, whole_parts s.ttl_text s.class_word s.kind_word s.items (time_first _ _ s.ttl) (class_word_first _ _ s.class) (class_word_known _ _ s.class)) refl in
+    record {
+      items = s.items;
+      head = record {
+        parts = parts;
+        word = s.kind_word;
+        split = split;
+        owner = rw form (above, (under, s.owner above));
+        words = ((r.ttl, record { time = s.ttl; short = s.fits.ttl }), ((r.class, (s.class, s.fits.rdata.class)), tt));
+        class = rw split s.class;
+        rest = refl;
+        named = s.kind;
+        kind = s.fits.rdata.kind;
+      };
+      rdata = record { above = above; under = under; states = s.rdata above };
+      ttl = rw split s.ttl;
+      fits = s.fits;
+    }
