@@ -12,4 +12,5 @@ pub mod Accepted
 pub mod Taken
 pub mod Feeding
 pub mod Written
+pub mod Compared
 pub mod FedSources

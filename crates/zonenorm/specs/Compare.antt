@@ -40,7 +40,7 @@ pub record Compares (first second : Input) (verdict : Verdict) : Type 0 where
   pub denotes : InputDenotes first zone
   pub other : Zone
   pub other_denotes : InputDenotes second other
-  pub verdict : IsVerdict verdict (canon zone) (canon other)
+  pub judged : IsVerdict verdict (canon zone) (canon other)
 
 -- known octets denote a zone
 abbrev pub IsAccepted : InputForm → Option (List ℕ) → Type 0
