@@ -93,9 +93,9 @@ differ_at records others left right number walked differ =
       from_one = rw walked.counted (omega arith);
       equal = λ m below. rw (walked.split, walked.other_split) (equal_before front left right m (subst (λ n. m < n) walked.counted below));
       differs = λ same. differ (
-      sym (at_front front left) ∙ sym (line_of_record (front ++ left) (length front))
-      ∙ ap₂ line_at (ap lines (sym walked.split)) (sym walked.counted) ∙ same ∙ ap₂ line_at (ap lines walked.other_split) walked.counted
-      ∙ line_of_record (front ++ right) (length front) ∙ at_front front right);
+          sym (at_front front left) ∙ sym (line_of_record (front ++ left) (length front))
+          ∙ ap₂ line_at (ap lines (sym walked.split)) (sym walked.counted) ∙ same ∙ ap₂ line_at (ap lines walked.other_split) walked.counted
+          ∙ line_of_record (front ++ right) (length front) ∙ at_front front right);
     }
 
 -- ---- why they do: one list ends before the other, or the lines of their first records differ
