@@ -28,7 +28,7 @@ pub record LineItems (r : Record) : Type 0 where
   pub entries : flat_map item_of pieces ≡ raw.bare (name_text r.owner) ∷ raw.bare (decimal r.ttl) ∷ raw.bare (class_text r.class) ∷ raw.bare (kind_text r.class r.kind) ∷ data_items (data_of r)
   pub begins : IfSome (entry_of 1 (line_of pieces)).first (λ c. (is_blank c ≡ false) × (c ≢ 36))
 
--- ---- the line of a record
+-- ---- the parts of a line
 
 -- the spaces and the line feed, each in front of what stands behind it
 line_parts : (owner ttl class kind rdata : List ℕ) → owner ++ 32 ∷ ttl ++ 32 ∷ class ++ 32 ∷ kind ++ 32 ∷ rdata ++ 10 ∷ [] ≡ owner ++ (32 ∷ (ttl ++ (32 ∷ (class ++ (32 ∷ (kind ++ (32 ∷ (rdata ++ 10 ∷ []))))))))
@@ -47,25 +47,19 @@ parts_joined owner ttl class kind (first ∷ texts) some =
     joined_before owner _ _ (joined_before ttl _ _ (joined_before class _ _ (joined_before kind _ (join_with_byte 32 (first ∷ texts)) refl)))
     ∙ sym (line_parts owner ttl class kind (join_with_byte 32 (first ∷ texts)))
 
+-- ---- the line of a record
+
 -- the items of a record's line: owner, TTL, class, type and those of the data
 abbrev record_items : Record → List RawItem
 record_items r = raw.bare (name_text r.owner) ∷ raw.bare (decimal r.ttl) ∷ raw.bare (class_text r.class) ∷ raw.bare (kind_text r.class r.kind) ∷ data_items (data_of r)
 
 -- each stands as it is printed
 items_stand : (r : Record) → IsRecord r → AllByRecursion Stands (record_items r)
-items_stand r is = (
-  bare_name r.owner is.owner,
-  (
-    bare_decimal r.ttl (let low = is.ttl in omega arith),
-    (
-      class_bare r.class is.rdata.class,
-      (
-        kind_bare r.class r.kind is.rdata.kind,
-        data_stands (data_of r) is.rdata,
-      ),
-    ),
-  ),
-)
+items_stand r is =
+    let ttl = bare_decimal r.ttl (let low = is.ttl in omega arith) in
+    let class = class_bare r.class is.rdata.class in
+    let kind = kind_bare r.class r.kind is.rdata.kind in
+    (bare_name r.owner is.owner, (ttl, (class, (kind, data_stands (data_of r) is.rdata))))
 
 -- with single spaces between them and a line feed they are the line
 items_joined : (r : Record) → IsRecord r → join_with_byte 32 (map written_item (record_items r)) ++ 10 ∷ [] ≡ line r
