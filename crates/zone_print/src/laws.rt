@@ -17,8 +17,10 @@ use zone_rdata::laws::text::printed_data_is_stated;
 use zone_rdata::laws::word::{printed_numbers_are_read, printed_words_are_read};
 use zone_text::laws::entry::an_entry_states_one_record;
 use zone_text::laws::file::a_file_states_one_list;
-use zone_text::laws::line::{a_line_of_items_is_one_entry, a_whole_entry_states_its_record};
-use zone_text::laws::pieces::one_cut_of_a_text;
+use zone_text::laws::line::{
+    a_line_of_items_is_one_entry, a_whole_entry_leaves_the_origin, a_whole_entry_states_its_record,
+};
+use zone_text::laws::pieces::{lines_are_cut_by_themselves, one_cut_of_a_text};
 
 /// The line of a record has one line feed, its last octet.
 pub fn each_line_ends()
@@ -73,7 +75,9 @@ pub fn lines_read_back()
         → FileStates origin (lines records) (placed_from 1 records) }
 {
     each_line_is_one_entry();
+    lines_are_cut_by_themselves();
     a_whole_entry_states_its_record();
+    a_whole_entry_leaves_the_origin();
 }
 
 /// The canonical text of a zone, if it is within the limit, denotes that zone under every origin.
