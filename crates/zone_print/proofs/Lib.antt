@@ -4,3 +4,4 @@ pub mod Lines
 pub mod Stops
 pub mod OneZone
 pub mod Items
+pub mod ReadBack

@@ -13,3 +13,4 @@ pub mod Taken
 pub mod Feeding
 pub mod Written
 pub mod FedSources
+pub mod Headline
