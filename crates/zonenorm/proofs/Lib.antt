@@ -14,3 +14,4 @@ pub mod Feeding
 pub mod Written
 pub mod Compared
 pub mod FedSources
+pub mod Headline
