@@ -2,12 +2,16 @@
 use Rattle.std.proofs.Common.{◌≡◌, ◌≢◌, ◌↔◌, ℕ, zero, suc, ◌+◌, ◌<◌, ◌≤◌, ◌==◌, Bool, true, false, if◌then◌else◌, List, [], ◌∷◌, ◌++◌, length, map, Some, None, refl, sym, ap, ap₂, ◌∙◌, subst, append_assoc, append-nil, length-append, arith, eqb-true}
 use Rattle.std.proofs.lemmas.Bool.{ne_eqb}
 use Rattle.std.specs.List.{AllByRecursion, onto_first}
-use Rattle.std.specs.Prelude.{slice_get}
+use Rattle.std.specs.Prelude.{slice_get, Option, IfSome}
+use Rattle.zone_name.specs.Common.{Octets}
 use Rattle.zone_rdata.specs.Record.{Record, IsRecord}
-use Rattle.zone_print.specs.Canonical.{line, lines}
+use Rattle.zone_set.specs.Zone.{Zone}
+use Rattle.zone_print.specs.Canonical.{canon, line, lines}
 use Rattle.zone_print.specs.Laws.{HasNoFeed, EndsWithItsFeed}
 use Rattle.zone_print.proofs.Feeds.{line_ends_with_feed}
-use Rattle.zonenorm.specs.Compare.{lines_of, line_at, DifferFirstAt}
+use Rattle.zonenorm.specs.Compare.{Compares, DifferFirstAt, IsAccepted, IsVerdict, line_at, lines_of}
+use Rattle.zonenorm.specs.Input.{InputForm, input_of, InputDenotes}
+use Rattle.zonenorm.specs.declared.compare.Verdict.{Verdict}
 
 -- ---- the lines of a text
 
@@ -125,3 +129,15 @@ other_record records others left right left' right' r s number exact each each' 
     let is' = is_record_at others walked.front right right' s each' walked.other_split first' in
     differ_at records others left right number walked
     (rw (first, first') (differing_lines r s left' right' (exact r s is is').0 other))
+
+-- ---- the zones of known octets
+
+pub compares_zones : (form form' : InputForm) (known known' : Option Octets) (z w : Zone) (verdict : Verdict) → IfSome known (λ octets. InputDenotes (input_of form octets) z) → IfSome known' (λ octets. InputDenotes (input_of form' octets) w) → IsVerdict verdict (canon z) (canon w) → IfSome known (λ octets. IfSome known' (λ others. Compares (input_of form octets) (input_of form' others) verdict))
+compares_zones form form' None known' z w verdict denotes denotes' judged = tt
+compares_zones form form' (Some octets) None z w verdict denotes denotes' judged = tt
+compares_zones form form' (Some octets) (Some others) z w verdict denotes denotes' judged =
+    record { zone = z; denotes = denotes; other = w; other_denotes = denotes'; judged = judged }
+
+pub is_accepted : (form : InputForm) (known : Option Octets) (z : Zone) → IfSome known (λ octets. InputDenotes (input_of form octets) z) → IsAccepted form known
+is_accepted form None z denotes = tt
+is_accepted form (Some octets) z denotes = (z, denotes)
