@@ -72,7 +72,7 @@ def place(record):
 
 def main():
     path, origin = sys.argv[1:]
-    zone = dns.zone.from_file(path, origin, relativize=False)
+    zone = dns.zone.from_file(path, origin, relativize=False, check_origin=False)
     for record in sorted(zone.iterate_rdatas(), key=place):
         sys.stdout.write(line(*record))
 

@@ -20,7 +20,7 @@ RECORDS_A_MESSAGE = 8
 
 def main():
     path, origin = sys.argv[1:]
-    zone = dns.zone.from_file(path, origin, relativize=False)
+    zone = dns.zone.from_file(path, origin, relativize=False, check_origin=False)
     records = sorted(zone.iterate_rdatas(), key=lambda record: record[0], reverse=True)
     opening = [record for record in records if record[2].rdtype == dns.rdatatype.SOA]
     others = [record for record in records if record[2].rdtype != dns.rdatatype.SOA]

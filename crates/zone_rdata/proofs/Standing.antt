@@ -1,5 +1,5 @@
 -- Texts and items that stand in a master file as they are printed.
-use Rattle.std.proofs.Common.{◌≡◌, ℕ, zero, suc, ◌+◌, ◌/◌, ◌%◌, ◌^◌, ◌<◌, ◌&&◌, nat_lt, Bool, true, List, [], ◌∷◌, ◌++◌, length, decimal, codes, inl, inr, refl, arith}
+use Rattle.std.proofs.Common.{◌≡◌, ℕ, zero, suc, ◌/◌, ◌%◌, ◌^◌, ◌<◌, ◌&&◌, nat_lt, Bool, true, List, [], ◌∷◌, length, decimal, inl, inr, refl, arith}
 use Rattle.std.specs.List.{AllByRecursion, list_all}
 use Rattle.std.specs.Prelude.{slice_index}
 use Rattle.std.proofs.lemmas.Bool.{and_parts}
@@ -9,7 +9,6 @@ use Rattle.zone_name.specs.Spelling.{is_digit, escaped}
 use Rattle.zone_name.proofs.Bare.{StandsBare, is_bare, bare_octets, bare_unit}
 use Rattle.zone_rdata.specs.Address.{IsAddressOctet}
 use Rattle.zone_rdata.specs.Item.{RawItem, bare, quoted}
-use Rattle.zone_rdata.specs.Number.{IsDecimal}
 use Rattle.zone_rdata.specs.Strings.{StandsInQuotes}
 use Rattle.zone_rdata.proofs.GenericLaws.{decimal-is}
 
