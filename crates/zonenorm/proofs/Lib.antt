@@ -12,5 +12,6 @@ pub mod Accepted
 pub mod Taken
 pub mod Feeding
 pub mod Written
+pub mod Compared
 pub mod FedSources
 pub mod Headline

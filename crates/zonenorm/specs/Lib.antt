@@ -4,5 +4,6 @@ pub mod Normalise
 pub mod Refusal
 pub mod Headline
 pub mod Examples
+pub mod Compare
 pub mod Order
 pub mod Machine

@@ -1,6 +1,7 @@
 //! `zonenorm`: reads a zone and writes its canonical text.
 #![tactic(auto)]
 
+mod compare;
 mod engine;
 pub mod examples;
 mod explain;
@@ -12,6 +13,7 @@ mod order;
 mod run;
 mod taking;
 
+pub use compare::{Verdict, Which, compare};
 pub use engine::{normalise, normalise_bytes};
 pub use explain::explain_line;
 pub use form::Form;
