@@ -4,7 +4,7 @@ ghost use Rattle.zone_name.specs.Common.{Octets};
 ghost use Rattle.zone_name.specs.Name.{IsName};
 ghost use Rattle.zone_print.specs.Canonical.{text_limit};
 ghost use Rattle.zonenorm.specs.Form.{form_of};
-ghost use Rattle.zonenorm.specs.Input.{file, input_of, IsForm, transfer};
+ghost use Rattle.zonenorm.specs.Input.{file, input_of, InputDenotes, IsForm, transfer};
 ghost use Rattle.zonenorm.specs.Machine.Stops.{IsOfReading};
 ghost use Rattle.zonenorm.specs.Machine.Taking.{ReadsZoneWithin};
 ghost use Rattle.zonenorm.specs.Normalise.{Normalises, NormalisesTo, WritesNothing, WritesPrefix, IsOfBytes};
@@ -16,8 +16,8 @@ use crate::laws::what_is_read_is_stated;
 use std::alloc::Global;
 use std::io::{Read, Write};
 use zone_name::Name;
-use zone_print::{TEXT_LIMIT, push_zone, write_zone};
-use zone_rdata::Stop;
+use zone_print::{TEXT_LIMIT, canon_len, push_zone, write_zone};
+use zone_rdata::{Fault, Place, Stop};
 use zone_set::Zone;
 use zone_text::TextSource;
 use zone_text::laws::file::of_nothing_nothing_is_decided;
@@ -54,6 +54,32 @@ pub fn normalise<R: Read, W: Write>(
     what_is_read_is_stated();
     write_zone(alloc, &zone, writer)?;
     Ok(zone.len())
+}
+
+/// The zone that the reader's octets denote.
+///
+/// # Errors
+///
+/// `Refused` where they denote none, also where its canonical text is too long; `Read` and `Memory`.
+pub(crate) fn accepted_zone<R: Read>(
+    alloc: Global,
+    form: Form<'_>,
+    reader: &mut R,
+) -> Result<Zone, Stop>
+    ensures zone { IfOk result (λ z. IfSome (R.remaining reader.old) (λ octets.
+        InputDenotes (input_of (form_of form.entry) octets) z)) }
+    ensures fault { IfErr result (λ stop. IfSome (R.remaining reader.old) (λ octets.
+        IfRefused stop (IsRefusal (input_of (form_of form.entry) octets)))) }
+    ensures stopped { IfErr result IsOfReading }
+    ensures few { (given : Octets) × (length given ≤ text_limit + 1)
+        × Consumes (R.remaining reader.old) (R.remaining reader.new) given }
+{
+    let stated = zone_of(alloc, form, reader)?;
+    what_is_read_is_stated();
+    if canon_len(&stated) > TEXT_LIMIT {
+        return Err(Stop::Refused(Fault::ZoneTooLarge, Place::Whole));
+    }
+    Ok(stated)
 }
 
 /// The canonical text of the zone that the octets denote.
