@@ -39,7 +39,7 @@ returns-then-is_empty-clause-fault g c =
     (refused_within c.args.limit form fed.given stop short (refuses form fed.given is fed.each (fed.taken form begins))))
 
 pub returns-then-is_empty-clause-stopped : goal.returns-then-is_empty-clause-stopped
-returns-then-is_empty-clause-stopped g c = MatchResult-weaker c.finish.result c.finish.ensures.stopped (λ z h. h) of_reading
+returns-then-is_empty-clause-stopped g c = MatchResult-weaker c.finish.result c.finish.ensures.stopped (λ z h. h) (of_reading _)
 
 pub returns-then-is_empty-clause-few : goal.returns-then-is_empty-clause-few
 returns-then-is_empty-clause-few g c =
