@@ -1,8 +1,7 @@
 -- From what was taken of the octets that a reader gave to what the reader's octets are read as.
-use Rattle.std.proofs.Common.{◌≡◌, ℕ, suc, ◌<◌, ◌≤◌, ◌+◌, ◌-◌, true, List, [], ◌∷◌, ◌++◌, length, length-append, take, drop, refl, sym, ap, ◌∙◌, subst, append-nil, append_assoc, arith, eqb-true}
-use Rattle.std.proofs.lemmas.List.{take-append-drop}
+use Rattle.std.proofs.Common.{◌≡◌, ℕ, suc, ◌<◌, ◌≤◌, ◌+◌, true, List, [], ◌∷◌, ◌++◌, length, length-append, refl, sym, ap, ◌∙◌, subst, append-nil, append_assoc, arith, eqb-true}
 use Rattle.std.specs.Prelude.{◌==◌, get_or, Option, Some, None, IfSome}
-use Rattle.std.specs.Io.KnownBytes.{Consumes, IsAtEnd, Keeps}
+use Rattle.std.specs.Io.KnownBytes.{Consumes, IsAtEnd}
 use Rattle.std.specs.List.{AllByRecursion}
 use Rattle.zone_name.specs.Common.{Octets}
 use Rattle.zone_rdata.specs.Record.{Record}
@@ -18,8 +17,8 @@ use Rattle.zone_set.specs.Builder.{StopsTaking, failure, memory, refused, ending
 use Rattle.zone_set.specs.Zone.{Zone}
 use Rattle.zonenorm.specs.Input.{InputForm, as_file, as_transfer, input_of, octets_of, IsForm, IsInput}
 use Rattle.zonenorm.specs.Machine.Taking.{IsTaken, all_taken, Begins, ReadsZone, ReadsZoneWithin, RefusesRead}
-use Rattle.zonenorm.specs.Machine.Stops.{IsOfReading}
-use Rattle.zonenorm.specs.Normalise.{IsOfBytes}
+use Rattle.zonenorm.specs.Machine.Stops.{TellsRead}
+use Rattle.zonenorm.specs.Normalise.{IsOfBytes, IsOfReading}
 use Rattle.zonenorm.specs.Refusal.{IfRefused, IsRefusalWithin, too_long, reading}
 
 pub octets_of_input : (form : InputForm) (octets : Octets) → octets_of (input_of form octets) ≡ octets
@@ -103,18 +102,18 @@ consumed_none a b c given more first next none = subst (Consumes a c) (ap (λ os
 
 -- ---- stops
 
-pub of_reading : (failed : Type 0) (stop : Stop) → IsOfBytes stop → IsOfReading failed stop
-of_reading failed (Refused fault place) is = tt
-of_reading failed Read is = absurd is
-of_reading failed Write is = is
-of_reading failed Memory is = tt
+pub of_reading : (stop : Stop) → IsOfBytes stop → IsOfReading stop
+of_reading (Refused fault place) is = tt
+of_reading Read is = tt
+of_reading Write is = is
+of_reading Memory is = tt
 
--- a reader that never fails stops nothing
-pub of_bytes : (stop : Stop) → IsOfReading ⊥ stop → IsOfBytes stop
-of_bytes (Refused fault place) is = tt
-of_bytes Read is = is
-of_bytes Write is = is
-of_bytes Memory is = tt
+-- what ends the input tells no failed read
+pub tells_no_read : (failed : Type 0) (stop : Stop) → IsOfBytes stop → TellsRead failed stop
+tells_no_read failed (Refused fault place) is = tt
+tells_no_read failed Read is = absurd is
+tells_no_read failed Write is = tt
+tells_no_read failed Memory is = tt
 
 pub memory_of_bytes : (stop : Stop) → stop ≡ Memory → IsOfBytes stop
 memory_of_bytes stop is = subst IsOfBytes (sym is) tt

@@ -35,6 +35,14 @@ IsOfBytes Read = ⊥
 IsOfBytes Write = ⊥
 IsOfBytes Memory = Unit {0}
 
+-- the stops of a call that has a reader and no writer: the input is refused, the reader answered an error, or memory was
+-- refused
+abbrev pub IsOfReading : Stop → Type 0
+IsOfReading (Refused fault place) = Unit {0}
+IsOfReading Read = Unit {0}
+IsOfReading Write = ⊥
+IsOfReading Memory = Unit {0}
+
 -- nothing was written, or a prefix of the canonical text of the zone that the input denotes
 abbrev pub WritesPrefix : Input → Option (List ℕ) → Option (List ℕ) → Type 0
 WritesPrefix input old new =

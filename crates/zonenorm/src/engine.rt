@@ -1,10 +1,10 @@
-ghost use Rattle.std.specs.Prelude.{◌≡◌, ◌+◌, IfOk, IfErr, IfSome};
-ghost use Rattle.zone_print.specs.Canonical.{text_limit};
+ghost use Rattle.std.specs.Prelude.{◌+◌, ◌≤◌, length, IfOk, IfErr, IfSome};
+ghost use Rattle.zone_print.specs.Canonical.{canon, text_limit};
 ghost use Rattle.zonenorm.specs.Form.{form_of};
 ghost use Rattle.zonenorm.specs.Input.{input_of, InputDenotes, IsForm};
-ghost use Rattle.zonenorm.specs.Machine.Stops.{IsOfReading};
+ghost use Rattle.zonenorm.specs.Machine.Stops.{TellsRead};
 ghost use Rattle.zonenorm.specs.Machine.Taking.{ReadsZoneWithin};
-ghost use Rattle.zonenorm.specs.Normalise.{ConsumesAtMost, IsOfBytes, Normalises, NormalisesTo, WritesNothing, WritesPrefix};
+ghost use Rattle.zonenorm.specs.Normalise.{ConsumesAtMost, IsOfBytes, IsOfReading, Normalises, NormalisesTo, WritesNothing, WritesPrefix};
 ghost use Rattle.zonenorm.specs.Refusal.{IfRefused, IsRefusal};
 
 use crate::form::Form;
@@ -64,9 +64,11 @@ pub(crate) fn accepted_zone<R: OctetReader>(
 ) -> Result<Zone, Stop>
     ensures zone { IfOk result (λ z. IfSome (R.remaining reader.old) (λ octets.
         InputDenotes (input_of (form_of form.entry) octets) z)) }
+    ensures short { IfOk result (λ z. length (canon z) ≤ text_limit) }
     ensures fault { IfErr result (λ stop. IfSome (R.remaining reader.old) (λ octets.
         IfRefused stop (IsRefusal (input_of (form_of form.entry) octets)))) }
-    ensures stopped { IfErr result (IsOfReading (R.Failed reader.new)) }
+    ensures stopped { IfErr result IsOfReading }
+    ensures failed { IfErr result (TellsRead (R.Failed reader.new)) }
     ensures few { ConsumesAtMost (text_limit + 1) (R.remaining reader.old) (R.remaining reader.new) }
 {
     let stated = zone_of(alloc, form, reader)?;
@@ -106,7 +108,8 @@ fn zone_of<R: OctetReader>(alloc: Global, form: Form<'_>, reader: &mut R) -> Res
     ensures fault { IfErr result (λ stop. IfSome (R.remaining reader.old) (λ octets.
         IfRefused stop (IsRefusal (input_of (form_of form.entry) octets)))) }
     ensures form { IsForm (form_of form.entry) }
-    ensures stopped { IfErr result (IsOfReading (R.Failed reader.new)) }
+    ensures stopped { IfErr result IsOfReading }
+    ensures failed { IfErr result (TellsRead (R.Failed reader.new)) }
     ensures few { ConsumesAtMost (text_limit + 1) (R.remaining reader.old) (R.remaining reader.new) }
 {
     match form {

@@ -1,8 +1,8 @@
 ghost use Rattle.std.specs.Prelude.{◌≡◌, ◌+◌, ◌^◌, ◌≤◌, ◌<◌, false, [], length, IfOk, IfErr};
 ghost use Rattle.std.specs.Io.KnownBytes.{Consumes, IsAtEnd, Keeps};
 ghost use Rattle.zonenorm.specs.Machine.Taking.{BeginsAs, ReadsKnown, RefusesKnown};
-ghost use Rattle.zonenorm.specs.Machine.Stops.{IsOfReading, IsOfPiece};
-ghost use Rattle.zonenorm.specs.Normalise.{ConsumesAtMost};
+ghost use Rattle.zonenorm.specs.Machine.Stops.{IsOfPiece, TellsRead};
+ghost use Rattle.zonenorm.specs.Normalise.{ConsumesAtMost, IsOfReading};
 
 use crate::fed::FedSource;
 use crate::octets::OctetReader;
@@ -35,7 +35,8 @@ pub(crate) fn read_zone<S: FedSource, R: OctetReader>(
         (BeginsAs S.Stands (S.pending source.old) (S.held source.old)) limit (R.remaining reader.old)) }
     ensures fault { IfErr result (RefusesKnown
         (BeginsAs S.Stands (S.pending source.old) (S.held source.old)) limit (R.remaining reader.old)) }
-    ensures stopped { IfErr result (IsOfReading (R.Failed reader.new)) }
+    ensures stopped { IfErr result IsOfReading }
+    ensures failed { IfErr result (TellsRead (R.Failed reader.new)) }
     ensures few { ConsumesAtMost (limit + 1) (R.remaining reader.old) (R.remaining reader.new) }
 {
     let mut piece = zeros(alloc, PIECE)?;
@@ -65,7 +66,8 @@ fn read_in_pieces<S: FedSource, R: OctetReader>(
         (BeginsAs S.Stands (S.pending source.old) (S.held source.old)) limit (R.remaining reader.old)) }
     ensures fault { IfErr result (RefusesKnown
         (BeginsAs S.Stands (S.pending source.old) (S.held source.old)) limit (R.remaining reader.old)) }
-    ensures stopped { IfErr result (IsOfReading (R.Failed reader.new)) }
+    ensures stopped { IfErr result IsOfReading }
+    ensures failed { IfErr result (TellsRead (R.Failed reader.new)) }
     ensures few { ConsumesAtMost (limit + 1) (R.remaining reader.old) (R.remaining reader.new) }
 {
     let mut taking = Taking::new(alloc);
