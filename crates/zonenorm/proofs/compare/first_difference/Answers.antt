@@ -1,6 +1,6 @@
-use Rattle.std.proofs.Common.{rules, ◌≤◌, ◌+◌, length, sym, ◌∙◌}
+use Rattle.std.proofs.Common.{rules, ◌≤◌, ◌+◌, length, ◌∙◌}
 use Rattle.zone_print.specs.Canonical.{canon}
-use Rattle.zonenorm.proofs.Compared.{walked_nothing, walked_more, walked_few, walked_all, ends_first, ends_second, other_record}
+use Rattle.zonenorm.proofs.Compared.{walked_nothing, walked_more, walked_few, ends_first, ends_second, other_record}
 use Rattle.zonenorm.proofs.compare.first_difference.Goals as goal
 
 pub overflow_add-line : goal.overflow_add-line
