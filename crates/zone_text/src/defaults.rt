@@ -88,7 +88,6 @@ impl Defaults {
     }
 
     /// Follows a directive, which states no record.
-    // Not inlined, and so the two below: where they stand together, each pays for the names of all.
     #[inline(never)]
     fn read_directive(&mut self, directive: Directive) -> Result<Option<Rr>, Failing>
         ensures { (origin : Labels) (before : List Entry) (entry : Entry)
@@ -122,9 +121,7 @@ impl Defaults {
             → AnswersEntry origin before entry result self.new }
     {
         let owner = self.owner_in(owner)?;
-        let rr = self.read_record(alloc, owner.copy(), items)?;
-        self.owner = Some(owner);
-        Ok(Some(rr))
+        self.read_record(alloc, owner, items)
     }
 
     /// The record of an entry that omits its owner.
@@ -135,7 +132,6 @@ impl Defaults {
             → AnswersEntry origin before entry result self.new }
     {
         let owner = self.last_owner()?;
-        let rr = self.read_record(alloc, owner, items)?;
-        Ok(Some(rr))
+        self.read_record(alloc, owner, items)
     }
 }
