@@ -2,3 +2,4 @@ pub mod Canonical
 pub mod Denotes
 pub mod Writing
 pub mod Laws
+pub mod Machine

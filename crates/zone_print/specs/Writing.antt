@@ -1,5 +1,5 @@
 -- What printing a zone leaves where it stops.
-use Rattle.std.specs.Prelude.{◌≡◌, ℕ, ◌<◌, List, ◌++◌, length, Option}
+use Rattle.std.specs.Prelude.{◌≡◌, ℕ, ◌<◌, ◌≤◌, List, ◌++◌, length, Option}
 use Rattle.std.specs.Io.KnownBytes.{Appends, Keeps}
 use Rattle.zone_rdata.specs.declared.fault.Fault.TheVariants.{ZoneTooLarge}
 use Rattle.zone_rdata.specs.declared.fault.Place.TheVariants.{Whole}
@@ -15,13 +15,9 @@ pub data StopsPush (limit : ℕ) (text : List ℕ) : Stop → Type 0 where
 abbrev pub AppendsPrefix : Option (List ℕ) → Option (List ℕ) → List ℕ → Type 0
 AppendsPrefix old new text = (front rest : List ℕ) × (text ≡ front ++ rest) × Appends old new front
 
--- why a text was not written, and what the writer holds: nothing of a text that is longer than the limit, else a prefix
+-- Why a text was not written, and what the writer holds: nothing of a text that is longer than the limit. A text within
+-- it was written in part: memory was refused, or the writer failed.
 pub data StopsWrite (limit : ℕ) (text : List ℕ) (old new : Option (List ℕ)) : Stop → Type 0 where
   large : limit < length text → Keeps old new → StopsWrite limit text old new (Refused ZoneTooLarge Whole)
-  memory : AppendsPrefix old new text → StopsWrite limit text old new Memory
-  write : AppendsPrefix old new text → StopsWrite limit text old new Write
-
--- why a text was written in part: a prefix of it was
-pub data StopsMidway (text : List ℕ) (old new : Option (List ℕ)) : Stop → Type 0 where
-  memory : AppendsPrefix old new text → StopsMidway text old new Memory
-  write : AppendsPrefix old new text → StopsMidway text old new Write
+  memory : length text ≤ limit → AppendsPrefix old new text → StopsWrite limit text old new Memory
+  write : length text ≤ limit → AppendsPrefix old new text → StopsWrite limit text old new Write

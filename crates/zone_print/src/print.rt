@@ -1,10 +1,14 @@
-ghost use Rattle.std.specs.Prelude.{◌≡◌, ◌+◌, ◌≤◌, length, min, IfOk, IfErr, OnOk, OnErr};
+ghost use Rattle.std.specs.Prelude.{◌≡◌, ◌+◌, ◌<◌, ◌≤◌, length, min, IfOk, IfErr, OnOk, OnErr};
 ghost use Rattle.std.specs.Io.KnownBytes.{Appends};
 ghost use Rattle.zone_print.specs.Canonical.{canon, text_limit};
-ghost use Rattle.zone_print.specs.Writing.{StopsMidway, StopsPush, StopsWrite};
+ghost use Rattle.zone_rdata.specs.declared.fault.Fault.TheVariants.{ZoneTooLarge};
+ghost use Rattle.zone_rdata.specs.declared.fault.Place.TheVariants.{Whole};
+ghost use Rattle.zone_rdata.specs.declared.fault.Stop.TheVariants.{Refused};
+ghost use Rattle.zone_print.specs.Machine.Writing.{IsOfWriting, TellsWrite};
+ghost use Rattle.zone_print.specs.Writing.{AppendsPrefix, StopsPush, StopsWrite};
 
 use crate::line::{push_line, push_lines};
-use crate::write::write_octets;
+use crate::write::{OctetWriter, Text, write_octets};
 use std::alloc::Global;
 use std::io::Write;
 use zone_name::Room;
@@ -63,6 +67,24 @@ pub(crate) fn len_within(zone: &Zone, limit: u64) -> u64
     limit + 1 - room.left
 }
 
+/// The length of the canonical text, which is within the limit.
+///
+/// # Errors
+///
+/// `ZoneTooLarge` at the input as a whole.
+fn checked_len(zone: &Zone, limit: u64) -> Result<u64, Stop>
+    requires { limit ≤ text_limit }
+    ensures len { IfOk result (λ n. n ≡ length (canon zone.now)) }
+    ensures short { IfOk result (λ n. n ≤ limit) }
+    ensures stopped { IfErr result (λ stop. (stop ≡ Refused ZoneTooLarge Whole) × (limit < length (canon zone.now))) }
+{
+    let text_len = len_within(zone, limit);
+    if text_len > limit {
+        return Err(Stop::Refused(Fault::ZoneTooLarge, Place::Whole));
+    }
+    Ok(text_len)
+}
+
 /// `push_zone` under a limit.
 pub(crate) fn push_within(alloc: Global, zone: &Zone, limit: u64) -> Result<Vec<u8>, Stop>
     requires { limit ≤ text_limit }
@@ -70,17 +92,16 @@ pub(crate) fn push_within(alloc: Global, zone: &Zone, limit: u64) -> Result<Vec<
     ensures short { OnOk result (length (canon zone.now) ≤ limit) }
     ensures stopped { IfErr result (StopsPush limit (canon zone.now)) }
 {
-    let text_len = len_within(zone, limit);
-    if text_len > limit {
-        return Err(Stop::Refused(Fault::ZoneTooLarge, Place::Whole));
-    }
-    let mut text = Vec::with_capacity(alloc, text_len as usize)?;
-    push_lines(&mut text, zone)?;
-    Ok(text)
+    let text_len = checked_len(zone, limit)?;
+    let mut text = Text {
+        octets: Vec::with_capacity(alloc, text_len as usize)?,
+    };
+    write_lines(alloc, zone, &mut text)?;
+    Ok(text.octets)
 }
 
 /// `write_zone` under a limit.
-pub(crate) fn write_within<W: Write>(
+pub(crate) fn write_within<W: OctetWriter>(
     alloc: Global,
     zone: &Zone,
     writer: &mut W,
@@ -91,10 +112,9 @@ pub(crate) fn write_within<W: Write>(
     ensures short { OnOk result (length (canon zone.now) ≤ limit) }
     ensures stopped { IfErr result
         (StopsWrite limit (canon zone.now) (W.contents writer.old) (W.contents writer.new)) }
+    ensures failed { IfErr result (TellsWrite (W.Failed writer.new)) }
 {
-    if len_within(zone, limit) > limit {
-        return Err(Stop::Refused(Fault::ZoneTooLarge, Place::Whole));
-    }
+    checked_len(zone, limit)?;
     write_lines(alloc, zone, writer)
 }
 
@@ -102,10 +122,11 @@ pub(crate) fn write_within<W: Write>(
 ///
 /// # Errors
 ///
-/// `Write` and `Memory`. A front of the text was written.
-fn write_lines<W: Write>(alloc: Global, zone: &Zone, writer: &mut W) -> Result<(), Stop>
+/// `Write` where the writer failed, and `Memory`. A front of the text was written.
+fn write_lines<W: OctetWriter>(alloc: Global, zone: &Zone, writer: &mut W) -> Result<(), Stop>
     ensures text { OnOk result (Appends (W.contents writer.old) (W.contents writer.new) (canon zone.now)) }
-    ensures stopped { IfErr result (StopsMidway (canon zone.now) (W.contents writer.old) (W.contents writer.new)) }
+    ensures stopped { IfErr result (IsOfWriting (W.Failed writer.new)) }
+    ensures front { OnErr result (AppendsPrefix (W.contents writer.old) (W.contents writer.new) (canon zone.now)) }
 {
     let mut piece = Vec::new(alloc);
     for rr in zone.records() {

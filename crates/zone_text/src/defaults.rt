@@ -3,12 +3,12 @@ ghost use Rattle.zone_name.specs.Common.{Labels};
 ghost use Rattle.zone_rdata.specs.Item.{raw};
 ghost use Rattle.zone_text.specs.Defaults.{AreDefaults};
 ghost use Rattle.zone_text.specs.Entries.{Entry, entry_of};
-ghost use Rattle.zone_text.specs.Forms.{form_of};
+ghost use Rattle.zone_text.specs.Forms.{form_of, owned, unowned};
 ghost use Rattle.zone_text.specs.Pieces.{Cuts, Piece};
 ghost use Rattle.zone_text.specs.Machine.EntryReading.{AnswersEntry};
-ghost use Rattle.zone_text.specs.Machine.Form.{form_in};
+ghost use Rattle.zone_text.specs.Machine.Form.{directive_in, form_in};
 
-use crate::form::{Form, form_of};
+use crate::form::{Directive, Form, form_of};
 use crate::items::cut_items;
 use std::alloc::Global;
 use zone_name::Name;
@@ -81,27 +81,57 @@ impl Defaults {
     {
         match form {
             Form::Blank => Ok(None),
-            Form::SetsOrigin(items) => {
+            Form::Directs(directive) => self.read_directive(directive),
+            Form::Owned(owner, items) => self.read_owned(alloc, owner, items),
+            Form::Unowned(items) => self.read_unowned(alloc, items),
+        }
+    }
+
+    /// Follows a directive, which states no record.
+    #[inline(never)]
+    fn read_directive(&mut self, directive: Directive) -> Result<Option<Rr>, Failing>
+        ensures { (origin : Labels) (before : List Entry) (entry : Entry)
+            → AreDefaults origin before self.old → form_of entry ≡ directive_in directive.entry
+            → AnswersEntry origin before entry result self.new }
+    {
+        match directive {
+            Directive::Origin(items) => {
                 self.set_origin(items)?;
                 Ok(None)
             }
-            Form::SetsTtl(items) => {
+            Directive::Ttl(items) => {
                 self.set_default_ttl(items)?;
                 Ok(None)
             }
-            Form::Include => Err(Failing::Fault(Fault::IncludeDirective)),
-            Form::Unknown => Err(Failing::Fault(Fault::UnknownDirective)),
-            Form::Owned(owner, items) => {
-                let owner = self.owner_in(owner)?;
-                let rr = self.read_record(alloc, owner.copy(), items)?;
-                self.owner = Some(owner);
-                Ok(Some(rr))
-            }
-            Form::Unowned(items) => {
-                let owner = self.last_owner()?;
-                let rr = self.read_record(alloc, owner, items)?;
-                Ok(Some(rr))
-            }
+            Directive::Include => Err(Failing::Fault(Fault::IncludeDirective)),
+            Directive::Unknown => Err(Failing::Fault(Fault::UnknownDirective)),
         }
+    }
+
+    /// The record of an entry that states its owner.
+    #[inline(never)]
+    fn read_owned(
+        &mut self,
+        alloc: Global,
+        owner: Item,
+        items: &[Item],
+    ) -> Result<Option<Rr>, Failing>
+        ensures { (origin : Labels) (before : List Entry) (entry : Entry)
+            → AreDefaults origin before self.old → form_of entry ≡ owned (raw owner.entry) (map raw items.now)
+            → AnswersEntry origin before entry result self.new }
+    {
+        let owner = self.owner_in(owner)?;
+        self.read_record(alloc, owner, items)
+    }
+
+    /// The record of an entry that omits its owner.
+    #[inline(never)]
+    fn read_unowned(&mut self, alloc: Global, items: &[Item]) -> Result<Option<Rr>, Failing>
+        ensures { (origin : Labels) (before : List Entry) (entry : Entry)
+            → AreDefaults origin before self.old → form_of entry ≡ unowned (map raw items.now)
+            → AnswersEntry origin before entry result self.new }
+    {
+        let owner = self.last_owner()?;
+        self.read_record(alloc, owner, items)
     }
 }

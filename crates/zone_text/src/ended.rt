@@ -25,7 +25,11 @@ fn line_feeds(octets: &[u8]) -> usize
     ensures count { result ≡ count_by (λ c. c == 10) octets.now }
     ensures few { result ≤ length octets.now }
 {
-    octets.iter().filter(|octet| **octet == b'\n').count()
+    match octets.split_last() {
+        // Most entries are one line. This looks at many octets at once.
+        Some((b'\n', front)) if !front.contains(&b'\n') => 1,
+        _ => octets.iter().filter(|octet| **octet == b'\n').count(),
+    }
 }
 
 impl EndedEntries {

@@ -3,24 +3,31 @@ ghost use Rattle.zone_name.specs.Name.{folded_label};
 ghost use Rattle.zone_rdata.specs.Item.{raw};
 ghost use Rattle.zone_text.specs.Entries.{first_octet};
 ghost use Rattle.zone_text.specs.Forms.{directive, form_by};
-ghost use Rattle.zone_text.specs.Machine.Form.{form_in};
+ghost use Rattle.zone_text.specs.Machine.Form.{directive_in, form_in};
 
 use crate::items::is_blank;
 use zone_rdata::Item;
 
-/// The form of an entry (RFC 1035 5.1; `$TTL` RFC 2308 4).
+/// A directive (RFC 1035 5.1; `$TTL` RFC 2308 4).
 #[derive(Drop)]
-pub(crate) enum Form<'i, 't> {
-    /// No items.
-    Blank,
+pub(crate) enum Directive<'i, 't> {
     /// `$ORIGIN`, and the items behind the word.
-    SetsOrigin(&'i [Item<'t>]),
+    Origin(&'i [Item<'t>]),
     /// `$TTL`, and the items behind the word.
-    SetsTtl(&'i [Item<'t>]),
+    Ttl(&'i [Item<'t>]),
     /// `$INCLUDE`, which isn't read.
     Include,
     /// A directive of another word.
     Unknown,
+}
+
+/// The form of an entry (RFC 1035 5.1).
+#[derive(Drop)]
+pub(crate) enum Form<'i, 't> {
+    /// No items.
+    Blank,
+    /// A directive.
+    Directs(Directive<'i, 't>),
     /// A record that states its owner, and the items behind the owner.
     Owned(Item<'t>, &'i [Item<'t>]),
     /// A record that omits its owner.
@@ -35,20 +42,20 @@ fn is_word(word: &[u8], wanted: &[u8]) -> bool
 }
 
 /// The directive of a word in any case.
-fn directive_of<'i, 't>(word: Item<'t>, items: &'i [Item<'t>]) -> Form<'i, 't>
-    ensures { form_in result ≡ directive (raw word.entry) (map raw items.now) }
+fn directive_of<'i, 't>(word: Item<'t>, items: &'i [Item<'t>]) -> Directive<'i, 't>
+    ensures { directive_in result ≡ directive (raw word.entry) (map raw items.now) }
 {
     let Item::Bare(word) = word else {
-        return Form::Unknown;
+        return Directive::Unknown;
     };
     if is_word(word, b"$origin") {
-        Form::SetsOrigin(items)
+        Directive::Origin(items)
     } else if is_word(word, b"$ttl") {
-        Form::SetsTtl(items)
+        Directive::Ttl(items)
     } else if is_word(word, b"$include") {
-        Form::Include
+        Directive::Include
     } else {
-        Form::Unknown
+        Directive::Unknown
     }
 }
 
@@ -60,7 +67,7 @@ pub(crate) fn form_of<'i, 't>(entry: &[u8], items: &'i [Item<'t>]) -> Form<'i, '
         return Form::Blank;
     };
     match entry {
-        [b'$', ..] => directive_of(*first, behind),
+        [b'$', ..] => Form::Directs(directive_of(*first, behind)),
         [octet, ..] if is_blank(*octet) => Form::Unowned(items),
         _ => Form::Owned(*first, behind),
     }

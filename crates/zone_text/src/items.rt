@@ -3,10 +3,11 @@ ghost use Rattle.std.specs.List.{flat_map};
 ghost use Rattle.zone_name.specs.Common.{Octets};
 ghost use Rattle.zone_rdata.specs.Item.{raw};
 ghost use Rattle.zone_text.specs.Entries.{item_of};
-ghost use Rattle.zone_text.specs.Pieces.{Piece, Cuts, IsPiece, ends_item, is_blank, piece_text};
+ghost use Rattle.zone_text.specs.Pieces.{Piece, Cuts, IsPiece, is_blank, piece_text};
 ghost use Rattle.zone_text.specs.Machine.Cutting.{before_line_feed};
 ghost use Rattle.zone_text.specs.Machine.ItemLengths.{EndsBefore, ends_within, item_len};
 
+use crate::table::ends_item;
 use std::alloc::AllocError;
 use zone_rdata::Item;
 
@@ -15,16 +16,6 @@ pub(crate) fn is_blank(octet: u8) -> bool
     ensures { result ≡ is_blank octet }
 {
     matches!(octet, b' ' | b'\t' | b'\r')
-}
-
-/// Whether the octet ends a bare item where no backslash stands before it.
-fn ends_item(octet: u8) -> bool
-    ensures { result ≡ ends_item octet }
-{
-    matches!(
-        octet,
-        b' ' | b'\t' | b'\r' | b'\n' | b'"' | b'(' | b')' | b';'
-    )
 }
 
 /// The two kinds of items.

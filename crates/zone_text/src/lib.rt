@@ -13,6 +13,7 @@ mod reader;
 mod record;
 mod scan;
 mod source;
+mod table;
 mod words;
 
 pub use reader::read_file;

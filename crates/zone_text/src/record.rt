@@ -1,13 +1,13 @@
-ghost use Rattle.std.specs.Prelude.{◌≡◌, List, None, Some, map, IfOk, IfErr};
+ghost use Rattle.std.specs.Prelude.{◌≡◌, List, ◌∷◌, None, Some, map, IfOk, IfErr};
 ghost use Rattle.zone_name.specs.Common.{Labels};
 ghost use Rattle.zone_rdata.specs.Item.{RawItem, raw};
 ghost use Rattle.zone_text.specs.Defaults.{AreDefaults, IsTtlOrNone};
 ghost use Rattle.zone_text.specs.Entries.{Entry};
 ghost use Rattle.zone_text.specs.EntryFault.{EntryFault, OwnerFault};
 ghost use Rattle.zone_text.specs.Forms.{owned, unowned};
-ghost use Rattle.zone_text.specs.Inherited.{IsOwner, ttl_text};
+ghost use Rattle.zone_text.specs.Inherited.{IsLastOwner, IsOwner, ttl_text};
 ghost use Rattle.zone_text.specs.Records.{HasHead};
-ghost use Rattle.zone_text.specs.Machine.EntryReading.{AnswersRecord, IsRecordEntry};
+ghost use Rattle.zone_text.specs.Machine.EntryReading.{AnswersEntry, IsRecordEntry};
 
 use crate::defaults::Defaults;
 use crate::laws::entry::lower_laws;
@@ -33,6 +33,8 @@ impl Defaults {
     /// # Errors
     ///
     /// `NoOwner` for a quoted item, and the faults of the name.
+    // Not inlined: where names and faults are moved side by side, each move is made octet by octet.
+    #[inline(never)]
     pub(crate) fn owner_in(&self, owner: Item) -> Result<Name, Fault>
         ensures found { (origin : Labels) (before : List Entry) (items : List RawItem)
             → AreDefaults origin before self.now
@@ -72,11 +74,11 @@ impl Defaults {
         alloc: Global,
         owner: Name,
         items: &[Item],
-    ) -> Result<Rr, Failing>
-        ensures owner { self.new.owner ≡ self.old.owner }
-        ensures answers { (origin : Labels) (before : List Entry) (entry : Entry)
+    ) -> Result<Option<Rr>, Failing>
+        ensures { (origin : Labels) (before : List Entry) (entry : Entry)
             → IsRecordEntry origin before entry self.old owner (map raw items.now)
-            → AnswersRecord origin before entry result self.new }
+            → IsLastOwner origin (entry ∷ before) owner
+            → AnswersEntry origin before entry result self.new }
     {
         lower_laws();
         let head = self.head_of(items)?;
@@ -86,11 +88,12 @@ impl Defaults {
         let Some(ttl) = stated.or(minimum) else {
             return Err(Failing::Fault(Fault::NoTtl));
         };
+        self.owner = Some(owner.copy());
         let rr = Rr::new(owner, ttl, rdata)?;
         self.class = head.class;
         self.last_ttl = head.ttl.or(self.last_ttl);
         self.minimum = minimum;
-        Ok(rr)
+        Ok(Some(rr))
     }
 
     /// What the items behind the owner state in front of the data.

@@ -3,8 +3,7 @@ ghost use Rattle.std.specs.Prelude.{◌≡◌, ◌+◌, ◌<◌, ◌≤◌, ◌^
 ghost use Rattle.zone_name.specs.Spelling.{is_digit};
 ghost use Rattle.zone_text.specs.Machine.Scan.{behind_backslash, beginning, closed, end_fault_of, ends_number, escape_step, fed_line, moves, open_step, scan_of, step_of, unclosed};
 
-mod table;
-
+use crate::table::moves_open;
 use zone_rdata::Fault;
 
 /// How much of an escape was read: its backslash, and digits behind it.
@@ -90,7 +89,7 @@ fn moves(mode: Mode, octet: u8) -> bool
     ensures { result ≡ moves mode octet }
 {
     match mode {
-        Mode::Open => table::moves_open(octet),
+        Mode::Open => moves_open(octet),
         Mode::Quoted => matches!(octet, b'"' | b'\\'),
         Mode::Comment => octet == b'\n',
         Mode::Escaped(_) | Mode::QuotedEscaped(_) => true,

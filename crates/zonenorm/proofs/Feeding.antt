@@ -1,8 +1,7 @@
 -- From what was taken of the octets that a reader gave to what the reader's octets are read as.
-use Rattle.std.proofs.Common.{◌≡◌, ℕ, suc, ◌<◌, ◌≤◌, ◌+◌, ◌-◌, true, List, [], ◌∷◌, ◌++◌, length, length-append, take, drop, refl, sym, ap, ◌∙◌, subst, append-nil, append_assoc, arith, eqb-true}
-use Rattle.std.proofs.lemmas.List.{take-append-drop}
+use Rattle.std.proofs.Common.{◌≡◌, ℕ, suc, ◌<◌, ◌≤◌, ◌+◌, true, List, [], ◌∷◌, ◌++◌, length, length-append, refl, sym, ap, ◌∙◌, subst, append-nil, append_assoc, arith, eqb-true}
 use Rattle.std.specs.Prelude.{◌==◌, get_or, Option, Some, None, IfSome}
-use Rattle.std.specs.Io.KnownBytes.{Consumes, IsAtEnd, Keeps}
+use Rattle.std.specs.Io.KnownBytes.{Consumes, IsAtEnd}
 use Rattle.std.specs.List.{AllByRecursion}
 use Rattle.zone_name.specs.Common.{Octets}
 use Rattle.zone_rdata.specs.Record.{Record}
@@ -18,8 +17,8 @@ use Rattle.zone_set.specs.Builder.{StopsTaking, failure, memory, refused, ending
 use Rattle.zone_set.specs.Zone.{Zone}
 use Rattle.zonenorm.specs.Input.{InputForm, as_file, as_transfer, input_of, octets_of, IsForm, IsInput}
 use Rattle.zonenorm.specs.Machine.Taking.{IsTaken, all_taken, Begins, ReadsZone, ReadsZoneWithin, RefusesRead}
-use Rattle.zonenorm.specs.Machine.Stops.{IsOfReading}
-use Rattle.zonenorm.specs.Normalise.{IsOfBytes}
+use Rattle.zonenorm.specs.Machine.Stops.{TellsRead}
+use Rattle.zonenorm.specs.Normalise.{IsOfBytes, IsOfReading}
 use Rattle.zonenorm.specs.Refusal.{IfRefused, IsRefusalWithin, too_long, reading}
 
 pub octets_of_input : (form : InputForm) (octets : Octets) → octets_of (input_of form octets) ≡ octets
@@ -72,10 +71,6 @@ pub if_some : (P Q : Octets → Type 0) (known : Option Octets) → ((octets : O
 if_some P Q None imply holds = tt
 if_some P Q (Some octets) imply holds = imply octets holds
 
-pub if_none : (P : Octets → Type 0) (known : Option Octets) → ((octets : Octets) → P octets) → IfSome known P
-if_none P None holds = tt
-if_none P (Some octets) holds = holds octets
-
 -- what a source begins with is taken of no octets
 pub begun : {Held : Type 0} (Stands : InputForm → Pending → Held → Octets → List Placed → Type 0) (form : InputForm) (pending : Pending) (inside : Held) (held : List Record) (refusal : Option (Fault × Place)) → held ≡ [] → refusal ≡ None → Begins (Stands form) pending inside → IsTaken (Stands form pending inside) form pending held refusal []
 begun Stands form pending inside held refusal none unrefused begins = all_taken [] unrefused begins.stands begins.nothing none
@@ -102,12 +97,6 @@ consumed_both (Some p) None c given more first next = absurd first
 consumed_both (Some p) (Some q) None given more first next = absurd next
 consumed_both (Some p) (Some q) (Some r) given more first next = first ∙ ap (λ os. given ++ os) next ∙ sym (append_assoc given more r)
 
-pub consumed_kept : (a b c : Option Octets) (given : Octets) → Consumes a b given → Keeps b c → Consumes a c given
-consumed_kept None b c given first kept = tt
-consumed_kept (Some p) None c given first kept = absurd first
-consumed_kept (Some p) (Some q) None given first kept = absurd kept
-consumed_kept (Some p) (Some q) (Some r) given first kept = first ∙ ap (λ os. given ++ os) (sym kept)
-
 pub consumed_none : (a b c : Option Octets) (given more : Octets) → Consumes a b given → Consumes b c more → more ≡ [] → Consumes a c given
 consumed_none a b c given more first next none = subst (Consumes a c) (ap (λ os. given ++ os) none ∙ append-nil given) (consumed_both a b c given more first next)
 
@@ -118,6 +107,13 @@ of_reading (Refused fault place) is = tt
 of_reading Read is = tt
 of_reading Write is = is
 of_reading Memory is = tt
+
+-- what ends the input tells no failed read
+pub tells_no_read : (failed : Type 0) (stop : Stop) → IsOfBytes stop → TellsRead failed stop
+tells_no_read failed (Refused fault place) is = tt
+tells_no_read failed Read is = absurd is
+tells_no_read failed Write is = tt
+tells_no_read failed Memory is = tt
 
 pub memory_of_bytes : (stop : Stop) → stop ≡ Memory → IsOfBytes stop
 memory_of_bytes stop is = subst IsOfBytes (sym is) tt
@@ -135,30 +131,6 @@ finishing_of_bytes held _ (outside owner least) = tt
 pub no_octets : (octets : Octets) → (length octets == 0) ≡ true → octets ≡ []
 no_octets [] none = refl
 no_octets (c ∷ octets) none = absurd (omega (arith, eqb-true (length (c ∷ octets)) 0 none))
-
-pub parted : (octets given rest : Octets) → octets ≡ given ++ rest → length given + length rest ≡ length octets
-parted octets given rest whole = rw (whole, length-append) refl
-
-pub rests : (n : ℕ) (octets given piece after : Octets) → piece ≡ take n octets → after ≡ drop n octets → given ++ octets ≡ (given ++ piece) ++ after
-rests n octets given piece after front back = rw (front, back) (ap (λ os. given ++ os) (sym (take-append-drop n octets)) ∙ sym (append_assoc given (take n octets) (drop n octets)))
-
--- one more piece of octets that are parted
-pub fed_more : (Began : InputForm → Type 0) (Taken Next : InputForm → Octets → Type 0) (octets rest piece after : Octets) (n fed later limit : ℕ) → HasFed Began Taken (Some octets) (Some rest) (length octets - length rest) fed limit → piece ≡ take n rest → after ≡ drop n rest → AllByRecursion (λ c. c < 256) piece → length octets ≤ limit → later ≤ fed + length piece → ((form : InputForm) (given : Octets) → Taken form given → Next form (given ++ piece)) → HasFed Began Next (Some octets) (Some after) (length octets - length after) later limit
-fed_more Began Taken Next octets rest piece after n fed later limit had front back each short few on =
-    let whole : octets ≡ (had.given ++ piece) ++ after = had.consumed ∙ rests n rest had.given piece after front back in
-    let all : length (had.given ++ piece) + length after ≡ length octets = parted octets (had.given ++ piece) after whole in
-    let before : length had.given + length rest ≡ length octets = parted octets had.given rest had.consumed in
-    let joined : length (had.given ++ piece) ≡ length had.given + length piece = length-append had.given piece in
-    let fed_few : fed ≤ length octets - length rest = had.fed_few in
-    record {
-      given = had.given ++ piece;
-      consumed = whole;
-      counted = omega (arith, all);
-      each = each_joined had.given piece had.each each;
-      few = omega arith;
-      fed_few = omega (arith, all, before, joined, fed_few, few);
-      taken = λ form begins. on form had.given (had.taken form begins);
-    }
 
 -- octets are an input of a form
 pub is_input : (form : InputForm) (octets : Octets) → IsForm form → AllByRecursion (λ c. c < 256) (octets_of (input_of form octets)) → IsInput (input_of form octets)

@@ -1,5 +1,7 @@
 -- The parts of the sentence that the program stands for.
-use Rattle.std.proofs.Common.{◌≡◌, ◌↔◌, ◌⊎◌, ℕ, ◌<◌, ◌≤◌, List, length, sym, ap, ◌∙◌, subst, ⊎_elim}
+use Rattle.std.proofs.Common.{◌≡◌, ◌↔◌, ◌⊎◌, ℕ, ◌<◌, ◌≤◌, List, length, Option, refl, sym, ap, ◌∙◌, subst, ⊎_elim, arith}
+use Rattle.std.proofs.lemmas.Bool.Decides.{leb_tells}
+use Rattle.std.specs.Io.KnownBytes.{Appends}
 use Rattle.std.specs.List.{AllByRecursion}
 use Rattle.zone_name.specs.Common.{AtMostOneIs, Labels, NothingIs, Octets}
 use Rattle.zone_rdata.specs.declared.fault.Fault.{Fault}
@@ -10,9 +12,12 @@ use Rattle.zone_print.specs.Denotes.{Denotes}
 use Rattle.zone_wire.specs.Name.{Found, IsNameAt}
 use Rattle.zone_wire.specs.Walk.{Visit}
 use Rattle.zone_wire.specs.WholeWalk.{IsWalk}
+use Rattle.zonenorm.specs.declared.compare.Verdict.{Verdict}
+use Rattle.zonenorm.specs.declared.compare.Verdict.TheVariants.{Different, Same}
+use Rattle.zonenorm.specs.Compare.{Compares, DifferFirstAt, IsVerdict, line_at}
 use Rattle.zonenorm.specs.Headline.{DenoteOne, DenotesOnly, IsBoundedWalk, IsRefused, NormalisesOnlyTo}
 use Rattle.zonenorm.specs.Input.{file, Input, InputDenotes, IsInput}
-use Rattle.zonenorm.specs.Normalise.{NormalisesTo}
+use Rattle.zonenorm.specs.Normalise.{Normalises, NormalisesTo}
 use Rattle.zonenorm.specs.Refusal.{IsRefusal}
 
 abbrev OneZone : Type 0
@@ -87,3 +92,40 @@ pub text_to_itself : ((input : Input) (z : Zone) (origin : Labels) → InputDeno
     → (input : Input) (text : Octets) (origin : Labels) → NormalisesTo input text → NormalisesOnlyTo (file origin text) text
 text_to_itself again input text origin to =
     subst (λ t. NormalisesOnlyTo (file origin t) t) (sym to.canonical) (again input to.zone origin to.denotes)
+
+-- what normalising wrote
+pub written_text : (input : Input) (old new : Option Octets) (count : ℕ) → Normalises input old new count → (text : Octets) × NormalisesTo input text × Appends old new text
+written_text input old new count is = (canon is.zone, record { zone = is.zone; denotes = is.denotes; canonical = refl }, is.written)
+
+-- ---- comparisons
+
+equal_is_same : (verdict : Verdict) (text other : Octets) → IsVerdict verdict text other → text ≡ other → verdict ≡ Same
+equal_is_same Same text other is equal = refl
+equal_is_same (Different line) text other is equal = absurd (is.differs (ap (λ t. line_at t line) equal))
+
+same_is_equal : (verdict : Verdict) (text other : Octets) → IsVerdict verdict text other → verdict ≡ Same → text ≡ other
+same_is_equal verdict text other is same = subst (λ v. IsVerdict v text other) same is
+
+pub same_if_one : ((a b : Input) (z w : Zone) → InputDenotes a z → InputDenotes b w → (canon z ≡ canon w) ↔ DenoteOne a b)
+    → (first second : Input) (verdict : Verdict) → Compares first second verdict → (verdict ≡ Same) ↔ DenoteOne first second
+same_if_one equal first second verdict is =
+    let zones : (canon is.zone ≡ canon is.other) ↔ DenoteOne first second = equal first second is.zone is.other is.denotes is.other_denotes in
+    (λ same. zones.0 (same_is_equal verdict (canon is.zone) (canon is.other) is.judged same), λ one. equal_is_same verdict (canon is.zone) (canon is.other) is.judged (zones.1 one))
+
+one_line : (text other : Octets) (n m : ℕ) → DifferFirstAt n text other → DifferFirstAt m text other → n ≡ m
+one_line text other n m at_n at_m =
+    ⊎_elim (λ up. ⊎_elim (λ down. omega (arith, up.1, down.1)) (λ less. absurd (at_n.differs (at_m.equal n less.1))) (leb_tells m n))
+    (λ more. absurd (at_m.differs (at_n.equal m more.1))) (leb_tells n m)
+
+one_judgement : (verdict another : Verdict) (text other : Octets) → IsVerdict verdict text other → IsVerdict another text other → verdict ≡ another
+one_judgement Same another text other is too = sym (equal_is_same another text other too is)
+one_judgement (Different line) Same text other is too = equal_is_same (Different line) text other is too
+one_judgement (Different line) (Different another) text other is too = ap Different (one_line text other line another is too)
+
+pub one_verdict : OneZone → (first second : Input) → AtMostOneIs (Compares first second)
+one_verdict one first second verdict another is too =
+    let zone : is.zone ≡ too.zone = one first is.zone too.zone is.denotes too.denotes in
+    let other : is.other ≡ too.other = one second is.other too.other is.other_denotes too.other_denotes in
+    one_judgement verdict another (canon too.zone) (canon too.other)
+    (subst (λ w. IsVerdict verdict (canon too.zone) (canon w)) other (subst (λ z. IsVerdict verdict (canon z) (canon is.other)) zone is.judged))
+    too.judged

@@ -1,4 +1,3 @@
-pub mod Known
 pub mod Added
 pub mod Asked
 pub mod Parting

@@ -13,16 +13,13 @@ use Rattle.zone_print.specs.Writing.{StopsPush, StopsWrite}
 use Rattle.zone_print.specs.Writing as printing
 use Rattle.zonenorm.specs.Input.{Input, IsInput, InputDenotes, Reads, States}
 use Rattle.zonenorm.specs.Machine.Taking.{ReadsZoneWithin}
-use Rattle.zonenorm.specs.Normalise.{Normalises, NormalisesTo, StatesZone, WritesNothing, WritesPrefix}
+use Rattle.zonenorm.specs.Normalise.{Normalises, NormalisesTo, WritesNothing, WritesPrefix}
 use Rattle.zonenorm.specs.Refusal.{IfRefused, IsRefusal, reading, too_large}
 
 abbrev ReadIsStated : Type 0
 ReadIsStated = (input : Input) (placed : List Placed) → IsInput input → Reads input placed None → States input placed
 
 module _ (input : Input) (z : Zone) (reads : ReadsZoneWithin text_limit input z) where
-  pub states_zone : ReadIsStated → IsInput input → StatesZone input z
-  states_zone stated is = record { placed = reads.reads.placed; states = stated input reads.reads.placed is reads.reads.reads; same = reads.reads.same; zone = reads.reads.zone }
-
   pub denotes_zone : ReadIsStated → IsInput input → length (canon z) ≤ text_limit → InputDenotes input z
   denotes_zone stated is short = record { short = reads.short; placed = reads.reads.placed; states = stated input reads.reads.placed is reads.reads.reads; same = reads.reads.same; zone = reads.reads.zone; text_short = short }
 
@@ -35,18 +32,18 @@ module _ (input : Input) (z : Zone) (reads : ReadsZoneWithin text_limit input z)
 
   pub refused_writing : (old new : Option Octets) (stop : Stop) → StopsWrite text_limit (canon z) old new stop → IfRefused stop (IsRefusal input)
   refused_writing old new _ (printing.large long kept) = large long
-  refused_writing old new _ (printing.memory front) = tt
-  refused_writing old new _ (printing.write front) = tt
+  refused_writing old new _ (printing.memory short front) = tt
+  refused_writing old new _ (printing.write short front) = tt
 
   pub front_written : ReadIsStated → IsInput input → (old new : Option Octets) (stop : Stop) → StopsWrite text_limit (canon z) old new stop → WritesPrefix input old new
   front_written stated is old new _ (printing.large long kept) = inl kept
-  front_written stated is old new _ (printing.memory front) = inr (z, states_zone stated is, front)
-  front_written stated is old new _ (printing.write front) = inr (z, states_zone stated is, front)
+  front_written stated is old new _ (printing.memory short front) = inr (z, denotes_zone stated is short, front)
+  front_written stated is old new _ (printing.write short front) = inr (z, denotes_zone stated is short, front)
 
 pub nothing_written : (limit : ℕ) (text : Octets) (old new : Option Octets) (stop : Stop) → StopsWrite limit text old new stop → WritesNothing stop old new
 nothing_written limit text old new _ (printing.large long kept) = kept
-nothing_written limit text old new _ (printing.memory front) = tt
-nothing_written limit text old new _ (printing.write front) = tt
+nothing_written limit text old new _ (printing.memory short front) = tt
+nothing_written limit text old new _ (printing.write short front) = tt
 
 pub normalises : (input : Input) (z : Zone) → ReadsZoneWithin text_limit input z → ReadIsStated → IsInput input → (old new : Option Octets) (count : ℕ) → Appends old new (canon z) → length (canon z) ≤ text_limit → count ≡ min (length z.records) (2 ^ 64 - 1) → Normalises input old new count
 normalises input z reads stated is old new count written short counted = record { zone = z; denotes = denotes_zone input z reads stated is short; written = written; counted = counted }

@@ -1,9 +1,7 @@
 -- Records of small inputs, on which refusals and canonical texts are computed.
-use Rattle.std.specs.Prelude.{ℕ, ◌+◌, List, [], ◌∷◌, ◌++◌, codes}
+use Rattle.std.specs.Prelude.{ℕ, List, [], ◌∷◌, ◌++◌, codes}
 use Rattle.zone_name.specs.Name.{wire}
 use Rattle.zone_rdata.specs.Record.{Record}
-use Rattle.zone_rdata.specs.declared.fault.Place.TheVariants.{Line}
-use Rattle.zone_rdata.specs.declared.record.Placed.{Placed}
 use Rattle.zone_set.specs.Zone.{Zone}
 
 -- the name of one label, and that label under another name
@@ -45,8 +43,3 @@ zone_of ttl = record { apex = x; class = 1; records = soa_of 1 ttl 1 ∷ server_
 -- the address 10.0.0.n of an owner, in class IN (RFC 1035 3.4.1)
 abbrev pub address_of : List (List ℕ) → ℕ → ℕ → Record
 address_of owner ttl n = record { owner = owner; class = 1; kind = 1; ttl = ttl; octets = 10 ∷ 0 ∷ 0 ∷ n ∷ [] }
-
--- records at lines one after another
-abbrev pub from_line : ℕ → List Record → List Placed
-from_line line [] = []
-from_line line (r ∷ records) = record { rr = r; place = Line line } ∷ from_line (line + 1) records

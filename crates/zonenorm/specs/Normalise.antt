@@ -1,14 +1,12 @@
 -- What normalising an input answers and leaves.
-use Rattle.std.specs.Prelude.{◌≡◌, ℕ, ◌-◌, ◌^◌, List, length, min, Option, ◌⊎◌}
-use Rattle.std.specs.Io.KnownBytes.{Appends, Keeps}
+use Rattle.std.specs.Prelude.{◌≡◌, ℕ, ◌-◌, ◌^◌, ◌≤◌, List, length, min, Option, ◌⊎◌}
+use Rattle.std.specs.Io.KnownBytes.{Appends, Consumes, Keeps}
 use Rattle.zone_rdata.specs.declared.fault.Stop.{Stop}
 use Rattle.zone_rdata.specs.declared.fault.Stop.TheVariants.{Refused, Read, Write, Memory}
-use Rattle.zone_rdata.specs.declared.record.Placed.{Placed}
-use Rattle.zone_set.specs.Refusal.{records_of}
-use Rattle.zone_set.specs.Zone.{Zone, IsZone, SameRecords}
+use Rattle.zone_set.specs.Zone.{Zone}
 use Rattle.zone_print.specs.Canonical.{canon}
 use Rattle.zone_print.specs.Writing.{AppendsPrefix}
-use Rattle.zonenorm.specs.Input.{Input, InputDenotes, States}
+use Rattle.zonenorm.specs.Input.{Input, InputDenotes}
 
 -- The input denotes a zone, its canonical text and nothing else was written, and the answer is the number of its records.
 pub record Normalises (input : Input) (old new : Option (List ℕ)) (count : ℕ) : Type 0 where
@@ -45,14 +43,11 @@ IsOfReading Read = Unit {0}
 IsOfReading Write = ⊥
 IsOfReading Memory = Unit {0}
 
--- the records that the input states are those of the zone, as a set, whatever the length of its text
-pub record StatesZone (input : Input) (z : Zone) : Type 0 where
-  pub placed : List Placed
-  pub states : States input placed
-  pub same : SameRecords z.records (records_of placed)
-  pub zone : IsZone z
-
--- nothing was written, or a prefix of the canonical text of the zone that the input states
+-- nothing was written, or a prefix of the canonical text of the zone that the input denotes
 abbrev pub WritesPrefix : Input → Option (List ℕ) → Option (List ℕ) → Type 0
 WritesPrefix input old new =
-    Keeps old new ⊎ ((z : Zone) × StatesZone input z × AppendsPrefix old new (canon z))
+    Keeps old new ⊎ ((z : Zone) × InputDenotes input z × AppendsPrefix old new (canon z))
+
+-- the known octets of a reader lost a front of at most so many
+abbrev pub ConsumesAtMost : ℕ → Option (List ℕ) → Option (List ℕ) → Type 0
+ConsumesAtMost most old new = (given : List ℕ) × (length given ≤ most) × Consumes old new given

@@ -1,21 +1,18 @@
-ghost use Rattle.std.specs.Prelude.{◌≡◌, ◌+◌, ◌≤◌, length, IfOk, IfErr, IfSome};
-ghost use Rattle.std.specs.Io.KnownBytes.{Consumes};
-ghost use Rattle.zone_name.specs.Common.{Octets};
-ghost use Rattle.zone_name.specs.Name.{IsName};
+ghost use Rattle.std.specs.Prelude.{◌+◌, ◌≤◌, length, IfOk, IfErr, IfSome};
 ghost use Rattle.zone_print.specs.Canonical.{canon, text_limit};
 ghost use Rattle.zonenorm.specs.Form.{form_of};
-ghost use Rattle.zonenorm.specs.Input.{file, input_of, InputDenotes, IsForm, transfer};
-ghost use Rattle.zonenorm.specs.Machine.Stops.{IsOfReading};
+ghost use Rattle.zonenorm.specs.Input.{input_of, InputDenotes, IsForm};
+ghost use Rattle.zonenorm.specs.Machine.Stops.{TellsRead};
 ghost use Rattle.zonenorm.specs.Machine.Taking.{ReadsZoneWithin};
-ghost use Rattle.zonenorm.specs.Normalise.{Normalises, NormalisesTo, WritesNothing, WritesPrefix, IsOfBytes};
+ghost use Rattle.zonenorm.specs.Normalise.{ConsumesAtMost, IsOfBytes, IsOfReading, Normalises, NormalisesTo, WritesNothing, WritesPrefix};
 ghost use Rattle.zonenorm.specs.Refusal.{IfRefused, IsRefusal};
 
 use crate::form::Form;
-use crate::input::{read_zone, zone_of_octets};
+use crate::input::read_zone;
 use crate::laws::what_is_read_is_stated;
+use crate::octets::{OctetReader, OctetSlice};
 use std::alloc::Global;
 use std::io::{Read, Write};
-use zone_name::Name;
 use zone_print::{TEXT_LIMIT, canon_len, push_zone, write_zone};
 use zone_rdata::{Fault, Place, Stop};
 use zone_set::Zone;
@@ -47,8 +44,7 @@ pub fn normalise<R: Read, W: Write>(
         (W.contents writer.old) (W.contents writer.new))) }
     ensures fault { IfErr result (λ stop. IfSome (R.remaining reader.old) (λ octets.
         IfRefused stop (IsRefusal (input_of (form_of form.entry) octets)))) }
-    ensures few { (given : Octets) × (length given ≤ text_limit + 1)
-        × Consumes (R.remaining reader.old) (R.remaining reader.new) given }
+    ensures few { ConsumesAtMost (text_limit + 1) (R.remaining reader.old) (R.remaining reader.new) }
 {
     let zone = zone_of(alloc, form, reader)?;
     what_is_read_is_stated();
@@ -61,7 +57,7 @@ pub fn normalise<R: Read, W: Write>(
 /// # Errors
 ///
 /// `Refused` where they denote none, also where its canonical text is too long; `Read` and `Memory`.
-pub(crate) fn accepted_zone<R: Read>(
+pub(crate) fn accepted_zone<R: OctetReader>(
     alloc: Global,
     form: Form<'_>,
     reader: &mut R,
@@ -72,8 +68,8 @@ pub(crate) fn accepted_zone<R: Read>(
     ensures fault { IfErr result (λ stop. IfSome (R.remaining reader.old) (λ octets.
         IfRefused stop (IsRefusal (input_of (form_of form.entry) octets)))) }
     ensures stopped { IfErr result IsOfReading }
-    ensures few { (given : Octets) × (length given ≤ text_limit + 1)
-        × Consumes (R.remaining reader.old) (R.remaining reader.new) given }
+    ensures failed { IfErr result (TellsRead (R.Failed reader.new)) }
+    ensures few { ConsumesAtMost (text_limit + 1) (R.remaining reader.old) (R.remaining reader.new) }
 {
     let stated = zone_of(alloc, form, reader)?;
     what_is_read_is_stated();
@@ -95,7 +91,7 @@ pub fn normalise_bytes(alloc: Global, form: Form<'_>, octets: &[u8]) -> Result<V
     ensures fault { IfErr result (λ stop.
         IfRefused stop (IsRefusal (input_of (form_of form.entry) octets.now))) }
 {
-    let zone = zone_of_bytes(alloc, form, octets)?;
+    let zone = zone_of(alloc, form, &mut OctetSlice { rest: octets })?;
     what_is_read_is_stated();
     push_zone(alloc, &zone)
 }
@@ -104,98 +100,28 @@ pub fn normalise_bytes(alloc: Global, form: Form<'_>, octets: &[u8]) -> Result<V
 ///
 /// # Errors
 ///
-/// `Refused` with the refusal of the input, but for the length of its canonical text; `Read` and `Memory`.
-fn zone_of<R: Read>(alloc: Global, form: Form<'_>, reader: &mut R) -> Result<Zone, Stop>
+/// `Refused` with the refusal of the input, but for the length of its canonical text; `Read` where the reader failed, and
+/// `Memory`.
+fn zone_of<R: OctetReader>(alloc: Global, form: Form<'_>, reader: &mut R) -> Result<Zone, Stop>
     ensures zone { IfOk result (λ z. IfSome (R.remaining reader.old) (λ octets.
         ReadsZoneWithin text_limit (input_of (form_of form.entry) octets) z)) }
     ensures fault { IfErr result (λ stop. IfSome (R.remaining reader.old) (λ octets.
         IfRefused stop (IsRefusal (input_of (form_of form.entry) octets)))) }
     ensures form { IsForm (form_of form.entry) }
     ensures stopped { IfErr result IsOfReading }
-    ensures few { (given : Octets) × (length given ≤ text_limit + 1)
-        × Consumes (R.remaining reader.old) (R.remaining reader.new) given }
+    ensures failed { IfErr result (TellsRead (R.Failed reader.new)) }
+    ensures few { ConsumesAtMost (text_limit + 1) (R.remaining reader.old) (R.remaining reader.new) }
 {
     match form {
-        Form::File(origin) => zone_of_file(alloc, origin, reader),
-        Form::Transfer => zone_of_transfer(alloc, reader),
+        Form::File(origin) => {
+            origin.known();
+            of_nothing_nothing_is_decided();
+            let mut source = TextSource::new(alloc, origin);
+            read_zone(alloc, &mut source, reader, TEXT_LIMIT)
+        }
+        Form::Transfer => {
+            let mut source = TransferSource::new(alloc);
+            read_zone(alloc, &mut source, reader, TEXT_LIMIT)
+        }
     }
-}
-
-/// `zone_of` for a master file.
-fn zone_of_file<R: Read>(alloc: Global, origin: &Name, reader: &mut R) -> Result<Zone, Stop>
-    ensures zone { IfOk result (λ z. IfSome (R.remaining reader.old) (λ octets.
-        ReadsZoneWithin text_limit (file origin.now octets) z)) }
-    ensures fault { IfErr result (λ stop. IfSome (R.remaining reader.old) (λ octets.
-        IfRefused stop (IsRefusal (file origin.now octets)))) }
-    ensures name { IsName origin.now }
-    ensures stopped { IfErr result IsOfReading }
-    ensures few { (given : Octets) × (length given ≤ text_limit + 1)
-        × Consumes (R.remaining reader.old) (R.remaining reader.new) given }
-{
-    origin.known();
-    of_nothing_nothing_is_decided();
-    read_zone(
-        alloc,
-        &mut TextSource::new(alloc, origin),
-        reader,
-        TEXT_LIMIT,
-    )
-}
-
-/// `zone_of` for a transfer.
-fn zone_of_transfer<R: Read>(alloc: Global, reader: &mut R) -> Result<Zone, Stop>
-    ensures zone { IfOk result (λ z. IfSome (R.remaining reader.old) (λ octets.
-        ReadsZoneWithin text_limit (transfer octets) z)) }
-    ensures fault { IfErr result (λ stop. IfSome (R.remaining reader.old) (λ octets.
-        IfRefused stop (IsRefusal (transfer octets)))) }
-    ensures stopped { IfErr result IsOfReading }
-    ensures few { (given : Octets) × (length given ≤ text_limit + 1)
-        × Consumes (R.remaining reader.old) (R.remaining reader.new) given }
-{
-    read_zone(alloc, &mut TransferSource::new(alloc), reader, TEXT_LIMIT)
-}
-
-/// The zone of the records that the octets state.
-///
-/// # Errors
-///
-/// `Refused` with the refusal of the input, but for the length of its canonical text; `Memory`.
-fn zone_of_bytes(alloc: Global, form: Form<'_>, octets: &[u8]) -> Result<Zone, Stop>
-    ensures zone { IfOk result (λ z.
-        ReadsZoneWithin text_limit (input_of (form_of form.entry) octets.now) z) }
-    ensures fault { IfErr result (λ stop.
-        IfRefused stop (IsRefusal (input_of (form_of form.entry) octets.now))) }
-    ensures form { IsForm (form_of form.entry) }
-    ensures stopped { IfErr result IsOfBytes }
-{
-    match form {
-        Form::File(origin) => zone_of_file_bytes(alloc, origin, octets),
-        Form::Transfer => zone_of_transfer_bytes(alloc, octets),
-    }
-}
-
-/// `zone_of_bytes` for a master file.
-fn zone_of_file_bytes(alloc: Global, origin: &Name, octets: &[u8]) -> Result<Zone, Stop>
-    ensures zone { IfOk result (λ z. ReadsZoneWithin text_limit (file origin.now octets.now) z) }
-    ensures fault { IfErr result (λ stop. IfRefused stop (IsRefusal (file origin.now octets.now))) }
-    ensures name { IsName origin.now }
-    ensures stopped { IfErr result IsOfBytes }
-{
-    origin.known();
-    of_nothing_nothing_is_decided();
-    zone_of_octets(
-        alloc,
-        &mut TextSource::new(alloc, origin),
-        octets,
-        TEXT_LIMIT,
-    )
-}
-
-/// `zone_of_bytes` for a transfer.
-fn zone_of_transfer_bytes(alloc: Global, octets: &[u8]) -> Result<Zone, Stop>
-    ensures zone { IfOk result (λ z. ReadsZoneWithin text_limit (transfer octets.now) z) }
-    ensures fault { IfErr result (λ stop. IfRefused stop (IsRefusal (transfer octets.now))) }
-    ensures stopped { IfErr result IsOfBytes }
-{
-    zone_of_octets(alloc, &mut TransferSource::new(alloc), octets, TEXT_LIMIT)
 }

@@ -4,7 +4,8 @@ ghost use Rattle.zone_rdata.specs.declared.fault.Fault.TheVariants.{ClassMismatc
 ghost use Rattle.zone_rdata.specs.declared.fault.Place.TheVariants.{Line, Whole};
 ghost use Rattle.zone_set.specs.Refusal.{IsFirstRefused};
 ghost use Rattle.zone_print.specs.Canonical.{canon};
-ghost use Rattle.zonenorm.specs.Examples.{top, under, x, a_x, soa_of, server_of, address_of, from_line, zone_of};
+ghost use Rattle.zone_print.specs.Laws.{placed_from};
+ghost use Rattle.zonenorm.specs.Examples.{top, under, x, a_x, soa_of, server_of, address_of, zone_of};
 ghost use Rattle.zonenorm.specs.Input.{file, InputDenotes};
 ghost use Rattle.zonenorm.specs.Normalise.{NormalisesTo};
 ghost use Rattle.zonenorm.specs.Refusal.{IsRefusal, RefusesReading};
@@ -37,32 +38,32 @@ pub fn a_canonical_text_read_back()
 
 /// A record whose class, SOA data and TTL differ is refused for its class.
 pub fn a_record_of_another_class()
-    ensures { IsFirstRefused (from_line 1 (soa_of 1 60 1 ∷ soa_of 3 61 2 ∷ [])) ClassMismatch (Line 2) }
+    ensures { IsFirstRefused (placed_from 1 (soa_of 1 60 1 ∷ soa_of 3 61 2 ∷ [])) ClassMismatch (Line 2) }
 {}
 
 /// A second SOA with another SERIAL.
 pub fn a_second_soa()
-    ensures { IsFirstRefused (from_line 1 (soa_of 1 60 1 ∷ soa_of 1 60 2 ∷ [])) MultipleSoa (Line 2) }
+    ensures { IsFirstRefused (placed_from 1 (soa_of 1 60 1 ∷ soa_of 1 60 2 ∷ [])) MultipleSoa (Line 2) }
 {}
 
 /// Two addresses of one owner with different TTLs.
 pub fn a_differing_ttl()
-    ensures { IsFirstRefused (from_line 1 (soa_of 1 60 1 ∷ address_of a_x 300 1 ∷ address_of a_x 600 2 ∷ [])) DifferingTtl (Line 3) }
+    ensures { IsFirstRefused (placed_from 1 (soa_of 1 60 1 ∷ address_of a_x 300 1 ∷ address_of a_x 600 2 ∷ [])) DifferingTtl (Line 3) }
 {}
 
 /// Records without an SOA.
 pub fn records_without_an_soa()
-    ensures { RefusesReading (from_line 1 (server_of (top (codes "a")) 60 ∷ server_of (top (codes "b")) 60 ∷ [])) None NoSoa Whole }
+    ensures { RefusesReading (placed_from 1 (server_of (top (codes "a")) 60 ∷ server_of (top (codes "b")) 60 ∷ [])) None NoSoa Whole }
 {}
 
 /// Of two owners outside the zone the least is named.
 pub fn owners_outside_the_zone()
-    ensures { RefusesReading (from_line 1 (soa_of 1 60 1 ∷ server_of (under (codes "b") (top (codes "y"))) 60 ∷ server_of (top (codes "y")) 60 ∷ [])) None (OutOfZone (top (codes "y"))) Whole }
+    ensures { RefusesReading (placed_from 1 (soa_of 1 60 1 ∷ server_of (under (codes "b") (top (codes "y"))) 60 ∷ server_of (top (codes "y")) 60 ∷ [])) None (OutOfZone (top (codes "y"))) Whole }
 {}
 
 /// A differing TTL hides a quote that is left open on a later line.
 pub fn a_differing_ttl_before_an_open_quote()
-    ensures { RefusesReading (from_line 1 (soa_of 1 60 1 ∷ address_of a_x 60 1 ∷ address_of a_x 61 1 ∷ [])) (Some (UnclosedQuote, Line 4)) DifferingTtl (Line 3) }
+    ensures { RefusesReading (placed_from 1 (soa_of 1 60 1 ∷ address_of a_x 60 1 ∷ address_of a_x 61 1 ∷ [])) (Some (UnclosedQuote, Line 4)) DifferingTtl (Line 3) }
 {}
 
 /// A file in which a differing TTL of the third line hides the open quote of the fourth.
@@ -75,7 +76,7 @@ pub fn a_file_with_a_differing_ttl()
 
 /// An open quote hides that no SOA is there.
 pub fn an_open_quote_before_a_missing_soa()
-    ensures { RefusesReading (from_line 1 (server_of (top (codes "a")) 60 ∷ [])) (Some (UnclosedQuote, Line 2)) UnclosedQuote (Line 2) }
+    ensures { RefusesReading (placed_from 1 (server_of (top (codes "a")) 60 ∷ [])) (Some (UnclosedQuote, Line 2)) UnclosedQuote (Line 2) }
 {}
 
 /// An input of one octet more than the limit, whatever it states.

@@ -1,16 +1,13 @@
-ghost use Rattle.std.specs.Prelude.{◌≡◌, ◌+◌, ◌^◌, ◌≤◌, ◌<◌, false, [], length, IfOk, IfErr, IfSome};
+ghost use Rattle.std.specs.Prelude.{◌≡◌, ◌+◌, ◌^◌, ◌≤◌, ◌<◌, false, [], length, IfOk, IfErr};
 ghost use Rattle.std.specs.Io.KnownBytes.{Consumes, IsAtEnd, Keeps};
-ghost use Rattle.zone_name.specs.Common.{Octets};
-ghost use Rattle.zonenorm.specs.Input.{InputForm, input_of, IsForm};
-ghost use Rattle.zonenorm.specs.Machine.Taking.{Begins, ReadsZoneWithin};
-ghost use Rattle.zonenorm.specs.Machine.Stops.{IsOfReading, IsOfPiece};
-ghost use Rattle.zonenorm.specs.Normalise.{IsOfBytes};
-ghost use Rattle.zonenorm.specs.Refusal.{IfRefused, IsRefusalWithin};
+ghost use Rattle.zonenorm.specs.Machine.Taking.{BeginsAs, ReadsKnown, RefusesKnown};
+ghost use Rattle.zonenorm.specs.Machine.Stops.{IsOfPiece, TellsRead};
+ghost use Rattle.zonenorm.specs.Normalise.{ConsumesAtMost, IsOfReading};
 
 use crate::fed::FedSource;
+use crate::octets::OctetReader;
 use crate::taking::Taking;
 use std::alloc::{AllocError, Global};
-use std::io::Read;
 use zone_rdata::{Fault, Place, Stop};
 use zone_set::Zone;
 
@@ -22,10 +19,10 @@ const PIECE: usize = 65_536;
 ///
 /// # Errors
 ///
-/// `Read` where the reader answers an error, an interruption too; `Refused` with `InputTooLong` where it gives more than
+/// `Read` where the reader failed, by an interruption too; `Refused` with `InputTooLong` where it gives more than
 /// `limit` octets, of which `limit + 1` are read, and else with the refusal of the input, but for the length of its
 /// canonical text; `Memory`.
-pub(crate) fn read_zone<S: FedSource, R: Read>(
+pub(crate) fn read_zone<S: FedSource, R: OctetReader>(
     alloc: Global,
     source: &mut S,
     reader: &mut R,
@@ -34,51 +31,16 @@ pub(crate) fn read_zone<S: FedSource, R: Read>(
     requires limit { limit + 2 < 2 ^ 64 }
     requires open { S.finished (S.held source.old) ≡ false }
     requires unfed { S.fed (S.held source.old) ≡ 0 }
-    ensures zone { IfOk result (λ z. (form : InputForm) → Begins (S.Stands form) (S.pending source.old) (S.held source.old)
-        → IfSome (R.remaining reader.old) (λ octets. ReadsZoneWithin limit (input_of form octets) z)) }
-    ensures fault { IfErr result (λ stop. (form : InputForm) → IsForm form
-        → Begins (S.Stands form) (S.pending source.old) (S.held source.old)
-        → IfSome (R.remaining reader.old) (λ octets. IfRefused stop (IsRefusalWithin limit (input_of form octets)))) }
+    ensures zone { IfOk result (ReadsKnown
+        (BeginsAs S.Stands (S.pending source.old) (S.held source.old)) limit (R.remaining reader.old)) }
+    ensures fault { IfErr result (RefusesKnown
+        (BeginsAs S.Stands (S.pending source.old) (S.held source.old)) limit (R.remaining reader.old)) }
     ensures stopped { IfErr result IsOfReading }
-    ensures few { (given : Octets) × (length given ≤ limit + 1) × Consumes (R.remaining reader.old) (R.remaining reader.new) given }
+    ensures failed { IfErr result (TellsRead (R.Failed reader.new)) }
+    ensures few { ConsumesAtMost (limit + 1) (R.remaining reader.old) (R.remaining reader.new) }
 {
     let mut piece = zeros(alloc, PIECE)?;
     read_in_pieces(alloc, source, reader, &mut piece, limit)
-}
-
-/// The zone of these octets, which are fed to a source in pieces.
-///
-/// # Errors
-///
-/// `Refused` with `InputTooLong` where there are more than `limit` octets, and else with the refusal of the input, but for
-/// the length of its canonical text; `Memory`.
-pub(crate) fn zone_of_octets<S: FedSource>(
-    alloc: Global,
-    source: &mut S,
-    octets: &[u8],
-    limit: u64,
-) -> Result<Zone, Stop>
-    requires limit { limit + 2 < 2 ^ 64 }
-    requires open { S.finished (S.held source.old) ≡ false }
-    requires unfed { S.fed (S.held source.old) ≡ 0 }
-    ensures zone { IfOk result (λ z. (form : InputForm) → Begins (S.Stands form) (S.pending source.old) (S.held source.old)
-        → ReadsZoneWithin limit (input_of form octets.now) z) }
-    ensures fault { IfErr result (λ stop. (form : InputForm) → IsForm form
-        → Begins (S.Stands form) (S.pending source.old) (S.held source.old)
-        → IfRefused stop (IsRefusalWithin limit (input_of form octets.now))) }
-    ensures stopped { IfErr result IsOfBytes }
-{
-    if octets.len() as u64 > limit {
-        return Err(Stop::Refused(Fault::InputTooLong, Place::Whole));
-    }
-    let mut taking = Taking::new(alloc);
-    let mut rest = octets;
-    while !rest.is_empty() {
-        let (piece, after) = rest.split_at(rest.len().min(PIECE));
-        taking.take(source, piece)?;
-        rest = after;
-    }
-    taking.finish(source)
 }
 
 /// So many octets 0. The length is a parameter, so that no proof counts up to it.
@@ -89,7 +51,7 @@ fn zeros(alloc: Global, len: usize) -> Result<Vec<u8>, AllocError>
 }
 
 /// What `read_zone` answers, by reads into `piece`.
-fn read_in_pieces<S: FedSource, R: Read>(
+fn read_in_pieces<S: FedSource, R: OctetReader>(
     alloc: Global,
     source: &mut S,
     reader: &mut R,
@@ -100,13 +62,13 @@ fn read_in_pieces<S: FedSource, R: Read>(
     requires open { S.finished (S.held source.old) ≡ false }
     requires unfed { S.fed (S.held source.old) ≡ 0 }
     requires room { 0 < length piece.old }
-    ensures zone { IfOk result (λ z. (form : InputForm) → Begins (S.Stands form) (S.pending source.old) (S.held source.old)
-        → IfSome (R.remaining reader.old) (λ octets. ReadsZoneWithin limit (input_of form octets) z)) }
-    ensures fault { IfErr result (λ stop. (form : InputForm) → IsForm form
-        → Begins (S.Stands form) (S.pending source.old) (S.held source.old)
-        → IfSome (R.remaining reader.old) (λ octets. IfRefused stop (IsRefusalWithin limit (input_of form octets)))) }
+    ensures zone { IfOk result (ReadsKnown
+        (BeginsAs S.Stands (S.pending source.old) (S.held source.old)) limit (R.remaining reader.old)) }
+    ensures fault { IfErr result (RefusesKnown
+        (BeginsAs S.Stands (S.pending source.old) (S.held source.old)) limit (R.remaining reader.old)) }
     ensures stopped { IfErr result IsOfReading }
-    ensures few { (given : Octets) × (length given ≤ limit + 1) × Consumes (R.remaining reader.old) (R.remaining reader.new) given }
+    ensures failed { IfErr result (TellsRead (R.Failed reader.new)) }
+    ensures few { ConsumesAtMost (limit + 1) (R.remaining reader.old) (R.remaining reader.new) }
 {
     let mut taking = Taking::new(alloc);
     let mut count = 0;
@@ -126,15 +88,15 @@ fn read_in_pieces<S: FedSource, R: Read>(
 ///
 /// # Errors
 ///
-/// `Read` where the reader answers an error.
-fn read_piece<'p, R: Read>(reader: &mut R, piece: &'p mut [u8]) -> Result<&'p [u8], Stop>
+/// `Read` where the reader failed.
+fn read_piece<'p, R: OctetReader>(reader: &mut R, piece: &'p mut [u8]) -> Result<&'p [u8], Stop>
     requires { 0 < length piece.old }
     ensures taken { IfOk result (λ given. Consumes (R.remaining reader.old) (R.remaining reader.new) given.now) }
     ensures few { IfOk result (λ given. length given.now ≤ length piece.old) }
     ensures end { IfOk result (λ given. given.now ≡ [] → IsAtEnd (R.remaining reader.new)) }
-    ensures stopped { IfErr result IsOfPiece }
+    ensures stopped { IfErr result (IsOfPiece (R.Failed reader.new)) }
     ensures kept { IfErr result (λ _. Keeps (R.remaining reader.old) (R.remaining reader.new)) }
 {
-    let count = reader.read(piece).map_err(|_| Stop::Read)?;
+    let count = reader.read_some(piece)?;
     Ok(&piece[..count])
 }

@@ -1,5 +1,6 @@
 //! Laws of inputs over the definitions alone. The functions only call other laws: their contracts are the laws.
 ghost use Rattle.std.specs.Prelude.{◌≡◌, ◌<◌, ◌++◌, ◌⊎◌, ◌↔◌, ℕ, List, Option, Some, None};
+ghost use Rattle.std.specs.Io.KnownBytes.{Appends};
 ghost use Rattle.std.specs.List.{AllByRecursion};
 ghost use Rattle.zone_name.specs.Common.{AtMostOneIs, Labels, NothingIs, Octets};
 ghost use Rattle.zone_rdata.specs.Record.{IsRecord};
@@ -10,10 +11,13 @@ ghost use Rattle.zone_set.specs.Refusal.{records_of};
 ghost use Rattle.zone_set.specs.Zone.{Zone};
 ghost use Rattle.zone_print.specs.Canonical.{canon};
 ghost use Rattle.zone_wire.specs.Walk.{Visit};
+ghost use Rattle.zonenorm.specs.declared.compare.Verdict.{Verdict};
+ghost use Rattle.zonenorm.specs.declared.compare.Verdict.TheVariants.{Same};
+ghost use Rattle.zonenorm.specs.Compare.{Compares};
 ghost use Rattle.zonenorm.specs.Headline.{DenoteOne, DenotesOnly, IsBoundedWalk, IsRefused, NormalisesOnlyTo};
 ghost use Rattle.zonenorm.specs.Input.{Decides, file, Input, InputDenotes, InputForm, input_of, IsForm, IsInput, Reads, States};
 ghost use Rattle.zonenorm.specs.Machine.Taking.{RefusesFront, RefusesRead};
-ghost use Rattle.zonenorm.specs.Normalise.{NormalisesTo};
+ghost use Rattle.zonenorm.specs.Normalise.{Normalises, NormalisesTo};
 ghost use Rattle.zonenorm.specs.Refusal.{IsRefusal, MakesZone, RefusesReading};
 
 /// A reading is refused for at most one fault, at one place.
@@ -134,7 +138,7 @@ pub fn headline()
 }
 
 /// What two inputs normalise to is equal exactly if they denote the same zone, and under every origin it denotes that zone
-/// and normalises to itself.
+/// and normalises to itself. It is what was written.
 pub fn normalised_texts()
     ensures same { (a b : Input) (text other : Octets) → NormalisesTo a text → NormalisesTo b other
         → (text ≡ other) ↔ DenoteOne a b }
@@ -142,6 +146,18 @@ pub fn normalised_texts()
         → DenoteOne input (file origin text) }
     ensures again { (input : Input) (text : Octets) (origin : Labels) → NormalisesTo input text
         → NormalisesOnlyTo (file origin text) text }
+    ensures written { (input : Input) (old new : Option Octets) (count : ℕ) → Normalises input old new count
+        → (text : Octets) × NormalisesTo input text × Appends old new text }
 {
+    headline();
+}
+
+/// A comparison finds that two inputs are the same exactly if they denote the same zone, and it finds one thing.
+pub fn same_is_one_zone()
+    ensures same { (first second : Input) (verdict : Verdict) → Compares first second verdict
+        → (verdict ≡ Same) ↔ DenoteOne first second }
+    ensures one { (first second : Input) → AtMostOneIs (Compares first second) }
+{
+    one_zone();
     headline();
 }

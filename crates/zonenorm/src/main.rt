@@ -9,6 +9,7 @@ mod fed;
 mod form;
 mod input;
 pub mod laws;
+mod octets;
 mod order;
 mod run;
 mod taking;

@@ -3,7 +3,7 @@ ghost use Rattle.std.specs.List.{AllByRecursion};
 ghost use Rattle.zone_name.specs.Common.{Octets};
 ghost use Rattle.zone_rdata.specs.declared.fault.Stop.TheVariants.{Memory};
 ghost use Rattle.zonenorm.specs.Input.{InputForm, input_of, IsForm};
-ghost use Rattle.zonenorm.specs.Machine.Taking.{IsTaken, ReadsZone, RefusesRead};
+ghost use Rattle.zonenorm.specs.Machine.Taking.{IsTakenOf, ReadsZone, RefusesRead};
 ghost use Rattle.zonenorm.specs.Normalise.{IsOfBytes};
 ghost use Rattle.zonenorm.specs.Refusal.{IfRefused};
 
@@ -43,10 +43,10 @@ impl Taking {
         requires open { S.finished (S.held source.old) ≡ false }
         requires fits { S.fed (S.held source.old) + length piece.now + 1 < 2 ^ 64 }
         ensures taken { OnOk result ((form : InputForm) (octets : Octets)
-            → IsTaken (S.Stands form (S.pending source.old) (S.held source.old)) form (S.pending source.old)
-            self.old.builder self.old.refusal octets
-            → IsTaken (S.Stands form (S.pending source.new) (S.held source.new)) form (S.pending source.new)
-            self.new.builder self.new.refusal (octets ++ piece.now)) }
+            → IsTakenOf S.Stands (S.pending source.old) (S.held source.old)
+            self.old.builder self.old.refusal form octets
+            → IsTakenOf S.Stands (S.pending source.new) (S.held source.new)
+            self.new.builder self.new.refusal form (octets ++ piece.now)) }
         ensures open { S.finished (S.held source.new) ≡ false }
         ensures fed { S.fed (S.held source.new) ≤ S.fed (S.held source.old) + length piece.now }
         ensures stopped { IfErr result (λ stop. stop ≡ Memory) }
@@ -74,13 +74,13 @@ impl Taking {
     pub(crate) fn finish<S: FedSource>(self, source: &mut S) -> Result<Zone, Stop>
         requires open { S.finished (S.held source.old) ≡ false }
         ensures zone { IfOk result (λ z. (form : InputForm) (octets : Octets)
-            → IsTaken (S.Stands form (S.pending source.old) (S.held source.old)) form (S.pending source.old)
-            self.builder self.refusal octets
+            → IsTakenOf S.Stands (S.pending source.old) (S.held source.old)
+            self.builder self.refusal form octets
             → ReadsZone (input_of form octets) z) }
         ensures fault { IfErr result (λ stop. (form : InputForm) (octets : Octets)
             → IsForm form → AllByRecursion (λ c. c < 256) octets
-            → IsTaken (S.Stands form (S.pending source.old) (S.held source.old)) form (S.pending source.old)
-            self.builder self.refusal octets
+            → IsTakenOf S.Stands (S.pending source.old) (S.held source.old)
+            self.builder self.refusal form octets
             → IfRefused stop (RefusesRead (input_of form octets))) }
         ensures stopped { IfErr result IsOfBytes }
     {

@@ -9,11 +9,11 @@ use Rattle.zone_rdata.specs.Spelling.{RawItem}
 use Rattle.zone_rdata.specs.declared.fault.Failing.{Failing}
 use Rattle.zone_rdata.specs.declared.fault.Fault.{Fault}
 use Rattle.zone_rdata.specs.declared.fault.Fault.TheVariants.{BadDirective}
-use Rattle.zone_text.specs.Defaults.{AreDefaults, IsOneOrNone}
+use Rattle.zone_text.specs.Defaults.{AreDefaults}
 use Rattle.zone_text.specs.Entries.{Entry}
 use Rattle.zone_text.specs.EntryFault.{EntryFault}
 use Rattle.zone_text.specs.Forms.{form_of, parts_of, parts_behind}
-use Rattle.zone_text.specs.Inherited.{IsOwner, IsLastOwner, IsTtl, one_bare}
+use Rattle.zone_text.specs.Inherited.{IsOwner, IsTtl, one_bare}
 use Rattle.zone_text.specs.Records.{StatesNothing, StatesRecord}
 use Rattle.zone_text.specs.declared.defaults.Defaults.{Defaults}
 
@@ -58,12 +58,6 @@ with_owner owner d = record {
   last_ttl = d.last_ttl;
   minimum = d.minimum;
 }
-
--- what is answered for a record entry, and what is left to those behind it, the last owner aside
-abbrev pub AnswersRecord : Labels → List Entry → Entry → Result Record Failing → Defaults → Type 0
-AnswersRecord origin before entry (Ok r) next =
-    StatesRecord origin before entry r × ((owner : Option Labels) → IsOneOrNone (IsLastOwner origin (entry ∷ before)) owner → AreDefaults origin (entry ∷ before) (with_owner owner next))
-AnswersRecord origin before entry (Err failing) next = IfFault (EntryFault origin before entry) failing
 
 -- `$ORIGIN` has one bare item, the name of which the origin becomes
 pub record SetsOrigin (items : List RawItem) (d next : Defaults) : Type 0 where

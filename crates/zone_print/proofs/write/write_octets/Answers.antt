@@ -3,4 +3,4 @@ use Rattle.zone_print.proofs.Front.{left_after}
 use Rattle.zone_print.proofs.write.write_octets.Goals as goal
 
 pub loop-rest-preserved : goal.loop-rest-preserved
-loop-rest-preserved g c = rw c.split_at.ensures.back (left_after _ _ _ _ _ _ c.loop-rest.invariant c.in-Ok.ensures.bytes)
+loop-rest-preserved g c = rw c.split_at.ensures.back (left_after _ _ _ _ _ _ c.loop-rest.invariant c.in_ok-count.ensures.bytes)

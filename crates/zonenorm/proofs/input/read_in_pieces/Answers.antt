@@ -3,7 +3,7 @@ use Rattle.std.proofs.lemmas.Result.{MatchResult-weaker}
 use Rattle.zonenorm.specs.Input.{input_of}
 use Rattle.zonenorm.specs.Machine.Taking.{ReadsZoneWithin}
 use Rattle.zonenorm.specs.Refusal.{IfRefused, IsRefusalWithin}
-use Rattle.zonenorm.proofs.Feeding.{begun, within, refused_within, all_given, too_many, nothing_consumed, consumed_both, consumed_none, each_joined, of_reading, no_octets}
+use Rattle.zonenorm.proofs.Feeding.{begun, within, refused_within, all_given, too_many, nothing_consumed, consumed_both, consumed_none, each_joined, of_reading, tells_no_read, no_octets}
 use Rattle.zonenorm.proofs.input.read_in_pieces.Goals as goal
 
 pub loop-count-init : goal.loop-count-init
@@ -40,6 +40,9 @@ returns-then-is_empty-clause-fault g c =
 
 pub returns-then-is_empty-clause-stopped : goal.returns-then-is_empty-clause-stopped
 returns-then-is_empty-clause-stopped g c = MatchResult-weaker c.finish.result c.finish.ensures.stopped (λ z h. h) of_reading
+
+pub returns-then-is_empty-clause-failed : goal.returns-then-is_empty-clause-failed
+returns-then-is_empty-clause-failed g c = MatchResult-weaker c.finish.result c.finish.ensures.stopped (λ z h. h) (tells_no_read _)
 
 pub returns-then-is_empty-clause-few : goal.returns-then-is_empty-clause-few
 returns-then-is_empty-clause-few g c =

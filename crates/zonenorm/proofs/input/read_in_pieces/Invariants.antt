@@ -1,15 +1,15 @@
 use Rattle.std.proofs.Common.{◌≡◌, ◌-◌, ◌+◌, false}
-use Rattle.zonenorm.specs.Machine.Taking.{Begins, IsTaken}
+use Rattle.zonenorm.specs.Machine.Taking.{BeginsAs, IsTakenOf}
 use Rattle.zonenorm.proofs.Feeding.{HasFed}
 use Rattle.zonenorm.proofs.input.read_in_pieces.Given as goal
 
 -- what the reader gave so far was taken, and is at most one octet over the limit
 abbrev pub invariant-loop-count : goal.invariant-loop-count
 invariant-loop-count g l =
-    let remaining = g.R.Read.remaining in
+    let remaining = g.R.OctetReader.remaining in
     let source = l.initial.source in
     record {
-      fed : HasFed (λ form. Begins (g.S.FedSource.Stands form) (g.S.RrSource.pending source) (g.S.FedSource.held source)) (λ form octets. IsTaken (g.S.FedSource.Stands form (g.S.RrSource.pending l.source) (g.S.FedSource.held l.source)) form (g.S.RrSource.pending l.source) l.taking.builder l.taking.refusal octets) (remaining l.initial.reader) (remaining l.reader) l.count (g.S.FedSource.fed (g.S.FedSource.held l.source)) l.limit;
+      fed : HasFed (BeginsAs g.S.FedSource.Stands (g.S.RrSource.pending source) (g.S.FedSource.held source)) (IsTakenOf g.S.FedSource.Stands (g.S.RrSource.pending l.source) (g.S.FedSource.held l.source) l.taking.builder l.taking.refusal) (remaining l.initial.reader) (remaining l.reader) l.count (g.S.FedSource.fed (g.S.FedSource.held l.source)) l.limit;
       going : g.S.FedSource.finished (g.S.FedSource.held l.source) ≡ false;
     }
 

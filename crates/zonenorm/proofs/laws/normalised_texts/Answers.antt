@@ -1,4 +1,4 @@
-use Rattle.zonenorm.proofs.Headline.{text_back, texts_equal_if_one, text_to_itself}
+use Rattle.zonenorm.proofs.Headline.{text_back, texts_equal_if_one, text_to_itself, written_text}
 use Rattle.zonenorm.proofs.laws.normalised_texts.Goals as goal
 
 pub returns-clause-same : goal.returns-clause-same
@@ -9,3 +9,6 @@ returns-clause-back c = text_back c.headline.ensures.back
 
 pub returns-clause-again : goal.returns-clause-again
 returns-clause-again c = text_to_itself c.headline.ensures.again
+
+pub returns-clause-written : goal.returns-clause-written
+returns-clause-written c = written_text

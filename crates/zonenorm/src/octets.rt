@@ -1,0 +1,54 @@
+ghost use Rattle.std.specs.Prelude.{ℕ, List, Option, Some, IfErr, ⊤};
+ghost use Rattle.std.specs.Io.{ReadsAtMost};
+ghost use Rattle.std.specs.Io.KnownBytes.{ReadConsumes};
+ghost use Rattle.zonenorm.specs.Machine.Stops.{IsOfPiece};
+
+use std::io::Read;
+use zone_rdata::Stop;
+
+/// What octets are read from. All that reads is proved for every `Failed`, so that it answers `Read` only where a call
+/// of the reader did.
+pub(crate) trait OctetReader {
+    /// The octets that it will give, where they are known.
+    ghost remaining: { Self → Option (List ℕ) };
+
+    /// That it failed.
+    ghost Failed: { Self → Type 0 };
+
+    /// Reads into a front of `piece` and answers its length, which is 0 at the end or for an empty piece alone.
+    ///
+    /// # Errors
+    ///
+    /// `Read` where it failed. Nothing was read.
+    fn read_some(&mut self, piece: &mut [u8]) -> Result<usize, Stop>
+        ensures bound { ReadsAtMost result piece.new }
+        ensures bytes { ReadConsumes (remaining self.old) (remaining self.new) result piece.new }
+        ensures stopped { IfErr result (IsOfPiece (Failed self.new)) };
+}
+
+/// Std's trait can't say that a reader failed: nothing is known of it.
+impl<R: Read> OctetReader for R {
+    ghost remaining = { R.remaining };
+
+    ghost Failed = { λ _. ⊤ };
+
+    fn read_some(&mut self, piece: &mut [u8]) -> Result<usize, Stop> {
+        self.read(piece).map_err(|_| Stop::Read)
+    }
+}
+
+/// Octets in memory, which never fail.
+#[derive(Drop)]
+pub(crate) struct OctetSlice<'o> {
+    pub(crate) rest: &'o [u8],
+}
+
+impl OctetReader for OctetSlice<'_> {
+    ghost remaining = { λ octets. Some octets.rest.now };
+
+    ghost Failed = { λ _. ⊥ };
+
+    fn read_some(&mut self, piece: &mut [u8]) -> Result<usize, Stop> {
+        self.rest.read(piece).map_err(|_| Stop::Read)
+    }
+}
