@@ -1,4 +1,4 @@
-ghost use Rattle.std.specs.Prelude.{◌≡◌, ◌≤◌, length, IfOk, IfErr, Ok, Err, option_copied};
+ghost use Rattle.std.specs.Prelude.{◌≡◌, ◌≤◌, [], length, true, false, IfOk, IfErr, OnOk, Ok, Err, option_copied};
 ghost use Rattle.zone_name.specs.Common.{Labels};
 ghost use Rattle.zone_name.specs.Name.{IsName};
 ghost use Rattle.zone_name.specs.Machine.LabelWalk.{Collects, reading, under};
@@ -77,6 +77,50 @@ impl Spelled {
         }
         self.labels.finish_under(above)
     }
+
+    /// Puts the labels of a text that is neither `.` nor `@` in place (RFC 1035 5.1).
+    // Not inlined: the labels are then read where they stay, and not moved.
+    #[inline(never)]
+    fn read(&mut self, text: &[u8]) -> Result<(), NameFault>
+        requires none { self.old.labels ≡ [] }
+        requires short { self.old.is_too_long ≡ false }
+        requires absolute { self.old.is_absolute ≡ true }
+        ensures labels { OnOk result ((labels : Labels)
+            × (reading text.now ≡ Ok (labels, self.new.is_absolute))
+            × Collects self.new.labels self.new.is_too_long labels) }
+        ensures fault { IfErr result (λ fault. reading text.now ≡ Err fault) }
+    {
+        if text.is_empty() {
+            return Err(NameFault::EmptyLabel);
+        }
+        let mut open: ArrayVec<u8, 63> = ArrayVec::new();
+        let mut rest = text;
+        loop {
+            if let Some(after) = rest.strip_prefix(b".") {
+                self.close(open.as_slice())?;
+                open.clear();
+                rest = after;
+                continue;
+            }
+            match next_unit(rest) {
+                NextUnit::End => {
+                    if !open.is_empty() {
+                        self.close(open.as_slice())?;
+                        self.is_absolute = false;
+                    }
+                    return Ok(());
+                }
+                NextUnit::Octet(octet, after) => {
+                    if open.is_full() {
+                        return Err(NameFault::LabelTooLong);
+                    }
+                    open.push(octet);
+                    rest = after;
+                }
+                NextUnit::BadEscape => return Err(NameFault::BadEscape),
+            }
+        }
+    }
 }
 
 /// The name of a text that is neither `.` nor `@` (RFC 1035 5.1).
@@ -84,49 +128,11 @@ pub(crate) fn named(text: &[u8], origin: Option<&Name>) -> Result<Name, NameFaul
     ensures value { result ≡ under (option_copied origin.entry) (reading text.now) }
     ensures name { IfOk result IsName }
 {
-    read_labels(text)?.under(origin)
-}
-
-/// The labels of a text that is neither `.` nor `@` (RFC 1035 5.1).
-fn read_labels(text: &[u8]) -> Result<Spelled, NameFault>
-    ensures labels { IfOk result (λ s. (labels : Labels)
-        × (reading text.now ≡ Ok (labels, s.is_absolute))
-        × Collects s.labels s.is_too_long labels) }
-    ensures fault { IfErr result (λ fault. reading text.now ≡ Err fault) }
-{
-    if text.is_empty() {
-        return Err(NameFault::EmptyLabel);
-    }
     let mut spelled = Spelled {
         labels: NameBuilder::new(),
         is_too_long: false,
         is_absolute: true,
     };
-    let mut open: ArrayVec<u8, 63> = ArrayVec::new();
-    let mut rest = text;
-    loop {
-        if let Some(after) = rest.strip_prefix(b".") {
-            spelled.close(open.as_slice())?;
-            open.clear();
-            rest = after;
-            continue;
-        }
-        match next_unit(rest) {
-            NextUnit::End => {
-                if !open.is_empty() {
-                    spelled.close(open.as_slice())?;
-                    spelled.is_absolute = false;
-                }
-                return Ok(spelled);
-            }
-            NextUnit::Octet(octet, after) => {
-                if open.is_full() {
-                    return Err(NameFault::LabelTooLong);
-                }
-                open.push(octet);
-                rest = after;
-            }
-            NextUnit::BadEscape => return Err(NameFault::BadEscape),
-        }
-    }
+    spelled.read(text)?;
+    spelled.under(origin)
 }
