@@ -58,7 +58,7 @@ impl ZoneBuilder {
         }
     }
 
-    /// `add` for a record that is lent: large answers are slow to hand on.
+    /// `add` for a record that is lent, which answers without handing it back.
     fn hold(&mut self, placed: &Placed) -> Result<(), Refusal>
         ensures accepted { OnOk result (Accepts self.old placed.now.rr) }
         ensures taken { OnOk result (Adds self.old placed.now.rr self.new) }
