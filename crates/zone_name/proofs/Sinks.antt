@@ -15,6 +15,11 @@ pub stops_behind : {S T E : Type 0} (answer : Result T E) (takes : S → List �
 stops_behind (Ok r) takes joins a b c x first some = tt
 stops_behind (Err e) takes joins a b c x first some = (x ++ some.0, joins a b c x some.0 first some.1)
 
+-- a printer whose last call stops
+pub stops_last : {S T E : Type 0} (answer : Result T E) (takes : S → List ℕ → S → Type 0) → Joins takes → (a b c : S) (x y : List ℕ) → takes a x b → OnErr answer (takes b y c) → OnErr answer (TakesSome takes a c)
+stops_last (Ok r) takes joins a b c x y first some = tt
+stops_last (Err e) takes joins a b c x y first some = (x ++ y, joins a b c x y first some)
+
 -- the sink took a text of which something is known
 pub record Took {S : Type 0} (takes : S → List ℕ → S → Type 0) (start out : S) (Known : List ℕ → Type 0) : Type 0 where
   pub text : List ℕ

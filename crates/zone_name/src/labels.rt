@@ -1,4 +1,5 @@
 ghost use Rattle.std.specs.Prelude.{◌≡◌, ◌↔◌, ◌≤◌, List, ℕ, IsTrue, drop, length};
+ghost use Rattle.zone_name.specs.Name.{IsWithin};
 ghost use Rattle.std.specs.Iterator.{YieldsFirstRef, item_count};
 
 use std::iter::FusedIterator;
@@ -79,5 +80,13 @@ impl<'a> Labels<'a> {
             }
         }
         others.next().is_none()
+    }
+
+    /// Whether other labels end these.
+    pub(crate) fn ends_with(self, ending: Labels<'_>) -> bool
+        ensures { IsTrue result ↔ IsWithin self.entry ending.entry }
+    {
+        let (len, ending_len) = (self.len(), ending.len());
+        ending_len <= len && self.past(len - ending_len).is_same(ending)
     }
 }

@@ -1,7 +1,8 @@
-ghost use Rattle.std.specs.Prelude.{◌≡◌, ◌↔◌, slice_index, EachIndex, IsTrue, OnOk};
-ghost use Rattle.zone_name.specs.Name.{labels_of, wire, HoldsName, IsName, IsWithin};
+ghost use Rattle.std.specs.Prelude.{◌≡◌, ◌↔◌, [], drop, length, slice_index, EachIndex, IsTrue, OnOk, OnErr};
+ghost use Rattle.zone_name.specs.Name.{labels_of, wire, BeginsWithName, HoldsName, IsName, IsWithin};
 ghost use Rattle.std.specs.List.{flat_map};
 ghost use Rattle.zone_name.specs.Machine.Shown.{IsShown};
+ghost use Rattle.zone_name.specs.Sink.{TakesSome};
 ghost use Rattle.zone_name.specs.Text.{label_text, name_text, octet_text};
 
 use crate::labels::Labels;
@@ -36,6 +37,20 @@ impl<'a> NameRef<'a> {
         NameRef { octets }
     }
 
+    /// The name at the front of uncompressed octets that were judged before, and the octets after it.
+    pub fn split_front(octets: &'a [u8]) -> (NameRef<'a>, &'a [u8])
+        requires { BeginsWithName octets.now }
+        ensures name { result.0 ≡ labels_of octets.now }
+        ensures rest { result.1.now ≡ drop (length (wire (labels_of octets.now))) octets.now }
+    {
+        let mut len = 1;
+        for label in (Labels { octets }) {
+            len += label.len() + 1;
+        }
+        let (front, rest) = octets.split_at(len);
+        (NameRef::of_wire(front), rest)
+    }
+
     /// The uncompressed octets in lower case, at most 255 (RFC 1035 3.1).
     pub fn wire(&self) -> &'a [u8]
         ensures octets { result.now ≡ wire self.now }
@@ -55,7 +70,7 @@ impl<'a> NameRef<'a> {
     pub fn is_within(&self, apex: &Name) -> bool
         ensures { IsTrue result ↔ IsWithin self.now apex.now }
     {
-        self.to_name().is_within(apex)
+        self.labels().ends_with(apex.labels())
     }
 
     /// The labels, from the leftmost.
@@ -73,7 +88,8 @@ impl<'a> NameRef<'a> {
     ///
     /// `out` refuses octets. A front of the spelling may have been appended.
     pub fn print<S: Sink>(&self, out: &mut S) -> Result<(), S::Error>
-        ensures { OnOk result (S.takes out.old (name_text self.now) out.new) }
+        ensures ok { OnOk result (S.takes out.old (name_text self.now) out.new) }
+        ensures err { OnErr result (TakesSome S.takes out.old out.new) }
     {
         let mut labels = self.labels();
         let Some(first) = labels.next() else {
@@ -89,7 +105,8 @@ impl<'a> NameRef<'a> {
 
 /// Appends a label's spelling and the dot behind it.
 fn push_label<S: Sink>(label: &[u8], out: &mut S) -> Result<(), S::Error>
-    ensures { OnOk result (S.takes out.old (label_text label.now) out.new) }
+    ensures ok { OnOk result (S.takes out.old (label_text label.now) out.new) }
+    ensures err { OnErr result (TakesSome S.takes out.old out.new) }
 {
     push_octets(label, out)?;
     out.push(b".")
@@ -97,7 +114,8 @@ fn push_label<S: Sink>(label: &[u8], out: &mut S) -> Result<(), S::Error>
 
 /// Appends the spelling of a label's octets.
 fn push_octets<S: Sink>(label: &[u8], out: &mut S) -> Result<(), S::Error>
-    ensures { OnOk result (S.takes out.old (flat_map octet_text label.now) out.new) }
+    ensures ok { OnOk result (S.takes out.old (flat_map octet_text label.now) out.new) }
+    ensures err { OnErr result (TakesSome S.takes out.old out.new) }
 {
     if is_shown(label) {
         return out.push(label);
@@ -115,16 +133,23 @@ fn is_shown(label: &[u8]) -> bool
     label.iter().all(|octet| octet_is_shown(*octet))
 }
 
-/// Whether the octet spells itself.
+/// Whether the octet spells itself. Letters and digits are told first, as most octets are one.
 fn octet_is_shown(octet: u8) -> bool
     ensures { IsTrue result ↔ IsShown octet }
 {
-    octet >= b'!' && octet <= b'~' && !is_special_octet(octet)
+    if octet > b'\\' {
+        octet <= b'~'
+    } else if octet >= b'0' && octet <= b'9' {
+        true
+    } else {
+        octet >= b'!' && !is_special_octet(octet)
+    }
 }
 
 /// Appends an octet's spelling.
 fn push_octet<S: Sink>(octet: u8, out: &mut S) -> Result<(), S::Error>
-    ensures { OnOk result (S.takes out.old (octet_text octet) out.new) }
+    ensures ok { OnOk result (S.takes out.old (octet_text octet) out.new) }
+    ensures err { OnErr result (S.takes out.old [] out.new) }
 {
     if is_special_octet(octet) {
         out.push(&[b'\\', octet])

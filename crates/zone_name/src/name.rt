@@ -5,6 +5,7 @@ ghost use Rattle.zone_name.specs.Spelling.{Spells, FirstFault};
 
 use crate::fault::NameFault;
 use crate::labels::Labels;
+use crate::lent::NameRef;
 use crate::reading::{NameForm, form_of, named};
 use arrayvec::ArrayVec;
 use std::marker::Model;
@@ -88,8 +89,7 @@ impl Name {
     pub fn is_within(&self, apex: &Name) -> bool
         ensures { IsTrue result ↔ IsWithin self.now apex.now }
     {
-        let (len, apex_len) = (self.labels().len(), apex.labels().len());
-        apex_len <= len && self.labels().past(len - apex_len).is_same(apex.labels())
+        self.labels().ends_with(apex.labels())
     }
 
     /// The labels, from the leftmost.
@@ -125,11 +125,7 @@ impl Name {
         requires { BeginsWithName octets.now }
         ensures { result ≡ labels_of octets.now }
     {
-        let mut len = 1;
-        for label in (Labels { octets }) {
-            len += label.len() + 1;
-        }
-        Name::holding(&octets[..len])
+        NameRef::split_front(octets).0.to_name()
     }
 }
 

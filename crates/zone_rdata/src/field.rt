@@ -25,14 +25,14 @@ use crate::item::Item;
 use crate::number::push_decimal;
 use crate::string::{push_string, push_string_text};
 use address::{push_address, push_address_text};
-use name::{push_name, push_sent_name, split_name};
+use name::{push_name, push_sent_name};
 use prefix::push_prefix;
 use serial::{push_serial, split_u32};
 use string::{push_sent_string, split_string};
 use strings::{push_sent_strings, push_strings, push_strings_text};
 use time::push_time;
 use u16::{push_u16, split_u16};
-use zone_name::{Name, Sink};
+use zone_name::{Name, NameRef, Sink};
 
 /// A field of record data (RFC 1035 3.3).
 #[derive(Clone, Copy, Debug, PartialEq, Eq)]
@@ -131,7 +131,7 @@ impl Field {
         ensures { result.now ≡ after_field self octets.now }
     {
         match self {
-            Field::Name => split_name(octets).1,
+            Field::Name => NameRef::split_front(octets).1,
             Field::Serial | Field::Time => split_u32(octets).1,
             Field::U16 => split_u16(octets).1,
             Field::Octets(count) => octets.split_at(count).1,
@@ -165,8 +165,8 @@ impl Field {
     {
         match self {
             Field::Name => {
-                let (name, rest) = split_name(octets);
-                name.push_text(out)?;
+                let (name, rest) = NameRef::split_front(octets);
+                name.print(out)?;
                 Ok(rest)
             }
             Field::Serial | Field::Time => {

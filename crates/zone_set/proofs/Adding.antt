@@ -5,6 +5,7 @@ use Rattle.std.specs.List.{AllByRecursion}
 use Rattle.std.specs.List.Sorted.{IsStrictlySortedBy}
 use Rattle.std.specs.Map.{keys_of, lookup}
 use Rattle.std.specs.Option.{IfSome}
+use Rattle.std.specs.Prelude.{Result, Ok, Err, IfErr}
 use Rattle.std.specs.Ordering.{match_ordering}
 use Rattle.zone_rdata.specs.Record.{Record, IsRecord}
 use Rattle.zone_rdata.specs.declared.fault.Fault.TheVariants.{ClassMismatch, MultipleSoa, DifferingTtl}
@@ -121,3 +122,7 @@ stops_add held p refusal.OtherClass why = fault ClassMismatch why
 stops_add held p refusal.OtherSoa why = fault MultipleSoa why
 stops_add held p refusal.OtherTtl why = fault DifferingTtl why
 stops_add held p refusal.Memory why = memory
+
+pub stops_each : (held : List Record) (p : Placed) (r : Result (Unit {0}) Refusal) → IfErr r (IsRefusal held p.rr) → IfErr r (λ e. StopsAdd held p (stop_for e p.place))
+stops_each held p (Ok _) why = why
+stops_each held p (Err e) why = stops_add held p e why

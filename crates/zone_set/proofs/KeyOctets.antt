@@ -11,12 +11,8 @@ use Rattle.zone_name.specs.Name.{IsLabel, IsName, wire, labels_of}
 use Rattle.zone_name.specs.Order.{label_cmp, name_cmp}
 use Rattle.zone_name.proofs.Octets.{labels_of-wire}
 use Rattle.zone_set.proofs.KeyOrder.{exact_names}
+use Rattle.zone_set.proofs.Numbers.{then_assoc}
 use Rattle.zone_set.specs.Machine.Key.{RecordSet, IsRecordSet, set_rank, set_cmp, escaped_octet, label_key, labels_key, owner_key, covered_key, owner_tail, set_octets, last_part, wire_part, covered_read, set_behind, set_of, IsSetKey}
-
-then_assoc : (o p q : Ordering) → ordering_then (ordering_then o p) q ≡ ordering_then o (ordering_then p q)
-then_assoc Less p q = refl
-then_assoc Equal p q = refl
-then_assoc Greater p q = refl
 
 less : (a b : ℕ) → a < b → nat_cmp a b ≡ Less
 less a b h = sym (nat_cmp_is a b Less h)

@@ -1,3 +1,4 @@
+pub mod Numbers
 pub mod KeyOrder
 pub mod KeyOctets
 pub mod DatumOrder

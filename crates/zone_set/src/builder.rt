@@ -1,7 +1,9 @@
 ghost use Rattle.std.specs.Prelude.{◌≡◌, [], OnOk, OnErr, IfOk, IfErr};
 ghost use Rattle.zone_set.specs.Builder.{Accepts, Adds, StopsAdd, TakesAll, StopsTaking, StopsFinish};
+ghost use Rattle.zone_set.specs.Machine.Refusal.{stop_for};
 ghost use Rattle.zone_set.specs.Zone.{AreCompatible, IsZone};
 
+use crate::refusal::Refusal;
 use crate::sets::Sets;
 use crate::zone::Zone;
 use std::alloc::Global;
@@ -50,10 +52,20 @@ impl ZoneBuilder {
         ensures returned { IfErr result (λ e. e.1 ≡ placed) }
         ensures unchanged { OnErr result (self.new ≡ self.old) }
     {
-        match self.sets.add(self.alloc, &placed.rr) {
+        match self.hold(&placed) {
             Ok(()) => Ok(()),
             Err(refusal) => Err((refusal.stop_at(placed.place), placed)),
         }
+    }
+
+    /// `add` for a record that is lent, which answers without handing it back.
+    fn hold(&mut self, placed: &Placed) -> Result<(), Refusal>
+        ensures accepted { OnOk result (Accepts self.old placed.now.rr) }
+        ensures taken { OnOk result (Adds self.old placed.now.rr self.new) }
+        ensures refused { IfErr result (λ e. StopsAdd self.old placed.now (stop_for e placed.now.place)) }
+        ensures unchanged { OnErr result (self.new ≡ self.old) }
+    {
+        self.sets.add(self.alloc, &placed.rr)
     }
 
     /// Takes all that a source still has to give.
@@ -69,9 +81,9 @@ impl ZoneBuilder {
         ensures beside { S.beside source.new ≡ S.beside source.old }
     {
         while let Some(placed) = source.next()? {
-            match self.add(placed) {
+            match self.hold(&placed) {
                 Ok(()) => {}
-                Err((stop, _refused)) => return Err(stop),
+                Err(refusal) => return Err(refusal.stop_at(placed.place)),
             }
         }
         Ok(())

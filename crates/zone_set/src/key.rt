@@ -5,6 +5,7 @@ ghost use Rattle.std.specs.Ordering.{as_partial_cmp, eq_by_cmp};
 ghost use Rattle.zone_set.specs.Machine.Key.{covered_key, escaped_octet, label_key, set_cmp, set_for, sets_total};
 ghost use Rattle.zone_set.specs.Zone.{covered_octets};
 
+use crate::order::octet_order;
 use std::alloc::{AllocError, Global};
 use std::cmp::Ordering;
 use std::marker::Model;
@@ -66,7 +67,7 @@ impl Ord for SetKey {
     ghost matches_eq = { λ x y. refl };
 
     fn cmp(&self, other: &SetKey) -> Ordering {
-        self.octets.as_slice().cmp(other.octets.as_slice())
+        octet_order(self.octets.as_slice(), other.octets.as_slice())
     }
 }
 

@@ -6,6 +6,7 @@ mod datum;
 mod datums;
 mod held;
 mod key;
+mod order;
 mod records;
 mod refusal;
 mod rr;

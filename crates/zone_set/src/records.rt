@@ -52,11 +52,9 @@ impl<'z> Iterator for Records<'z> {
 
     fn next(&mut self) -> Option<RrRef<'z>> {
         let class = self.class?;
-        if let Some(mut told) = self.told.take() {
+        if let Some(told) = &mut self.told {
             if let Some(datum) = told.left.next() {
-                let rr = lent(class, told.key, told.held, datum);
-                self.told = Some(told);
-                return Some(rr);
+                return Some(lent(class, told.key, told.held, datum));
             }
         }
         let (key, held) = self.entries.next()?;

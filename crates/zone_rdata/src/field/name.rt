@@ -1,5 +1,5 @@
-ghost use Rattle.std.specs.Prelude.{◌≡◌, ◌<◌, ℕ, List, Some, drop, length, IfOk, IfErr, IfSome, IfNone, OnOk};
-ghost use Rattle.zone_name.specs.Name.{BeginsWithName, labels_of, wire};
+ghost use Rattle.std.specs.Prelude.{◌≡◌, ◌<◌, ℕ, List, Some, IfOk, IfErr, IfSome, IfNone, OnOk};
+ghost use Rattle.zone_name.specs.Name.{wire};
 ghost use Rattle.zone_name.specs.Spelling.{Spells};
 ghost use Rattle.zone_rdata.specs.Fault.{IfFault};
 ghost use Rattle.zone_rdata.specs.Fields.Name.{IsNameFault, BeginsWithSent};
@@ -63,15 +63,4 @@ fn name_at(octets: &[u8]) -> Option<(Name, &[u8])>
             Err(_) => return None,
         }
     }
-}
-
-/// The name at the front of octets, and the octets after it.
-pub(crate) fn split_name(octets: &[u8]) -> (Name, &[u8])
-    requires { BeginsWithName octets.now }
-    ensures name { result.0 ≡ labels_of octets.now }
-    ensures rest { result.1.now ≡ drop (length (wire (labels_of octets.now))) octets.now }
-{
-    let name = Name::from_front(octets);
-    let (_, rest) = octets.split_at(name.wire().len());
-    (name, rest)
 }

@@ -3,7 +3,7 @@ use crate::tests::{Case, first_wrong};
 use std::alloc::Global;
 use std::cmp::Ordering;
 use std::test::Fail;
-use zone_name::{Name, NameBuilder, NameFault, escape_at};
+use zone_name::{Name, NameBuilder, NameFault, NameRef, escape_at};
 
 /// The name of a text under an origin; an empty origin is none.
 pub(super) fn named(text: &[u8], origin: &[u8]) -> Result<Name, NameFault> {
@@ -35,10 +35,16 @@ impl Case for Spelled {
         let name = named(self.text, self.origin)?;
         let mut spelling = Vec::new(alloc);
         name.push_text(&mut spelling)?;
+        let mut lent_spelling = Vec::new(alloc);
+        let (lent, behind) = NameRef::split_front(name.wire());
+        lent.print(&mut lent_spelling)?;
         Ok(
             name.wire() == self.octets
                 && name.copy().wire() == self.octets
-                && spelling.as_slice() == self.spelling,
+                && spelling.as_slice() == self.spelling
+                && behind.is_empty()
+                && lent.wire() == self.octets
+                && lent_spelling.as_slice() == self.spelling,
         )
     }
 }

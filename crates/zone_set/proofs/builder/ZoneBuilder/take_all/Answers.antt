@@ -1,6 +1,7 @@
-use Rattle.std.proofs.Common.{refl, sym, ◌∙◌, ap, Ok}
+use Rattle.std.proofs.Common.{subst, refl, sym, ◌∙◌, ap, Ok}
 use Rattle.std.proofs.lemmas.Result.{err_from_is_err_and}
 use Rattle.zone_set.proofs.Taking.{HasTaken-start, HasTaken-more, StopsTaking-at_end, StopsTaking-refused}
+use Rattle.zone_set.specs.Builder.{StopsAdd}
 use Rattle.zone_set.proofs.builder.ZoneBuilder.take_all.Goals as goal
 
 pub loop-placed-init : goal.loop-placed-init
@@ -17,4 +18,4 @@ returns-in_err-placed-clause-stopped g c =
 
 pub returns-in-Err-clause-stopped : goal.returns-in-Err-clause-stopped
 returns-in-Err-clause-stopped g c =
-    StopsTaking-refused _ _ _ _ c.loop-placed.invariant.0 c.in-Some.placed _ _ _ (sym c.next.ensures.answer ∙ c.in_ok-placed.was ∙ ap Ok c.in-Some.is) c.next.ensures.left c.in-Err.ensures.refused c.in-Err.ensures.unchanged
+    StopsTaking-refused _ _ _ _ c.loop-placed.invariant.0 c.in-Some.placed _ _ _ (sym c.next.ensures.answer ∙ c.in_ok-placed.was ∙ ap Ok c.in-Some.is) c.next.ensures.left (subst (StopsAdd _ c.in-Some.placed) (sym c.stop_at.ensures) c.in-Err.ensures.refused) c.in-Err.ensures.unchanged

@@ -6,5 +6,5 @@ use Rattle.zone_set.proofs.key.SetKeyOrd.cmp.Goals as goal
 
 pub returns : goal.returns
 returns c =
-    c.cmp.ensures ∙ ap₂ (slice_cmp nat_cmp) c.as_slice.ensures.value c.as_slice-2.ensures.value
+    c.octet_order.ensures ∙ ap₂ (slice_cmp nat_cmp) c.as_slice.ensures.value c.as_slice-2.ensures.value
     ∙ key_embeds _ _ c.self.invariant c.other.invariant ∙ ap₂ set_cmp c.self.view_is c.other.view_is

@@ -1,7 +1,7 @@
 use Rattle.std.proofs.Common.{◌≡◌, ◌+◌, length}
 use Rattle.std.specs.List.{flat_map}
 use Rattle.zone_name.specs.Name.{with_length, wire, labels_of}
-use Rattle.zone_name.proofs.name.Name.from_front.Given as goal
+use Rattle.zone_name.proofs.lent.NameRef.split_front.Given as goal
 
 abbrev pub invariant-loop-label : goal.invariant-loop-label
 invariant-loop-label l = l.len + length (flat_map with_length l.label-iterator) ≡ length (wire (labels_of l.octets))

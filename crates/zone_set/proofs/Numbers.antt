@@ -1,0 +1,91 @@
+-- Octets that are compared as numbers.
+use Rattle.std.proofs.Common.{length-append, ◌≡◌, ℕ, ◌+◌, ◌*◌, ◌<◌, List, [], ◌∷◌, ◌++◌, length, take, drop, Ordering, Less, Equal, Greater, nat_cmp, refl, sym, subst, ap, ap₂, ◌∙◌, arith}
+use Rattle.std.proofs.lemmas.Cmp.{ranked}
+use Rattle.std.proofs.lemmas.List.{take-append-drop}
+use Rattle.std.specs.Cmp.{nat_cmp_is}
+use Rattle.std.specs.Cmp.Lexicographic.{slice_cmp}
+use Rattle.std.specs.Int.{from_be_bytes, w64}
+use Rattle.std.specs.Ordering.{ordering_then, MatchOrdering}
+use Rattle.zone_rdata.proofs.FieldLaws.{AreLow, low_take}
+
+pub then_assoc : (o p q : Ordering) → ordering_then (ordering_then o p) q ≡ ordering_then o (ordering_then p q)
+then_assoc Less p q = refl
+then_assoc Equal p q = refl
+then_assoc Greater p q = refl
+
+-- the number of octets behind another
+abbrev number_on : ℕ → List ℕ → ℕ
+number_on n [] = n
+number_on n (c ∷ octets) = number_on (n * 256 + c) octets
+
+digits_compare : (m n c d : ℕ) → c < 256 → d < 256 → nat_cmp (m * 256 + c) (n * 256 + d) ≡ ordering_then (nat_cmp m n) (nat_cmp c d)
+digits_compare m n c d low high = sym (by (nat_cmp m n) (nat_cmp c d) (ranked m n _ refl) (ranked c d _ refl))
+  where
+    by : (o p : Ordering) → MatchOrdering o (m < n) (m ≡ n) (n < m) → MatchOrdering p (c < d) (c ≡ d) (d < c) → ordering_then o p ≡ nat_cmp (m * 256 + c) (n * 256 + d)
+    by Less p h k = nat_cmp_is (m * 256 + c) (n * 256 + d) Less (omega (arith, h, low, high))
+    by Equal Less h k = nat_cmp_is (m * 256 + c) (n * 256 + d) Less (omega (arith, h, k))
+    by Equal Equal h k = nat_cmp_is (m * 256 + c) (n * 256 + d) Equal (omega (arith, h, k))
+    by Equal Greater h k = nat_cmp_is (m * 256 + c) (n * 256 + d) Greater (omega (arith, h, k))
+    by Greater p h k = nat_cmp_is (m * 256 + c) (n * 256 + d) Greater (omega (arith, h, low, high))
+
+numbers_compare : (m n : ℕ) (x y : List ℕ) → length x ≡ length y → AreLow x → AreLow y → nat_cmp (number_on m x) (number_on n y) ≡ ordering_then (nat_cmp m n) (slice_cmp nat_cmp x y)
+numbers_compare m n [] [] same p q = by (nat_cmp m n)
+  where
+    by : (o : Ordering) → o ≡ ordering_then o Equal
+    by Less = refl
+    by Equal = refl
+    by Greater = refl
+numbers_compare m n [] (d ∷ y) same p q = absurd (omega (arith, same))
+numbers_compare m n (c ∷ x) [] same p q = absurd (omega (arith, same))
+numbers_compare m n (c ∷ x) (d ∷ y) same p q =
+    numbers_compare (m * 256 + c) (n * 256 + d) x y (omega (arith, same)) p.1 q.1
+    ∙ ap (λ o. ordering_then o (slice_cmp nat_cmp x y)) (digits_compare m n c d p.0 q.0)
+    ∙ then_assoc (nat_cmp m n) (nat_cmp c d) (slice_cmp nat_cmp x y)
+
+-- lists of one length and what is behind them
+pub fronts_compare : (x y more others : List ℕ) → length x ≡ length y → slice_cmp nat_cmp (x ++ more) (y ++ others) ≡ ordering_then (slice_cmp nat_cmp x y) (slice_cmp nat_cmp more others)
+fronts_compare [] [] more others same = refl
+fronts_compare [] (d ∷ y) more others same = absurd (omega (arith, same))
+fronts_compare (c ∷ x) [] more others same = absurd (omega (arith, same))
+fronts_compare (c ∷ x) (d ∷ y) more others same =
+    ap (ordering_then (nat_cmp c d)) (fronts_compare x y more others (omega (arith, same)))
+    ∙ sym (then_assoc (nat_cmp c d) (slice_cmp nat_cmp x y) (slice_cmp nat_cmp more others))
+
+-- eight octets as the number that they are read as
+number_of_eight : (x : List ℕ) → length x ≡ 8 → from_be_bytes w64 x ≡ number_on 0 x
+number_of_eight (a ∷ b ∷ c ∷ d ∷ e ∷ f ∷ g ∷ h ∷ []) same = omega arith
+number_of_eight [] same = absurd (omega (arith, same))
+number_of_eight (a ∷ []) same = absurd (omega (arith, same))
+number_of_eight (a ∷ b ∷ []) same = absurd (omega (arith, same))
+number_of_eight (a ∷ b ∷ c ∷ []) same = absurd (omega (arith, same))
+number_of_eight (a ∷ b ∷ c ∷ d ∷ []) same = absurd (omega (arith, same))
+number_of_eight (a ∷ b ∷ c ∷ d ∷ e ∷ []) same = absurd (omega (arith, same))
+number_of_eight (a ∷ b ∷ c ∷ d ∷ e ∷ f ∷ []) same = absurd (omega (arith, same))
+number_of_eight (a ∷ b ∷ c ∷ d ∷ e ∷ f ∷ g ∷ []) same = absurd (omega (arith, same))
+number_of_eight (a ∷ b ∷ c ∷ d ∷ e ∷ f ∷ g ∷ h ∷ i ∷ more) same = absurd (omega (arith, same))
+
+pub eights_compare : (x y : List ℕ) → length x ≡ 8 → length y ≡ 8 → AreLow x → AreLow y → nat_cmp (from_be_bytes w64 x) (from_be_bytes w64 y) ≡ slice_cmp nat_cmp x y
+eights_compare x y p q low high = ap₂ nat_cmp (number_of_eight x p) (number_of_eight y q) ∙ numbers_compare 0 0 x y (p ∙ sym q) low high
+
+-- what lies behind numbers that differ decides nothing, and numbers that are the same leave it to decide
+pub then_apart : (m n : ℕ) (p : Ordering) → (m ≡ n → ⊥) → ordering_then (nat_cmp m n) p ≡ nat_cmp m n
+then_apart m n p apart = by (nat_cmp m n) (ranked m n _ refl)
+  where
+    by : (o : Ordering) → MatchOrdering o (m < n) (m ≡ n) (n < m) → ordering_then o p ≡ o
+    by Less h = refl
+    by Equal h = absurd (apart h)
+    by Greater h = refl
+
+pub then_same : (m n : ℕ) (p : Ordering) → m ≡ n → ordering_then (nat_cmp m n) p ≡ p
+then_same m n p same = ap (λ o. ordering_then o p) (sym (nat_cmp_is m n Equal same))
+
+-- the first eight octets of both, and what is behind them
+pub eights_first : (m n : ℕ) (a b x y more others : List ℕ) → m ≡ from_be_bytes w64 x → n ≡ from_be_bytes w64 y → AreLow a → AreLow b → (x ≡ take 8 a) × (more ≡ drop 8 a) × (length more + 8 ≡ length a) → (y ≡ take 8 b) × (others ≡ drop 8 b) × (length others + 8 ≡ length b)
+    → slice_cmp nat_cmp a b ≡ ordering_then (nat_cmp m n) (slice_cmp nat_cmp more others)
+eights_first m n a b x y more others is_m is_n low high p q =
+    let is_a : x ++ more ≡ a = ap₂ (λ (s t : List ℕ). s ++ t) p.0 p.1 ∙ take-append-drop 8 a in
+    let is_b : y ++ others ≡ b = ap₂ (λ (s t : List ℕ). s ++ t) q.0 q.1 ∙ take-append-drop 8 b in
+    let long_x : length x ≡ 8 = omega (arith, length-append x more, ap length is_a, p.2) in
+    let long_y : length y ≡ 8 = omega (arith, length-append y others, ap length is_b, q.2) in
+    ap₂ (slice_cmp nat_cmp) (sym is_a) (sym is_b) ∙ fronts_compare x y more others (long_x ∙ sym long_y)
+    ∙ ap (λ o. ordering_then o (slice_cmp nat_cmp more others)) (sym (ap₂ nat_cmp is_m is_n ∙ eights_compare x y long_x long_y (subst AreLow (sym p.0) (low_take 8 a low)) (subst AreLow (sym q.0) (low_take 8 b high))))

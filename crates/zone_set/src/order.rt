@@ -1,0 +1,52 @@
+ghost use Rattle.std.specs.Prelude.{◌≡◌, ◌<◌};
+ghost use Rattle.std.specs.Cmp.Lexicographic.{slice_cmp};
+ghost use Rattle.std.specs.List.{AllByRecursion};
+ghost use Rattle.std.specs.Ordering.{nat_cmp};
+
+use std::cmp::Ordering;
+
+/// How octets lie as unsigned strings, a missing octet first. Mostly the first eight tell, which are compared as numbers.
+pub(crate) fn octet_order(a: &[u8], b: &[u8]) -> Ordering
+    ensures { result ≡ slice_cmp nat_cmp a.now b.now }
+{
+    let Some((x, more)) = a.split_first_chunk::<8>() else {
+        return a.cmp(b);
+    };
+    let Some((y, others)) = b.split_first_chunk::<8>() else {
+        return a.cmp(b);
+    };
+    are_octets(a);
+    are_octets(b);
+    let (x, y) = (u64::from_be_bytes(*x), u64::from_be_bytes(*y));
+    if x != y {
+        return x.cmp(&y);
+    }
+    order_behind(more, others)
+}
+
+/// `octet_order`, eight octets after eight. It is no part of a search, which is shorter without it.
+#[inline(never)]
+fn order_behind(a: &[u8], b: &[u8]) -> Ordering
+    ensures { result ≡ slice_cmp nat_cmp a.now b.now }
+{
+    let (mut left, mut right) = (a, b);
+    while let Some((x, more)) = left.split_first_chunk::<8>() {
+        let Some((y, others)) = right.split_first_chunk::<8>() else {
+            break;
+        };
+        let (x, y) = (u64::from_be_bytes(*x), u64::from_be_bytes(*y));
+        if x != y {
+            return x.cmp(&y);
+        }
+        left = more;
+        right = others;
+    }
+    left.cmp(right)
+}
+
+/// Does nothing, and tells contracts that octets are less than 256.
+fn are_octets(octets: &[u8])
+    ensures { AllByRecursion (λ c. c < 256) octets.now }
+{
+    let _ = octets;
+}
