@@ -1,10 +1,9 @@
 ghost use Rattle.std.specs.Prelude.{◌+◌, ◌≤◌, length, IfOk, IfErr, IfSome};
-ghost use Rattle.std.specs.Io.KnownBytes.{Consumes};
-ghost use Rattle.zone_name.specs.Common.{Octets};
 ghost use Rattle.zone_print.specs.Canonical.{canon, text_limit};
 ghost use Rattle.zonenorm.specs.Compare.{Compares, IsVerdict, StopsCompare};
 ghost use Rattle.zonenorm.specs.Form.{form_of};
 ghost use Rattle.zonenorm.specs.Input.{input_of};
+ghost use Rattle.zonenorm.specs.Normalise.{ConsumesAtMost};
 
 use crate::engine::accepted_zone;
 use crate::form::Form;
@@ -32,7 +31,7 @@ pub enum Which {
 }
 
 /// Compares the canonical texts of the zones that two readers' octets denote, without making the texts. Each reader is
-/// read as by [`normalise`](crate::normalise), the second one behind the end of the first.
+/// read as by [`normalise`](crate::normalise), the second one after the first input was judged whole.
 ///
 /// # Errors
 ///
@@ -50,10 +49,8 @@ pub fn compare<R: Read, S: Read>(
         Compares (input_of (form_of first_form.entry) octets) (input_of (form_of second_form.entry) others) verdict))) }
     ensures stopped { IfErr result (λ why. StopsCompare (form_of first_form.entry) (form_of second_form.entry)
         (R.remaining first.old) (S.remaining second.old) (S.remaining second.new) why.0 why.1) }
-    ensures few { (given : Octets) × (length given ≤ text_limit + 1)
-        × Consumes (R.remaining first.old) (R.remaining first.new) given }
-    ensures few_of_second { (given : Octets) × (length given ≤ text_limit + 1)
-        × Consumes (S.remaining second.old) (S.remaining second.new) given }
+    ensures few { ConsumesAtMost (text_limit + 1) (R.remaining first.old) (R.remaining first.new) }
+    ensures few_of_second { ConsumesAtMost (text_limit + 1) (S.remaining second.old) (S.remaining second.new) }
 {
     let zone = match accepted_zone(alloc, first_form, first) {
         Ok(zone) => zone,
