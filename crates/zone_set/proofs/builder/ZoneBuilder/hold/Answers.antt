@@ -2,7 +2,6 @@ use Rattle.std.proofs.Common.{subst}
 use Rattle.std.specs.Prelude.{IfErr}
 use Rattle.zone_set.proofs.Adding.{stops_each}
 use Rattle.zone_set.specs.Machine.Refusal.{IsRefusal}
-use Rattle.zone_set.specs.declared.refusal.Refusal.{Refusal}
 use Rattle.zone_set.proofs.builder.ZoneBuilder.hold.Goals as goal
 
 pub returns-clause-refused : goal.returns-clause-refused
