@@ -88,6 +88,7 @@ impl Defaults {
     }
 
     /// Follows a directive, which states no record.
+    // Not inlined, and so the two below, as `owner_in`: results with names are wide, and each would pay for all of them.
     #[inline(never)]
     fn read_directive(&mut self, directive: Directive) -> Result<Option<Rr>, Failing>
         ensures { (origin : Labels) (before : List Entry) (entry : Entry)
