@@ -4,4 +4,6 @@ pub mod Normalise
 pub mod Refusal
 pub mod Examples
 pub mod Order
+pub mod Compare
+pub mod Run
 pub mod Machine

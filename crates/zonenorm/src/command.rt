@@ -1,0 +1,75 @@
+//! The program and its commands, as `clap` reads and explains them.
+ghost use Rattle.std.specs.Prelude.{◌≡◌, false, IfOk};
+ghost use Rattle.clap.specs.Words.{app_of, fields_of, rule_of};
+ghost use Rattle.zonenorm.specs.Order.{argument, compare_app, explain_app, normalise_app, program_app};
+
+use clap::{Arg, Command};
+use std::alloc::{AllocError, Global};
+
+const ABOUT: &str = "Normalises DNS zone data: equal zones give equal bytes";
+
+/// What stands below the help of the program and of each command.
+const NOTES: &str = "\
+ORIGIN is the origin of a master file, an absolute name as example.com. with the dot at its end, or the word transfer
+for a captured TCP stream of a zone transfer (AXFR). A leading hyphen of a name is written \\-
+
+Exit status: 0 the zone is accepted, or both are the same; 1 the zones differ; 2 the command line is wrong; 3 the input
+is refused, and a line tells why and where; 4 reading, writing or memory failed.";
+
+const ORIGIN: &str = "The file's origin, an absolute name, or the word transfer";
+const PATH: &str = "The file that holds the input";
+
+/// The program and its commands. It is handed the words after its name.
+pub(crate) fn program<'a>(alloc: Global) -> Result<Command<'a>, AllocError>
+    ensures { IfOk result (λ command. app_of command ≡ program_app) }
+{
+    let program = Command::new(alloc, "zonenorm")
+        .no_binary_name(true)
+        .about(ABOUT)
+        .after_help(NOTES)
+        .subcommand(normalise(alloc)?)?
+        .subcommand(explain(alloc)?)?
+        .subcommand(compare(alloc)?)?;
+    Ok(program)
+}
+
+fn normalise<'a>(alloc: Global) -> Result<Command<'a>, AllocError>
+    ensures app { IfOk result (λ command. app_of command ≡ normalise_app) }
+    ensures local { IfOk result (λ command. (fields_of command).has_globals ≡ false) }
+{
+    Command::new(alloc, "normalise")
+        .about("Writes the canonical text of the zone on standard input")
+        .after_help(NOTES)
+        .arg(required(alloc, "ORIGIN", ORIGIN))
+}
+
+fn explain<'a>(alloc: Global) -> Result<Command<'a>, AllocError>
+    ensures app { IfOk result (λ command. app_of command ≡ explain_app) }
+    ensures local { IfOk result (λ command. (fields_of command).has_globals ≡ false) }
+{
+    Command::new(alloc, "explain")
+        .about("Tells how many records the zone on standard input has, or why it is refused")
+        .after_help(NOTES)
+        .arg(required(alloc, "ORIGIN", ORIGIN))
+}
+
+fn compare<'a>(alloc: Global) -> Result<Command<'a>, AllocError>
+    ensures app { IfOk result (λ command. app_of command ≡ compare_app) }
+    ensures local { IfOk result (λ command. (fields_of command).has_globals ≡ false) }
+{
+    Command::new(alloc, "compare")
+        .about("Tells whether two files hold one zone, or the first line of canonical text that differs")
+        .after_help(NOTES)
+        .arg(required(alloc, "ORIGIN1", ORIGIN))?
+        .arg(required(alloc, "PATH1", PATH))?
+        .arg(required(alloc, "ORIGIN2", ORIGIN))?
+        .arg(required(alloc, "PATH2", PATH))
+}
+
+/// A required argument in its place.
+fn required<'a>(alloc: Global, id: &'a str, help: &'a str) -> Arg<'a>
+    ensures rule { rule_of result ≡ argument id.entry.now }
+    ensures local { result.global ≡ false }
+{
+    Arg::new(alloc, id).required(true).help(help)
+}
