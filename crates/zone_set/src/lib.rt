@@ -9,6 +9,7 @@ mod key;
 mod records;
 mod refusal;
 mod rr;
+mod same;
 mod sets;
 mod zone;
 

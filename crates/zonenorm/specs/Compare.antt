@@ -1,5 +1,58 @@
--- A place for the definition of a comparison.
-use Rattle.zonenorm.specs.Input.{Input}
+-- What comparing two inputs answers: that their canonical texts are equal, or the first line at which they differ.
+use Rattle.std.specs.Prelude.{◌≡◌, ◌≢◌, ℕ, zero, suc, ◌<◌, ◌≤◌, ◌==◌, if◌then◌else◌, List, [], ◌∷◌, slice_get, Option, Some, None, IfSome}
+use Rattle.std.specs.Io.KnownBytes.{Keeps}
+use Rattle.std.specs.List.{onto_first}
+use Rattle.zone_rdata.specs.declared.fault.Stop.{Stop}
+use Rattle.zone_set.specs.Zone.{Zone}
+use Rattle.zone_print.specs.Canonical.{canon}
+use Rattle.zonenorm.specs.Input.{Input, InputForm, input_of, InputDenotes}
+use Rattle.zonenorm.specs.Normalise.{IsOfReading}
+use Rattle.zonenorm.specs.Refusal.{IfRefused, IsRefusal}
 use Rattle.zonenorm.specs.declared.compare.Verdict.{Verdict}
+use Rattle.zonenorm.specs.declared.compare.Verdict.TheVariants.{Same, Different}
+use Rattle.zonenorm.specs.declared.compare.Which.{Which}
+use Rattle.zonenorm.specs.declared.compare.Which.TheVariants.{First, Second}
 
+-- the lines of a text, each with the line feed that ends it; octets behind the last line feed are a line too
+abbrev pub lines_of : List ℕ → List (List ℕ)
+lines_of [] = []
+lines_of (c ∷ text) = if c == 10 then (c ∷ []) ∷ lines_of text else onto_first c (lines_of text)
+
+-- the line of this number, from 1; there is none behind the last
+abbrev pub line_at : List ℕ → ℕ → Option (List ℕ)
+line_at text zero = None
+line_at text (suc n) = slice_get (lines_of text) n
+
+-- n is the number of the first line, from 1, at which the texts differ: a line differs from none
+pub record DifferFirstAt (n : ℕ) (text other : List ℕ) : Type 0 where
+  pub from_one : 1 ≤ n
+  pub equal : (m : ℕ) → m < n → line_at text m ≡ line_at other m
+  pub differs : line_at text n ≢ line_at other n
+
+-- the verdict on two texts
+abbrev pub IsVerdict : Verdict → List ℕ → List ℕ → Type 0
+IsVerdict Same text other = text ≡ other
+IsVerdict (Different line) text other = DifferFirstAt line text other
+
+-- both inputs denote a zone, and this is the verdict on their canonical texts
 pub record Compares (first second : Input) (verdict : Verdict) : Type 0 where
+  pub zone : Zone
+  pub denotes : InputDenotes first zone
+  pub other : Zone
+  pub other_denotes : InputDenotes second other
+  pub verdict : IsVerdict verdict (canon zone) (canon other)
+
+-- known octets denote a zone
+abbrev pub IsAccepted : InputForm → Option (List ℕ) → Type 0
+IsAccepted form known = IfSome known (λ octets. (z : Zone) × InputDenotes (input_of form octets) z)
+
+-- an input was not read: known octets are refused so, the reader answered an error, or memory was refused
+pub record StopsReading (form : InputForm) (known : Option (List ℕ)) (stop : Stop) : Type 0 where
+  pub kind : IsOfReading stop
+  pub fault : IfSome known (λ octets. IfRefused stop (IsRefusal (input_of form octets)))
+
+-- Which input stopped a comparison, and by what. The first did, and the second, of which these octets were known before
+-- and after, was not read; or the second did, and the first is accepted.
+pub data StopsCompare (form other_form : InputForm) (first second second' : Option (List ℕ)) : Which → Stop → Type 0 where
+  by_first : (stop : Stop) → StopsReading form first stop → Keeps second second' → StopsCompare form other_form first second second' First stop
+  by_second : (stop : Stop) → IsAccepted form first → StopsReading other_form second stop → StopsCompare form other_form first second second' Second stop

@@ -3,7 +3,7 @@ pub mod Input
 pub mod Normalise
 pub mod Refusal
 pub mod Examples
-pub mod Order
 pub mod Compare
+pub mod Order
 pub mod Run
 pub mod Machine

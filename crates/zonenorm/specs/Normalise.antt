@@ -37,6 +37,14 @@ IsOfBytes Read = ⊥
 IsOfBytes Write = ⊥
 IsOfBytes Memory = Unit {0}
 
+-- the stops of a call that has a reader and no writer: the input is refused, the reader answered an error, or memory was
+-- refused
+abbrev pub IsOfReading : Stop → Type 0
+IsOfReading (Refused fault place) = Unit {0}
+IsOfReading Read = Unit {0}
+IsOfReading Write = ⊥
+IsOfReading Memory = Unit {0}
+
 -- the records that the input states are those of the zone, as a set, whatever the length of its text
 pub record StatesZone (input : Input) (z : Zone) : Type 0 where
   pub placed : List Placed

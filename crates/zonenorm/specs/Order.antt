@@ -1,5 +1,5 @@
 -- What a command line asks for.
-use Rattle.std.specs.Prelude.{◌≡◌, ℕ, List, [], ◌∷◌, codes, string_bytes, Option, Some, None, ◌⊎◌}
+use Rattle.std.specs.Prelude.{◌≡◌, ℕ, true, List, [], ◌∷◌, codes, string_bytes, Option, Some, None, ◌⊎◌}
 use Rattle.std.specs.List.{AllByRecursion}
 use Rattle.clap.specs.Words.{App, Row, Rule, Text, new_rule, new_app, with_rule, with_subcommand, subcommand_of, first_of, fault_of}
 use Rattle.zone_name.specs.Common.{NothingIs}
@@ -70,8 +70,8 @@ IsOriginText text (Some origin) = Spells None text origin
 
 -- what the texts of an origin and a path ask for
 pub record IsSource (origin path : Text) (source : Source) : Type 0 where
-  pub form : IsOriginText origin source.origin
-  pub path : string_bytes source.path ≡ path
+  pub is_origin : IsOriginText origin source.origin
+  pub is_path : string_bytes source.path ≡ path
 
 -- what a command with its texts asks for
 abbrev pub Asks : Call → Order → Type 0

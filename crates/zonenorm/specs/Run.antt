@@ -5,10 +5,9 @@ use Rattle.zone_rdata.specs.declared.fault.Fault.{Fault}
 use Rattle.zone_rdata.specs.declared.fault.Place.{Place}
 use Rattle.zone_rdata.specs.declared.fault.Stop.{Stop}
 use Rattle.zone_rdata.specs.declared.fault.Stop.TheVariants.{Refused, Read, Write, Memory}
-use Rattle.zone_set.specs.Zone.{Zone}
 use Rattle.zone_print.specs.Canonical.{text_limit}
-use Rattle.zonenorm.specs.Compare.{Compares}
-use Rattle.zonenorm.specs.Input.{Input, InputDenotes, InputForm, as_file, as_transfer, input_of}
+use Rattle.zonenorm.specs.Compare.{Compares, IsAccepted}
+use Rattle.zonenorm.specs.Input.{InputForm, as_file, as_transfer, input_of}
 use Rattle.zonenorm.specs.Normalise.{Normalises, WritesPrefix}
 use Rattle.zonenorm.specs.Refusal.{IsRefusal}
 use Rattle.zonenorm.specs.declared.compare.Verdict.{Verdict}
@@ -22,22 +21,14 @@ abbrev pub form_with : Option (List (List ℕ)) → InputForm
 form_with None = as_transfer
 form_with (Some origin) = as_file origin
 
--- octets as an input with this origin
-abbrev pub input_with : Option (List (List ℕ)) → List ℕ → Input
-input_with origin octets = input_of (form_with origin) octets
-
--- the input denotes a zone
-abbrev pub IsAccepted : Input → Type 0
-IsAccepted input = (z : Zone) × InputDenotes input z
-
--- it denotes none
-abbrev pub IsRefused : Input → Type 0
-IsRefused input = (fault : Fault) × (place : Place) × IsRefusal input fault place
+-- known octets denote no zone
+abbrev pub IsRefused : InputForm → Option (List ℕ) → Type 0
+IsRefused form known = IfSome known (λ octets. (fault : Fault) × (place : Place) × IsRefusal (input_of form octets) fault place)
 
 -- what explaining an input answers: 0 for a zone, else 3
-pub data Explains (input : Input) : ℕ → Type 0 where
-  accepted : IsAccepted input → Explains input 0
-  refused : IsRefused input → Explains input 3
+pub data Explains (form : InputForm) (known : Option (List ℕ)) : ℕ → Type 0 where
+  accepted : IsAccepted form known → Explains form known 0
+  refused : IsRefused form known → Explains form known 3
 
 -- a line that begins with this was written, and nothing else
 abbrev pub AppendsLine : List ℕ → Option (List ℕ) → Option (List ℕ) → Type 0
@@ -87,44 +78,46 @@ pub record Devices : Type 0 where
 abbrev pub devices : Option (List ℕ) → Option (List ℕ) → Option (List ℕ) → Option (List ℕ) → Devices
 devices first second output errors = record { first = first; second = second; output = output; errors = errors }
 
--- some number of records goes with what was written
-abbrev pub WritesZone : Input → Option (List ℕ) → Option (List ℕ) → Type 0
-WritesZone input old new = (count : ℕ) × Normalises input old new count
+-- known octets denote a zone, and its canonical text was written
+abbrev pub WritesZone : InputForm → Option (List ℕ) → Option (List ℕ) → Option (List ℕ) → Type 0
+WritesZone form known old new = IfSome known (λ octets. (count : ℕ) × Normalises (input_of form octets) old new count)
+
+-- this is the verdict on two inputs of known octets
+abbrev pub AreCompared : InputForm → Option (List ℕ) → InputForm → Option (List ℕ) → Verdict → Type 0
+AreCompared form known other_form other verdict =
+    IfSome known (λ octets. IfSome other (λ others. Compares (input_of form octets) (input_of other_form others) verdict))
 
 -- What a run leaves that carried its order out with this status: the canonical text of the zone, a line on a zone, or a
 -- line on two zones.
 abbrev pub CarriesOut : Order → Devices → Devices → ℕ → Type 0
 CarriesOut (Normalise origin) old new status =
-    (status ≡ 0) × IfSome old.first (λ octets. WritesZone (input_with origin octets) old.output new.output)
+    (status ≡ 0) × WritesZone (form_with origin) old.first old.output new.output
 CarriesOut (Explain origin) old new status =
-    (status ≡ 0) × AppendsLine [] old.output new.output × IfSome old.first (λ octets. IsAccepted (input_with origin octets))
+    (status ≡ 0) × AppendsLine [] old.output new.output × IsAccepted (form_with origin) old.first
 CarriesOut (Compare first second) old new status =
     (verdict : Verdict) × (status ≡ verdict_status verdict) × AppendsLine [] old.output new.output
-    × IfSome old.first (λ octets. IfSome old.second (λ others.
-    Compares (input_with first.origin octets) (input_with second.origin others) verdict))
+    × AreCompared (form_with first.origin) old.first (form_with second.origin) old.second verdict
 
 -- the first input is refused and the second is not read, or the first is accepted and the second is refused
 abbrev pub RefusesOne : Source → Source → Devices → Devices → Type 0
 RefusesOne first second old new =
-    (AppendsLine (codes "first: ") old.errors new.errors × Keeps old.second new.second
-    × IfSome old.first (λ octets. IsRefused (input_with first.origin octets)))
-    ⊎ (AppendsLine (codes "second: ") old.errors new.errors
-    × IfSome old.first (λ octets. IsAccepted (input_with first.origin octets))
-    × IfSome old.second (λ octets. IsRefused (input_with second.origin octets)))
+    (AppendsLine (codes "first: ") old.errors new.errors × IsRefused (form_with first.origin) old.first
+    × Keeps old.second new.second)
+    ⊎ (AppendsLine (codes "second: ") old.errors new.errors × IsAccepted (form_with first.origin) old.first
+    × IsRefused (form_with second.origin) old.second)
 
 -- What a run leaves whose input is refused: a line that tells why, on standard output where that was asked for.
 abbrev pub Refuses : Order → Devices → Devices → Type 0
 Refuses (Normalise origin) old new =
-    Keeps old.output new.output × AppendsLine [] old.errors new.errors
-    × IfSome old.first (λ octets. IsRefused (input_with origin octets))
+    Keeps old.output new.output × AppendsLine [] old.errors new.errors × IsRefused (form_with origin) old.first
 Refuses (Explain origin) old new =
-    Keeps old.errors new.errors × AppendsLine [] old.output new.output
-    × IfSome old.first (λ octets. IsRefused (input_with origin octets))
+    Keeps old.errors new.errors × AppendsLine [] old.output new.output × IsRefused (form_with origin) old.first
 Refuses (Compare first second) old new = Keeps old.output new.output × RefusesOne first second old new
 
 -- What a run leaves that failed: of a canonical text a prefix was written.
 abbrev pub Fails : Order → Devices → Devices → Type 0
-Fails (Normalise origin) old new = IfSome old.first (λ octets. WritesPrefix (input_with origin octets) old.output new.output)
+Fails (Normalise origin) old new =
+    IfSome old.first (λ octets. WritesPrefix (input_of (form_with origin) octets) old.output new.output)
 Fails (Explain origin) old new = Unit {0}
 Fails (Compare first second) old new = Unit {0}
 

@@ -1,7 +1,8 @@
 //! The program and its commands, as `clap` reads and explains them.
-ghost use Rattle.std.specs.Prelude.{◌≡◌, false, IfOk};
-ghost use Rattle.clap.specs.Words.{app_of, fields_of, rule_of};
-ghost use Rattle.zonenorm.specs.Order.{argument, compare_app, explain_app, normalise_app, program_app};
+ghost use Rattle.std.specs.Prelude.{◌≡◌, IfOk};
+ghost use Rattle.clap.specs.Words.{app_of};
+ghost use Rattle.zonenorm.specs.Machine.Calling.{IsAddedAs};
+ghost use Rattle.zonenorm.specs.Order.{compare_app, explain_app, normalise_app, program_app};
 
 use clap::{Arg, Command};
 use std::alloc::{AllocError, Global};
@@ -34,42 +35,37 @@ pub(crate) fn program<'a>(alloc: Global) -> Result<Command<'a>, AllocError>
 }
 
 fn normalise<'a>(alloc: Global) -> Result<Command<'a>, AllocError>
-    ensures app { IfOk result (λ command. app_of command ≡ normalise_app) }
-    ensures local { IfOk result (λ command. (fields_of command).has_globals ≡ false) }
+    ensures { IfOk result (IsAddedAs normalise_app) }
 {
+    let origin = Arg::new(alloc, "ORIGIN").required(true).help(ORIGIN);
     Command::new(alloc, "normalise")
         .about("Writes the canonical text of the zone on standard input")
         .after_help(NOTES)
-        .arg(required(alloc, "ORIGIN", ORIGIN))
+        .arg(origin)
 }
 
 fn explain<'a>(alloc: Global) -> Result<Command<'a>, AllocError>
-    ensures app { IfOk result (λ command. app_of command ≡ explain_app) }
-    ensures local { IfOk result (λ command. (fields_of command).has_globals ≡ false) }
+    ensures { IfOk result (IsAddedAs explain_app) }
 {
+    let origin = Arg::new(alloc, "ORIGIN").required(true).help(ORIGIN);
     Command::new(alloc, "explain")
         .about("Tells how many records the zone on standard input has, or why it is refused")
         .after_help(NOTES)
-        .arg(required(alloc, "ORIGIN", ORIGIN))
+        .arg(origin)
 }
 
 fn compare<'a>(alloc: Global) -> Result<Command<'a>, AllocError>
-    ensures app { IfOk result (λ command. app_of command ≡ compare_app) }
-    ensures local { IfOk result (λ command. (fields_of command).has_globals ≡ false) }
+    ensures { IfOk result (IsAddedAs compare_app) }
 {
+    let origin1 = Arg::new(alloc, "ORIGIN1").required(true).help(ORIGIN);
+    let path1 = Arg::new(alloc, "PATH1").required(true).help(PATH);
+    let origin2 = Arg::new(alloc, "ORIGIN2").required(true).help(ORIGIN);
+    let path2 = Arg::new(alloc, "PATH2").required(true).help(PATH);
     Command::new(alloc, "compare")
         .about("Tells whether two files hold one zone, or the first line of canonical text that differs")
         .after_help(NOTES)
-        .arg(required(alloc, "ORIGIN1", ORIGIN))?
-        .arg(required(alloc, "PATH1", PATH))?
-        .arg(required(alloc, "ORIGIN2", ORIGIN))?
-        .arg(required(alloc, "PATH2", PATH))
-}
-
-/// A required argument in its place.
-fn required<'a>(alloc: Global, id: &'a str, help: &'a str) -> Arg<'a>
-    ensures rule { rule_of result ≡ argument id.entry.now }
-    ensures local { result.global ≡ false }
-{
-    Arg::new(alloc, id).required(true).help(help)
+        .arg(origin1)?
+        .arg(path1)?
+        .arg(origin2)?
+        .arg(path2)
 }

@@ -2,7 +2,7 @@ ghost use Rattle.std.specs.Prelude.{◌≡◌, ◌+◌, ◌≤◌, length, IfOk,
 ghost use Rattle.std.specs.Io.KnownBytes.{Consumes};
 ghost use Rattle.zone_name.specs.Common.{Octets};
 ghost use Rattle.zone_name.specs.Name.{IsName};
-ghost use Rattle.zone_print.specs.Canonical.{text_limit};
+ghost use Rattle.zone_print.specs.Canonical.{canon, text_limit};
 ghost use Rattle.zonenorm.specs.Form.{form_of};
 ghost use Rattle.zonenorm.specs.Input.{file, input_of, InputDenotes, IsForm, transfer};
 ghost use Rattle.zonenorm.specs.Machine.Stops.{IsOfReading};
@@ -68,6 +68,7 @@ pub(crate) fn accepted_zone<R: Read>(
 ) -> Result<Zone, Stop>
     ensures zone { IfOk result (λ z. IfSome (R.remaining reader.old) (λ octets.
         InputDenotes (input_of (form_of form.entry) octets) z)) }
+    ensures short { IfOk result (λ z. length (canon z) ≤ text_limit) }
     ensures fault { IfErr result (λ stop. IfSome (R.remaining reader.old) (λ octets.
         IfRefused stop (IsRefusal (input_of (form_of form.entry) octets)))) }
     ensures stopped { IfErr result IsOfReading }

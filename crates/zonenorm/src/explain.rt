@@ -1,6 +1,5 @@
-ghost use Rattle.std.specs.Prelude.{◌≡◌, ◌⊎◌, IfErr, IfOk, IfSome, OnOk, []};
+ghost use Rattle.std.specs.Prelude.{[], IfErr, IfOk, OnOk};
 ghost use Rattle.zonenorm.specs.Form.{form_of};
-ghost use Rattle.zonenorm.specs.Input.{input_of};
 ghost use Rattle.zonenorm.specs.Run.{AppendsLine, Explains, IsFailure, KeepsUnlessWrite, ReadsFew};
 
 use crate::engine::accepted_zone;
@@ -26,9 +25,7 @@ pub fn explain<R: Read, W: Write>(
     reader: &mut R,
     writer: &mut W,
 ) -> Result<u8, Stop>
-    ensures explained { IfOk result (λ status. IfSome (R.remaining reader.old) (λ octets.
-        Explains (input_of (form_of form.entry) octets) status)) }
-    ensures status { IfOk result (λ status. (status ≡ 0) ⊎ (status ≡ 3)) }
+    ensures explained { IfOk result (Explains (form_of form.entry) (R.remaining reader.old)) }
     ensures told { OnOk result (AppendsLine [] (W.contents writer.old) (W.contents writer.new)) }
     ensures failed { IfErr result IsFailure }
     ensures kept { IfErr result (λ stop.

@@ -2,7 +2,7 @@ ghost use Rattle.std.specs.Prelude.{◌≡◌, drop, map, IfOk, IfErr, IsNone, I
 ghost use Rattle.clap.specs.Words.{subcommand_rows_of, kind_of};
 ghost use Rattle.clap.specs.declared.error.kind.ErrorKind.TheVariants.{OutOfMemory};
 ghost use Rattle.zone_name.specs.Common.{NothingIs};
-ghost use Rattle.zonenorm.specs.Machine.Calling.{texts_of, IsOnlyBad, IsOfClap};
+ghost use Rattle.zonenorm.specs.Machine.Calling.{texts_of, IsOfCall, IsOfClap};
 ghost use Rattle.zonenorm.specs.Order.{Asks, Finds, HasBadOrigin, IsOriginText, IsSource, Orders, IsLineFault, line_status, line_text};
 
 use crate::command::program;
@@ -138,8 +138,8 @@ impl Call<'_> {
     ///
     /// `BadOrigin` and `Memory`.
     fn order(self, alloc: Global) -> Result<Order, LineFault>
-        ensures ordered { IfOk result (Asks (texts_of self)) }
-        ensures refused { IfErr result (IsOnlyBad (HasBadOrigin (texts_of self))) }
+        ensures ordered { IfOk result (Asks (texts_of self.entry)) }
+        ensures refused { IfErr result (IsOfCall (HasBadOrigin (texts_of self.entry))) }
     {
         match self {
             Call::Normalise(origin) => Ok(Order::Normalise(origin_of(origin)?)),
