@@ -1,5 +1,5 @@
 -- What comparing two inputs answers: that their canonical texts are equal, or the first line at which they differ.
-use Rattle.std.specs.Prelude.{◌≡◌, ◌≢◌, ℕ, zero, suc, ◌<◌, ◌≤◌, ◌==◌, if◌then◌else◌, List, [], ◌∷◌, slice_get, Option, Some, None, IfSome}
+use Rattle.std.specs.Prelude.{◌≡◌, ◌≢◌, ℕ, zero, suc, ◌<◌, ◌≤◌, ◌==◌, if◌then◌else◌, List, [], ◌∷◌, slice_get, Option, None, IfSome}
 use Rattle.std.specs.Io.KnownBytes.{Keeps}
 use Rattle.std.specs.List.{onto_first}
 use Rattle.zone_rdata.specs.declared.fault.Stop.{Stop}
@@ -40,7 +40,7 @@ pub record Compares (first second : Input) (verdict : Verdict) : Type 0 where
   pub denotes : InputDenotes first zone
   pub other : Zone
   pub other_denotes : InputDenotes second other
-  pub verdict : IsVerdict verdict (canon zone) (canon other)
+  pub judged : IsVerdict verdict (canon zone) (canon other)
 
 -- known octets denote a zone
 abbrev pub IsAccepted : InputForm → Option (List ℕ) → Type 0

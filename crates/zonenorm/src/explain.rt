@@ -4,7 +4,7 @@ ghost use Rattle.zonenorm.specs.Run.{AppendsLine, Explains, IsFailure, KeepsUnle
 
 use crate::engine::accepted_zone;
 use crate::form::Form;
-use crate::line::write_line;
+use crate::line::{write_line, write_number};
 use std::alloc::{AllocError, Global};
 use std::io::{Read, Write};
 use zone_name::Name;
@@ -19,6 +19,7 @@ pub(crate) const OUT_OF_MEMORY: &str = "out of memory";
 /// # Errors
 ///
 /// `Read` and `Memory`, which write nothing, and `Write`.
+#[tactic(auto, using(crate::proofs::Running::explains_zone, crate::proofs::Running::explains_refusal))]
 pub fn explain<R: Read, W: Write>(
     alloc: Global,
     form: Form<'_>,
@@ -34,9 +35,7 @@ pub fn explain<R: Read, W: Write>(
 {
     match accepted_zone(alloc, form, reader) {
         Ok(zone) => {
-            if writeln!(writer, "accepted, records: {}", zone.len()).is_err() {
-                return Err(Stop::Write);
-            }
+            write_number(writer, "accepted, records: ", zone.len())?;
             Ok(0)
         }
         Err(Stop::Refused(fault, place)) => {

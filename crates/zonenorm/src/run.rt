@@ -1,12 +1,12 @@
-ghost use Rattle.std.specs.Prelude.{◌≡◌};
+ghost use Rattle.std.specs.Prelude.{◌≡◌, [], OnOk};
 ghost use Rattle.zonenorm.specs.Machine.Telling.{which_words, TellsFault, TellsStop, TellsVerdict};
-ghost use Rattle.zonenorm.specs.Run.{devices, ReadsFew, ReadsSecond, Runs};
+ghost use Rattle.zonenorm.specs.Run.{devices, verdict_status, AppendsLine, ReadsFew, ReadsSecond, Runs};
 
 use crate::compare::{Verdict, Which, compare};
 use crate::engine::normalise;
 use crate::explain::{OUT_OF_MEMORY, explain, explain_line};
 use crate::form::Form;
-use crate::line::write_line;
+use crate::line::{write_line, write_number};
 use crate::order::{LineFault, Order};
 use std::alloc::Global;
 use std::io::{Read, Write};
@@ -17,6 +17,7 @@ use zone_rdata::Stop;
 /// was written, the zone was accepted or both are the same; 1 where two zones differ; 3 where an input is refused; 4 where
 /// reading, writing or memory failed. Of 3 and 4 a line on the error writer tells why, of a comparison behind the name of
 /// the input; `explain` tells of 3 on the writer. Where that can't be told the status is 4. No writer is flushed.
+#[tactic(auto, using(crate::proofs::Running::normalised, crate::proofs::Running::normalise_stopped, crate::proofs::Running::explained, crate::proofs::Running::explain_stopped, crate::proofs::Running::compared, crate::proofs::Running::compare_stopped))]
 pub fn run<R1: Read, R2: Read, W: Write, E: Write>(
     alloc: Global,
     order: &Order,
@@ -55,17 +56,43 @@ pub fn run<R1: Read, R2: Read, W: Write, E: Write>(
     }
 }
 
-/// Writes the line of a verdict, without taking memory, and answers the status.
-fn tell_verdict<W: Write, E: Write>(alloc: Global, verdict: Verdict, output: &mut W, errors: &mut E) -> u8
-    ensures { TellsVerdict verdict (W.contents output.old) (W.contents output.new) (E.contents errors.old) (E.contents errors.new) result }
+/// Tells the verdict of a comparison, and answers its status.
+fn tell_verdict<W: Write, E: Write>(
+    alloc: Global,
+    verdict: Verdict,
+    output: &mut W,
+    errors: &mut E,
+) -> u8
+    ensures { TellsVerdict verdict (W.contents output.old) (W.contents output.new)
+        (E.contents errors.old) (E.contents errors.new) result }
 {
-    let (written, status) = match verdict {
-        Verdict::Same => (writeln!(output, "same"), 0),
-        Verdict::Different(line) => (writeln!(output, "different at line {line}"), 1),
-    };
-    match written {
-        Ok(()) => status,
-        Err(_) => report(alloc, "", &Stop::Write, errors),
+    match write_verdict(verdict, output) {
+        Ok(()) => status_of(verdict),
+        Err(stop) => report(alloc, "", &stop, errors),
+    }
+}
+
+/// Writes the line of a verdict, without taking memory.
+///
+/// # Errors
+///
+/// `Write`.
+fn write_verdict<W: Write>(verdict: Verdict, output: &mut W) -> Result<(), Stop>
+    ensures { OnOk result (AppendsLine [] (W.contents output.old) (W.contents output.new)) }
+{
+    match verdict {
+        Verdict::Same => write_line(output, "", "same"),
+        Verdict::Different(line) => write_number(output, "different at line ", line),
+    }
+}
+
+/// The exit status of a comparison.
+fn status_of(verdict: Verdict) -> u8
+    ensures { result ≡ verdict_status verdict }
+{
+    match verdict {
+        Verdict::Same => 0,
+        Verdict::Different(_) => 1,
     }
 }
 
