@@ -2,7 +2,7 @@
 use Rattle.std.proofs.Common.{◌≡◌, ◌≢◌, ℕ, true, List, [], ◌∷◌, ◌++◌, sym, ap, ◌∙◌, append_assoc, refl, inr, subst}
 use Rattle.std.specs.Prelude.{Option, Some, None, Result, Ok, Err, IfSome, OnErr, OnOk, is_some}
 use Rattle.std.specs.Io.KnownBytes.{Appends}
-use Rattle.core.specs.Fmt.{with_newline}
+use Rattle.std.specs.Fmt.{with_newline}
 use Rattle.std.proofs.KnownBytes.{Appends-trans}
 use Rattle.zonenorm.specs.Machine.Telling.{TellsFault}
 use Rattle.zonenorm.specs.Order.{line_text}
