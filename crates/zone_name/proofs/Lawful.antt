@@ -76,7 +76,7 @@ either : (a b : Bool) (P : Type 0) → (a ≡ true → P) → (b ≡ true → P)
 either true b P f g e = f refl
 either false b P f g e = g e
 
-special_escapes : (c : ℕ) → is_special c ≡ true → Escapes c
+pub special_escapes : (c : ℕ) → is_special c ≡ true → Escapes c
 special_escapes c =
     either (c == 34 || c == 36 || c == 40 || c == 41 || c == 46 || c == 59 || c == 64) (c == 92) (Escapes c)
     (either (c == 34 || c == 36 || c == 40 || c == 41 || c == 46 || c == 59) (c == 64) (Escapes c)

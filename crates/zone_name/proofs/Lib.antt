@@ -10,3 +10,4 @@ pub mod Only
 pub mod Answered
 pub mod Lawful
 pub mod Sinks
+pub mod Bare

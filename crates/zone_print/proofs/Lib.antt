@@ -3,3 +3,5 @@ pub mod Front
 pub mod Lines
 pub mod Stops
 pub mod OneZone
+pub mod Items
+pub mod ReadBack

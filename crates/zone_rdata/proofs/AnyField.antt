@@ -1,5 +1,6 @@
 -- What is proved of any field. `kind_of` picks the laws of its kind.
 use Rattle.std.proofs.Common.{List, Some, [], ap, length, subst, sym, ℕ, ◌++◌, ◌<◌, ◌∙◌, ◌∷◌, ◌≡◌, ◌≢◌, ◌≤◌}
+use Rattle.std.specs.List.{AllByRecursion}
 use Rattle.std.proofs.lemmas.List.{append_cancel_left}
 use Rattle.zone_name.specs.Name.{IsName}
 use Rattle.zone_rdata.specs.declared.fault.Fault.{Fault}
@@ -13,6 +14,7 @@ use Rattle.zone_rdata.specs.Layout.{IsSized}
 use Rattle.zone_rdata.specs.Machine.Appending.{BeginsWithValue}
 use Rattle.zone_rdata.specs.Machine.Building.{IsReal, part_field}
 use Rattle.zone_rdata.proofs.FieldLaws.{AreLow, AreLowItems, FieldChoice, FieldLaws, FrontChoice, NameFaultOnce, NameOrFault, NamesNever, NamesOnce, NamesPrinted, plain_front}
+use Rattle.zone_rdata.proofs.Standing.{Stands}
 use Rattle.zone_rdata.proofs.StringLaws.{fault-once}
 use Rattle.zone_rdata.proofs.Fields.Name.{laws as name_laws, front_once as name_front_once}
 use Rattle.zone_rdata.proofs.Fields.Serial.{laws as serial_laws}
@@ -117,6 +119,9 @@ pub field_printed : NamesPrinted → (origin : List (List ℕ)) (f : Field) (v :
 field_printed names origin f v rest sized h last =
     let k = kind_of f in
     each f k (λ w. SpellsField origin f (own_items f (field_items w ++ rest)) w × (items_behind f (field_items w ++ rest) ≡ rest)) (λ x held. k.laws.printed names origin x rest sized held last) v h
+
+pub field_stands : (f : Field) (v : FieldValue) → IsSized f → Holds f v → AllByRecursion Stands (field_items v)
+field_stands f v sized h = let k = kind_of f in each f k (λ w. AllByRecursion Stands (field_items w)) (λ x held. k.laws.stands x sized held) v h
 
 pub field_unmarked : (f : Field) (v : FieldValue) (rest : List RawItem) → IsSized f → Holds f v → IsGeneric (field_items v ++ rest) → ⊥
 field_unmarked f v rest sized h = let k = kind_of f in each f k (λ w. IsGeneric (field_items w ++ rest) → ⊥) (λ x held. k.laws.unmarked x rest sized held) v h

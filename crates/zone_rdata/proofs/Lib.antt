@@ -6,6 +6,7 @@ pub mod AddressFields
 pub mod Sent
 pub mod Lists
 pub mod Choices
+pub mod Standing
 pub mod FieldLaws
 pub mod Fields
 pub mod AnyField

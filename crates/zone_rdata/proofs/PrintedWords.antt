@@ -1,10 +1,14 @@
--- Printed words are those of their class or type.
-use Rattle.std.proofs.Common.{◌≡◌, ℕ, ◌^◌, ◌<◌, List, ◌++◌, codes, decimal, Option, Some, None, refl, arith}
+-- Printed words are those of their class or type, and stand outside quotes.
+use Rattle.std.proofs.Common.{◌≡◌, ℕ, ◌^◌, ◌<◌, true, List, ◌++◌, codes, decimal, Option, Some, None, refl, arith}
+use Rattle.std.specs.List.{list_all}
+use Rattle.zone_name.proofs.Bare.{StandsBare, bare_append}
 use Rattle.zone_rdata.specs.declared.field.Field.{Field}
 use Rattle.zone_rdata.specs.Layout.{layout}
 use Rattle.zone_rdata.specs.Table.{Named, classes, type_names, mnemonic_among}
 use Rattle.zone_rdata.specs.Words.{IsClass, IsClassWord, IsKind, IsKindWord, IsNumbered, IsWordAmong, by_mnemonic, by_number, class_text, kind_text, laid_out_mnemonic, word_or_numbered}
 use Rattle.zone_rdata.proofs.GenericLaws.{decimal-is}
+use Rattle.zone_rdata.proofs.Standing.{are_bare, bare_decimal, bare_tested}
+use Rattle.zone_rdata.proofs.Tables.{each_mnemonic}
 
 numbered_printed : (name : List ℕ) (n : ℕ) → n < 2 ^ 64 → IsNumbered name (name ++ decimal n) n
 numbered_printed name n short = record { front = name; digits = decimal n; parts = refl; named = refl; number = decimal-is n short }
@@ -22,3 +26,22 @@ kind_of_layout (Some fields) n short = word_of type_names (codes "TYPE") (mnemon
 
 pub kind_printed : (class n : ℕ) → IsKind n → IsKindWord (kind_text class n) n
 kind_printed class n is = kind_of_layout (layout class n) n (let short = is.short in omega arith)
+
+-- ---- they stand outside quotes
+
+numbered_bare : (name : List ℕ) (n : ℕ) → are_bare name ≡ true → n < 2 ^ 64 → StandsBare (name ++ decimal n)
+numbered_bare name n bare short = bare_append name (decimal n) (bare_tested name bare) (bare_decimal n short)
+
+word_bare : (rows : List Named) (name : List ℕ) (row : Option (List ℕ)) (n : ℕ) → list_all (λ row. are_bare row.mnemonic) rows ≡ true → are_bare name ≡ true → mnemonic_among rows n ≡ row → n < 2 ^ 64 → StandsBare (word_or_numbered row name n)
+word_bare rows name None n all bare e short = numbered_bare name n bare short
+word_bare rows name (Some word) n all bare e short = bare_tested word (each_mnemonic (λ _ mnemonic. are_bare mnemonic) rows all n word e)
+
+pub class_bare : (n : ℕ) → IsClass n → StandsBare (class_text n)
+class_bare n is = word_bare classes (codes "CLASS") (mnemonic_among classes n) n refl refl refl (let short = is.short in omega arith)
+
+laid_out_bare : (laid : Option (List Field)) (n : ℕ) → n < 2 ^ 64 → StandsBare (word_or_numbered (laid_out_mnemonic laid n) (codes "TYPE") n)
+laid_out_bare None n short = numbered_bare (codes "TYPE") n refl short
+laid_out_bare (Some fields) n short = word_bare type_names (codes "TYPE") (mnemonic_among type_names n) n refl refl refl short
+
+pub kind_bare : (class n : ℕ) → IsKind n → StandsBare (kind_text class n)
+kind_bare class n is = laid_out_bare (layout class n) n (let short = is.short in omega arith)

@@ -1,9 +1,11 @@
--- The canonical text of data is its items, and they state that data.
-use Rattle.std.proofs.Common.{List, None, Option, Some, [], ap, arith, drop, length, map, refl, subst, sym, ℕ, ◌++◌, ◌<◌, ◌∙◌, ◌∷◌, ◌≡◌, ◌≤◌}
+-- The canonical text of data is its items, they stand in a file as they are, and they state that data.
+use Rattle.std.proofs.Common.{List, None, Option, Some, [], ap, arith, drop, length, length-append, map, nat_lt, refl, subst, sym, true, ℕ, ◌++◌, ◌<◌, ◌∙◌, ◌∷◌, ◌≡◌, ◌≤◌}
 use Rattle.std.specs.List.{AllByRecursion, flat_map, join_with_byte}
 use Rattle.std.specs.Prelude.{decimal}
-use Rattle.std.proofs.lemmas.List.{append-nil, map-append}
+use Rattle.std.proofs.lemmas.Bool.Decides.{nat_tests}
+use Rattle.std.proofs.lemmas.List.{append-nil, length-map, map-append}
 use Rattle.std.proofs.lemmas.List.Concat.{flat_map-append}
+use Rattle.zone_name.proofs.Pushing.{AllByRecursion-append}
 use Rattle.zone_rdata.specs.declared.field.Field.{Field}
 use Rattle.zone_rdata.specs.declared.field.Field.TheVariants.{Strings}
 use Rattle.zone_rdata.specs.Field.{FieldValue, HoldEach, Holds, field_items, field_text, string, strings, values_of}
@@ -16,11 +18,12 @@ use Rattle.zone_rdata.specs.Record.{Data, IsRdata}
 use Rattle.zone_rdata.specs.Spelling.{SpellEach, States, StatesFor, in_octets, in_words}
 use Rattle.zone_rdata.specs.Strings.{string_text}
 use Rattle.zone_rdata.specs.Text.{data_items, data_text, generic_text, laid_out_items, written_item}
-use Rattle.zone_rdata.proofs.AnyField.{field_printed, field_unmarked}
+use Rattle.zone_rdata.proofs.AnyField.{field_printed, field_stands, field_unmarked}
 use Rattle.zone_rdata.proofs.FieldLaws.{NamesPrinted}
 use Rattle.zone_rdata.proofs.GenericLaws.{printed-stated, printed-text}
 use Rattle.zone_rdata.proofs.Layouts.{AreFor}
-use Rattle.zone_rdata.proofs.Tables.{table_row}
+use Rattle.zone_rdata.proofs.Standing.{Stands, bare_decimal, bare_hex, bare_mark}
+use Rattle.zone_rdata.proofs.Tables.{each_layout, table_row}
 use Rattle.zone_rdata.proofs.Texts.{joined_more}
 
 -- ---- the text is the items
@@ -71,6 +74,53 @@ written_for (Some row) octets value =
 -- what is printed field by field is the text
 pub data_written : (d : Data) → IsRdata d → laid_out_text (layout d.class d.kind) d.octets ≡ data_text d
 data_written d h = written_for (layout d.class d.kind) d.octets h.octets.value
+
+-- ---- the items stand in a file as they are
+
+abbrev StandEach : List RawItem → Type 0
+StandEach items = AllByRecursion Stands items
+
+digits_stand : (octets : List ℕ) → AllByRecursion (λ c. c < 256) octets → StandEach (digit_items octets)
+digits_stand [] low = tt
+digits_stand (c ∷ octets) low = (bare_hex c octets low, tt)
+
+each_stand : (row : List Field) (values : List FieldValue) → AllByRecursion IsSized row → HoldEach row values → StandEach (flat_map field_items values)
+each_stand [] [] sized h = tt
+each_stand [] (v ∷ values) sized h = absurd h
+each_stand (f ∷ row) [] sized h = absurd h
+each_stand (f ∷ row) (v ∷ values) sized h =
+    AllByRecursion-append Stands (field_items v) (flat_map field_items values) (field_stands f v sized.0 h.0) (each_stand row values sized.1 h.1)
+
+laid_out_stand : (laid : Option (List Field)) (octets : List ℕ) → ((row : List Field) → laid ≡ Some row → IsLayout row) → length octets ≤ 65535 → AllByRecursion (λ c. c < 256) octets → AreFor laid octets → StandEach (laid_out_items laid octets)
+laid_out_stand None octets table short low value = (bare_mark, (bare_decimal (length octets) (omega arith), digits_stand octets low))
+laid_out_stand (Some row) octets table short low value = each_stand row (values_of row octets) (table row refl).sized value.held
+
+pub data_stands : (d : Data) → IsRdata d → AllByRecursion Stands (data_items d)
+data_stands d h = laid_out_stand (layout d.class d.kind) d.octets (table_row d.class d.kind) h.octets.short h.octets.each h.octets.value
+
+-- ---- there is one item at least
+
+field_some : (f : Field) (v : FieldValue) → Holds f v → 0 < length (field_items v)
+field_some f (strings many) h = omega (arith, some_strings f many h, length-map many string_item)
+field_some f v h = omega arith
+
+each_some : (row : List Field) (values : List FieldValue) → 0 < length row → HoldEach row values → 0 < length (flat_map field_items values)
+each_some [] values some h = absurd (omega arith)
+each_some (f ∷ row) [] some h = absurd h
+each_some (f ∷ row) (v ∷ values) some h = omega (arith, length-append (field_items v) (flat_map field_items values), field_some f v h.0)
+
+laid_out_some : (laid : Option (List Field)) (octets : List ℕ) → ((row : List Field) → laid ≡ Some row → 0 < length row) → AreFor laid octets → 0 < length (laid_out_items laid octets)
+laid_out_some None octets table value = omega arith
+laid_out_some (Some row) octets table value = each_some row (values_of row octets) (table row refl) value.held
+
+row_some : (class kind : ℕ) (row : List Field) → layout class kind ≡ Some row → 0 < length row
+row_some class kind row e = by (length row) (each_layout (λ fields. nat_lt 0 (length fields)) refl class kind row e)
+  where
+    by : (n : ℕ) → nat_lt 0 n ≡ true → 0 < n
+    by n e = grind (arith, nat_tests)
+
+pub data_some : (d : Data) → IsRdata d → 0 < length (data_items d)
+data_some d h = laid_out_some (layout d.class d.kind) d.octets (row_some d.class d.kind) h.octets.value
 
 -- ---- the items spell the values
 

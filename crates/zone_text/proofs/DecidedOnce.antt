@@ -50,7 +50,7 @@ unfinished_once octets a b x y =
 all_ended : (pieces : List Piece) → (cut_from zero pieces).open_pieces ≡ [] → pieces ≡ joined (cut_from zero pieces).ended
 all_ended pieces none = sym (cut_whole zero pieces) ∙ ap (λ t. joined (cut_from zero pieces).ended ++ t) none ∙ append-nil (joined (cut_from zero pieces).ended)
 
-cut_behind_all : (pieces more : List Piece) → (cut_from zero pieces).open_pieces ≡ [] → cut_from zero (pieces ++ more) ≡ record { ended = (cut_from zero pieces).ended ++ (cut_from zero more).ended; open_pieces = (cut_from zero more).open_pieces }
+pub cut_behind_all : (pieces more : List Piece) → (cut_from zero pieces).open_pieces ≡ [] → cut_from zero (pieces ++ more) ≡ record { ended = (cut_from zero pieces).ended ++ (cut_from zero more).ended; open_pieces = (cut_from zero more).open_pieces }
 cut_behind_all pieces more none = ap (λ p. cut_from zero (p ++ more)) (all_ended pieces none) ∙ cut_again pieces more
 
 pub ended_on_behind : (pieces more : List Piece) → (cut_from zero pieces).open_pieces ≡ [] → ended_entries (pieces ++ more) ≡ ended_entries pieces ++ numbered (open_line pieces) (cut_from zero more).ended

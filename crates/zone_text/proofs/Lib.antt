@@ -39,3 +39,4 @@ pub mod Inheriting
 pub mod RecordsRead
 pub mod DirectivesRead
 pub mod Lines
+pub mod StandingItems

@@ -13,6 +13,7 @@ use Rattle.zone_text.specs.Inherited.{IsOrigin}
 use Rattle.zone_text.specs.Line.{IsItem, line_of, StatesWhole}
 use Rattle.zone_text.specs.Pieces.{Piece, blank, line_feed, bare, quoted, text, is_blank, IsPiece, MayFollow, AllFollow, depth_after, Cuts}
 use Rattle.zone_text.specs.Records.{StatesRecord}
+use Rattle.zone_text.proofs.Inheriting.{same_origin}
 use Rattle.zone_text.proofs.ClassWords.{time_first, class_word_first, class_word_known}
 use Rattle.zone_text.proofs.WordsLeft.{next_part}
 
@@ -60,7 +61,7 @@ item_front (bare units) pieces is = refl
 item_front (quoted units) pieces is = refl
 item_front item pieces is = absurd is
 
-line_ended : (items : List Piece) → AllByRecursion IsItem items → cut_from zero (line_of items) ≡ record { ended = line_of items ∷ []; open_pieces = [] }
+pub line_ended : (items : List Piece) → AllByRecursion IsItem items → cut_from zero (line_of items) ≡ record { ended = line_of items ∷ []; open_pieces = [] }
 line_ended [] are = refl
 line_ended (item ∷ []) are = item_front item (line_feed ∷ []) are.0
 line_ended (item ∷ next ∷ items) are =
@@ -98,10 +99,14 @@ whole_parts ttl_word class_word kind_word items is_ttl no_ttl is_class =
     ∙ (next_part (ttl ttl_word ∷ []) (raw.bare class_word) (raw.bare kind_word ∷ items) (Some (class class_word)) (rw (no_ttl, is_class) refl)
     ∙ next_part (ttl ttl_word ∷ class class_word ∷ []) (raw.bare kind_word) items None (no_third ttl_word class_word kind_word))
 
+-- the form of the entry is that of a record with its owner
+pub whole_form : (entry : Entry) (r : Record) (s : StatesWhole entry r) → form_of entry ≡ owned (raw.bare s.owner_text) (raw.bare s.ttl_text ∷ raw.bare s.class_word ∷ raw.bare s.kind_word ∷ s.items)
+whole_form entry r s = rw s.whole (owned_form entry.first (raw.bare s.owner_text) _ s.begins)
+
 pub whole_stated : (origin above : Labels) (before : List Entry) (entry : Entry) (r : Record) → IsOrigin origin before above → StatesWhole entry r → StatesRecord origin before entry r
 whole_stated origin above before entry r under s =
     let parts : Parts = record { words = ttl s.ttl_text ∷ class s.class_word ∷ []; rest = raw.bare s.kind_word ∷ s.items } in
-    let form : form_of entry ≡ owned (raw.bare s.owner_text) (raw.bare s.ttl_text ∷ raw.bare s.class_word ∷ raw.bare s.kind_word ∷ s.items) = rw s.whole (owned_form entry.first (raw.bare s.owner_text) _ s.begins) in
+    let form = whole_form entry r s in
     let split : parts_of entry ≡ Some parts = rw (form, whole_parts s.ttl_text s.class_word s.kind_word s.items (time_first _ _ s.ttl) (class_word_first _ _ s.class) (class_word_known _ _ s.class)) refl in
     record {
       items = s.items;
@@ -120,3 +125,7 @@ whole_stated origin above before entry r under s =
       ttl = rw split s.ttl;
       fits = s.fits;
     }
+
+-- an entry that states every part of a record sets no origin
+pub whole_leaves_origin : (origin above : Labels) (before : List Entry) (entry : Entry) (r : Record) → IsOrigin origin before above → StatesWhole entry r → IsOrigin origin (entry ∷ before) above
+whole_leaves_origin origin above before entry r under s = same_origin origin before entry _ above (whole_form entry r s) refl under

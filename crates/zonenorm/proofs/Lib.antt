@@ -12,6 +12,8 @@ pub mod Accepted
 pub mod Taken
 pub mod Feeding
 pub mod Written
+pub mod Compared
 pub mod FedSources
 pub mod Running
 pub mod Telling
+pub mod Headline

@@ -2,6 +2,7 @@ pub mod Form
 pub mod Input
 pub mod Normalise
 pub mod Refusal
+pub mod Headline
 pub mod Examples
 pub mod Compare
 pub mod Order

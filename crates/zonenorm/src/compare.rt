@@ -1,8 +1,7 @@
-ghost use Rattle.std.specs.Prelude.{◌≡◌, ◌↔◌, ◌+◌, ◌≤◌, length, IfOk, IfErr, IfSome};
+ghost use Rattle.std.specs.Prelude.{◌+◌, ◌≤◌, length, IfOk, IfErr, IfSome};
 ghost use Rattle.std.specs.Io.KnownBytes.{Consumes};
 ghost use Rattle.zone_name.specs.Common.{Octets};
-ghost use Rattle.zone_rdata.specs.Record.{Record, IsRecord};
-ghost use Rattle.zone_print.specs.Canonical.{canon, line, text_limit};
+ghost use Rattle.zone_print.specs.Canonical.{canon, text_limit};
 ghost use Rattle.zonenorm.specs.Compare.{Compares, IsVerdict, StopsCompare};
 ghost use Rattle.zonenorm.specs.Form.{form_of};
 ghost use Rattle.zonenorm.specs.Input.{input_of};
@@ -11,6 +10,7 @@ use crate::engine::accepted_zone;
 use crate::form::Form;
 use std::alloc::Global;
 use std::io::Read;
+use zone_print::laws::equal_lines_are_equal_records;
 use zone_rdata::Stop;
 use zone_set::Zone;
 
@@ -85,8 +85,3 @@ fn first_difference(zone: &Zone, other: &Zone) -> Verdict
         None => Verdict::Same,
     }
 }
-
-// A hole until the law is merged.
-fn equal_lines_are_equal_records()
-    ensures { (r s : Record) → IsRecord r → IsRecord s → (line r ≡ line s) ↔ (r ≡ s) }
-{}

@@ -6,7 +6,10 @@ ghost use Rattle.zone_set.specs.Refusal.{IsFirstRefused};
 ghost use Rattle.zone_print.specs.Canonical.{canon};
 ghost use Rattle.zonenorm.specs.Examples.{top, under, x, a_x, soa_of, server_of, address_of, from_line, zone_of};
 ghost use Rattle.zonenorm.specs.Input.{file, InputDenotes};
+ghost use Rattle.zonenorm.specs.Normalise.{NormalisesTo};
 ghost use Rattle.zonenorm.specs.Refusal.{IsRefusal, RefusesReading};
+
+use crate::laws::headline;
 
 /// The canonical text of a zone with an SOA and a name server.
 pub fn a_canonical_text()
@@ -20,6 +23,16 @@ pub fn a_file_and_its_zone()
 {
     zone_text::examples::entries::the_minimum_is_the_last_choice();
     zone_text::laws::file::a_file_states_what_is_read();
+}
+
+/// That text denotes the zone under x. as under a.x., and normalises to itself.
+pub fn a_canonical_text_read_back()
+    ensures same_origin { InputDenotes (file x (codes "x. 5 IN SOA n.x. h.x. 1 2 3 4 5" ++ 10 ∷ codes "x. 5 IN NS n.x." ++ 10 ∷ [])) (zone_of 5) }
+    ensures other_origin { InputDenotes (file a_x (codes "x. 5 IN SOA n.x. h.x. 1 2 3 4 5" ++ 10 ∷ codes "x. 5 IN NS n.x." ++ 10 ∷ [])) (zone_of 5) }
+    ensures again { let text = codes "x. 5 IN SOA n.x. h.x. 1 2 3 4 5" ++ 10 ∷ codes "x. 5 IN NS n.x." ++ 10 ∷ [] in NormalisesTo (file a_x text) text }
+{
+    a_file_and_its_zone();
+    headline();
 }
 
 /// A record whose class, SOA data and TTL differ is refused for its class.

@@ -1,15 +1,19 @@
 //! Laws of inputs over the definitions alone. The functions only call other laws: their contracts are the laws.
-ghost use Rattle.std.specs.Prelude.{◌≡◌, ◌<◌, ◌++◌, ◌⊎◌, List, Option, Some, None};
+ghost use Rattle.std.specs.Prelude.{◌≡◌, ◌<◌, ◌++◌, ◌⊎◌, ◌↔◌, ℕ, List, Option, Some, None};
 ghost use Rattle.std.specs.List.{AllByRecursion};
-ghost use Rattle.zone_name.specs.Common.{AtMostOneIs, NothingIs, Octets};
+ghost use Rattle.zone_name.specs.Common.{AtMostOneIs, Labels, NothingIs, Octets};
 ghost use Rattle.zone_rdata.specs.Record.{IsRecord};
 ghost use Rattle.zone_rdata.specs.declared.fault.Fault.{Fault};
 ghost use Rattle.zone_rdata.specs.declared.fault.Place.{Place};
 ghost use Rattle.zone_rdata.specs.declared.record.Placed.{Placed};
 ghost use Rattle.zone_set.specs.Refusal.{records_of};
 ghost use Rattle.zone_set.specs.Zone.{Zone};
-ghost use Rattle.zonenorm.specs.Input.{Decides, Input, InputDenotes, InputForm, input_of, IsForm, IsInput, Reads, States};
+ghost use Rattle.zone_print.specs.Canonical.{canon};
+ghost use Rattle.zone_wire.specs.Walk.{Visit};
+ghost use Rattle.zonenorm.specs.Headline.{DenoteOne, DenotesOnly, IsBoundedWalk, IsRefused, NormalisesOnlyTo};
+ghost use Rattle.zonenorm.specs.Input.{Decides, file, Input, InputDenotes, InputForm, input_of, IsForm, IsInput, Reads, States};
 ghost use Rattle.zonenorm.specs.Machine.Taking.{RefusesFront, RefusesRead};
+ghost use Rattle.zonenorm.specs.Normalise.{NormalisesTo};
 ghost use Rattle.zonenorm.specs.Refusal.{IsRefusal, MakesZone, RefusesReading};
 
 /// A reading is refused for at most one fault, at one place.
@@ -103,4 +107,41 @@ pub fn what_is_read_is_stated()
 {
     zone_text::laws::file::a_file_states_what_is_read();
     zone_wire::laws::a_transfer_is_read();
+}
+
+/// Of any two accepted inputs, each a master file with its origin or a transfer, however cut, the normalised bytes are
+/// equal exactly if they denote the same zone; those bytes, as a master file under any origin, denote that zone and
+/// normalise to themselves; an input is refused exactly if it denotes no zone; and name decoding takes at most 256 steps,
+/// all inside its message.
+pub fn headline()
+    ensures same { (a b : Input) (z w : Zone) → InputDenotes a z → InputDenotes b w
+        → (canon z ≡ canon w) ↔ DenoteOne a b }
+    ensures back { (input : Input) (z : Zone) (origin : Labels) → InputDenotes input z
+        → DenotesOnly (file origin (canon z)) z }
+    ensures again { (input : Input) (z : Zone) (origin : Labels) → InputDenotes input z
+        → NormalisesOnlyTo (file origin (canon z)) (canon z) }
+    ensures refused { (input : Input) → IsInput input → IsRefused input ↔ NothingIs (InputDenotes input) }
+    ensures bounded { (message : Octets) (offset : ℕ) → (visits : List Visit) × IsBoundedWalk message offset visits }
+{
+    one_zone();
+    zone_print::laws::equal_texts_are_equal_zones();
+    zone_print::laws::canonical_text_reads_back();
+    no_zone_of_a_refused_input();
+    refusal_or_zone();
+    zone_wire::laws::walk::one_walk_from_an_offset();
+    zone_wire::laws::a_walk_is_bounded();
+    zone_wire::laws::a_name_is_walked();
+}
+
+/// What two inputs normalise to is equal exactly if they denote the same zone, and under every origin it denotes that zone
+/// and normalises to itself.
+pub fn normalised_texts()
+    ensures same { (a b : Input) (text other : Octets) → NormalisesTo a text → NormalisesTo b other
+        → (text ≡ other) ↔ DenoteOne a b }
+    ensures back { (input : Input) (text : Octets) (origin : Labels) → NormalisesTo input text
+        → DenoteOne input (file origin text) }
+    ensures again { (input : Input) (text : Octets) (origin : Labels) → NormalisesTo input text
+        → NormalisesOnlyTo (file origin text) text }
+{
+    headline();
 }

@@ -14,9 +14,11 @@ use Rattle.zone_rdata.specs.Machine.Building.{IsReal}
 use Rattle.zone_rdata.proofs.AddressChoice.{address_or_not}
 use Rattle.zone_rdata.proofs.AddressFields.{address_fixed}
 use Rattle.zone_rdata.proofs.AddressGaps.{groups_unique}
-use Rattle.zone_rdata.proofs.AddressLaws.{ipv4_plain, ipv4_printed, ipv6_plain, ipv6_printed}
+use Rattle.zone_rdata.proofs.AddressLaws.{ipv4_plain, ipv4_printed, ipv4_some, ipv6_plain, ipv6_printed, ipv6_some}
 use Rattle.zone_rdata.proofs.Addresses.{numbers_unique}
 use Rattle.zone_rdata.proofs.FieldLaws.{FieldLaws, SizedField, bare_item, bare_or_fault, mark, mark_text, sized_front, value_or_fault}
+use Rattle.zone_name.proofs.Bare.{StandsBare}
+use Rattle.zone_rdata.proofs.Standing.{bare_address}
 
 only : (n : ℕ) (v : FieldValue) → Holds (Octets n) v → (octets : List ℕ) × (v ≡ fixed octets)
 only n (fixed octets) h = (octets, refl)
@@ -63,6 +65,14 @@ unmarked : (n : ℕ) (octets : List ℕ) → (n ≡ 4) ⊎ (n ≡ 16) → AreFix
 unmarked n octets (inl is) h e = no_backslash (subst (AllByRecursion IsAddressOctet) (sym (text_of_ipv4 octets (h.size ∙ is)) ∙ e) (ipv4_plain octets (h.size ∙ is) h.each)).0
 unmarked n octets (inr is) h e = no_backslash (subst (AllByRecursion IsAddressOctet) (sym (text_of_ipv6 octets (h.size ∙ is)) ∙ e) (ipv6_plain octets (h.size ∙ is) h.each)).0
 
+stands : (n : ℕ) (octets : List ℕ) → (n ≡ 4) ⊎ (n ≡ 16) → AreFixed n octets → StandsBare (address_text octets)
+stands n octets (inl e) h =
+    let size : length octets ≡ 4 = h.size ∙ e in
+    subst StandsBare (sym (text_of_ipv4 octets size)) (bare_address (ipv4_text octets) (ipv4_some _ octets (ipv4_printed octets size h.each)) (ipv4_plain octets size h.each))
+stands n octets (inr e) h =
+    let size : length octets ≡ 16 = h.size ∙ e in
+    subst StandsBare (sym (text_of_ipv6 octets size)) (bare_address (ipv6_text octets) (ipv6_some _ octets (ipv6_printed octets size h.each)) (ipv6_plain octets size h.each))
+
 pub laws : (n : ℕ) → FieldLaws (Octets n) fixed bare_item
 laws n = record {
   only = only n;
@@ -78,5 +88,6 @@ laws n = record {
   or_fault = λ names origin is. bare_or_fault origin (Octets n) (λ e. cc) (λ e. cc) (λ text each.
       value_or_fault origin (Octets n) text fixed BadRdata (IsAddress n text) (λ octets h. h) (λ none. (refl, none)) (address_or_not n text));
   printed = λ names origin octets rest fixed_size h last. (printed n octets fixed_size h, refl);
+  stands = λ octets fixed_size h. (stands n octets fixed_size h, tt);
   unmarked = λ octets rest fixed_size h g. unmarked n octets fixed_size h (mark_text (address_text octets) rest g);
 }

@@ -18,6 +18,7 @@ use Rattle.zone_rdata.proofs.Choices.{Decided, each_or_not}
 use Rattle.zone_rdata.proofs.FieldLaws.{AreLow, FieldLaws, FrontChoice, bare_item, bare_or_fault, found_front, mark_text}
 use Rattle.zone_name.proofs.Octets.{labels_of-wire_append}
 use Rattle.zone_rdata.proofs.Sent.{AreSome, HasCut, cut_more, cut_name, cut_none, folded_some, goes_on, name_by, no_first, no_room, sent_once, some_behind}
+use Rattle.zone_name.proofs.Bare.{bare_name}
 
 only : (v : FieldValue) → Holds Name v → (labels : List (List ℕ)) × (v ≡ name labels)
 only (name labels) h = (labels, refl)
@@ -167,5 +168,6 @@ laws = record {
     | inr bad ↦ inr (fault_of bad.0, (bad.0, bad.1, refl))
   ]);
   printed = λ names origin labels rest fixed_size h last. (names (Some origin) labels h, refl);
+  stands = λ labels fixed_size h. (bare_name labels h, tt);
   unmarked = λ labels rest fixed_size h g. name_unmarked labels (mark_text (name_text labels) rest g);
 }

@@ -12,7 +12,7 @@ use Rattle.zone_rdata.specs.Machine.Appending.{AppendsPrefix, AppendsValue, Begi
 use Rattle.zone_rdata.specs.Machine.Building.{IsReal}
 use Rattle.zone_rdata.specs.Strings.{IsString}
 use Rattle.zone_rdata.proofs.FieldLaws.{AreLow, AreLowItems, FieldChoice, FieldLaws, FrontChoice, appends_plain, found_front, front_of, low_take}
-use Rattle.zone_rdata.proofs.StringLaws.{printed-spells, string-never_both, string-once}
+use Rattle.zone_rdata.proofs.StringLaws.{printed-spells, printed-stands, string-never_both, string-once}
 use Rattle.zone_rdata.proofs.Strings.{string-or_fault}
 
 only : (v : FieldValue) → Holds OneString v → (octets : List ℕ) × (v ≡ string octets)
@@ -88,5 +88,6 @@ laws = record {
   never = λ names origin item octets fault h bad. string-never_both item octets fault h bad;
   or_fault = λ names origin is. spelt_or_fault origin;
   printed = λ names origin octets rest fixed_size h last. (printed-spells octets h, refl);
+  stands = λ octets fixed_size h. (printed-stands octets h, tt);
   unmarked = λ octets rest fixed_size h g. cc g.1;
 }

@@ -21,8 +21,9 @@ use Rattle.zone_rdata.proofs.FieldLaws.{AreLow, AreLowItems, FieldChoice, FieldL
 use Rattle.zone_rdata.proofs.Fields.OneString.{low_string}
 use Rattle.zone_rdata.proofs.Sent.{frame_at, frame_same, frames_push}
 use Rattle.zone_rdata.proofs.StringFields.{strings_back}
-use Rattle.zone_rdata.proofs.StringLaws.{fault-once, printed-spells, string-never_both, string-once}
+use Rattle.zone_rdata.proofs.StringLaws.{fault-once, printed-spells, printed-stands, string-never_both, string-once}
 use Rattle.zone_rdata.proofs.Strings.{string-or_fault}
+use Rattle.zone_rdata.proofs.Standing.{Stands}
 
 only : (v : FieldValue) → Holds Strings v → (many : List (List ℕ)) × (v ≡ strings many)
 only (strings many) h = (many, refl)
@@ -204,6 +205,10 @@ unmarked : (many : List (List ℕ)) (rest : List RawItem) → AreStrings many �
 unmarked [] rest h g = omega (arith, h.some)
 unmarked (octets ∷ many) rest h g = cc g.1
 
+stand_each : (many : List (List ℕ)) → AllByRecursion IsString many → AllByRecursion Stands (map string_item many)
+stand_each [] each = tt
+stand_each (octets ∷ many) each = (printed-stands octets each.0, stand_each many each.1)
+
 pub laws : FieldLaws Strings strings all_items
 laws = record {
   only = only;
@@ -218,5 +223,6 @@ laws = record {
   never = λ names origin. never;
   or_fault = λ names origin is. spelt_or_fault origin;
   printed = λ names origin many rest fixed_size h last. printed many rest h (last refl);
+  stands = λ many fixed_size h. stand_each many h.each;
   unmarked = λ many rest fixed_size. unmarked many rest;
 }

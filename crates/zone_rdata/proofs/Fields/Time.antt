@@ -35,5 +35,6 @@ laws = record {
   or_fault = λ names origin is. bare_or_fault origin Time (λ e. cc) (λ e. cc) (λ text each.
       value_or_fault origin Time text u32_value BadNumber (SpellsTime text) (λ n h. h) (λ none. (refl, none)) (below_or_not (IsTime text) 4294967296 (one_time text) (time_or_not text)));
   printed = λ names origin n rest fixed_size h last. ((plain (decimal-is n (omega arith)), h), refl);
+  stands = serial.laws.stands;
   unmarked = serial.laws.unmarked;
 }

@@ -14,6 +14,7 @@ use Rattle.zone_rdata.specs.Number.{IsDecimal}
 use Rattle.zone_rdata.proofs.Choices.{below_or_not}
 use Rattle.zone_rdata.proofs.FieldLaws.{AreLow, FieldLaws, SizedField, bare_item, bare_or_fault, low_at, mark_text, number_unmarked, sized_front, value_or_fault}
 use Rattle.zone_rdata.proofs.GenericLaws.{decimal-is, decimal_or_not}
+use Rattle.zone_rdata.proofs.Standing.{bare_decimal}
 
 only : (v : FieldValue) → Holds U16 v → (n : ℕ) × (v ≡ u16_value n)
 only (u16_value n) h = (n, refl)
@@ -53,5 +54,6 @@ laws = record {
   or_fault = λ names origin is. bare_or_fault origin U16 (λ e. cc) (λ e. cc) (λ text each.
       value_or_fault origin U16 text u16_value BadNumber (SpellsU16 text) (λ n h. h) (λ none. (refl, none)) (below_or_not (IsDecimal text) 65536 (λ a b h k. h.value ∙ sym k.value) (decimal_or_not text)));
   printed = λ names origin n rest fixed_size h last. ((decimal-is n (omega arith), h), refl);
+  stands = λ n fixed_size h. (bare_decimal n (omega arith), tt);
   unmarked = λ n rest fixed_size h g. number_unmarked n (omega arith) (mark_text (decimal n) rest g);
 }

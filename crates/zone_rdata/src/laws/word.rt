@@ -1,5 +1,5 @@
 //! Laws of words and times in text (RFC 1035 5.1, RFC 3597 5).
-ghost use Rattle.std.specs.Prelude.{◌⊎◌, ℕ};
+ghost use Rattle.std.specs.Prelude.{◌<◌, ◌^◌, ◌⊎◌, ℕ, decimal};
 ghost use Rattle.zone_name.specs.Common.{AtMostOneIs, EitherIs, NothingIs, Octets};
 ghost use Rattle.zone_rdata.specs.declared.fault.Fault.{Fault};
 ghost use Rattle.zone_rdata.specs.Number.{IsDecimal, IsTime};
@@ -47,4 +47,10 @@ pub fn kind_word_or_fault()
 pub fn printed_words_are_read()
     ensures class { (n : ℕ) → IsClass n → IsClassWord (class_text n) n }
     ensures kind { (class n : ℕ) → IsKind n → IsKindWord (kind_text class n) n }
+{}
+
+/// What is printed for a number of 64 bits is a decimal number, and as a time so many seconds.
+pub fn printed_numbers_are_read()
+    ensures decimal { (n : ℕ) → n < 2 ^ 64 → IsDecimal (decimal n) n }
+    ensures time { (n : ℕ) → n < 2 ^ 64 → IsTime (decimal n) n }
 {}

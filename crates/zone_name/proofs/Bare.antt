@@ -1,0 +1,87 @@
+-- What is printed outside quotes is written octets, of which few stand by themselves.
+use Rattle.std.proofs.Common.{◌≡◌, ℕ, ◌<◌, ◌==◌, ◌||◌, ◌&&◌, not, Bool, true, false, List, [], ◌∷◌, ◌++◌, length, map, refl, sym, ap, ap₂, ◌∙◌, subst, arith, append_assoc, length-append}
+use Rattle.std.specs.List.{flat_map, AllByRecursion}
+use Rattle.std.proofs.Math.Bool.{or-true}
+use Rattle.std.proofs.lemmas.Bool.{both_ways}
+use Rattle.std.proofs.lemmas.List.{append-nil, length-map}
+use Rattle.std.proofs.lemmas.List.Concat.{flat_map-append}
+use Rattle.zone_name.specs.Name.{IsFoldedOctet, IsLabel, IsName}
+use Rattle.zone_name.specs.Spelling.{Written, plain, text_of, IsUnit, written_text}
+use Rattle.zone_name.specs.Text.{is_special, is_printed, octet_text, label_text, name_text}
+use Rattle.zone_name.proofs.Lawful.{written_by, printed_text, special_escapes, decimal_escapes}
+use Rattle.zone_name.proofs.Pushing.{AllByRecursion-append}
+
+-- an octet that stands by itself outside quotes: a dot, or one from `!` to `~` that is not special
+abbrev pub is_bare : ℕ → Bool
+is_bare c = c == 46 || (not (is_special c) && is_printed c)
+
+abbrev pub not_bare : ℕ → Bool
+not_bare c = not (is_bare c)
+
+-- a text that stands outside quotes: one written octet or more, where none but those stands by itself
+pub record StandsBare (text : List ℕ) : Type 0 where
+  pub units : List Written
+  pub some : 0 < length units
+  pub each : AllByRecursion (IsUnit not_bare) units
+  pub parts : text ≡ written_text units
+
+-- ---- texts
+
+pub bare_append : (xs ys : List ℕ) → StandsBare xs → StandsBare ys → StandsBare (xs ++ ys)
+bare_append xs ys x y = record {
+  units = x.units ++ y.units;
+  some = omega (arith, x.some, length-append x.units y.units);
+  each = AllByRecursion-append (IsUnit not_bare) x.units y.units x.each y.each;
+  parts = ap₂ (λ (s t : List ℕ). s ++ t) x.parts y.parts ∙ sym (flat_map-append text_of x.units y.units);
+}
+
+pub bare_unit : (w : Written) → IsUnit not_bare w → StandsBare (text_of w)
+bare_unit w is = record { units = w ∷ []; some = omega arith; each = (is, tt); parts = sym (append-nil (text_of w)) }
+
+pub bare_plain : (c : ℕ) → is_bare c ≡ true → IsUnit not_bare (plain c)
+bare_plain c is = (ap not is, λ e. both_ways (is_bare c) (ap is_bare e) is)
+
+plain_units : (text : List ℕ) → AllByRecursion (λ c. is_bare c ≡ true) text → AllByRecursion (IsUnit not_bare) (map plain text)
+plain_units [] each = tt
+plain_units (c ∷ text) each = (bare_plain c each.0, plain_units text each.1)
+
+plain_text : (text : List ℕ) → text ≡ written_text (map plain text)
+plain_text [] = refl
+plain_text (c ∷ text) = ap (λ t. c ∷ t) (plain_text text)
+
+-- octets that stand by themselves
+pub bare_octets : (text : List ℕ) → 0 < length text → AllByRecursion (λ c. is_bare c ≡ true) text → StandsBare text
+bare_octets text some each = record {
+  units = map plain text;
+  some = omega (arith, some, length-map text plain);
+  each = plain_units text each;
+  parts = plain_text text;
+}
+
+-- ---- names
+
+printed_unit : (special printed : Bool) (c : ℕ) → c < 256 → is_special c ≡ special → is_printed c ≡ printed → IsUnit not_bare (written_by special printed c)
+unfolding written_by
+printed_unit true printed c low s p = special_escapes c s
+printed_unit false true c low s p = bare_plain c (ap₂ (λ a b. c == 46 || (not a && b)) s p ∙ or-true (c == 46))
+printed_unit false false c low s p = decimal_escapes c low
+
+bare_octet : (c : ℕ) → c < 256 → StandsBare (octet_text c)
+bare_octet c low =
+    subst StandsBare (printed_text (is_special c) (is_printed c) c)
+    (bare_unit (written_by (is_special c) (is_printed c) c) (printed_unit (is_special c) (is_printed c) c low refl refl))
+
+bare_label : (label : List ℕ) → AllByRecursion IsFoldedOctet label → StandsBare (label_text label)
+bare_label [] each = bare_octets (46 ∷ []) (omega arith) (refl, tt)
+bare_label (c ∷ label) each =
+    subst StandsBare (sym (append_assoc (octet_text c) (flat_map octet_text label) (46 ∷ [])))
+    (bare_append (octet_text c) (label_text label) (bare_octet c each.0.octet) (bare_label label each.1))
+
+bare_labels : (label : List ℕ) (labels : List (List ℕ)) → IsLabel label → AllByRecursion IsLabel labels → StandsBare (label_text label ++ flat_map label_text labels)
+bare_labels label [] is each = subst StandsBare (sym (append-nil (label_text label))) (bare_label label is.each)
+bare_labels label (next ∷ labels) is each = bare_append (label_text label) (flat_map label_text (next ∷ labels)) (bare_label label is.each) (bare_labels next labels each.0 each.1)
+
+-- what is printed for a name stands outside quotes
+pub bare_name : (labels : List (List ℕ)) → IsName labels → StandsBare (name_text labels)
+bare_name [] is = bare_octets (46 ∷ []) (omega arith) (refl, tt)
+bare_name (label ∷ labels) is = bare_labels label labels is.each.0 is.each.1

@@ -1,0 +1,221 @@
+-- A record's line is one entry that states the record, so lines of records are read back.
+use Rattle.std.proofs.Common.{◌≡◌, ◌≢◌, ◌↔◌, ℕ, zero, ◌+◌, ◌^◌, ◌<◌, ◌≤◌, List, [], ◌∷◌, ◌++◌, length, ◌==◌, Bool, cond, false, Some, refl, sym, ap, ◌∙◌, subst, decimal, add-zero, arith}
+use Rattle.std.specs.Prelude.{fold}
+use Rattle.std.proofs.lemmas.Bool.Decides.{nat_tests}
+use Rattle.std.proofs.lemmas.List.{append-nil}
+use Rattle.std.specs.List.{flat_map, AllByRecursion, count_by}
+use Rattle.zone_name.specs.Common.{Labels}
+use Rattle.zone_name.specs.Name.{IsName}
+use Rattle.zone_name.specs.Spelling.{Spells}
+use Rattle.zone_name.specs.Text.{name_text}
+use Rattle.zone_rdata.specs.declared.fault.Place.TheVariants.{Line}
+use Rattle.zone_rdata.specs.declared.record.Placed.{Placed}
+use Rattle.zone_rdata.specs.Number.{IsTime}
+use Rattle.zone_rdata.specs.Record.{Data, Record, IsRdata, IsRecord, data_of}
+use Rattle.zone_rdata.specs.Spelling.{States}
+use Rattle.zone_rdata.specs.Text.{data_items}
+use Rattle.zone_rdata.specs.Words.{IsClass, IsClassWord, IsKind, IsKindWord, class_text, kind_text}
+use Rattle.zone_text.specs.Entries.{Cut, Entry, and_last, cut_from, entries_of, entry_of, item_of, numbered}
+use Rattle.zone_text.specs.File.{FileStates, StateEach}
+use Rattle.zone_text.specs.Given.{gives_one}
+use Rattle.zone_text.specs.Inherited.{IsOrigin}
+use Rattle.zone_text.specs.Lasting.{EndInLineFeed}
+use Rattle.zone_text.specs.Line.{IsItem, line_of, StatesWhole}
+use Rattle.zone_text.specs.Pieces.{Cuts, Piece, text}
+use Rattle.zone_text.specs.Records.{StatesRecord}
+use Rattle.zone_text.proofs.CutAgain.{AreEnded, cut_ended, joined}
+use Rattle.zone_text.proofs.DecidedOnce.{cut_behind_all}
+use Rattle.zone_set.specs.Refusal.{records_of}
+use Rattle.zone_set.specs.Zone.{Has, IsZone, SameRecords, Zone}
+use Rattle.zone_print.specs.Canonical.{canon, line, lines, text_limit}
+use Rattle.zone_print.specs.Denotes.{Denotes}
+use Rattle.zone_print.specs.Laws.{EndsWithItsFeed, HasNoFeed, IsLineOf, placed_from}
+use Rattle.zone_print.proofs.Feeds.{line_ends_with_feed}
+use Rattle.zone_print.proofs.Items.{LineItems, line_items}
+
+-- what is printed for the parts of a record is read as these parts
+pub record ReadAsPrinted : Type 0 where
+  pub names : (origin : Labels) (labels : Labels) → IsName labels → Spells (Some origin) (name_text labels) labels
+  pub times : (n : ℕ) → n < 2 ^ 64 → IsTime (decimal n) n
+  pub classes : (n : ℕ) → IsClass n → IsClassWord (class_text n) n
+  pub kinds : (class n : ℕ) → IsKind n → IsKindWord (kind_text class n) n
+  pub rdata : (origin : Labels) (d : Data) → IsRdata d → States origin d.class d.kind (data_items d) d.octets
+
+entry_states : ReadAsPrinted → ((items : List Piece) → flat_map item_of (line_of items) ≡ flat_map item_of items) → (r : Record) → IsRecord r → (l : LineItems r) → StatesWhole (entry_of 1 (line_of l.pieces)) r
+entry_states read of_line r is l = record {
+  owner_text = name_text r.owner;
+  ttl_text = decimal r.ttl;
+  class_word = class_text r.class;
+  kind_word = kind_text r.class r.kind;
+  items = data_items (data_of r);
+  begins = l.begins;
+  whole = of_line l.pieces ∙ l.entries;
+  owner = λ above. read.names above r.owner is.owner;
+  ttl = read.times r.ttl (let short = is.ttl in omega arith);
+  class = read.classes r.class is.rdata.class;
+  kind = read.kinds r.class r.kind is.rdata.kind;
+  rdata = λ above. read.rdata above (data_of r) is.rdata;
+  fits = is;
+}
+
+pub line_is_entry : ReadAsPrinted
+    → ((items : List Piece) → AllByRecursion IsItem items → Cuts (text (line_of items)) (line_of items))
+    → ((items : List Piece) → AllByRecursion IsItem items → cut_from zero (line_of items) ≡ record { ended = line_of items ∷ []; open_pieces = [] })
+    → ((items : List Piece) → flat_map item_of (line_of items) ≡ flat_map item_of items)
+    → (r : Record) → IsRecord r → IsLineOf r (line r)
+line_is_entry read cut ended of_line r is =
+    let l = line_items r is in
+    record {
+      pieces = line_of l.pieces;
+      cut = subst (λ t. Cuts t (line_of l.pieces)) l.printed (cut l.pieces l.items);
+      ended = ended l.pieces l.items;
+      states = entry_states read of_line r is l;
+    }
+
+-- ---- equal lines
+
+pub equal_lines : ((r : Record) → IsRecord r → IsLineOf r (line r))
+    → ((octets : List ℕ) (pieces other : List Piece) → Cuts octets pieces → Cuts octets other → pieces ≡ other)
+    → ((origin above : Labels) (before : List Entry) (entry : Entry) (r : Record) → IsOrigin origin before above → StatesWhole entry r → StatesRecord origin before entry r)
+    → ((origin : Labels) (before : List Entry) (entry : Entry) (a b : Record) → StatesRecord origin before entry a → StatesRecord origin before entry b → a ≡ b)
+    → (r s : Record) → IsRecord r → IsRecord s → (line r ≡ line s) ↔ (r ≡ s)
+equal_lines lines one_cut stated one r s is_r is_s = (λ same. one_record (lines r is_r) (lines s is_s) same, λ same. ap line same)
+  where
+    one_record : IsLineOf r (line r) → IsLineOf s (line s) → line r ≡ line s → r ≡ s
+    one_record a b same =
+        let pieces : a.pieces ≡ b.pieces = one_cut (line s) a.pieces b.pieces (subst (λ t. Cuts t a.pieces) same a.cut) b.cut in
+        let states : StatesWhole (entry_of 1 b.pieces) r = subst (λ p. StatesWhole (entry_of 1 p) r) pieces a.states in
+        one [] [] (entry_of 1 b.pieces) r s (stated [] [] [] (entry_of 1 b.pieces) r refl states) (stated [] [] [] (entry_of 1 b.pieces) s refl b.states)
+
+-- ---- lines one after another
+
+no_ten : (c : ℕ) → c ≢ 10 → (c == 10) ≡ false
+no_ten c other = grind (arith, nat_tests)
+
+-- the line feeds of octets that end in their one line feed, counted on
+abbrev counted_on : ℕ → List ℕ → ℕ
+counted_on n octets = fold {A = ℕ} {B = ℕ} (λ m c. m + cond {A = ℕ} (c == 10) 1 0) n octets
+
+one_more_feed : (n : ℕ) (front : List ℕ) → HasNoFeed front → counted_on n (front ++ 10 ∷ []) ≡ n + 1
+one_more_feed n [] none = refl
+one_more_feed n (c ∷ front) none =
+    ap (λ (b : Bool). counted_on (n + cond {A = ℕ} b 1 0) (front ++ 10 ∷ [])) (no_ten c none.0)
+    ∙ ap (λ m. counted_on m (front ++ 10 ∷ [])) (add-zero n) ∙ one_more_feed n front none.1
+
+line_feed_in : (octets : List ℕ) → EndsWithItsFeed octets → count_by (λ c. c == 10) octets ≡ 1
+line_feed_in octets ends = ap (count_by (λ c. c == 10)) ends.split ∙ one_more_feed 0 ends.front ends.others
+
+-- each of the entries states its record and has one line feed
+abbrev AreLines : List (List Piece) → List Record → Type 0
+AreLines [] [] = Unit {0}
+AreLines [] (r ∷ records) = ⊥
+AreLines (p ∷ ended) [] = ⊥
+AreLines (p ∷ ended) (r ∷ records) = StatesWhole (entry_of 1 p) r × (count_by (λ c. c == 10) (text p) ≡ 1) × AreLines ended records
+
+-- lines as pieces, and these as entries
+record LinesCut (records : List Record) : Type 0 where
+  pub pieces : List Piece
+  pub ended : List (List Piece)
+  pub cut : Cuts (lines records) pieces
+  pub split : cut_from zero pieces ≡ record { ended = ended; open_pieces = [] }
+  pub are : AreLines ended records
+
+ends_in_feed : (pieces : List Piece) → cut_from zero pieces ≡ record { ended = pieces ∷ []; open_pieces = [] } → EndInLineFeed pieces
+ends_in_feed pieces ended =
+    let are : AreEnded zero (cut_from zero pieces).ended = cut_ended zero pieces in
+    subst EndInLineFeed (ap (λ (c : Cut). joined c.ended) ended ∙ append-nil pieces) are.ends
+
+lines_cut : ((r : Record) → IsRecord r → IsLineOf r (line r))
+    → ((front rest : List ℕ) (pieces more : List Piece) → Cuts front pieces → EndInLineFeed pieces → Cuts rest more → Cuts (front ++ rest) (pieces ++ more))
+    → (records : List Record) → AllByRecursion IsRecord records → LinesCut records
+lines_cut line_is joins [] each = record { pieces = []; ended = []; cut = record { whole = refl; each = tt; follow = tt; balanced = refl }; split = refl; are = tt }
+lines_cut line_is joins (r ∷ records) each =
+    let first : IsLineOf r (line r) = line_is r each.0 in
+    let others : LinesCut records = lines_cut line_is joins records each.1 in
+    record {
+      pieces = first.pieces ++ others.pieces;
+      ended = first.pieces ∷ others.ended;
+      cut = joins (line r) (lines records) first.pieces others.pieces first.cut (ends_in_feed first.pieces first.ended) others.cut;
+      split = cut_behind_all first.pieces others.pieces (ap (λ (c : Cut). c.open_pieces) first.ended)
+          ∙ (λ i. record { ended = (first.ended i).ended ++ (others.split i).ended; open_pieces = (others.split i).open_pieces });
+      are = (first.states, ap (count_by (λ c. c == 10)) (sym first.cut.whole) ∙ line_feed_in (line r) (line_ends_with_feed r), others.are);
+    }
+
+-- an entry states the same at any line
+at_line : (number : ℕ) (pieces : List Piece) (r : Record) → StatesWhole (entry_of 1 pieces) r → StatesWhole (entry_of number pieces) r
+at_line number pieces r s = record {
+  owner_text = s.owner_text;
+  ttl_text = s.ttl_text;
+  class_word = s.class_word;
+  kind_word = s.kind_word;
+  items = s.items;
+  begins = s.begins;
+  whole = s.whole;
+  owner = s.owner;
+  ttl = s.ttl;
+  class = s.class;
+  kind = s.kind;
+  rdata = s.rdata;
+  fits = s.fits;
+}
+
+-- what whole entries state, and that they leave the origin
+pub record WholeEntries : Type 0 where
+  pub stated : (origin above : Labels) (before : List Entry) (entry : Entry) (r : Record) → IsOrigin origin before above → StatesWhole entry r → StatesRecord origin before entry r
+  pub leaves : (origin above : Labels) (before : List Entry) (entry : Entry) (r : Record) → IsOrigin origin before above → StatesWhole entry r → IsOrigin origin (entry ∷ before) above
+
+states_each : WholeEntries → (origin : Labels) (before : List Entry) (number : ℕ) (ended : List (List Piece)) (records : List Record) → IsOrigin origin before origin → AreLines ended records → StateEach origin before (numbered number ended) (placed_from number records)
+states_each wholes origin before number [] [] under are = (refl, refl)
+states_each wholes origin before number [] (r ∷ records) under are = absurd are
+states_each wholes origin before number (p ∷ ended) [] under are = absurd are
+states_each wholes origin before number (p ∷ ended) (r ∷ records) under are =
+    let whole : StatesWhole (entry_of number p) r = at_line number p r are.0 in
+    let next : StateEach origin (entry_of number p ∷ before) (numbered (number + 1) ended) (placed_from (number + 1) records) =
+    states_each wholes origin (entry_of number p ∷ before) (number + 1) ended records (wholes.leaves origin origin before (entry_of number p) r under whole) are.2 in
+    gives_one (record { rr = r; place = Line number }) (placed_from (number + 1) records) (wholes.stated origin origin before (entry_of number p) r under whole) refl refl
+    (subst (λ n. StateEach origin (entry_of number p ∷ before) (numbered n ended) (placed_from (number + 1) records)) (ap (λ n. number + n) (sym are.1)) next)
+
+pub lines_back : ((r : Record) → IsRecord r → IsLineOf r (line r))
+    → ((front rest : List ℕ) (pieces more : List Piece) → Cuts front pieces → EndInLineFeed pieces → Cuts rest more → Cuts (front ++ rest) (pieces ++ more))
+    → WholeEntries
+    → (origin : Labels) (records : List Record) → AllByRecursion IsRecord records → FileStates origin (lines records) (placed_from 1 records)
+lines_back line_is joins wholes origin records each =
+    let c : LinesCut records = lines_cut line_is joins records each in
+    let entries : entries_of c.pieces ≡ numbered 1 c.ended = ap (λ (t : Cut). numbered 1 (and_last t.ended t.open_pieces)) c.split in
+    record {
+      pieces = c.pieces;
+      cut = c.cut;
+      each = subst (λ es. StateEach origin [] es (placed_from 1 records)) (sym entries) (states_each wholes origin [] 1 c.ended records refl c.are);
+    }
+
+-- ---- the zone
+
+abbrev LinesBack : Type 0
+LinesBack = (origin : Labels) (records : List Record) → AllByRecursion IsRecord records → FileStates origin (lines records) (placed_from 1 records)
+
+same_records : (number : ℕ) (records : List Record) → records_of (placed_from number records) ≡ records
+same_records number [] = refl
+same_records number (r ∷ records) = ap (λ (rs : List Record). r ∷ rs) (same_records (number + 1) records)
+
+pub text_back : LinesBack → (origin : Labels) (z : Zone) → IsZone z → length (canon z) ≤ text_limit → Denotes origin (canon z) z
+text_back back origin z is short = record {
+  short = short;
+  placed = placed_from 1 z.records;
+  states = back origin z.records is.compatible.each;
+  same = λ r. (subst (λ rs. Has rs r) (sym (same_records 1 z.records)), subst (λ rs. Has rs r) (same_records 1 z.records));
+  zone = is;
+  text_short = short;
+}
+
+pub equal_texts : LinesBack
+    → ((origin : Labels) (octets : List ℕ) (a b : List Placed) → FileStates origin octets a → FileStates origin octets b → a ≡ b)
+    → ((z w : Zone) → IsZone z → IsZone w → SameRecords z.records w.records → z ≡ w)
+    → (z w : Zone) → IsZone z → IsZone w → (canon z ≡ canon w) ↔ (z ≡ w)
+equal_texts back one_list one_zone z w is_z is_w = (one, λ same. ap canon same)
+  where
+    one : canon z ≡ canon w → z ≡ w
+    one same =
+        let placed : placed_from 1 z.records ≡ placed_from 1 w.records =
+        one_list [] (canon w) (placed_from 1 z.records) (placed_from 1 w.records) (subst (λ t. FileStates [] t (placed_from 1 z.records)) same (back [] z.records is_z.compatible.each)) (back [] w.records is_w.compatible.each) in
+        let records : z.records ≡ w.records = sym (same_records 1 z.records) ∙ ap records_of placed ∙ same_records 1 w.records in
+        one_zone z w is_z is_w (λ r. (subst (λ rs. Has rs r) records, subst (λ rs. Has rs r) (sym records)))

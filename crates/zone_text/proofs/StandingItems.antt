@@ -1,0 +1,106 @@
+-- Items that stand as they are printed are the items of one line.
+use Rattle.std.proofs.Common.{◌≡◌, ◌≢◌, ℕ, ◌<◌, true, false, List, [], ◌∷◌, ◌++◌, length, map, refl, sym, ap, ap₂, ◌∙◌, subst, arith, append_assoc}
+use Rattle.std.specs.Prelude.{IfSome}
+use Rattle.std.specs.List.{flat_map, AllByRecursion, join_with_byte}
+use Rattle.std.proofs.lemmas.Bool.{both_ways, not-false}
+use Rattle.std.proofs.lemmas.Bool.Decides.{nat_tests}
+use Rattle.zone_name.specs.Spelling.{Written, plain, escaped, decimal, text_of, IsUnit, written_text}
+use Rattle.zone_name.proofs.Bare.{StandsBare, is_bare, not_bare}
+use Rattle.zone_rdata.specs.Spelling.{RawItem}
+use Rattle.zone_rdata.specs.Spelling as raw
+use Rattle.zone_rdata.specs.Text.{written_item}
+use Rattle.zone_rdata.proofs.Standing.{Stands}
+use Rattle.zone_text.specs.Entries.{first_octet, item_of}
+use Rattle.zone_text.specs.Line.{IsItem, line_of}
+use Rattle.zone_text.specs.Pieces.{Piece, bare, quoted, text, piece_text, is_blank, ends_item}
+
+-- ---- an item
+
+bare_goes_on : (c : ℕ) → is_bare c ≡ true → ends_item c ≡ false
+bare_goes_on c is = grind (arith, nat_tests)
+
+unit_goes_on : (w : Written) → IsUnit not_bare w → IsUnit ends_item w
+unit_goes_on (plain c) is = (bare_goes_on c (not-false (is_bare c) is.0), is.1)
+unit_goes_on (escaped c) is = is
+unit_goes_on (decimal x y z) is = is
+
+units_go_on : (units : List Written) → AllByRecursion (IsUnit not_bare) units → AllByRecursion (IsUnit ends_item) units
+units_go_on [] each = tt
+units_go_on (w ∷ units) each = (unit_goes_on w each.0, units_go_on units each.1)
+
+-- the piece that is an item
+record PieceOf (item : RawItem) : Type 0 where
+  piece : Piece
+  is : IsItem piece
+  same : item_of piece ≡ item ∷ []
+  written : piece_text piece ≡ written_item item
+
+piece_of : (item : RawItem) → Stands item → PieceOf item
+piece_of (raw.bare octets) stands = record {
+  piece = bare stands.units;
+  is = (stands.some, units_go_on stands.units stands.each);
+  same = ap (λ t. raw.bare t ∷ []) (sym stands.parts);
+  written = sym stands.parts;
+}
+piece_of (raw.quoted octets) stands = record {
+  piece = quoted stands.units;
+  is = stands.each;
+  same = ap (λ t. raw.quoted t ∷ []) (sym stands.parts);
+  written = ap (λ t. 34 ∷ t ++ 34 ∷ []) (sym stands.parts);
+}
+
+-- ---- a line of items
+
+pieces_for : (items : List RawItem) → AllByRecursion Stands items → List Piece
+pieces_for [] stand = []
+pieces_for (item ∷ items) stand = (piece_of item stand.0).piece ∷ pieces_for items stand.1
+
+are_for : (items : List RawItem) (stand : AllByRecursion Stands items) → AllByRecursion IsItem (pieces_for items stand)
+unfolding pieces_for
+are_for [] stand = tt
+are_for (item ∷ items) stand = ((piece_of item stand.0).is, are_for items stand.1)
+
+items_for : (items : List RawItem) (stand : AllByRecursion Stands items) → flat_map item_of (pieces_for items stand) ≡ items
+unfolding pieces_for
+items_for [] stand = refl
+items_for (item ∷ items) stand = ap₂ (λ (xs ys : List RawItem). xs ++ ys) (piece_of item stand.0).same (items_for items stand.1)
+
+line_for : (items : List RawItem) (stand : AllByRecursion Stands items) → text (line_of (pieces_for items stand)) ≡ join_with_byte 32 (map written_item items) ++ 10 ∷ []
+unfolding pieces_for
+line_for [] stand = refl
+line_for (item ∷ []) stand = ap (λ t. t ++ 10 ∷ []) (piece_of item stand.0).written
+line_for (item ∷ next ∷ items) stand =
+    ap₂ (λ (s t : List ℕ). s ++ 32 ∷ t) (piece_of item stand.0).written (line_for (next ∷ items) stand.1)
+    ∙ sym (append_assoc (written_item item) (32 ∷ join_with_byte 32 (map written_item (next ∷ items))) (10 ∷ []))
+
+-- the pieces whose line is written with the items
+pub record PiecesOf (items : List RawItem) : Type 0 where
+  pub pieces : List Piece
+  pub each : AllByRecursion IsItem pieces
+  pub same : flat_map item_of pieces ≡ items
+  pub written : text (line_of pieces) ≡ join_with_byte 32 (map written_item items) ++ 10 ∷ []
+
+pub pieces_of : (items : List RawItem) → AllByRecursion Stands items → PiecesOf items
+pieces_of items stand = record { pieces = pieces_for items stand; each = are_for items stand; same = items_for items stand; written = line_for items stand }
+
+-- ---- where a line begins
+
+-- an octet with which an entry begins that has an owner of its own
+abbrev pub BeginsOwner : ℕ → Type 0
+BeginsOwner c = (is_blank c ≡ false) × (c ≢ 36)
+
+bare_begins : (c : ℕ) → is_bare c ≡ true → BeginsOwner c
+bare_begins c is = (grind (arith, nat_tests), λ e. both_ways (is_bare c) (ap is_bare e) is)
+
+unit_begins : (w : Written) (rest : List ℕ) → IsUnit not_bare w → IfSome (first_octet (text_of w ++ rest)) BeginsOwner
+unit_begins (plain c) rest is = bare_begins c (not-false (is_bare c) is.0)
+unit_begins (escaped c) rest is = (refl, λ e. omega arith)
+unit_begins (decimal x y z) rest is = (refl, λ e. omega arith)
+
+units_begin : (units : List Written) (rest : List ℕ) → 0 < length units → AllByRecursion (IsUnit not_bare) units → IfSome (first_octet (written_text units ++ rest)) BeginsOwner
+units_begin [] rest some each = absurd (omega arith)
+units_begin (w ∷ units) rest some each =
+    subst (λ t. IfSome (first_octet t) BeginsOwner) (sym (append_assoc (text_of w) (written_text units) rest)) (unit_begins w (written_text units ++ rest) each.0)
+
+pub text_begins : (octets rest : List ℕ) → StandsBare octets → IfSome (first_octet (octets ++ rest)) BeginsOwner
+text_begins octets rest stands = subst (λ t. IfSome (first_octet (t ++ rest)) BeginsOwner) (sym stands.parts) (units_begin stands.units rest stands.some stands.each)

@@ -1,0 +1,143 @@
+-- The lines of a canonical text are those of its records, so texts differ first at the line of the first records that do.
+use Rattle.std.proofs.Common.{◌≡◌, ◌≢◌, ◌↔◌, ℕ, zero, suc, ◌+◌, ◌<◌, ◌≤◌, List, [], ◌∷◌, ◌++◌, length, map, Some, None, refl, sym, ap, ap₂, ◌∙◌, subst, append_assoc, length-append, arith}
+use Rattle.std.proofs.lemmas.Bool.{ne_eqb}
+use Rattle.std.specs.List.{AllByRecursion}
+use Rattle.std.specs.Prelude.{slice_get, Option, IfSome}
+use Rattle.zone_name.specs.Common.{Octets}
+use Rattle.zone_rdata.specs.Record.{Record, IsRecord}
+use Rattle.zone_set.specs.Zone.{Zone}
+use Rattle.zone_print.specs.Canonical.{canon, line, lines}
+use Rattle.zone_print.specs.Laws.{HasNoFeed, EndsWithItsFeed}
+use Rattle.zone_print.proofs.Feeds.{line_ends_with_feed}
+use Rattle.zonenorm.specs.Compare.{Compares, DifferFirstAt, IsAccepted, IsVerdict, line_at, lines_of}
+use Rattle.zonenorm.specs.Input.{InputForm, input_of, InputDenotes}
+use Rattle.zonenorm.specs.declared.compare.Verdict.{Verdict}
+
+-- ---- the lines of a text
+
+-- a first line, and the lines behind it
+cut_first : (front text : List ℕ) → HasNoFeed front → lines_of (front ++ 10 ∷ text) ≡ (front ++ 10 ∷ []) ∷ lines_of text
+cut_first [] text none = refl
+cut_first (c ∷ front) text none = rw (ne_eqb c 10 none.0, cut_first front text none.1) refl
+
+cut_line : (octets text : List ℕ) → EndsWithItsFeed octets → lines_of (octets ++ text) ≡ octets ∷ lines_of text
+cut_line octets text ends =
+    ap (λ os. lines_of (os ++ text)) ends.split ∙ ap lines_of (append_assoc ends.front (10 ∷ []) text) ∙ cut_first ends.front text ends.others
+    ∙ ap (λ os. os ∷ lines_of text) (sym ends.split)
+
+-- the lines of records are their lines, in order
+pub lines_of_records : (records : List Record) → lines_of (lines records) ≡ map line records
+lines_of_records [] = refl
+lines_of_records (r ∷ records) =
+    cut_line (line r) (lines records) (line_ends_with_feed r) ∙ ap (λ ls. line r ∷ ls) (lines_of_records records)
+
+-- each has an octet at least
+some_octet : (octets : List ℕ) → EndsWithItsFeed octets → 1 ≤ length octets
+some_octet octets ends = rw ends.split (omega (arith, length-append ends.front (10 ∷ [])))
+
+pub records_few : (records : List Record) → length records ≤ length (lines records)
+records_few [] = omega arith
+records_few (r ∷ records) = rw length-append (omega (arith, some_octet (line r) (line_ends_with_feed r), records_few records))
+
+-- ---- two lists of records, side by side
+
+-- The records before these are equal, and their lines are those before this number.
+pub record Walked (records others left right : List Record) (number : ℕ) : Type 0 where
+  pub front : List Record
+  pub split : records ≡ front ++ left
+  pub other_split : others ≡ front ++ right
+  pub counted : number ≡ suc (length front)
+
+pub walked_nothing : (records others left right : List Record) → left ≡ records → right ≡ others → Walked records others left right 1
+walked_nothing records others left right same same' = record { front = []; split = sym same; other_split = sym same'; counted = refl }
+
+pub walked_more : (records others left right left' right' : List Record) (r s : Record) (number : ℕ) → Walked records others left right number → left ≡ r ∷ left' → right ≡ s ∷ right' → r ≡ s → Walked records others left' right' (number + 1)
+walked_more records others left right left' right' r s number walked first first' same = record {
+  front = walked.front ++ r ∷ [];
+  split = walked.split ∙ ap (λ rs. walked.front ++ rs) first ∙ sym (append_assoc walked.front (r ∷ []) left');
+  other_split = walked.other_split ∙ ap (λ rs. walked.front ++ rs) (first' ∙ ap (λ t. t ∷ right') (sym same)) ∙ sym (append_assoc walked.front (r ∷ []) right');
+  counted = rw (walked.counted, length-append) (omega arith);
+}
+
+-- the number of a line is no greater than the length of the text, but for one
+pub walked_few : (records others left right : List Record) (number : ℕ) → Walked records others left right number → number ≤ length (lines records) + 1
+walked_few records others left right number walked =
+    let few : length records ≤ length (lines records) = records_few records in
+    let parts : length records ≡ length walked.front + length left = ap length walked.split ∙ length-append walked.front left in
+    rw walked.counted (omega arith)
+
+-- nothing is left on either side
+pub walked_all : (records others left right : List Record) (number : ℕ) → Walked records others left right number → left ≡ [] → right ≡ [] → lines records ≡ lines others
+walked_all records others left right number walked none none' =
+    ap lines (walked.split ∙ ap (λ rs. walked.front ++ rs) (none ∙ sym none') ∙ sym walked.other_split)
+
+-- ---- the first line at which they differ
+
+line_of_record : (records : List Record) (n : ℕ) → line_at (lines records) (suc n) ≡ slice_get (map line records) n
+line_of_record records n = ap (λ ls. slice_get ls n) (lines_of_records records)
+
+equal_before : (front left right : List Record) (m : ℕ) → m < suc (length front) → line_at (lines (front ++ left)) m ≡ line_at (lines (front ++ right)) m
+equal_before front left right zero below = refl
+equal_before front left right (suc m) below =
+    line_of_record (front ++ left) m ∙ equal_inside front m (omega arith) ∙ sym (line_of_record (front ++ right) m)
+  where
+    equal_inside : (front : List Record) (m : ℕ) → m < length front → slice_get (map line (front ++ left)) m ≡ slice_get (map line (front ++ right)) m
+    equal_inside [] m below = absurd (omega arith)
+    equal_inside (r ∷ front) zero below = refl
+    equal_inside (r ∷ front) (suc m) below = equal_inside front m (omega arith)
+
+at_front : (front left : List Record) → slice_get (map line (front ++ left)) (length front) ≡ slice_get (map line left) 0
+at_front [] left = refl
+at_front (r ∷ front) left = at_front front left
+
+pub differ_at : (records others left right : List Record) (number : ℕ) → Walked records others left right number → slice_get (map line left) 0 ≢ slice_get (map line right) 0 → DifferFirstAt number (lines records) (lines others)
+differ_at records others left right number walked differ =
+    let front = walked.front in
+    record {
+      from_one = rw walked.counted (omega arith);
+      equal = λ m below. rw (walked.split, walked.other_split) (equal_before front left right m (subst (λ n. m < n) walked.counted below));
+      differs = λ same. differ (
+          sym (at_front front left) ∙ sym (line_of_record (front ++ left) (length front))
+          ∙ ap₂ line_at (ap lines (sym walked.split)) (sym walked.counted) ∙ same ∙ ap₂ line_at (ap lines walked.other_split) walked.counted
+          ∙ line_of_record (front ++ right) (length front) ∙ at_front front right);
+    }
+
+-- ---- why they do: one list ends before the other, or the lines of their first records differ
+
+pub ends_first : (records others left right right' : List Record) (s : Record) (number : ℕ) → Walked records others left right number → left ≡ [] → right ≡ s ∷ right' → DifferFirstAt number (lines records) (lines others)
+ends_first records others left right right' s number walked none first =
+    differ_at records others left right number walked (rw (none, first) (λ same. cc))
+
+pub ends_second : (records others left right left' : List Record) (r : Record) (number : ℕ) → Walked records others left right number → left ≡ r ∷ left' → right ≡ [] → DifferFirstAt number (lines records) (lines others)
+ends_second records others left right left' r number walked first none =
+    differ_at records others left right number walked (rw (first, none) (λ same. cc))
+
+is_record_behind : (front left : List Record) (r : Record) → AllByRecursion IsRecord (front ++ r ∷ left) → IsRecord r
+is_record_behind [] left r each = each.0
+is_record_behind (s ∷ front) left r each = is_record_behind front left r each.1
+
+is_record_at : (records front left left' : List Record) (r : Record) → AllByRecursion IsRecord records → records ≡ front ++ left → left ≡ r ∷ left' → IsRecord r
+is_record_at records front left left' r each split first =
+    is_record_behind front left' r (subst (AllByRecursion IsRecord) (split ∙ ap (λ rs. front ++ rs) first) each)
+
+differing_lines : (r s : Record) (left right : List Record) → (line r ≡ line s → r ≡ s) → (r ≡ s → ⊥) → slice_get (map line (r ∷ left)) 0 ≢ slice_get (map line (s ∷ right)) 0
+differing_lines r s left right exact other same = let one : line r ≡ line s = cc in other (exact one)
+
+pub other_record : (records others left right left' right' : List Record) (r s : Record) (number : ℕ) → ((r s : Record) → IsRecord r → IsRecord s → (line r ≡ line s) ↔ (r ≡ s)) → AllByRecursion IsRecord records → AllByRecursion IsRecord others → Walked records others left right number → left ≡ r ∷ left' → right ≡ s ∷ right' → (r ≡ s → ⊥) → DifferFirstAt number (lines records) (lines others)
+other_record records others left right left' right' r s number exact each each' walked first first' other =
+    let is = is_record_at records walked.front left left' r each walked.split first in
+    let is' = is_record_at others walked.front right right' s each' walked.other_split first' in
+    differ_at records others left right number walked
+    (rw (first, first') (differing_lines r s left' right' (exact r s is is').0 other))
+
+-- ---- the zones of known octets
+
+pub compares_zones : (form form' : InputForm) (known known' : Option Octets) (z w : Zone) (verdict : Verdict) → IfSome known (λ octets. InputDenotes (input_of form octets) z) → IfSome known' (λ octets. InputDenotes (input_of form' octets) w) → IsVerdict verdict (canon z) (canon w) → IfSome known (λ octets. IfSome known' (λ others. Compares (input_of form octets) (input_of form' others) verdict))
+compares_zones form form' None known' z w verdict denotes denotes' judged = tt
+compares_zones form form' (Some octets) None z w verdict denotes denotes' judged = tt
+compares_zones form form' (Some octets) (Some others) z w verdict denotes denotes' judged =
+    record { zone = z; denotes = denotes; other = w; other_denotes = denotes'; judged = judged }
+
+pub is_accepted : (form : InputForm) (known : Option Octets) (z : Zone) → IfSome known (λ octets. InputDenotes (input_of form octets) z) → IsAccepted form known
+is_accepted form None z denotes = tt
+is_accepted form (Some octets) z denotes = (z, denotes)

@@ -1,0 +1,89 @@
+-- The parts of the sentence that the program stands for.
+use Rattle.std.proofs.Common.{◌≡◌, ◌↔◌, ◌⊎◌, ℕ, ◌<◌, ◌≤◌, List, length, sym, ap, ◌∙◌, subst, ⊎_elim}
+use Rattle.std.specs.List.{AllByRecursion}
+use Rattle.zone_name.specs.Common.{AtMostOneIs, Labels, NothingIs, Octets}
+use Rattle.zone_rdata.specs.declared.fault.Fault.{Fault}
+use Rattle.zone_rdata.specs.declared.fault.Place.{Place}
+use Rattle.zone_set.specs.Zone.{IsZone, Zone}
+use Rattle.zone_print.specs.Canonical.{canon, text_limit}
+use Rattle.zone_print.specs.Denotes.{Denotes}
+use Rattle.zone_wire.specs.Name.{Found, IsNameAt}
+use Rattle.zone_wire.specs.Walk.{Visit}
+use Rattle.zone_wire.specs.WholeWalk.{IsWalk}
+use Rattle.zonenorm.specs.Headline.{DenoteOne, DenotesOnly, IsBoundedWalk, IsRefused, NormalisesOnlyTo}
+use Rattle.zonenorm.specs.Input.{file, Input, InputDenotes, IsInput}
+use Rattle.zonenorm.specs.Normalise.{NormalisesTo}
+use Rattle.zonenorm.specs.Refusal.{IsRefusal}
+
+abbrev OneZone : Type 0
+OneZone = (input : Input) → AtMostOneIs (InputDenotes input)
+
+abbrev ReadsBack : Type 0
+ReadsBack = (origin : Labels) (z : Zone) → IsZone z → length (canon z) ≤ text_limit → Denotes origin (canon z) z
+
+-- ---- zones
+
+pub equal_if_one : OneZone → ((z w : Zone) → IsZone z → IsZone w → (canon z ≡ canon w) ↔ (z ≡ w))
+    → (a b : Input) (z w : Zone) → InputDenotes a z → InputDenotes b w → (canon z ≡ canon w) ↔ DenoteOne a b
+equal_if_one one equal a b z w of_a of_b = (
+  λ same. (z, of_a, subst (InputDenotes b) (sym ((equal z w of_a.zone of_b.zone).0 same)) of_b),
+  λ (v, a_v, b_v). ap canon (one a z v of_a a_v ∙ one b v w b_v of_b),
+)
+
+back : ReadsBack → (input : Input) (z : Zone) (origin : Labels) → InputDenotes input z → InputDenotes (file origin (canon z)) z
+back reads input z origin denotes = reads origin z denotes.zone denotes.text_short
+
+pub back_only : OneZone → ReadsBack → (input : Input) (z : Zone) (origin : Labels) → InputDenotes input z → DenotesOnly (file origin (canon z)) z
+back_only one reads input z origin denotes =
+    let itself : InputDenotes (file origin (canon z)) z = back reads input z origin denotes in
+    record { denotes = itself; no_other = λ w other. one (file origin (canon z)) w z other itself }
+
+pub to_itself : OneZone → ReadsBack → (input : Input) (z : Zone) (origin : Labels) → InputDenotes input z → NormalisesOnlyTo (file origin (canon z)) (canon z)
+to_itself one reads input z origin denotes =
+    let itself : InputDenotes (file origin (canon z)) z = back reads input z origin denotes in
+    record {
+      normalises = record { zone = z; denotes = itself; canonical = λ i. canon z };
+      no_other = λ other to. to.canonical ∙ ap canon (one (file origin (canon z)) to.zone z to.denotes itself);
+    }
+
+pub refused_if_none : ((input : Input) (fault : Fault) (place : Place) → IsRefusal input fault place → NothingIs (InputDenotes input))
+    → ((input : Input) → IsInput input → ((fault : Fault) × (place : Place) × IsRefusal input fault place) ⊎ ((z : Zone) × InputDenotes input z))
+    → (input : Input) → IsInput input → IsRefused input ↔ NothingIs (InputDenotes input)
+refused_if_none never either input is = (
+  λ (fault, place, refused). never input fault place refused,
+  λ none. ⊎_elim (λ refused. refused) (λ (z, denotes). absurd (none z denotes)) (either input is),
+)
+
+pub bounded_walk : ((message : Octets) (offset : ℕ) → (visits : List Visit) × IsWalk message offset visits)
+    → ((message : Octets) (offset : ℕ) (visits : List Visit) → IsWalk message offset visits → length visits ≤ 256)
+    → ((message : Octets) (offset : ℕ) (visits : List Visit) → IsWalk message offset visits → AllByRecursion (λ visit. visit.offset < length message) visits)
+    → ((message : Octets) (offset : ℕ) (found : Found) (visits : List Visit) → IsNameAt message offset found → IsWalk message offset visits → length visits ≡ found.steps)
+    → (message : Octets) (offset : ℕ) → (visits : List Visit) × IsBoundedWalk message offset visits
+bounded_walk some few inside steps message offset =
+    let (visits, walk) = some message offset in (
+      visits,
+      record {
+        walk = walk;
+        few = few message offset visits walk;
+        inside = inside message offset visits walk;
+        steps = λ found is. sym (steps message offset found visits is walk);
+      },
+    )
+
+-- ---- texts
+
+pub texts_equal_if_one : ((a b : Input) (z w : Zone) → InputDenotes a z → InputDenotes b w → (canon z ≡ canon w) ↔ DenoteOne a b)
+    → (a b : Input) (text other : Octets) → NormalisesTo a text → NormalisesTo b other → (text ≡ other) ↔ DenoteOne a b
+texts_equal_if_one equal a b text other to too =
+    let zones : (canon to.zone ≡ canon too.zone) ↔ DenoteOne a b = equal a b to.zone too.zone to.denotes too.denotes in
+    (λ same. zones.0 (sym to.canonical ∙ same ∙ too.canonical), λ one. to.canonical ∙ zones.1 one ∙ sym too.canonical)
+
+pub text_back : ((input : Input) (z : Zone) (origin : Labels) → InputDenotes input z → DenotesOnly (file origin (canon z)) z)
+    → (input : Input) (text : Octets) (origin : Labels) → NormalisesTo input text → DenoteOne input (file origin text)
+text_back reads input text origin to =
+    (to.zone, to.denotes, subst (λ t. InputDenotes (file origin t) to.zone) (sym to.canonical) (reads input to.zone origin to.denotes).denotes)
+
+pub text_to_itself : ((input : Input) (z : Zone) (origin : Labels) → InputDenotes input z → NormalisesOnlyTo (file origin (canon z)) (canon z))
+    → (input : Input) (text : Octets) (origin : Labels) → NormalisesTo input text → NormalisesOnlyTo (file origin text) text
+text_to_itself again input text origin to =
+    subst (λ t. NormalisesOnlyTo (file origin t) t) (sym to.canonical) (again input to.zone origin to.denotes)
