@@ -36,8 +36,13 @@ is_refused form known fault place h = if_known known (λ octets. IsRefusal (inpu
 pub explains_zone : (form : InputForm) (known : Known) (z : Zone) → IfSome known (λ octets. InputDenotes (input_of form octets) z) → Explains form known 0
 explains_zone form known z h = runs.accepted (if_known known (λ octets. InputDenotes (input_of form octets) z) _ (λ octets d. (z, d)) h)
 
-pub explains_refusal : (form : InputForm) (known : Known) (fault : Fault) (place : Place) → IfSome known (λ octets. IsRefusal (input_of form octets) fault place) → Explains form known 3
-explains_refusal form known fault place h = runs.refused (is_refused form known fault place h)
+pub explains_refusal : (form : InputForm) (known : Known) (stop : Stop) (fault : Fault) (place : Place) → stop ≡ Refused fault place → IfSome known (λ octets. IfRefused stop (IsRefusal (input_of form octets))) → Explains form known 3
+explains_refusal form known stop fault place is h =
+    runs.refused (is_refused form known fault place (subst (λ (s : Stop). IfSome known (λ octets. IfRefused s (IsRefusal (input_of form octets)))) is h))
+
+pub four_for_write : (words : List ℕ) (old new : Known) (answer : ℕ) → TellsStop words Write old new answer → answer ≡ 4
+four_for_write words old new answer (inl e) = e
+four_for_write words old new answer (inr (e, line)) = e
 
 fails : (order : Order) (old new : Devices) (answer : ℕ) → Fails order old new → answer ≡ 4 → Runs order old new answer
 fails order old new answer h e = subst (λ n. Runs order old new n) (sym e) (failed h)

@@ -19,7 +19,6 @@ pub(crate) const OUT_OF_MEMORY: &str = "out of memory";
 /// # Errors
 ///
 /// `Read` and `Memory`, which write nothing, and `Write`.
-#[tactic(auto, using(crate::proofs::Running::explains_zone, crate::proofs::Running::explains_refusal))]
 pub fn explain<R: Read, W: Write>(
     alloc: Global,
     form: Form<'_>,

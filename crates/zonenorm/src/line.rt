@@ -28,7 +28,7 @@ pub(crate) fn write_line<W: Write>(writer: &mut W, words: &str, line: &str) -> R
 ///
 /// `Write`.
 pub(crate) fn write_number<W: Write>(writer: &mut W, words: &str, number: u64) -> Result<(), Stop>
-    ensures written { OnOk result (AppendsLine [] (W.contents writer.old) (W.contents writer.new)) }
+    ensures written { OnOk result (AppendsLine words.now (W.contents writer.old) (W.contents writer.new)) }
     ensures stop { IfErr result (λ stop. stop ≡ Stop.Write) }
 {
     match writeln!(writer, "{words}{number}") {

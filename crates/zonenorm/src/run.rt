@@ -68,7 +68,7 @@ fn tell_verdict<W: Write, E: Write>(
 {
     match write_verdict(verdict, output) {
         Ok(()) => status_of(verdict),
-        Err(stop) => report(alloc, "", &stop, errors),
+        Err(_) => report(alloc, "", &Stop::Write, errors),
     }
 }
 
