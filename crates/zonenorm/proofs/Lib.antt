@@ -13,4 +13,6 @@ pub mod Feeding
 pub mod Written
 pub mod Compared
 pub mod FedSources
+pub mod Running
+pub mod Telling
 pub mod Headline

@@ -6,4 +6,5 @@ pub mod Headline
 pub mod Examples
 pub mod Compare
 pub mod Order
+pub mod Run
 pub mod Machine

@@ -1,4 +1,6 @@
 -- What only private functions and proofs cite.
+pub mod Calling
 pub mod Fed
 pub mod Stops
 pub mod Taking
+pub mod Telling

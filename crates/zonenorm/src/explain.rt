@@ -1,9 +1,50 @@
+ghost use Rattle.std.specs.Prelude.{[], IfErr, IfOk, OnOk};
+ghost use Rattle.zonenorm.specs.Form.{form_of};
+ghost use Rattle.zonenorm.specs.Run.{AppendsLine, Explains, IsFailure, KeepsUnlessWrite, ReadsFew};
+
+use crate::engine::accepted_zone;
+use crate::form::Form;
+use crate::line::{write_line, write_number};
 use std::alloc::{AllocError, Global};
+use std::io::{Read, Write};
 use zone_name::Name;
 use zone_rdata::{Fault, Place, Stop};
 
 /// What a user is told where memory was refused.
 pub(crate) const OUT_OF_MEMORY: &str = "out of memory";
+
+/// Writes a line that tells how many records the zone has that the reader's octets denote, and answers 0; or one that tells
+/// why they are refused, and answers 3. It reads what `normalise` reads.
+///
+/// # Errors
+///
+/// `Read` and `Memory`, which write nothing, and `Write`.
+pub fn explain<R: Read, W: Write>(
+    alloc: Global,
+    form: Form<'_>,
+    reader: &mut R,
+    writer: &mut W,
+) -> Result<u8, Stop>
+    ensures explained { IfOk result (Explains (form_of form.entry) (R.remaining reader.old)) }
+    ensures told { OnOk result (AppendsLine [] (W.contents writer.old) (W.contents writer.new)) }
+    ensures failed { IfErr result IsFailure }
+    ensures kept { IfErr result (λ stop.
+        KeepsUnlessWrite stop (W.contents writer.old) (W.contents writer.new)) }
+    ensures few { ReadsFew (R.remaining reader.old) (R.remaining reader.new) }
+{
+    match accepted_zone(alloc, form, reader) {
+        Ok(zone) => {
+            write_number(writer, "accepted, records: ", zone.len())?;
+            Ok(0)
+        }
+        Err(Stop::Refused(fault, place)) => {
+            let line = refusal_line(alloc, &fault, place)?;
+            write_line(writer, "", line.as_str())?;
+            Ok(3)
+        }
+        Err(stop) => Err(stop),
+    }
+}
 
 /// The line that tells a user why a run stopped, without its line feed.
 ///

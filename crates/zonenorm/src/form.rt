@@ -1,3 +1,7 @@
+ghost use Rattle.std.specs.Prelude.{◌≡◌};
+ghost use Rattle.zonenorm.specs.Form.{form_of};
+ghost use Rattle.zonenorm.specs.Run.{form_with};
+
 use zone_name::Name;
 
 /// How an input is to be read.
@@ -7,4 +11,16 @@ pub enum Form<'n> {
     File(&'n Name),
     /// The octets of a zone transfer as they came over TCP, each message behind its length (RFC 5936 2.2, RFC 1035 4.2.2).
     Transfer,
+}
+
+impl<'n> Form<'n> {
+    /// A master file with this origin, or a transfer where there is none.
+    pub(crate) fn with_origin(origin: &'n Option<Name>) -> Form<'n>
+        ensures { form_of result ≡ form_with origin.now }
+    {
+        match origin {
+            Some(origin) => Form::File(origin),
+            None => Form::Transfer,
+        }
+    }
 }

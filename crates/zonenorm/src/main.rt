@@ -1,6 +1,7 @@
 //! `zonenorm`: reads a zone and writes its canonical text.
 #![tactic(auto)]
 
+mod command;
 mod compare;
 mod engine;
 pub mod examples;
@@ -9,16 +10,20 @@ mod fed;
 mod form;
 mod input;
 pub mod laws;
+mod line;
 mod octets;
+mod opened;
 mod order;
 mod run;
 mod taking;
 
 pub use compare::{Verdict, Which, compare};
 pub use engine::{normalise, normalise_bytes};
-pub use explain::explain_line;
+pub use explain::{explain, explain_line};
 pub use form::Form;
-pub use order::{LineFault, Order, order_of};
+use opened::inputs;
+use order::order_after_name;
+pub use order::{LineFault, Order, Source, order_of};
 use run::refuse;
 pub use run::run;
 use std::process::ExitCode;
@@ -27,25 +32,27 @@ use std::{env, io};
 
 fn main(rt: HostRuntime) -> ExitCode {
     ExitCode::from(match ordered(&rt) {
-        Ok(order) => run(
-            rt.alloc(),
-            &order,
-            &mut rt.stdin(),
-            &mut rt.stdout(),
-            &mut rt.stderr(),
-        ),
+        Ok(order) => {
+            let (mut first, mut second) = inputs(&rt, rt.stdin(), &order);
+            run(
+                rt.alloc(),
+                &order,
+                &mut first,
+                &mut second,
+                &mut rt.stdout(),
+                &mut rt.stderr(),
+            )
+        }
         Err(fault) => refuse(&fault, &mut rt.stderr()),
     })
 }
 
-/// The order of the words after the program's name.
+/// The order of the program's words.
 fn ordered<R: Env + AllocGlobal>(rt: &R) -> Result<Order, LineFault> {
-    let args = match env::args(rt) {
-        Ok(args) => args,
-        Err(error) => return Err(no_words(rt, &error)),
-    };
-    let words = args.skip(1).collect::<Vec<String>>(rt.alloc())?;
-    order_of(rt.alloc(), &words)
+    match env::args(rt) {
+        Ok(words) => order_after_name(rt.alloc(), &words.collect::<Vec<String>>(rt.alloc())?),
+        Err(error) => Err(no_words(rt, &error)),
+    }
 }
 
 /// Why there are no words: memory was refused, or one of them is no text.

@@ -1,23 +1,38 @@
-ghost use Rattle.std.specs.Prelude.{◌≡◌, codes, map, IfOk, IfErr, IfSome, string_bytes};
-ghost use Rattle.clap.specs.Words.{app_of, subcommand_rows_of};
+ghost use Rattle.std.specs.Prelude.{◌≡◌, drop, map, IfOk, IfErr, IsNone, IfSome, string_bytes};
+ghost use Rattle.clap.specs.Words.{subcommand_rows_of, kind_of};
+ghost use Rattle.clap.specs.declared.error.kind.ErrorKind.TheVariants.{OutOfMemory};
 ghost use Rattle.zone_name.specs.Common.{NothingIs};
-ghost use Rattle.zonenorm.specs.Order.{program_app, order_origin, AsksFor, IsOriginText, Orders, IsLineFault, IsClapFault, line_status, line_text};
+ghost use Rattle.zonenorm.specs.Machine.Calling.{texts_of, IsOfCall, IsOfClap};
+ghost use Rattle.zonenorm.specs.Order.{Asks, Finds, HasBadOrigin, IsOriginText, IsSource, Orders, IsLineFault, line_status, line_text};
 
+use crate::command::program;
 use crate::explain::OUT_OF_MEMORY;
 use clap::error::ErrorKind;
-use clap::{Arg, ArgMatches, Command, Error};
+use clap::{ArgMatches, Error};
 use std::alloc::{AllocError, Global};
 use zone_name::Name;
 
 /// The word that stands in the place of an origin where the input is a transfer.
 const TRANSFER: &str = "transfer";
 
-/// What a command line asks for.
+/// One input of a comparison.
+#[derive(Debug, Drop)]
+pub struct Source {
+    /// The origin of a master file, none of a transfer.
+    pub origin: Option<Name>,
+    /// Where the input lies.
+    pub path: String,
+}
+
+/// What a command line asks for. An origin is that of a master file, and a transfer has none.
 #[derive(Debug, Drop)]
 pub enum Order {
-    /// Write the canonical text of the input on standard input: a master file read with this origin, or a transfer where
-    /// there is none.
+    /// Write the canonical text of the input on standard input.
     Normalise(Option<Name>),
+    /// Tell how many records the zone on standard input has, or why it is refused.
+    Explain(Option<Name>),
+    /// Tell whether two inputs denote one zone, or at which line their canonical texts differ.
+    Compare(Source, Source),
 }
 
 /// Why a command line is no order.
@@ -66,63 +81,131 @@ impl LineFault {
     }
 }
 
-/// The order that the words after the program's name give.
+/// The order that the words after the program's name give. The origins are judged from the left.
 ///
 /// # Errors
 ///
-/// `BadOrigin` where the origin's text is neither an absolute name nor `transfer`; `Clap` where `clap` gives no matches; `Memory`.
+/// `BadOrigin` where the text of an origin is neither an absolute name nor `transfer`; `Clap` where `clap` gives no matches
+/// for one of the commands, help included; `Memory`.
 pub fn order_of(alloc: Global, words: &[String]) -> Result<Order, LineFault>
     ensures ordered { IfOk result (Orders (map string_bytes words.now)) }
     ensures refused { IfErr result (IsLineFault (map string_bytes words.now)) }
 {
-    let matches = match program_command(alloc)?.try_get_matches_from(words) {
+    let matches = match program(alloc)?.try_get_matches_from(words) {
         Ok(matches) => matches,
         Err(error) => return Err(refusal(alloc, &error)),
     };
-    match origin_text(&matches) {
-        Some(text) => order_with(text),
+    match call_of(&matches) {
+        Some(call) => call.order(alloc),
         None => Err(without_command(alloc)),
     }
 }
 
-/// The order whose origin has this text.
-fn order_with(text: &str) -> Result<Order, LineFault>
-    ensures ordered { IfOk result (λ order. IsOriginText text.now (order_origin order)) }
-    ensures refused { IfErr result (λ fault. (fault ≡ LineFault.BadOrigin)
-        × NothingIs (IsOriginText text.now)) }
+/// The order of the program's words, of which the first is its name.
+///
+/// # Errors
+///
+/// Those of `order_of`.
+pub(crate) fn order_after_name(alloc: Global, words: &[String]) -> Result<Order, LineFault>
+    ensures ordered { IfOk result (Orders (drop 1 (map string_bytes words.now))) }
+    ensures refused { IfErr result (IsLineFault (drop 1 (map string_bytes words.now))) }
+{
+    match words {
+        [_, words @ ..] => order_of(alloc, words),
+        [] => order_of(alloc, &[]),
+    }
+}
+
+/// A command with the texts of its arguments.
+#[derive(Clone, Copy)]
+enum Call<'w> {
+    Normalise(&'w str),
+    Explain(&'w str),
+    Compare(SourceText<'w>, SourceText<'w>),
+}
+
+/// The texts of one input of a comparison.
+#[derive(Clone, Copy)]
+struct SourceText<'w> {
+    origin: &'w str,
+    path: &'w str,
+}
+
+impl Call<'_> {
+    /// What it asks for.
+    ///
+    /// # Errors
+    ///
+    /// `BadOrigin` and `Memory`.
+    fn order(self, alloc: Global) -> Result<Order, LineFault>
+        ensures ordered { IfOk result (Asks (texts_of self.entry)) }
+        ensures refused { IfErr result (IsOfCall (HasBadOrigin (texts_of self.entry))) }
+    {
+        match self {
+            Call::Normalise(origin) => Ok(Order::Normalise(origin_of(origin)?)),
+            Call::Explain(origin) => Ok(Order::Explain(origin_of(origin)?)),
+            Call::Compare(first, second) => {
+                let origins = (origin_of(first.origin)?, origin_of(second.origin)?);
+                let first = Source {
+                    origin: origins.0,
+                    path: String::from_str(alloc, first.path)?,
+                };
+                let second = Source {
+                    origin: origins.1,
+                    path: String::from_str(alloc, second.path)?,
+                };
+                Ok(Order::Compare(first, second))
+            }
+        }
+    }
+}
+
+/// The origin that a text gives, none for a transfer.
+///
+/// # Errors
+///
+/// `BadOrigin`.
+fn origin_of(text: &str) -> Result<Option<Name>, LineFault>
+    ensures ordered { IfOk result (IsOriginText text.now) }
+    ensures refused { IfErr result (λ fault. (fault ≡ LineFault.BadOrigin) × NothingIs (IsOriginText text.now)) }
 {
     if text == TRANSFER {
-        return Ok(Order::Normalise(None));
+        return Ok(None);
     }
     match Name::from_text(text.as_bytes(), None) {
-        Ok(origin) => Ok(Order::Normalise(Some(origin))),
+        Ok(origin) => Ok(Some(origin)),
         Err(_) => Err(LineFault::BadOrigin),
     }
 }
 
-/// The text in the place of the origin of the command `normalise`, where that is the command.
-fn origin_text<'a>(matches: &ArgMatches<'a>) -> Option<&'a str>
-    ensures { IfSome result (λ text.
-        AsksFor (codes "normalise") (subcommand_rows_of matches.now) text.now) }
+/// The command that was matched, with the texts of its arguments.
+fn call_of<'w>(matches: &ArgMatches<'w>) -> Option<Call<'w>>
+    ensures found { IfSome result (λ call. Finds (subcommand_rows_of matches.now) (texts_of call)) }
+    ensures none { IsNone result → NothingIs (Finds (subcommand_rows_of matches.now)) }
 {
-    matches.subcommand_matches("normalise")?.get_str("ORIGIN")
-}
-
-/// The program and its commands. It is handed the words after its name.
-fn program_command<'a>(alloc: Global) -> Result<Command<'a>, AllocError>
-    ensures { IfOk result (λ command. app_of command ≡ program_app) }
-{
-    let origin = Arg::new(alloc, "ORIGIN").required(true);
-    let normalise = Command::new(alloc, "normalise").arg(origin)?;
-    let program = Command::new(alloc, "zonenorm")
-        .no_binary_name(true)
-        .subcommand(normalise)?;
-    Ok(program)
+    let (command, found) = matches.subcommand()?;
+    match command {
+        "normalise" => Some(Call::Normalise(found.get_str("ORIGIN")?)),
+        "explain" => Some(Call::Explain(found.get_str("ORIGIN")?)),
+        "compare" => {
+            let first = SourceText {
+                origin: found.get_str("ORIGIN1")?,
+                path: found.get_str("PATH1")?,
+            };
+            let second = SourceText {
+                origin: found.get_str("ORIGIN2")?,
+                path: found.get_str("PATH2")?,
+            };
+            Some(Call::Compare(first, second))
+        }
+        _ => None,
+    }
 }
 
 /// What `clap` tells in place of matches.
 fn refusal(alloc: Global, error: &Error) -> LineFault
-    ensures { IsClapFault result }
+    ensures kind { IsOfClap result }
+    ensures memory { kind_of error.now ≡ OutOfMemory → result ≡ LineFault.Memory }
 {
     match error.kind() {
         ErrorKind::OutOfMemory => LineFault::Memory,
@@ -132,9 +215,9 @@ fn refusal(alloc: Global, error: &Error) -> LineFault
 
 /// The program's help, for words that name no command.
 fn without_command(alloc: Global) -> LineFault
-    ensures { IsClapFault result }
+    ensures { IsOfClap result }
 {
-    match program_command(alloc) {
+    match program(alloc) {
         Ok(mut program) => told(program.render_help()),
         Err(_) => LineFault::Memory,
     }
@@ -142,7 +225,7 @@ fn without_command(alloc: Global) -> LineFault
 
 /// The text without the line feed at its end.
 fn told(text: Result<String, AllocError>) -> LineFault
-    ensures { IsClapFault result }
+    ensures { IsOfClap result }
 {
     match text {
         Ok(mut text) => {

@@ -1,92 +1,136 @@
-ghost use Rattle.std.specs.Prelude.{◌≡◌, ◌⊎◌};
-ghost use Rattle.zonenorm.specs.Form.{form_of};
-ghost use Rattle.zonenorm.specs.Order.{order_form, line_status, status_of, Runs};
+ghost use Rattle.std.specs.Prelude.{◌≡◌, [], OnOk};
+ghost use Rattle.zonenorm.specs.Machine.Telling.{which_words, TellsFault, TellsStop, TellsVerdict};
+ghost use Rattle.zonenorm.specs.Run.{devices, verdict_status, AppendsLine, ReadsFew, ReadsSecond, Runs};
 
+use crate::compare::{Verdict, Which, compare};
 use crate::engine::normalise;
-use crate::explain::{OUT_OF_MEMORY, explain_line};
+use crate::explain::{OUT_OF_MEMORY, explain, explain_line};
 use crate::form::Form;
+use crate::line::{write_line, write_number};
 use crate::order::{LineFault, Order};
 use std::alloc::Global;
-use std::io;
 use std::io::{Read, Write};
 use zone_rdata::Stop;
 
-/// The whole program over a reader, a writer and an error writer. It answers the exit status: 0 where the canonical
-/// text was written, 3 where the input is refused, 4 where reading, writing or memory failed. Of 3 and 4 a line on
-/// the error writer tells why; where that can't be written the status is 4. No writer is flushed.
-pub fn run<R: Read, W: Write, E: Write>(
+/// The whole program over two readers, a writer and an error writer. `normalise` and `explain` read the first reader alone,
+/// and a comparison reads the second once the first was accepted. It answers the exit status: 0 where the canonical text
+/// was written, the zone was accepted or both are the same; 1 where two zones differ; 3 where an input is refused; 4 where
+/// reading, writing or memory failed. Of 3 and 4 a line on the error writer tells why, of a comparison behind the name of
+/// the input; `explain` tells of 3 on the writer. Where that can't be told the status is 4. No writer is flushed.
+#[tactic(auto, using(crate::proofs::Running::normalised, crate::proofs::Running::normalise_stopped, crate::proofs::Running::explained, crate::proofs::Running::explain_stopped, crate::proofs::Running::compared, crate::proofs::Running::compare_stopped))]
+pub fn run<R1: Read, R2: Read, W: Write, E: Write>(
     alloc: Global,
     order: &Order,
-    input: &mut R,
+    first: &mut R1,
+    second: &mut R2,
     output: &mut W,
     errors: &mut E,
 ) -> u8
-    ensures { Runs (order_form order.now) (R.remaining input.old) (W.contents output.old) (W.contents output.new)
-        (E.contents errors.old) (E.contents errors.new) result }
+    ensures ran { Runs order.now
+        (devices (R1.remaining first.old) (R2.remaining second.old) (W.contents output.old) (E.contents errors.old))
+        (devices (R1.remaining first.new) (R2.remaining second.new) (W.contents output.new) (E.contents errors.new))
+        result }
+    ensures first { ReadsFew (R1.remaining first.old) (R1.remaining first.new) }
+    ensures second { ReadsSecond order.now (R2.remaining second.old) (R2.remaining second.new) }
 {
     match order {
-        Order::Normalise(Some(origin)) => {
-            run_normalise(alloc, Form::File(origin), input, output, errors)
+        Order::Normalise(origin) => {
+            match normalise(alloc, Form::with_origin(origin), first, output) {
+                Ok(_) => 0,
+                Err(stop) => report(alloc, "", &stop, errors),
+            }
         }
-        Order::Normalise(None) => run_normalise(alloc, Form::Transfer, input, output, errors),
+        Order::Explain(origin) => {
+            match explain(alloc, Form::with_origin(origin), first, output) {
+                Ok(status) => status,
+                Err(stop) => report(alloc, "", &stop, errors),
+            }
+        }
+        Order::Compare(one, other) => {
+            let forms = (Form::with_origin(&one.origin), Form::with_origin(&other.origin));
+            match compare(alloc, forms.0, first, forms.1, second) {
+                Ok(verdict) => tell_verdict(alloc, verdict, output, errors),
+                Err((which, stop)) => report(alloc, words_of(which), &stop, errors),
+            }
+        }
     }
 }
 
-/// `run` for one input that is to be normalised.
-fn run_normalise<R: Read, W: Write, E: Write>(
+/// Tells the verdict of a comparison, and answers its status.
+fn tell_verdict<W: Write, E: Write>(
     alloc: Global,
-    form: Form<'_>,
-    input: &mut R,
+    verdict: Verdict,
     output: &mut W,
     errors: &mut E,
 ) -> u8
-    ensures { Runs (form_of form.entry) (R.remaining input.old) (W.contents output.old) (W.contents output.new)
+    ensures { TellsVerdict verdict (W.contents output.old) (W.contents output.new)
         (E.contents errors.old) (E.contents errors.new) result }
 {
-    match normalise(alloc, form, input, output) {
-        Ok(_) => 0,
-        Err(stop) => report(alloc, &stop, errors),
+    match write_verdict(verdict, output) {
+        Ok(()) => status_of(verdict),
+        Err(_) => report(alloc, "", &Stop::Write, errors),
     }
 }
 
-/// Tells why a run stopped, and answers its status: 4 also where that could not be told.
-fn report<E: Write>(alloc: Global, stop: &Stop, errors: &mut E) -> u8
-    ensures { (result ≡ 4) ⊎ (result ≡ status_of stop.now) }
+/// Writes the line of a verdict, without taking memory.
+///
+/// # Errors
+///
+/// `Write`.
+fn write_verdict<W: Write>(verdict: Verdict, output: &mut W) -> Result<(), Stop>
+    ensures { OnOk result (AppendsLine [] (W.contents output.old) (W.contents output.new)) }
 {
-    let is_told = tell(alloc, stop, errors);
-    match stop {
-        Stop::Refused(..) if is_told => 3,
-        _ => 4,
+    match verdict {
+        Verdict::Same => write_line(output, "", "same"),
+        Verdict::Different(line) => write_number(output, "different at line ", line),
     }
 }
 
-/// Writes the line that explains why a run stopped, and answers whether all of it was written.
-fn tell<E: Write>(alloc: Global, stop: &Stop, errors: &mut E) -> bool {
+/// The exit status of a comparison.
+fn status_of(verdict: Verdict) -> u8
+    ensures { result ≡ verdict_status verdict }
+{
+    match verdict {
+        Verdict::Same => 0,
+        Verdict::Different(_) => 1,
+    }
+}
+
+/// What a line on this input of a comparison begins with.
+fn words_of(which: Which) -> &'static str
+    ensures { result.now ≡ which_words which }
+{
+    match which {
+        Which::First => "first: ",
+        Which::Second => "second: ",
+    }
+}
+
+/// Tells why a run stopped, behind these words, and answers its status: 4 also where that could not be told.
+fn report<E: Write>(alloc: Global, words: &str, stop: &Stop, errors: &mut E) -> u8
+    ensures { TellsStop words.now stop.now (E.contents errors.old) (E.contents errors.new) result }
+{
     let line = match stop {
         Stop::Memory => None,
         _ => explain_line(alloc, stop).ok(),
     };
-    match line {
-        Some(line) => write_line(errors, line.as_str()).is_ok(),
+    let Some(line) = line else {
         // Want of memory is told without taking any.
-        None => {
-            let _ = write_line(errors, OUT_OF_MEMORY);
-            false
-        }
+        let _ = write_line(errors, words, OUT_OF_MEMORY);
+        return 4;
+    };
+    match (write_line(errors, words, line.as_str()), stop) {
+        (Ok(()), Stop::Refused(..)) => 3,
+        _ => 4,
     }
 }
 
 /// Tells why a command line is no order, and answers the status: 4 where that could not be told.
 pub(crate) fn refuse<E: Write>(fault: &LineFault, errors: &mut E) -> u8
-    ensures { (result ≡ 4) ⊎ (result ≡ line_status fault.now) }
+    ensures { TellsFault fault.now (E.contents errors.old) (E.contents errors.new) result }
 {
-    match write_line(errors, fault.text()) {
+    match write_line(errors, "", fault.text()) {
         Ok(()) => fault.status(),
         Err(_) => 4,
     }
-}
-
-fn write_line<E: Write>(errors: &mut E, line: &str) -> io::Result<()> {
-    errors.write_all(line.as_bytes())?;
-    errors.write_all(b"\n")
 }

@@ -62,7 +62,8 @@ impl Case for Broken {
             error: self.1,
         };
         let (mut written, mut errors) = (roomy(alloc)?, roomy(alloc)?);
-        let status = run(alloc, &order()?, &mut reader, &mut written, &mut errors);
+        let mut none = b"".as_slice();
+        let status = run(alloc, &order()?, &mut reader, &mut none, &mut written, &mut errors);
         had_memory(&errors)?;
         Ok(status == 4 && written.is_empty() && errors.as_slice() == b"read failed\n".as_slice())
     }
@@ -157,7 +158,8 @@ impl Narrowed {
             (4, b"write failed\n".as_slice())
         };
         let (mut reader, mut writer, mut errors) = (FILE, self.writer(alloc)?, roomy(alloc)?);
-        let answered = run(alloc, &order()?, &mut reader, &mut writer, &mut errors);
+        let mut none = b"".as_slice();
+        let answered = run(alloc, &order()?, &mut reader, &mut none, &mut writer, &mut errors);
         had_memory(&errors)?;
         Ok(answered == status && writer.taken.as_slice() == self.3 && errors.as_slice() == line)
     }
@@ -193,6 +195,7 @@ fn a_refusal_that_cannot_be_told_fails(rt: HostRuntime) -> Result<(), Fail> {
         rt.alloc(),
         &order()?,
         &mut reader,
+        &mut b"".as_slice(),
         &mut written,
         &mut errors,
     );

@@ -87,7 +87,8 @@ struct Run {
 fn ran<R: Read>(alloc: Global, origin: Name, reader: &mut R) -> Result<Run, Fail> {
     let order = Order::Normalise(Some(origin));
     let (mut output, mut told) = (roomy(alloc)?, roomy(alloc)?);
-    let status = run(alloc, &order, reader, &mut output, &mut told);
+    let mut none = b"".as_slice();
+    let status = run(alloc, &order, reader, &mut none, &mut output, &mut told);
     had_memory(&told)?;
     Ok(Run {
         status,

@@ -1,6 +1,6 @@
 use Rattle.std.proofs.Common.{refl}
 use Rattle.zonenorm.proofs.Asked.{no_origin, not_same}
-use Rattle.zonenorm.proofs.order.order_with.Goals as goal
+use Rattle.zonenorm.proofs.order.origin_of.Goals as goal
 
 pub returns-in-Ok-clause-ordered : goal.returns-in-Ok-clause-ordered
 returns-in-Ok-clause-ordered c = rw (← c.as_bytes.ensures.value) c.in-Ok.ensures.found

@@ -1,0 +1,58 @@
+-- Lines that are written piece by piece.
+use Rattle.std.proofs.Common.{◌≡◌, ◌≢◌, ℕ, List, [], ◌∷◌, ◌++◌, sym, ap, ◌∙◌, append_assoc, refl, inr, subst}
+use Rattle.std.specs.Prelude.{Option, Result, Ok, Err, OnErr, OnOk}
+use Rattle.std.specs.Io.KnownBytes.{Appends}
+use Rattle.std.proofs.KnownBytes.{Appends-trans}
+use Rattle.zonenorm.specs.Machine.Telling.{TellsFault}
+use Rattle.zonenorm.specs.Order.{line_text}
+use Rattle.zonenorm.specs.Run.{AppendsLine, AppendsPart}
+use Rattle.zonenorm.specs.declared.order.LineFault.{LineFault}
+
+some_more : (rest more : List ℕ) → rest ≢ [] → rest ++ more ≢ []
+some_more [] more some e = some refl
+some_more (c ∷ rest) more some e = cc
+
+-- a part of the front of a text is a part of the text
+pub part_first : (old new : Option (List ℕ)) (piece front back : List ℕ) → piece ≡ front → AppendsPart old new piece → AppendsPart old new (front ++ back)
+part_first old new piece front back is (taken, rest, some, split, appended) =
+    (taken, rest ++ back, some_more rest back some, ap (λ (l : List ℕ). l ++ back) (sym is ∙ split) ∙ append_assoc taken rest back, appended)
+
+-- so is the front and a part of what is behind it
+pub part_then : (old mid new : Option (List ℕ)) (piece front back : List ℕ) → piece ≡ front → Appends old mid piece → AppendsPart mid new back → AppendsPart old new (front ++ back)
+part_then old mid new piece front back is whole (taken, rest, some, split, appended) =
+    (piece ++ taken, rest, some, ap (λ (l : List ℕ). l ++ back) (sym is) ∙ ap (λ (l : List ℕ). piece ++ l) split ∙ sym (append_assoc piece taken rest), Appends-trans old mid new piece taken whole appended)
+
+pub part_as : (old new : Option (List ℕ)) (piece text : List ℕ) → piece ≡ text → AppendsPart old new piece → AppendsPart old new text
+part_as old new piece text is part = subst (λ (t : List ℕ). AppendsPart old new t) is part
+
+-- two pieces that were written whole
+pub both_written : (a b c : Option (List ℕ)) (piece other text others : List ℕ) → piece ≡ text → other ≡ others → Appends a b piece → Appends b c other → Appends a c (text ++ others)
+both_written a b c piece other text others is are h k = Appends-trans a b c text others (subst (λ (t : List ℕ). Appends a b t) is h) (subst (λ (t : List ℕ). Appends b c t) are k)
+
+-- a line is its words, what is behind them, and a line feed
+pub line_of : (words rest : List ℕ) (old new : Option (List ℕ)) → Appends old new (words ++ (rest ++ 10 ∷ [])) → AppendsLine words old new
+line_of words rest old new appended = (rest, subst (λ (t : List ℕ). Appends old new t) (sym (append_assoc words rest (10 ∷ []))) appended)
+
+pub on_err : {X Y : Type 0} (r : Result X Y) (P Q : Type 0) → (P → Q) → OnErr r P → OnErr r Q
+on_err (Ok x) P Q then h = tt
+on_err (Err y) P Q then h = then h
+
+pub on_any_err : {X Y : Type 0} (r : Result X Y) (P : Type 0) → P → OnErr r P
+on_any_err (Ok x) P h = tt
+on_any_err (Err y) P h = h
+
+-- a line that begins with some words is a line
+pub any_line : (words : List ℕ) (old new : Option (List ℕ)) → AppendsLine words old new → AppendsLine [] old new
+any_line words old new (line, appended) = (words ++ line, appended)
+
+pub any_line_on_ok : {X Y : Type 0} (r : Result X Y) (words : List ℕ) (old new : Option (List ℕ)) → OnOk r (AppendsLine words old new) → OnOk r (AppendsLine [] old new)
+any_line_on_ok (Ok x) words old new h = any_line words old new h
+any_line_on_ok (Err y) words old new h = tt
+
+pub line_on_ok : {X Y : Type 0} (r : Result X Y) (line : List ℕ) (old new : Option (List ℕ)) → OnOk r (Appends old new (line ++ 10 ∷ [])) → OnOk r (AppendsLine [] old new)
+line_on_ok (Ok x) line old new h = (line, h)
+line_on_ok (Err y) line old new h = tt
+
+-- the text of a fault was not written whole
+pub not_told : (fault : LineFault) (old new : Option (List ℕ)) (text : List ℕ) → text ≡ line_text fault → AppendsPart old new (text ++ 10 ∷ []) → TellsFault fault old new 4
+not_told fault old new text is part = inr (refl, subst (λ (t : List ℕ). AppendsPart old new (t ++ 10 ∷ [])) is part)

@@ -1,0 +1,31 @@
+-- What private functions of the command line answer.
+use Rattle.std.specs.Prelude.{◌≡◌}
+use Rattle.clap.specs.Words.{App, AddsSubcommand, app_of, with_subcommand}
+use Rattle.clap.specs.declared.builder.Command.{Command}
+use Rattle.zonenorm.specs.Order.{Call, normalise, explain, compare}
+use Rattle.zonenorm.specs.declared.order.Call as code
+use Rattle.zonenorm.specs.declared.order.Call.TheVariants as calls
+use Rattle.zonenorm.specs.declared.order.LineFault.{LineFault}
+use Rattle.zonenorm.specs.declared.order.LineFault.TheVariants.{BadOrigin, Clap, Memory}
+
+-- a command with the texts of its arguments
+abbrev pub texts_of : code.Call → Call
+texts_of (calls.Normalise origin) = normalise origin.now
+texts_of (calls.Explain origin) = explain origin.now
+texts_of (calls.Compare first second) = compare first.origin.now first.path.now second.origin.now second.path.now
+
+-- a fault that the texts of a command make: a bad origin, where this says so, or want of memory
+abbrev pub IsOfCall : Type 0 → LineFault → Type 0
+IsOfCall Bad BadOrigin = Bad
+IsOfCall Bad (Clap told) = ⊥
+IsOfCall Bad Memory = Unit {0}
+
+-- a fault that `clap` or want of memory makes
+abbrev pub IsOfClap : LineFault → Type 0
+IsOfClap BadOrigin = ⊥
+IsOfClap (Clap told) = Unit {0}
+IsOfClap Memory = Unit {0}
+
+-- the command is added to another one as it stands
+abbrev pub IsAddedAs : App → Command → Type 0
+IsAddedAs app command = (above new : Command) → AddsSubcommand above command new → app_of new ≡ with_subcommand (app_of above) app.top

@@ -1,0 +1,134 @@
+-- What a run of an order reads, writes and answers.
+use Rattle.std.specs.Prelude.{◌≡◌, ◌≢◌, ℕ, ◌+◌, ◌≤◌, List, [], ◌∷◌, ◌++◌, codes, length, Option, Some, None, IfSome, ◌⊎◌}
+use Rattle.std.specs.Io.KnownBytes.{Appends, Consumes, Keeps}
+use Rattle.zone_rdata.specs.declared.fault.Fault.{Fault}
+use Rattle.zone_rdata.specs.declared.fault.Place.{Place}
+use Rattle.zone_rdata.specs.declared.fault.Stop.{Stop}
+use Rattle.zone_rdata.specs.declared.fault.Stop.TheVariants.{Refused, Read, Write, Memory}
+use Rattle.zone_print.specs.Canonical.{text_limit}
+use Rattle.zonenorm.specs.Compare.{Compares, IsAccepted}
+use Rattle.zonenorm.specs.Input.{InputForm, as_file, as_transfer, input_of}
+use Rattle.zonenorm.specs.Normalise.{Normalises, WritesPrefix}
+use Rattle.zonenorm.specs.Refusal.{IsRefusal}
+use Rattle.zonenorm.specs.declared.compare.Verdict.{Verdict}
+use Rattle.zonenorm.specs.declared.compare.Verdict.TheVariants.{Same, Different}
+use Rattle.zonenorm.specs.declared.order.Order.{Order}
+use Rattle.zonenorm.specs.declared.order.Order.TheVariants.{Normalise, Explain, Compare}
+use Rattle.zonenorm.specs.declared.order.Source.{Source}
+
+-- the form of an input with this origin: a master file's, none for a transfer
+abbrev pub form_with : Option (List (List ℕ)) → InputForm
+form_with None = as_transfer
+form_with (Some origin) = as_file origin
+
+-- known octets denote no zone
+abbrev pub IsRefused : InputForm → Option (List ℕ) → Type 0
+IsRefused form known = IfSome known (λ octets. (fault : Fault) × (place : Place) × IsRefusal (input_of form octets) fault place)
+
+-- what explaining an input answers: 0 for a zone, else 3
+pub data Explains (form : InputForm) (known : Option (List ℕ)) : ℕ → Type 0 where
+  accepted : IsAccepted form known → Explains form known 0
+  refused : IsRefused form known → Explains form known 3
+
+-- a line that begins with this was written, and nothing else
+abbrev pub AppendsLine : List ℕ → Option (List ℕ) → Option (List ℕ) → Type 0
+AppendsLine front old new = (line : List ℕ) × Appends old new (front ++ line ++ 10 ∷ [])
+
+-- a part of the text was written, but not all of it
+abbrev pub AppendsPart : Option (List ℕ) → Option (List ℕ) → List ℕ → Type 0
+AppendsPart old new text = (front rest : List ℕ) × (rest ≢ []) × (text ≡ front ++ rest) × Appends old new front
+
+-- no more than the limit and one octet were read
+abbrev pub ReadsFew : Option (List ℕ) → Option (List ℕ) → Type 0
+ReadsFew old new = (given : List ℕ) × (length given ≤ text_limit + 1) × Consumes old new given
+
+-- a stop that is no refusal
+abbrev pub IsFailure : Stop → Type 0
+IsFailure (Refused fault place) = ⊥
+IsFailure Read = Unit {0}
+IsFailure Write = Unit {0}
+IsFailure Memory = Unit {0}
+
+-- nothing was written, unless it was writing that failed
+abbrev pub KeepsUnlessWrite : Stop → Option (List ℕ) → Option (List ℕ) → Type 0
+KeepsUnlessWrite (Refused fault place) old new = Keeps old new
+KeepsUnlessWrite Read old new = Keeps old new
+KeepsUnlessWrite Write old new = Unit {0}
+KeepsUnlessWrite Memory old new = Keeps old new
+
+-- the exit status of a run that stopped: 3 where the input is refused, else 4
+abbrev pub status_of : Stop → ℕ
+status_of (Refused fault place) = 3
+status_of Read = 4
+status_of Write = 4
+status_of Memory = 4
+
+-- the exit status of a comparison
+abbrev pub verdict_status : Verdict → ℕ
+verdict_status Same = 0
+verdict_status (Different line) = 1
+
+-- what is known of the octets of two inputs, standard output and standard error
+pub record Devices : Type 0 where
+  pub first : Option (List ℕ)
+  pub second : Option (List ℕ)
+  pub output : Option (List ℕ)
+  pub errors : Option (List ℕ)
+
+abbrev pub devices : Option (List ℕ) → Option (List ℕ) → Option (List ℕ) → Option (List ℕ) → Devices
+devices first second output errors = record { first = first; second = second; output = output; errors = errors }
+
+-- known octets denote a zone, and its canonical text was written
+abbrev pub WritesZone : InputForm → Option (List ℕ) → Option (List ℕ) → Option (List ℕ) → Type 0
+WritesZone form known old new = IfSome known (λ octets. (count : ℕ) × Normalises (input_of form octets) old new count)
+
+-- this is the verdict on two inputs of known octets
+abbrev pub AreCompared : InputForm → Option (List ℕ) → InputForm → Option (List ℕ) → Verdict → Type 0
+AreCompared form known other_form other verdict =
+    IfSome known (λ octets. IfSome other (λ others. Compares (input_of form octets) (input_of other_form others) verdict))
+
+-- What a run leaves that carried its order out with this status: the canonical text of the zone, a line on a zone, or a
+-- line on two zones.
+abbrev pub CarriesOut : Order → Devices → Devices → ℕ → Type 0
+CarriesOut (Normalise origin) old new status =
+    (status ≡ 0) × WritesZone (form_with origin) old.first old.output new.output
+CarriesOut (Explain origin) old new status =
+    (status ≡ 0) × AppendsLine [] old.output new.output × IsAccepted (form_with origin) old.first
+CarriesOut (Compare first second) old new status =
+    (verdict : Verdict) × (status ≡ verdict_status verdict) × AppendsLine [] old.output new.output
+    × AreCompared (form_with first.origin) old.first (form_with second.origin) old.second verdict
+
+-- the first input is refused and the second is not read, or the first is accepted and the second is refused
+abbrev pub RefusesOne : Source → Source → Devices → Devices → Type 0
+RefusesOne first second old new =
+    (AppendsLine (codes "first: ") old.errors new.errors × IsRefused (form_with first.origin) old.first
+    × Keeps old.second new.second)
+    ⊎ (AppendsLine (codes "second: ") old.errors new.errors × IsAccepted (form_with first.origin) old.first
+    × IsRefused (form_with second.origin) old.second)
+
+-- What a run leaves whose input is refused: a line that tells why, on standard output where that was asked for.
+abbrev pub Refuses : Order → Devices → Devices → Type 0
+Refuses (Normalise origin) old new =
+    Keeps old.output new.output × AppendsLine [] old.errors new.errors × IsRefused (form_with origin) old.first
+Refuses (Explain origin) old new =
+    Keeps old.errors new.errors × AppendsLine [] old.output new.output × IsRefused (form_with origin) old.first
+Refuses (Compare first second) old new = Keeps old.output new.output × RefusesOne first second old new
+
+-- What a run leaves that failed: of a canonical text a prefix was written.
+abbrev pub Fails : Order → Devices → Devices → Type 0
+Fails (Normalise origin) old new =
+    IfSome old.first (λ octets. WritesPrefix (input_of (form_with origin) octets) old.output new.output)
+Fails (Explain origin) old new = Unit {0}
+Fails (Compare first second) old new = Unit {0}
+
+-- What a run of an order leaves, with its exit status.
+pub data Runs (order : Order) (old new : Devices) : ℕ → Type 0 where
+  done : (status : ℕ) → CarriesOut order old new status → Keeps old.errors new.errors → Runs order old new status
+  refused : Refuses order old new → Runs order old new 3
+  failed : Fails order old new → Runs order old new 4
+
+-- the second input is that of a comparison
+abbrev pub ReadsSecond : Order → Option (List ℕ) → Option (List ℕ) → Type 0
+ReadsSecond (Normalise origin) old new = Keeps old new
+ReadsSecond (Explain origin) old new = Keeps old new
+ReadsSecond (Compare first second) old new = ReadsFew old new

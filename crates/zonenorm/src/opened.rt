@@ -1,0 +1,39 @@
+//! The inputs of an order, opened.
+use crate::order::{Order, Source};
+use std::fs::{File, Files};
+use std::io;
+use std::io::{ErrorKind, Read};
+
+/// An input of the program.
+#[derive(Drop)]
+pub(crate) enum Input<S, F> {
+    Standard(S),
+    File(F),
+    /// A file that can't be opened, or an input that the order doesn't have. Its first read fails.
+    Missing,
+}
+
+impl<S: Read, F: Read> Read for Input<S, F> {
+    fn read(&mut self, buf: &mut [u8]) -> io::Result<usize> {
+        match self {
+            Input::Standard(input) => input.read(buf),
+            Input::File(file) => file.read(buf),
+            Input::Missing => Err(ErrorKind::NotFound.into()),
+        }
+    }
+}
+
+/// The two inputs of an order: standard input alone, or both files of a comparison.
+pub(crate) fn inputs<R: Files, S: Drop>(rt: &R, standard: S, order: &Order) -> (Input<S, R::File>, Input<S, R::File>) {
+    match order {
+        Order::Normalise(_) | Order::Explain(_) => (Input::Standard(standard), Input::Missing),
+        Order::Compare(first, second) => (opened(rt, first), opened(rt, second)),
+    }
+}
+
+fn opened<R: Files, S>(rt: &R, source: &Source) -> Input<S, R::File> {
+    match File::open(rt, source.path.as_str()) {
+        Ok(file) => Input::File(file),
+        Err(_) => Input::Missing,
+    }
+}
