@@ -1,15 +1,23 @@
 -- From what `clap` found to the order that the words give.
-use Rattle.std.proofs.Common.{◌≡◌, ℕ, Bool, true, false, nat_eq, List, [], ◌∷◌, sym, ◌∙◌, subst, ap, ap₂, codes}
+use Rattle.std.proofs.Common.{◌≡◌, ℕ, Bool, true, false, nat_eq, List, [], sym, ◌∙◌, subst, ap, ap₂, codes, arith, refl, inl, inr}
 use Rattle.std.specs.Cmp.Lexicographic.{pointwise, bytes_decides}
-use Rattle.std.specs.Prelude.{Option, Some, None, IfSome, option_map}
+use Rattle.std.specs.List.{AllByRecursion}
+use Rattle.std.specs.Prelude.{Option, Some, None, Result, Ok, Err, IfOk, IfErr, drop, length, map, take, option_map, slice_index, unwrap_or, ◌⊎◌, ◌||◌, ◌∷◌, ◌-◌}
 use Rattle.std.specs.Borrow.{Bor}
-use Rattle.clap.specs.Words.{Row, Text, fault_of, first_of, subcommand_of, subcommand_name_of, subcommand_rows_of, found_of, first_value, rows_of}
+use Rattle.clap.specs.Words.{App, Kinds, IsAmong, Row, Text, fault_of, first_of, subcommand_of, subcommand_name_of, subcommand_rows_of, found_of, first_value, rows_of}
 use Rattle.clap.specs.declared.parser.ArgMatches.{ArgMatches}
+use Rattle.clap.specs.declared.error.kind.ErrorKind.{ErrorKind}
+use Rattle.clap.specs.declared.error.kind.ErrorKind.TheVariants.{OutOfMemory}
+use Rattle.std.proofs.lemmas.List.{take_all}
 use Rattle.clap.proofs.WalkLemmas.{first_value-rows}
 use Rattle.zone_name.specs.Common.{NothingIs}
 use Rattle.zone_name.specs.Spelling.{Spells}
-use Rattle.zonenorm.specs.Order.{program_app, Call, command_of, Calls, Finds, IsOriginText}
+use Rattle.zonenorm.specs.Order.{program_app, Asks, Call, Calls, command_of, arguments_of, Finds, HasBadOrigin, IsLineFault, IsOriginText, Orders}
 use Rattle.zonenorm.specs.Order as orders
+use Rattle.zonenorm.specs.Machine.Calling.{IsOfCall, IsOfClap}
+use Rattle.zonenorm.specs.declared.order.Order.{Order}
+use Rattle.zonenorm.specs.declared.order.LineFault.{LineFault}
+use Rattle.zonenorm.specs.declared.order.LineFault.TheVariants.{BadOrigin, Clap, Memory}
 
 abbrev both : {X : Type 0} → (X → Text) → (X → List Row) → X → Text × List Row
 both name rows x = (name x, rows x)
@@ -33,8 +41,99 @@ text_found found id text t value is = sym (first_value-rows (found_of found) id)
 pub no_text_found : (found : ArgMatches) (id : Text) (text : Option (Bor (List ℕ))) → option_map (λ s. s.now) text ≡ first_value (found_of found) id → text ≡ None → first_of id (rows_of (found_of found)) ≡ None
 no_text_found found id text value is = sym (first_value-rows (found_of found) id) ∙ sym value ∙ ap (option_map (λ s. s.now)) is
 
--- what was found is no command whose word it isn't, and none of which a text is missing
-pub other_word : (found : Option (Text × List Row)) (word : Text) (rows : List Row) (call : Call) → found ≡ Some (word, rows) → (command_of call ≡ word → ⊥) → Finds found call → ⊥
-other_word found word rows call is other finds =
-    let e : Some (word, rows) ≡ Some (command_of call, finds.rows) = sym is ∙ finds.entered in
-    other cc
+abbrev Argument : Type 0
+Argument = Text × Text
+
+abbrev Given : List Row → Call → Type 0
+Given rows call = AllByRecursion (λ (a : Argument). first_of a.0 rows ≡ Some a.1) (arguments_of call)
+
+-- the subcommand that was found has this word and these rows, so no call that has others was found
+pub not_found : (found : Option (Text × List Row)) (word : Text) (rows : List Row) → found ≡ Some (word, rows) → ((call : Call) → command_of call ≡ word → Given rows call → ⊥) → NothingIs (Finds found)
+not_found found word rows is none call finds =
+    let same : Some (command_of call, finds.rows) ≡ Some (word, rows) = sym finds.entered ∙ is in
+    let word_is : command_of call ≡ word = ap (λ (o : Option (Text × List Row)). (unwrap_or o ([], [])).0) same in
+    let rows_are : finds.rows ≡ rows = ap (λ (o : Option (Text × List Row)). (unwrap_or o ([], [])).1) same in
+    none call word_is (subst (λ (r : List Row). Given r call) rows_are finds.texts)
+
+-- the words of two commands differ in their first letter
+other_letter : (t u : Text) → t ≡ u → (slice_index t 0 ≡ slice_index u 0 → ⊥) → ⊥
+other_letter t u e other = other (ap (λ (v : Text). slice_index v 0) e)
+
+pub no_normalise : (rows : List Row) → first_of (codes "ORIGIN") rows ≡ None → (call : Call) → command_of call ≡ codes "normalise" → Given rows call → ⊥
+no_normalise rows none (orders.normalise t) e given = let no : None ≡ Some t = sym none ∙ given.0 in cc
+no_normalise rows none (orders.explain t) e given = other_letter (codes "explain") (codes "normalise") e (λ b. absurd (omega arith))
+no_normalise rows none (orders.compare a b d f) e given = other_letter (codes "compare") (codes "normalise") e (λ b. absurd (omega arith))
+
+pub no_explain : (rows : List Row) → first_of (codes "ORIGIN") rows ≡ None → (call : Call) → command_of call ≡ codes "explain" → Given rows call → ⊥
+no_explain rows none (orders.normalise t) e given = other_letter (codes "normalise") (codes "explain") e (λ b. absurd (omega arith))
+no_explain rows none (orders.explain t) e given = let no : None ≡ Some t = sym none ∙ given.0 in cc
+no_explain rows none (orders.compare a b d f) e given = other_letter (codes "compare") (codes "explain") e (λ b. absurd (omega arith))
+
+-- one of the texts of a comparison is missing
+pub data Misses (rows : List Row) : Type 0 where
+  first_origin : first_of (codes "ORIGIN1") rows ≡ None → Misses rows
+  first_path : first_of (codes "PATH1") rows ≡ None → Misses rows
+  second_origin : first_of (codes "ORIGIN2") rows ≡ None → Misses rows
+  second_path : first_of (codes "PATH2") rows ≡ None → Misses rows
+
+missed : (o : Option Text) (t : Text) → o ≡ None → o ≡ Some t → ⊥
+missed o t none some = let no : None ≡ Some t = sym none ∙ some in cc
+
+pub no_compare : (rows : List Row) → Misses rows → (call : Call) → command_of call ≡ codes "compare" → Given rows call → ⊥
+no_compare rows misses (orders.normalise t) e given = other_letter (codes "normalise") (codes "compare") e (λ b. absurd (omega arith))
+no_compare rows misses (orders.explain t) e given = other_letter (codes "explain") (codes "compare") e (λ b. absurd (omega arith))
+no_compare rows (first_origin none) (orders.compare o p o' p') e given = missed _ o none given.0
+no_compare rows (first_path none) (orders.compare o p o' p') e given = missed _ p none given.1.0
+no_compare rows (second_origin none) (orders.compare o p o' p') e given = missed _ o' none given.1.1.0
+no_compare rows (second_path none) (orders.compare o p o' p') e given = missed _ p' none given.1.1.1.0
+
+pub not_same : (text word : Text) (b : Bool) → b ≡ pointwise nat_eq text word → b ≡ false → text ≡ word → ⊥
+not_same text word b test fails is = let yes : pointwise nat_eq text word ≡ true = (bytes_decides text word).1 is in let no : true ≡ false = sym yes ∙ sym test ∙ fails in cc
+
+-- a text that is neither the word nor spells a name asks for nothing
+pub no_origin : (text : Text) → (text ≡ codes "transfer" → ⊥) → ((name : List (List ℕ)) → Spells None text name → ⊥) → NothingIs (IsOriginText text)
+no_origin text other spells None is = other is
+no_origin text other spells (Some name) is = spells name is
+
+-- an argument that is not global leaves a command without any
+pub stays_local : (new old global : Bool) → new ≡ (old || global) → old ≡ false → global ≡ false → new ≡ false
+stays_local new old global e f g = rw (e, f, g) refl
+
+-- what a command without faults fails by
+pub for_memory : (kind : ErrorKind) (kinds : Kinds) → (kind ≡ OutOfMemory) ⊎ IsAmong kind kinds → kinds ≡ [] → kind ≡ OutOfMemory
+for_memory kind kinds (inl memory) none = memory
+for_memory kind [] (inr among) none = absurd among
+for_memory kind (k ∷ kinds) (inr among) none = cc
+
+module _ (words : List Text) (app : App) (found : Option (Text × List Row)) (is : app ≡ program_app) (finds : found ≡ subcommand_of app words) where
+  found_is : found ≡ subcommand_of program_app words
+  found_is = finds ∙ ap (λ (a : App). subcommand_of a words) is
+
+  pub called : fault_of app words ≡ [] → (call : Call) → Finds found call → Calls words call
+  called faultless call given = record {
+    faultless = sym (ap (λ (a : App). fault_of a words) is) ∙ faultless;
+    finds = subst (λ (f : Option (Text × List Row)). Finds f call) found_is given;
+  }
+
+  pub not_called : NothingIs (Finds found) → (call : Call) → Calls words call → ⊥
+  not_called none call calls = none call (subst (λ (f : Option (Text × List Row)). Finds f call) (sym found_is) calls.finds)
+
+pub order_given : (words : List Text) (call : Call) (r : Result Order LineFault) → Calls words call → IfOk r (Asks call) → IfOk r (Orders words)
+order_given words call (Ok order) calls asks = (call, calls, asks)
+order_given words call (Err fault) calls asks = tt
+
+pub order_refused : (words : List Text) (call : Call) (r : Result Order LineFault) → Calls words call → IfErr r (IsOfCall (HasBadOrigin call)) → IfErr r (IsLineFault words)
+order_refused words call (Ok order) calls bad = tt
+order_refused words call (Err BadOrigin) calls bad = (call, calls, bad)
+order_refused words call (Err (Clap told)) calls bad = absurd bad
+order_refused words call (Err Memory) calls bad = tt
+
+pub fault_told : (words : List Text) (fault : LineFault) → IsOfClap fault → ((call : Call) → Calls words call → fault ≡ Memory) → IsLineFault words fault
+fault_told words BadOrigin h memory = absurd h
+fault_told words (Clap told) h memory = λ call calls. let e : Clap told ≡ Memory = memory call calls in cc
+fault_told words Memory h memory = tt
+
+-- the texts of all words but the first
+pub map_behind : {X Y : Type 0} (f : X → Y) (xs : List X) → map f (take (length xs - 1) (drop 1 xs)) ≡ drop 1 (map f xs)
+map_behind f [] = refl
+map_behind f (x ∷ xs) = ap (map f) (take_all (length (x ∷ xs) - 1) xs (omega arith))

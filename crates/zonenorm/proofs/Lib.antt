@@ -13,3 +13,5 @@ pub mod Taken
 pub mod Feeding
 pub mod Written
 pub mod FedSources
+pub mod Running
+pub mod Telling

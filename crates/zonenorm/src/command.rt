@@ -18,19 +18,20 @@ Exit status: 0 the zone is accepted, or both are the same; 1 the zones differ; 2
 is refused, and a line tells why and where; 4 reading, writing or memory failed.";
 
 const ORIGIN: &str = "The file's origin, an absolute name, or the word transfer";
+
 const PATH: &str = "The file that holds the input";
 
 /// The program and its commands. It is handed the words after its name.
 pub(crate) fn program<'a>(alloc: Global) -> Result<Command<'a>, AllocError>
     ensures { IfOk result (λ command. app_of command ≡ program_app) }
 {
-    let program = Command::new(alloc, "zonenorm")
+    let bare = Command::new(alloc, "zonenorm")
         .no_binary_name(true)
         .about(ABOUT)
-        .after_help(NOTES)
-        .subcommand(normalise(alloc)?)?
-        .subcommand(explain(alloc)?)?
-        .subcommand(compare(alloc)?)?;
+        .after_help(NOTES);
+    let with_normalise = bare.subcommand(normalise(alloc)?)?;
+    let with_explain = with_normalise.subcommand(explain(alloc)?)?;
+    let program = with_explain.subcommand(compare(alloc)?)?;
     Ok(program)
 }
 
@@ -38,20 +39,22 @@ fn normalise<'a>(alloc: Global) -> Result<Command<'a>, AllocError>
     ensures { IfOk result (IsAddedAs normalise_app) }
 {
     let origin = Arg::new(alloc, "ORIGIN").required(true).help(ORIGIN);
-    Command::new(alloc, "normalise")
+    let command = Command::new(alloc, "normalise")
         .about("Writes the canonical text of the zone on standard input")
         .after_help(NOTES)
-        .arg(origin)
+        .arg(origin)?;
+    Ok(command)
 }
 
 fn explain<'a>(alloc: Global) -> Result<Command<'a>, AllocError>
     ensures { IfOk result (IsAddedAs explain_app) }
 {
     let origin = Arg::new(alloc, "ORIGIN").required(true).help(ORIGIN);
-    Command::new(alloc, "explain")
+    let command = Command::new(alloc, "explain")
         .about("Tells how many records the zone on standard input has, or why it is refused")
         .after_help(NOTES)
-        .arg(origin)
+        .arg(origin)?;
+    Ok(command)
 }
 
 fn compare<'a>(alloc: Global) -> Result<Command<'a>, AllocError>
@@ -61,11 +64,14 @@ fn compare<'a>(alloc: Global) -> Result<Command<'a>, AllocError>
     let path1 = Arg::new(alloc, "PATH1").required(true).help(PATH);
     let origin2 = Arg::new(alloc, "ORIGIN2").required(true).help(ORIGIN);
     let path2 = Arg::new(alloc, "PATH2").required(true).help(PATH);
-    Command::new(alloc, "compare")
-        .about("Tells whether two files hold one zone, or the first line of canonical text that differs")
-        .after_help(NOTES)
-        .arg(origin1)?
-        .arg(path1)?
-        .arg(origin2)?
-        .arg(path2)
+    let bare = Command::new(alloc, "compare")
+        .about(
+            "Tells whether two files hold one zone, or the first line of canonical text that differs",
+        )
+        .after_help(NOTES);
+    let with_origin1 = bare.arg(origin1)?;
+    let with_path1 = with_origin1.arg(path1)?;
+    let with_origin2 = with_path1.arg(origin2)?;
+    let command = with_origin2.arg(path2)?;
+    Ok(command)
 }

@@ -46,7 +46,10 @@ pub fn run<R1: Read, R2: Read, W: Write, E: Write>(
             }
         }
         Order::Compare(one, other) => {
-            let forms = (Form::with_origin(&one.origin), Form::with_origin(&other.origin));
+            let forms = (
+                Form::with_origin(&one.origin),
+                Form::with_origin(&other.origin),
+            );
             match compare(alloc, forms.0, first, forms.1, second) {
                 Ok(verdict) => tell_verdict(alloc, verdict, output, errors),
                 Err((which, stop)) => report(alloc, words_of(which), &stop, errors),
@@ -56,7 +59,12 @@ pub fn run<R1: Read, R2: Read, W: Write, E: Write>(
 }
 
 /// Writes the line of a verdict, without taking memory, and answers the status.
-fn tell_verdict<W: Write, E: Write>(alloc: Global, verdict: Verdict, output: &mut W, errors: &mut E) -> u8
+fn tell_verdict<W: Write, E: Write>(
+    alloc: Global,
+    verdict: Verdict,
+    output: &mut W,
+    errors: &mut E,
+) -> u8
     ensures { TellsVerdict verdict (W.contents output.old) (W.contents output.new) (E.contents errors.old) (E.contents errors.new) result }
 {
     let (written, status) = match verdict {

@@ -1,0 +1,88 @@
+-- From what an order's call answers and what is told of it to what a run leaves.
+use Rattle.std.proofs.Common.{◌≡◌, ℕ, List, [], refl, sym, subst, inl, inr}
+use Rattle.std.specs.Prelude.{Option, Some, None, IfSome, ◌⊎◌}
+use Rattle.std.specs.Io.KnownBytes.{Keeps}
+use Rattle.zone_rdata.specs.declared.fault.Stop.{Stop}
+use Rattle.zone_rdata.specs.declared.fault.Stop.TheVariants.{Refused, Read, Write, Memory}
+use Rattle.zonenorm.specs.Compare.{IsAccepted, StopsCompare, StopsReading, by_first, by_second}
+use Rattle.zonenorm.specs.Input.{InputForm, input_of}
+use Rattle.zonenorm.specs.Machine.Telling.{which_words, TellsStop, TellsVerdict}
+use Rattle.zonenorm.specs.Normalise.{Normalises, WritesNothing, WritesPrefix}
+use Rattle.zonenorm.specs.Refusal.{IfRefused, IsRefusal}
+use Rattle.zonenorm.specs.Run.{form_with, AppendsLine, AreCompared, Devices, Explains, Fails, IsFailure, IsRefused, KeepsUnlessWrite, Runs, done, failed}
+use Rattle.zonenorm.specs.Run as runs
+use Rattle.zonenorm.specs.declared.compare.Verdict.{Verdict}
+use Rattle.zonenorm.specs.declared.compare.Which.{Which}
+use Rattle.zonenorm.specs.declared.compare.Which.TheVariants.{First, Second}
+use Rattle.zonenorm.specs.declared.order.Order.TheVariants.{Normalise, Explain, Compare}
+use Rattle.zonenorm.specs.declared.order.Source.{Source}
+
+abbrev Known : Type 0
+Known = Option (List ℕ)
+
+if_known : (known : Known) (P Q : List ℕ → Type 0) → ((octets : List ℕ) → P octets → Q octets) → IfSome known P → IfSome known Q
+if_known None P Q then h = tt
+if_known (Some octets) P Q then h = then octets h
+
+-- octets that are refused so are refused
+is_refused : (form : InputForm) (known : Known) (stop : Stop) (fault : _) (place : _) → stop ≡ Refused fault place → IfSome known (λ octets. IfRefused stop (IsRefusal (input_of form octets))) → IsRefused form known
+is_refused form known _ fault place refl h = if_known known (λ octets. IsRefusal (input_of form octets) fault place) _ (λ octets r. (fault, (place, r))) h
+
+fails : (order : _) (old new : Devices) (answer : ℕ) → Fails order old new → answer ≡ 4 → Runs order old new answer
+fails order old new answer h e = subst (λ n. Runs order old new n) (sym e) (failed h)
+
+refuses : (order : _) (old new : Devices) (answer : ℕ) → runs.Refuses order old new → answer ≡ 3 → Runs order old new answer
+refuses order old new answer h e = subst (λ n. Runs order old new n) (sym e) (runs.refused h)
+
+module _ (origin : Option (List (List ℕ))) (form : InputForm) (is : form ≡ form_with origin) (old new : Devices) where
+  -- octets of the form are an input with the origin
+  pub normalised : (count : ℕ) → IfSome old.first (λ octets. Normalises (input_of form octets) old.output new.output count) → Keeps old.errors new.errors → Runs (Normalise origin) old new 0
+  normalised count h kept = done 0 (refl, if_known old.first (λ octets. Normalises (input_of form octets) old.output new.output count) _ (λ octets n. (count, subst (λ (f : InputForm). Normalises (input_of f octets) old.output new.output count) is n)) h) kept
+
+  prefix : IfSome old.first (λ octets. WritesPrefix (input_of form octets) old.output new.output) → Fails (Normalise origin) old new
+  prefix h = if_known old.first (λ octets. WritesPrefix (input_of form octets) old.output new.output) _ (λ octets w. subst (λ (f : InputForm). WritesPrefix (input_of f octets) old.output new.output) is w) h
+
+  pub normalise_stopped : (stop : Stop) (answer : ℕ) → WritesNothing stop old.output new.output → IfSome old.first (λ octets. WritesPrefix (input_of form octets) old.output new.output) → IfSome old.first (λ octets. IfRefused stop (IsRefusal (input_of form octets))) → TellsStop [] stop old.errors new.errors answer → Runs (Normalise origin) old new answer
+  normalise_stopped stop answer nothing front fault (inl e) = fails (Normalise origin) old new answer (prefix front) e
+  normalise_stopped (Refused fault place) answer nothing front refused (inr (e, line)) =
+      refuses (Normalise origin) old new answer (nothing, (line, subst (λ (f : InputForm). IsRefused f old.first) is (is_refused form old.first (Refused fault place) fault place refl refused))) e
+  normalise_stopped Read answer nothing front fault (inr (e, line)) = fails (Normalise origin) old new answer (prefix front) e
+  normalise_stopped Write answer nothing front fault (inr (e, line)) = fails (Normalise origin) old new answer (prefix front) e
+  normalise_stopped Memory answer nothing front fault (inr (e, line)) = fails (Normalise origin) old new answer (prefix front) e
+
+  pub explained : (status : ℕ) → Explains form old.first status → AppendsLine [] old.output new.output → Keeps old.errors new.errors → Runs (Explain origin) old new status
+  explained _ (runs.accepted h) line kept = done 0 (refl, (line, subst (λ (f : InputForm). IsAccepted f old.first) is h)) kept
+  explained _ (runs.refused h) line kept = runs.refused (kept, (line, subst (λ (f : InputForm). IsRefused f old.first) is h))
+
+  pub explain_stopped : (stop : Stop) (answer : ℕ) → IsFailure stop → TellsStop [] stop old.errors new.errors answer → Runs (Explain origin) old new answer
+  explain_stopped stop answer failure (inl e) = fails (Explain origin) old new answer tt e
+  explain_stopped (Refused fault place) answer failure (inr (e, line)) = absurd failure
+  explain_stopped Read answer failure (inr (e, line)) = fails (Explain origin) old new answer tt e
+  explain_stopped Write answer failure (inr (e, line)) = fails (Explain origin) old new answer tt e
+  explain_stopped Memory answer failure (inr (e, line)) = fails (Explain origin) old new answer tt e
+
+module _ (one other : Source) (form other_form : InputForm) (is : form ≡ form_with one.origin) (other_is : other_form ≡ form_with other.origin) (old new : Devices) where
+  pub compared : (verdict : Verdict) (answer : ℕ) → AreCompared form old.first other_form old.second verdict → TellsVerdict verdict old.output new.output old.errors new.errors answer → Runs (Compare one other) old new answer
+  compared verdict answer are (inl (e, (line, kept))) =
+      done answer (verdict, (e, (line, subst (λ (f : InputForm). AreCompared f old.first (form_with other.origin) old.second verdict) is (subst (λ (f : InputForm). AreCompared form old.first f old.second verdict) other_is are)))) kept
+  compared verdict answer are (inr e) = fails (Compare one other) old new answer tt e
+
+  first_stopped : (stop : Stop) (answer : ℕ) → Keeps old.output new.output → StopsReading form old.first stop → Keeps old.second new.second → TellsStop (which_words First) stop old.errors new.errors answer → Runs (Compare one other) old new answer
+  first_stopped stop answer kept reading unread (inl e) = fails (Compare one other) old new answer tt e
+  first_stopped (Refused fault place) answer kept reading unread (inr (e, line)) =
+      refuses (Compare one other) old new answer (kept, inl (line, (subst (λ (f : InputForm). IsRefused f old.first) is (is_refused form old.first (Refused fault place) fault place refl reading.fault), unread))) e
+  first_stopped Read answer kept reading unread (inr (e, line)) = fails (Compare one other) old new answer tt e
+  first_stopped Write answer kept reading unread (inr (e, line)) = fails (Compare one other) old new answer tt e
+  first_stopped Memory answer kept reading unread (inr (e, line)) = fails (Compare one other) old new answer tt e
+
+  second_stopped : (stop : Stop) (answer : ℕ) → Keeps old.output new.output → IsAccepted form old.first → StopsReading other_form old.second stop → TellsStop (which_words Second) stop old.errors new.errors answer → Runs (Compare one other) old new answer
+  second_stopped stop answer kept accepted reading (inl e) = fails (Compare one other) old new answer tt e
+  second_stopped (Refused fault place) answer kept accepted reading (inr (e, line)) =
+      refuses (Compare one other) old new answer (kept, inr (line, (subst (λ (f : InputForm). IsAccepted f old.first) is accepted, subst (λ (f : InputForm). IsRefused f old.second) other_is (is_refused other_form old.second (Refused fault place) fault place refl reading.fault)))) e
+  second_stopped Read answer kept accepted reading (inr (e, line)) = fails (Compare one other) old new answer tt e
+  second_stopped Write answer kept accepted reading (inr (e, line)) = fails (Compare one other) old new answer tt e
+  second_stopped Memory answer kept accepted reading (inr (e, line)) = fails (Compare one other) old new answer tt e
+
+  pub compare_stopped : (which : Which) (stop : Stop) (answer : ℕ) → Keeps old.output new.output → StopsCompare form other_form old.first old.second new.second which stop → TellsStop (which_words which) stop old.errors new.errors answer → Runs (Compare one other) old new answer
+  compare_stopped _ _ answer kept (by_first stop reading unread) told = first_stopped stop answer kept reading unread told
+  compare_stopped _ _ answer kept (by_second stop accepted reading) told = second_stopped stop answer kept accepted reading told

@@ -1,0 +1,32 @@
+use Rattle.std.proofs.Common.{ap, ap₂, codes, true, ◌≡◌, ◌∙◌}
+use Rattle.clap.specs.Words.{App, Rule, app_of, new_app, rule_of, with_rule, with_subcommand}
+use Rattle.clap.specs.Simple.{app_of_fields}
+use Rattle.zonenorm.specs.Order.{argument, compare_app}
+use Rattle.zonenorm.proofs.Asked.{stays_local}
+use Rattle.zonenorm.proofs.command.compare.Goals as goal
+
+pub returns : goal.returns
+returns c =
+    let origin1_is : rule_of c.help-origin1.result ≡ argument (codes "ORIGIN1") =
+    ap rule_of c.help-origin1.ensures ∙ ap rule_of c.required.ensures ∙ ap (λ (r : Rule). record r { required = true }) c.new.ensures.rule in
+    let path1_is : rule_of c.help-path1.result ≡ argument (codes "PATH1") =
+    ap rule_of c.help-path1.ensures ∙ ap rule_of c.required-2.ensures ∙ ap (λ (r : Rule). record r { required = true }) c.new-2.ensures.rule in
+    let origin2_is : rule_of c.help-origin2.result ≡ argument (codes "ORIGIN2") =
+    ap rule_of c.help-origin2.ensures ∙ ap rule_of c.required-3.ensures ∙ ap (λ (r : Rule). record r { required = true }) c.new-3.ensures.rule in
+    let path2_is : rule_of c.help-path2.result ≡ argument (codes "PATH2") =
+    ap rule_of c.help-path2.ensures ∙ ap rule_of c.required-4.ensures ∙ ap (λ (r : Rule). record r { required = true }) c.new-4.ensures.rule in
+    let bare_is : app_of c.after_help-bare.result ≡ new_app (codes "compare") =
+    ap app_of_fields c.after_help-bare.ensures ∙ ap app_of_fields c.about.ensures ∙ c.new-5.ensures.app in
+    let command_is : app_of c.in_ok-command.command ≡ compare_app =
+    c.in_ok-command.ensures.shape (rw (c.help-path2.ensures, c.required-4.ensures) c.new-4.ensures.optional.1)
+    ∙ ap₂ with_rule (c.in_ok-with_origin2.ensures.shape (rw (c.help-origin2.ensures, c.required-3.ensures) c.new-3.ensures.optional.1)
+    ∙ ap₂ with_rule (c.in_ok-with_path1.ensures.shape (rw (c.help-path1.ensures, c.required-2.ensures) c.new-2.ensures.optional.1)
+    ∙ ap₂ with_rule (c.in_ok-with_origin1.ensures.shape (rw (c.help-origin1.ensures, c.required.ensures) c.new.ensures.optional.1)
+    ∙ ap₂ with_rule bare_is origin1_is) path1_is) origin2_is) path2_is in
+    λ above new added. added.shape (stays_local _ _ _ c.in_ok-command.ensures.globals (stays_local _ _ _ c.in_ok-with_origin2.ensures.globals (stays_local _ _ _ c.in_ok-with_path1.ensures.globals (stays_local _ _ _ c.in_ok-with_origin1.ensures.globals
+    (rw (c.after_help-bare.ensures, c.about.ensures) c.new-5.ensures.local)
+    (rw (c.help-origin1.ensures, c.required.ensures) c.new.ensures.optional.1))
+    (rw (c.help-path1.ensures, c.required-2.ensures) c.new-2.ensures.optional.1))
+    (rw (c.help-origin2.ensures, c.required-3.ensures) c.new-3.ensures.optional.1))
+    (rw (c.help-path2.ensures, c.required-4.ensures) c.new-4.ensures.optional.1))
+    ∙ ap (λ (a : App). with_subcommand (app_of above) a.top) command_is
