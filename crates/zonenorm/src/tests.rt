@@ -18,6 +18,7 @@ mod names;
 mod orders;
 mod parsing;
 mod pieces;
+mod programs;
 mod readings;
 mod records;
 mod runs;
@@ -105,7 +106,7 @@ fn is_explained(alloc: Global, stop: &Stop, front: &str) -> Result<bool, Fail> {
 ///
 /// Want of memory.
 fn had_memory(told: &[u8]) -> Result<(), Fail> {
-    if told == b"out of memory\n".as_slice() {
+    if told.ends_with(b"out of memory\n") {
         return Err(Fail::from("memory"));
     }
     Ok(())

@@ -1,6 +1,7 @@
 //! Readers and writers that fail, and writers that take little at a time.
-use crate::order::Order;
+use crate::order::{Order, order_of};
 use crate::run::run;
+use crate::tests::orders::words_of;
 use crate::tests::zones::{reading_of, taken};
 use crate::tests::{Case, first_wrong, had_memory, roomy};
 use std::alloc::{AllocError, Global};
@@ -15,8 +16,19 @@ const FILE: &[u8] = b"$TTL 1h\n@ SOA N h 1 2 3 4 5\n  NS n\n";
 
 const TEXT: &[u8] = b"x. 3600 IN SOA n.x. h.x. 1 2 3 4 5\nx. 3600 IN NS n.x.\n";
 
-fn order() -> Result<Order, Fail> {
-    Ok(Order::Normalise(Some(Name::from_text(b"x.", None)?)))
+/// The status of a run that normalises the input under `x.`.
+fn run_first<R: Read, W: Write>(
+    alloc: Global,
+    reader: &mut R,
+    writer: &mut W,
+    errors: &mut Vec<u8>,
+) -> Result<u8, Fail> {
+    let order = Order::Normalise(Some(Name::from_text(b"x.", None)?));
+    let mut second = Breaking {
+        left: b"",
+        error: ErrorKind::Other,
+    };
+    Ok(run(alloc, &order, reader, &mut second, writer, errors))
 }
 
 /// A reader that answers an error after its octets.
@@ -62,8 +74,7 @@ impl Case for Broken {
             error: self.1,
         };
         let (mut written, mut errors) = (roomy(alloc)?, roomy(alloc)?);
-        let mut none = b"".as_slice();
-        let status = run(alloc, &order()?, &mut reader, &mut none, &mut written, &mut errors);
+        let status = run_first(alloc, &mut reader, &mut written, &mut errors)?;
         had_memory(&errors)?;
         Ok(status == 4 && written.is_empty() && errors.as_slice() == b"read failed\n".as_slice())
     }
@@ -158,8 +169,7 @@ impl Narrowed {
             (4, b"write failed\n".as_slice())
         };
         let (mut reader, mut writer, mut errors) = (FILE, self.writer(alloc)?, roomy(alloc)?);
-        let mut none = b"".as_slice();
-        let answered = run(alloc, &order()?, &mut reader, &mut none, &mut writer, &mut errors);
+        let answered = run_first(alloc, &mut reader, &mut writer, &mut errors)?;
         had_memory(&errors)?;
         Ok(answered == status && writer.taken.as_slice() == self.3 && errors.as_slice() == line)
     }
@@ -186,20 +196,46 @@ fn a_narrow_writer_has_a_front(rt: HostRuntime) -> Result<(), Fail> {
     Ok(())
 }
 
+/// The words of a command over inputs of the origin `x.`, what each input gives, and the status and the line where
+/// nothing can be written on standard output; none where nothing can be written on standard error.
+struct Mute(
+    &'static [&'static str],
+    &'static [u8],
+    u8,
+    Option<&'static [u8]>,
+);
+
+impl Case for Mute {
+    fn is_right(&self, alloc: Global) -> Result<bool, Fail> {
+        let Ok(order) = order_of(alloc, &words_of(alloc, self.0)?) else {
+            return Err(Fail::from("no order"));
+        };
+        let (mut first, mut second) = (self.1, self.1);
+        let (mut open, mut mute) = (roomy(alloc)?, Narrow::new(alloc, usize::MAX, 0, true)?);
+        let status = match self.3 {
+            Some(_) => run(alloc, &order, &mut first, &mut second, &mut mute, &mut open),
+            None => run(alloc, &order, &mut first, &mut second, &mut open, &mut mute),
+        };
+        had_memory(&open)?;
+        Ok(status == self.2 && mute.taken.is_empty() && open.as_slice() == self.3.unwrap_or(b""))
+    }
+}
+
+static MUTE: [Mute; 5] = [
+    Mute(&["normalise", "x."], FILE, 4, Some(b"write failed\n")),
+    Mute(&["explain", "x."], FILE, 4, Some(b"write failed\n")),
+    Mute(
+        &["compare", "x.", "p", "x.", "q"],
+        FILE,
+        4,
+        Some(b"write failed\n"),
+    ),
+    Mute(&["normalise", "x."], b"", 4, None),
+    Mute(&["compare", "x.", "p", "x.", "q"], b"", 4, None),
+];
+
 #[test]
-fn a_refusal_that_cannot_be_told_fails(rt: HostRuntime) -> Result<(), Fail> {
-    let mut reader = b"".as_slice();
-    let mut written = Vec::new(rt.alloc());
-    let mut errors = Narrow::new(rt.alloc(), usize::MAX, 0, true)?;
-    let status = run(
-        rt.alloc(),
-        &order()?,
-        &mut reader,
-        &mut b"".as_slice(),
-        &mut written,
-        &mut errors,
-    );
-    assert_eq!(rt; status, 4);
-    assert!(rt; written.is_empty());
+fn what_cannot_be_told_fails(rt: HostRuntime) -> Result<(), Fail> {
+    assert_eq!(rt; first_wrong(rt.alloc(), &MUTE)?, None);
     Ok(())
 }

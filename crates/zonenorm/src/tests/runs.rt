@@ -6,7 +6,7 @@ use crate::run::run;
 use crate::tests::devices::{Breaking, Sparing};
 use crate::tests::vectors::{Answer, Question, Vector, wrong};
 use crate::tests::{had_memory, is_explained, roomy};
-use crate::{normalise, normalise_bytes};
+use crate::{Verdict, compare, explain, normalise, normalise_bytes};
 use std::alloc::Global;
 use std::io::{ErrorKind, Read};
 use std::test::Fail;
@@ -87,8 +87,11 @@ struct Run {
 fn ran<R: Read>(alloc: Global, origin: Name, reader: &mut R) -> Result<Run, Fail> {
     let order = Order::Normalise(Some(origin));
     let (mut output, mut told) = (roomy(alloc)?, roomy(alloc)?);
-    let mut none = b"".as_slice();
-    let status = run(alloc, &order, reader, &mut none, &mut output, &mut told);
+    let mut second = Breaking {
+        left: b"",
+        error: ErrorKind::Other,
+    };
+    let status = run(alloc, &order, reader, &mut second, &mut output, &mut told);
     had_memory(&told)?;
     Ok(Run {
         status,
@@ -188,5 +191,67 @@ impl Question for ReadBack {
 #[test]
 fn canonical_texts_as_files(rt: HostRuntime) -> Result<(), Fail> {
     assert_eq!(rt; wrong::<ReadBack>(rt.alloc())?, None);
+    Ok(())
+}
+
+/// Whether the zone of a file is the same as that of its canonical text, under other origins and its own.
+struct SameAsItsText;
+
+impl Question for SameAsItsText {
+    fn is_answered(alloc: Global, vector: &Vector) -> Result<bool, Fail> {
+        let Answer::Text(text) = &vector.answer else {
+            return Ok(true);
+        };
+        let own = vector.origin()?;
+        for origin in [b".".as_slice(), b"x.", b"other.example."] {
+            let origin = Name::from_text(origin, None)?;
+            let (mut file, mut text) = (vector.file, *text);
+            match compare(
+                alloc,
+                Form::File(&own),
+                &mut file,
+                Form::File(&origin),
+                &mut text,
+            ) {
+                Ok(Verdict::Same) => {}
+                Err((_, Stop::Memory)) => return Err(Fail::from("memory")),
+                _ => return Ok(false),
+            }
+        }
+        Ok(true)
+    }
+}
+
+#[test]
+fn files_and_their_texts_are_the_same(rt: HostRuntime) -> Result<(), Fail> {
+    assert_eq!(rt; wrong::<SameAsItsText>(rt.alloc())?, None);
+    Ok(())
+}
+
+/// What `explain` answers and writes.
+struct Explained;
+
+impl Question for Explained {
+    fn is_answered(alloc: Global, vector: &Vector) -> Result<bool, Fail> {
+        let (mut reader, mut written) = (vector.file, roomy(alloc)?);
+        let origin = vector.origin()?;
+        let answered = explain(alloc, Form::File(&origin), &mut reader, &mut written);
+        match (answered, &vector.answer) {
+            (Ok(0), Answer::Text(text)) => {
+                let line = format!(in alloc; "accepted, records: {}\n", line_count(text))?;
+                Ok(written.as_slice() == line.as_bytes())
+            }
+            (Ok(3), Answer::Refused(front)) => {
+                Ok(written.as_slice().starts_with(front.as_bytes()))
+            }
+            (Err(Stop::Memory), _) => Err(Fail::from("memory")),
+            _ => Ok(false),
+        }
+    }
+}
+
+#[test]
+fn files_are_explained(rt: HostRuntime) -> Result<(), Fail> {
+    assert_eq!(rt; wrong::<Explained>(rt.alloc())?, None);
     Ok(())
 }

@@ -1,0 +1,450 @@
+//! The whole program over readers and writers, from its words to its exit status.
+use crate::order::{LineFault, order_of};
+use crate::run::run;
+use crate::tests::orders::words_of;
+use crate::tests::parsing::octets_of;
+use crate::tests::{Case, Named, first_wrong_name, had_memory, roomy};
+use std::alloc::Global;
+use std::io;
+use std::io::{ErrorKind, Read};
+use std::test::Fail;
+
+/// What an input gives: octets, written as text or in hexadecimal digits, and then its end or an error.
+#[derive(Clone, Copy)]
+enum Given {
+    Text(&'static str),
+    Hex(&'static str),
+    BrokenText(&'static str),
+    BrokenHex(&'static str),
+}
+
+impl Given {
+    fn octets(self, alloc: Global) -> Result<Vec<u8>, Fail> {
+        match self {
+            Given::Text(text) | Given::BrokenText(text) => {
+                let mut octets = Vec::new(alloc);
+                octets.extend_from_slice(text.as_bytes())?;
+                Ok(octets)
+            }
+            Given::Hex(digits) | Given::BrokenHex(digits) => octets_of(alloc, digits),
+        }
+    }
+
+    fn is_broken(self) -> bool {
+        matches!(self, Given::BrokenText(_) | Given::BrokenHex(_))
+    }
+}
+
+/// A reader of octets that answers an error in place of its end where it is broken.
+#[derive(Drop)]
+struct Supply<'o> {
+    left: &'o [u8],
+    is_broken: bool,
+}
+
+impl Read for Supply<'_> {
+    fn read(&mut self, buf: &mut [u8]) -> io::Result<usize> {
+        if self.left.is_empty() && self.is_broken {
+            return Err(io::Error::from(ErrorKind::Other));
+        }
+        self.left.read(buf)
+    }
+}
+
+/// The words after the program's name, what its inputs give, its exit status, and what it writes on its two outputs.
+struct Program {
+    name: &'static str,
+    words: &'static [&'static str],
+    first: Given,
+    second: Given,
+    status: u8,
+    output: &'static str,
+    told: &'static str,
+}
+
+impl Case for Program {
+    fn is_right(&self, alloc: Global) -> Result<bool, Fail> {
+        let order = match order_of(alloc, &words_of(alloc, self.words)?) {
+            Ok(order) => order,
+            Err(LineFault::Memory) => return Err(Fail::from("memory")),
+            Err(_) => return Ok(false),
+        };
+        let (first, second) = (self.first.octets(alloc)?, self.second.octets(alloc)?);
+        let mut first = Supply {
+            left: first.as_slice(),
+            is_broken: self.first.is_broken(),
+        };
+        let mut second = Supply {
+            left: second.as_slice(),
+            is_broken: self.second.is_broken(),
+        };
+        let (mut output, mut told) = (roomy(alloc)?, roomy(alloc)?);
+        let status = run(
+            alloc,
+            &order,
+            &mut first,
+            &mut second,
+            &mut output,
+            &mut told,
+        );
+        had_memory(&told)?;
+        Ok(
+            status == self.status
+                && output.as_slice() == self.output.as_bytes()
+                && told.as_slice() == self.told.as_bytes(),
+        )
+    }
+}
+
+impl Named for Program {
+    fn name(&self) -> &'static str {
+        self.name
+    }
+}
+
+static COMPARISONS: [Program; 7] = [
+    Program {
+        name: "file_and_transfer_of_one_zone_are_the_same",
+        words: &["compare", "x.", "p", "transfer", "q"],
+        first: Given::Text("$TTL 1h\n@ SOA N h 1 2 3 4 5\n  NS n\n"),
+        second: Given::Hex(
+            "006d00018400000100030000000001780000fc0001c00c0006000100000e10001c016ec00c0168c00c0000000100000002000000030000000400000005c00c0002000100000e100002c01fc00c0006000100000e100018c01fc0230000000100000002000000030000000400000005",
+        ),
+        status: 0,
+        output: "same\n",
+        told: "",
+    },
+    Program {
+        name: "transfer_and_file_of_one_zone_are_the_same",
+        words: &["compare", "transfer", "p", "x.", "q"],
+        first: Given::Hex(
+            "006d00018400000100030000000001780000fc0001c00c0006000100000e10001c016ec00c0168c00c0000000100000002000000030000000400000005c00c0002000100000e100002c01fc00c0006000100000e100018c01fc0230000000100000002000000030000000400000005",
+        ),
+        second: Given::Text("$TTL 1h\n@ SOA N h 1 2 3 4 5\n  NS n\n"),
+        status: 0,
+        output: "same\n",
+        told: "",
+    },
+    Program {
+        name: "one_record_more_differs_at_the_line_after_the_shorter",
+        words: &["compare", "x.", "p", "transfer", "q"],
+        first: Given::Text("$TTL 1h\n@ SOA N h 1 2 3 4 5\n  NS n\n"),
+        second: Given::Hex(
+            "005400018400000100020000000101780000fc0001c00c0006000100000e10001c016ec00c0168c00c0000000100000002000000030000000400000005c00c0002000100000e100002c01f00002904d00000000000000053000184000000000300000000016e0178000001000100000e1000040a000001c00e0002000100000e100002c00cc00e0006000100000e10001ac00c0168c00e0000000100000002000000030000000400000005",
+        ),
+        status: 1,
+        output: "different at line 3\n",
+        told: "",
+    },
+    Program {
+        name: "one_record_less_differs_at_the_line_after_the_shorter",
+        words: &["compare", "transfer", "p", "x.", "q"],
+        first: Given::Hex(
+            "005400018400000100020000000101780000fc0001c00c0006000100000e10001c016ec00c0168c00c0000000100000002000000030000000400000005c00c0002000100000e100002c01f00002904d00000000000000053000184000000000300000000016e0178000001000100000e1000040a000001c00e0002000100000e100002c00cc00e0006000100000e10001ac00c0168c00e0000000100000002000000030000000400000005",
+        ),
+        second: Given::Text("$TTL 1h\n@ SOA N h 1 2 3 4 5\n  NS n\n"),
+        status: 1,
+        output: "different at line 3\n",
+        told: "",
+    },
+    Program {
+        name: "first_input_is_refused",
+        words: &["compare", "x.", "p", "x.", "q"],
+        first: Given::Text(""),
+        second: Given::Text("$TTL 1h\n@ SOA N h 1 2 3 4 5\n  NS n\n"),
+        status: 3,
+        output: "",
+        told: "first: F42 NoSoa in the input: the zone has no SOA record\n",
+    },
+    Program {
+        name: "second_input_is_refused",
+        words: &["compare", "x.", "p", "x.", "q"],
+        first: Given::Text("$TTL 1h\n@ SOA N h 1 2 3 4 5\n  NS n\n"),
+        second: Given::Text(""),
+        status: 3,
+        output: "",
+        told: "second: F42 NoSoa in the input: the zone has no SOA record\n",
+    },
+    Program {
+        name: "zones_of_two_classes_differ_in_the_first_line",
+        words: &["compare", "x.", "p", "x.", "q"],
+        first: Given::Text("@ 60 IN SOA n h 1 2 3 4 5\n"),
+        second: Given::Text("@ 60 CH SOA n h 1 2 3 4 5\n"),
+        status: 1,
+        output: "different at line 1\n",
+        told: "",
+    },
+];
+
+static MORE_COMPARISONS: [Program; 6] = [
+    Program {
+        name: "zones_differ_in_the_second_line",
+        words: &["compare", "x.", "p", "x.", "q"],
+        first: Given::Text("@ 60 SOA n h 1 2 3 4 5\n@ 60 NS n\n"),
+        second: Given::Text("@ 60 SOA n h 1 2 3 4 5\n@ 60 NS m\n"),
+        status: 1,
+        output: "different at line 2\n",
+        told: "",
+    },
+    Program {
+        name: "two_spellings_under_two_origins_are_the_same",
+        words: &["compare", "x.", "p", ".", "q"],
+        first: Given::Text("@ 60 SOA n h 1 2 3 4 5\n"),
+        second: Given::Text("x 60 SOA n.x h.x 1 2 3 4 5\n"),
+        status: 0,
+        output: "same\n",
+        told: "",
+    },
+    Program {
+        name: "both_inputs_refused_names_the_first",
+        words: &["compare", "x.", "p", "transfer", "q"],
+        first: Given::Text("@ 60 SOA n h 1 2 3 4 5\n$INCLUDE f\n"),
+        second: Given::Hex(""),
+        status: 3,
+        output: "",
+        told: "first: F16 IncludeDirective at line 2: $INCLUDE isn't read\n",
+    },
+    Program {
+        name: "ttl_alone_makes_zones_differ",
+        words: &["compare", "x.", "p", "x.", "q"],
+        first: Given::Text("@ 60 SOA n h 1 2 3 4 5\n"),
+        second: Given::Text("@ 61 SOA n h 1 2 3 4 5\n"),
+        status: 1,
+        output: "different at line 1\n",
+        told: "",
+    },
+    Program {
+        name: "older_text_with_a_generic_service_record_is_the_same",
+        words: &["compare", "x.", "p", "x.", "q"],
+        first: Given::Text(
+            "x. 60 IN SOA n.x. h.x. 1 2 3 4 5\n_s._tcp.x. 60 IN TYPE33 \\# 11 0000000513c40168017800\n",
+        ),
+        second: Given::Text(
+            "x. 60 IN SOA n.x. h.x. 1 2 3 4 5\n_s._tcp.x. 60 IN SRV 0 5 5060 h.x.\n",
+        ),
+        status: 0,
+        output: "same\n",
+        told: "",
+    },
+    Program {
+        name: "older_text_with_eight_groups_is_the_same_zone",
+        words: &["compare", "x.", "p", "x.", "q"],
+        first: Given::Text(
+            "x. 60 IN SOA n.x. h.x. 1 2 3 4 5\nx. 60 IN MX 10 m.x.\nv.x. 60 IN AAAA 0:0:0:0:0:ffff:a00:1\n",
+        ),
+        second: Given::Text(
+            "x. 60 IN SOA n.x. h.x. 1 2 3 4 5\nx. 60 IN MX 10 m.x.\nv.x. 60 IN AAAA ::ffff:a00:1\n",
+        ),
+        status: 0,
+        output: "same\n",
+        told: "",
+    },
+];
+
+static EXPLANATIONS: [Program; 6] = [
+    Program {
+        name: "explain_counts_the_records_of_an_accepted_file",
+        words: &["explain", "x."],
+        first: Given::Text("$TTL 1h\n@ SOA N h 1 2 3 4 5\n  NS n\n"),
+        second: Given::BrokenText(""),
+        status: 0,
+        output: "accepted, records: 2\n",
+        told: "",
+    },
+    Program {
+        name: "explain_names_a_differing_ttl_with_its_line",
+        words: &["explain", "x."],
+        first: Given::Text("@ 60 SOA n h 1 2 3 4 5\na 300 A 10.0.0.1\na 600 A 10.0.0.2\n"),
+        second: Given::BrokenText(""),
+        status: 3,
+        output: "F41 DifferingTtl at line 3: the TTL differs from that of its record set\n",
+        told: "",
+    },
+    Program {
+        name: "explain_counts_the_records_of_an_accepted_transfer",
+        words: &["explain", "transfer"],
+        first: Given::Hex(
+            "005400018400000100020000000101780000fc0001c00c0006000100000e10001c016ec00c0168c00c0000000100000002000000030000000400000005c00c0002000100000e100002c01f00002904d00000000000000053000184000000000300000000016e0178000001000100000e1000040a000001c00e0002000100000e100002c00cc00e0006000100000e10001ac00c0168c00e0000000100000002000000030000000400000005",
+        ),
+        second: Given::BrokenText(""),
+        status: 0,
+        output: "accepted, records: 3\n",
+        told: "",
+    },
+    Program {
+        name: "explain_names_a_differing_soa_with_message_and_offset",
+        words: &["explain", "transfer"],
+        first: Given::Hex(
+            "006d00018400000100030000000001780000fc0001c00c0006000100000e10001c016ec00c0168c00c0000000100000002000000030000000400000005c00c0002000100000e100002c01fc00c0006000100000e100018c01fc0230000000200000002000000030000000400000005",
+        ),
+        second: Given::BrokenText(""),
+        status: 3,
+        output: "F36 SoaMismatch at message 1 offset 73: a later SOA differs from the opening one\n",
+        told: "",
+    },
+    Program {
+        name: "explain_tells_the_error_code",
+        words: &["explain", "transfer"],
+        first: Given::Hex(
+            "006d00018405000100030000000001780000fc0001c00c0006000100000e10001c016ec00c0168c00c0000000100000002000000030000000400000005c00c0002000100000e100002c01fc00c0006000100000e100018c01fc0230000000100000002000000030000000400000005",
+        ),
+        second: Given::BrokenText(""),
+        status: 3,
+        output: "F26 ErrorCode 5 at message 1 offset 0: the message carries an error code\n",
+        told: "",
+    },
+    Program {
+        name: "explain_tells_the_owner_outside",
+        words: &["explain", "x."],
+        first: Given::Text("@ 60 SOA n h 1 2 3 4 5\nb.y. 60 A 10.0.0.1\ny. 60 A 10.0.0.1\n"),
+        second: Given::BrokenText(""),
+        status: 3,
+        output: "F43 OutOfZone y. in the input: an owner lies outside the zone\n",
+        told: "",
+    },
+];
+
+static PROGRAMS: [Program; 13] = [
+    Program {
+        name: "program_normalises_the_first_run",
+        words: &["normalise", "x."],
+        first: Given::Text("x. 3600 IN NS n.x.\nx. 3600 IN SOA n.x. h.x. 1 2 3 4 5\n"),
+        second: Given::BrokenText(""),
+        status: 0,
+        output: "x. 3600 IN SOA n.x. h.x. 1 2 3 4 5\nx. 3600 IN NS n.x.\n",
+        told: "",
+    },
+    Program {
+        name: "program_refuses_a_file_without_soa",
+        words: &["normalise", "x."],
+        first: Given::Text("x. 60 IN NS n.x.\n"),
+        second: Given::BrokenText(""),
+        status: 3,
+        output: "",
+        told: "F42 NoSoa in the input: the zone has no SOA record\n",
+    },
+    Program {
+        name: "program_explains_an_accepted_file",
+        words: &["explain", "x."],
+        first: Given::Text("$TTL 1h\n@ SOA N h 1 2 3 4 5\n  NS n\n"),
+        second: Given::BrokenText(""),
+        status: 0,
+        output: "accepted, records: 2\n",
+        told: "",
+    },
+    Program {
+        name: "program_explains_a_refused_file",
+        words: &["explain", "x."],
+        first: Given::Text("@ 60 SOA n h 1 2 3 4 5\na 300 A 10.0.0.1\na 600 A 10.0.0.2\n"),
+        second: Given::BrokenText(""),
+        status: 3,
+        output: "F41 DifferingTtl at line 3: the TTL differs from that of its record set\n",
+        told: "",
+    },
+    Program {
+        name: "program_compares_a_file_and_a_transfer",
+        words: &["compare", "x.", "p", "transfer", "q"],
+        first: Given::Text("$TTL 1h\n@ SOA N h 1 2 3 4 5\n  NS n\n"),
+        second: Given::Hex(
+            "006d00018400000100030000000001780000fc0001c00c0006000100000e10001c016ec00c0168c00c0000000100000002000000030000000400000005c00c0002000100000e100002c01fc00c0006000100000e100018c01fc0230000000100000002000000030000000400000005",
+        ),
+        status: 0,
+        output: "same\n",
+        told: "",
+    },
+    Program {
+        name: "program_compares_two_zones_that_differ",
+        words: &["compare", "x.", "p", "transfer", "r"],
+        first: Given::Text("$TTL 1h\n@ SOA N h 1 2 3 4 5\n  NS n\n"),
+        second: Given::Hex(
+            "005400018400000100020000000101780000fc0001c00c0006000100000e10001c016ec00c0168c00c0000000100000002000000030000000400000005c00c0002000100000e100002c01f00002904d00000000000000053000184000000000300000000016e0178000001000100000e1000040a000001c00e0002000100000e100002c00cc00e0006000100000e10001ac00c0168c00e0000000100000002000000030000000400000005",
+        ),
+        status: 1,
+        output: "different at line 3\n",
+        told: "",
+    },
+    Program {
+        name: "program_compares_a_refused_first_file",
+        words: &["compare", "x.", "e", "x.", "p"],
+        first: Given::Text(""),
+        second: Given::Text("$TTL 1h\n@ SOA N h 1 2 3 4 5\n  NS n\n"),
+        status: 3,
+        output: "",
+        told: "first: F42 NoSoa in the input: the zone has no SOA record\n",
+    },
+    Program {
+        name: "program_compares_a_refused_second_file",
+        words: &["compare", "x.", "p", "x.", "e"],
+        first: Given::Text("$TTL 1h\n@ SOA N h 1 2 3 4 5\n  NS n\n"),
+        second: Given::Text(""),
+        status: 3,
+        output: "",
+        told: "second: F42 NoSoa in the input: the zone has no SOA record\n",
+    },
+    Program {
+        name: "program_cannot_open_the_first_file",
+        words: &["compare", "x.", "missing", "x.", "p"],
+        first: Given::BrokenText(""),
+        second: Given::Text("$TTL 1h\n@ SOA N h 1 2 3 4 5\n  NS n\n"),
+        status: 4,
+        output: "",
+        told: "first: read failed\n",
+    },
+    Program {
+        name: "explain_whose_reader_fails",
+        words: &["explain", "x."],
+        first: Given::BrokenText("$TTL 1h\n@ "),
+        second: Given::BrokenText(""),
+        status: 4,
+        output: "",
+        told: "read failed\n",
+    },
+    Program {
+        name: "compare_whose_first_reader_fails",
+        words: &["compare", "x.", "p", "transfer", "q"],
+        first: Given::BrokenText("$TTL 1h\n@ "),
+        second: Given::Hex(
+            "006d00018400000100030000000001780000fc0001c00c0006000100000e10001c016ec00c0168c00c0000000100000002000000030000000400000005c00c0002000100000e100002c01fc00c0006000100000e100018c01fc0230000000100000002000000030000000400000005",
+        ),
+        status: 4,
+        output: "",
+        told: "first: read failed\n",
+    },
+    Program {
+        name: "compare_whose_second_reader_fails",
+        words: &["compare", "x.", "p", "transfer", "q"],
+        first: Given::Text("$TTL 1h\n@ SOA N h 1 2 3 4 5\n  NS n\n"),
+        second: Given::BrokenHex("006d0001840000010003"),
+        status: 4,
+        output: "",
+        told: "second: read failed\n",
+    },
+    Program {
+        name: "second_input_is_not_read_after_a_refused_first",
+        words: &["compare", "x.", "p", "transfer", "q"],
+        first: Given::Text(""),
+        second: Given::BrokenHex(""),
+        status: 3,
+        output: "",
+        told: "first: F42 NoSoa in the input: the zone has no SOA record\n",
+    },
+];
+
+#[test]
+fn comparisons(rt: HostRuntime) -> Result<(), Fail> {
+    assert_eq!(rt; first_wrong_name(rt.alloc(), &COMPARISONS)?, None);
+    assert_eq!(rt; first_wrong_name(rt.alloc(), &MORE_COMPARISONS)?, None);
+    Ok(())
+}
+
+#[test]
+fn explanations(rt: HostRuntime) -> Result<(), Fail> {
+    assert_eq!(rt; first_wrong_name(rt.alloc(), &EXPLANATIONS)?, None);
+    Ok(())
+}
+
+#[test]
+fn programs(rt: HostRuntime) -> Result<(), Fail> {
+    assert_eq!(rt; first_wrong_name(rt.alloc(), &PROGRAMS)?, None);
+    Ok(())
+}
