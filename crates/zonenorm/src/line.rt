@@ -12,7 +12,6 @@ use zone_rdata::Stop;
 /// # Errors
 ///
 /// `Write`. A front of all that was written, but not all of it.
-#[tactic(auto, using(crate::proofs::Telling::part_first, crate::proofs::Telling::part_then))]
 pub(crate) fn write_line<W: Write>(writer: &mut W, words: &str, line: &str) -> Result<(), Stop>
     ensures written { OnOk result (Appends (W.contents writer.old) (W.contents writer.new) (words.now ++ line.now ++ 10 ∷ [])) }
     ensures part { OnErr result (AppendsPart (W.contents writer.old) (W.contents writer.new) (words.now ++ line.now ++ 10 ∷ [])) }
