@@ -19,21 +19,24 @@ impl Name {
         ensures ok { OnOk result (S.takes out.old (name_text self.now) out.new) }
         ensures err { OnErr result (S.takes out.old [] out.new) }
     {
-        out.push(self.text().as_slice())
+        let mut text = ArrayVec::new();
+        self.write_text(&mut text);
+        out.push(text.as_slice())
     }
 
-    /// The canonical spelling.
-    fn text(&self) -> ArrayVec<u8, LONGEST>
-        ensures { result.items ≡ name_text self.now }
+    /// Writes the canonical spelling into the room for it.
+    // Not inlined: the text is then written where it is read, and not moved.
+    #[inline(never)]
+    fn write_text(&self, text: &mut ArrayVec<u8, LONGEST>)
+        requires { text.old.items ≡ [] }
+        ensures { text.new.items ≡ name_text self.now }
     {
-        let mut text = ArrayVec::new();
         for label in self.labels() {
-            push_label_text(&mut text, label);
+            push_label_text(text, label);
         }
         if text.is_empty() {
             text.push(b'.');
         }
-        text
     }
 }
 
