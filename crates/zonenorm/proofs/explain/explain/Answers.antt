@@ -11,5 +11,4 @@ returns-in_ok-write_number-in-Ok-clause-told g c = any_line (codes "accepted, re
 
 pub returns-in_ok-write_line-in-Err-Refused-clause-explained : goal.returns-in_ok-write_line-in-Err-Refused-clause-explained
 returns-in_ok-write_line-in-Err-Refused-clause-explained g c = 
-    let e = c.in-Err-Refused.field-0-is in
-    explains_refusal _ _ c.in-Err-Refused.field-0 c.in-Err-Refused.fault c.in-Err-Refused.place cc c.in-Err-Refused.ensures.fault
+    explains_refusal _ _ c.in-Err-Refused.field-0 c.in-Err-Refused.fault c.in-Err-Refused.place (let e = c.in-Err-Refused.field-0-is in cc) c.in-Err-Refused.ensures.fault
