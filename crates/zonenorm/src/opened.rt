@@ -24,7 +24,11 @@ impl<S: Read, F: Read> Read for Input<S, F> {
 }
 
 /// The two inputs of an order: standard input alone, or both files of a comparison.
-pub(crate) fn inputs<R: Files, S: Drop>(rt: &R, standard: S, order: &Order) -> (Input<S, R::File>, Input<S, R::File>) {
+pub(crate) fn inputs<R: Files, S: Drop>(
+    rt: &R,
+    standard: S,
+    order: &Order,
+) -> (Input<S, R::File>, Input<S, R::File>) {
     match order {
         Order::Normalise(_) | Order::Explain(_) => (Input::Standard(standard), Input::Missing),
         Order::Compare(first, second) => (opened(rt, first), opened(rt, second)),

@@ -63,7 +63,14 @@ impl Case for Broken {
         };
         let (mut written, mut errors) = (roomy(alloc)?, roomy(alloc)?);
         let mut none = b"".as_slice();
-        let status = run(alloc, &order()?, &mut reader, &mut none, &mut written, &mut errors);
+        let status = run(
+            alloc,
+            &order()?,
+            &mut reader,
+            &mut none,
+            &mut written,
+            &mut errors,
+        );
         had_memory(&errors)?;
         Ok(status == 4 && written.is_empty() && errors.as_slice() == b"read failed\n".as_slice())
     }
@@ -159,7 +166,14 @@ impl Narrowed {
         };
         let (mut reader, mut writer, mut errors) = (FILE, self.writer(alloc)?, roomy(alloc)?);
         let mut none = b"".as_slice();
-        let answered = run(alloc, &order()?, &mut reader, &mut none, &mut writer, &mut errors);
+        let answered = run(
+            alloc,
+            &order()?,
+            &mut reader,
+            &mut none,
+            &mut writer,
+            &mut errors,
+        );
         had_memory(&errors)?;
         Ok(answered == status && writer.taken.as_slice() == self.3 && errors.as_slice() == line)
     }

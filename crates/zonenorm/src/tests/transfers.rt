@@ -55,7 +55,14 @@ fn is_ran(alloc: Global, answer: &Answer, octets: &[u8]) -> Result<bool, Fail> {
     let (mut output, mut told) = (roomy(alloc)?, roomy(alloc)?);
     let order = Order::Normalise(None);
     let mut none = b"".as_slice();
-    let status = run(alloc, &order, &mut reader, &mut none, &mut output, &mut told);
+    let status = run(
+        alloc,
+        &order,
+        &mut reader,
+        &mut none,
+        &mut output,
+        &mut told,
+    );
     had_memory(&told)?;
     match answer {
         Answer::Text(text) => Ok(status == 0 && output.as_slice() == *text && told.is_empty()),
