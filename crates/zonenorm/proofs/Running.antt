@@ -40,6 +40,9 @@ pub explains_refusal : (form : InputForm) (known : Known) (stop : Stop) (fault :
 explains_refusal form known stop fault place is h =
     runs.refused (is_refused form known fault place (subst (λ (s : Stop). IfSome known (λ octets. IfRefused s (IsRefusal (input_of form octets)))) is h))
 
+pub tells_as : (words words' : List ℕ) (stop : Stop) (old new : Known) (answer : ℕ) → words ≡ words' → TellsStop words stop old new answer → TellsStop words' stop old new answer
+tells_as words words' stop old new answer is told = subst (λ (w : List ℕ). TellsStop w stop old new answer) is told
+
 pub four_for_write : (words : List ℕ) (old new : Known) (answer : ℕ) → TellsStop words Write old new answer → answer ≡ 4
 four_for_write words old new answer (inl e) = e
 four_for_write words old new answer (inr (e, line)) = e

@@ -18,6 +18,7 @@ Exit status: 0 the zone is accepted, or both are the same; 1 the zones differ; 2
 is refused, and a line tells why and where; 4 reading, writing or memory failed.";
 
 const ORIGIN: &str = "The file's origin, an absolute name, or the word transfer";
+
 const PATH: &str = "The file that holds the input";
 
 /// The program and its commands. It is handed the words after its name.
@@ -64,7 +65,9 @@ fn compare<'a>(alloc: Global) -> Result<Command<'a>, AllocError>
     let origin2 = Arg::new(alloc, "ORIGIN2").required(true).help(ORIGIN);
     let path2 = Arg::new(alloc, "PATH2").required(true).help(PATH);
     let bare = Command::new(alloc, "compare")
-        .about("Tells whether two files hold one zone, or the first line of canonical text that differs")
+        .about(
+            "Tells whether two files hold one zone, or the first line of canonical text that differs",
+        )
         .after_help(NOTES);
     let with_origin1 = bare.arg(origin1)?;
     let with_path1 = with_origin1.arg(path1)?;

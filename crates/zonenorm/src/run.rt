@@ -47,7 +47,10 @@ pub fn run<R1: Read, R2: Read, W: Write, E: Write>(
             }
         }
         Order::Compare(one, other) => {
-            let forms = (Form::with_origin(&one.origin), Form::with_origin(&other.origin));
+            let forms = (
+                Form::with_origin(&one.origin),
+                Form::with_origin(&other.origin),
+            );
             match compare(alloc, forms.0, first, forms.1, second) {
                 Ok(verdict) => tell_verdict(alloc, verdict, output, errors),
                 Err((which, stop)) => report(alloc, words_of(which), &stop, errors),

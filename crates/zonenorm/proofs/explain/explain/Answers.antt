@@ -10,6 +10,5 @@ pub returns-in_ok-write_number-in-Ok-clause-told : goal.returns-in_ok-write_numb
 returns-in_ok-write_number-in-Ok-clause-told g c = any_line (codes "accepted, records: ") _ _ c.in_ok-write_number-in-Ok.ensures.written
 
 pub returns-in_ok-write_line-in-Err-Refused-clause-explained : goal.returns-in_ok-write_line-in-Err-Refused-clause-explained
-returns-in_ok-write_line-in-Err-Refused-clause-explained g c = 
-    let e = c.in-Err-Refused.field-0-is in
-    explains_refusal _ _ c.in-Err-Refused.field-0 c.in-Err-Refused.fault c.in-Err-Refused.place cc c.in-Err-Refused.ensures.fault
+returns-in_ok-write_line-in-Err-Refused-clause-explained g c =
+    explains_refusal _ _ c.in-Err-Refused.field-0 c.in-Err-Refused.fault c.in-Err-Refused.place (let e = c.in-Err-Refused.field-0-is in cc) c.in-Err-Refused.ensures.fault

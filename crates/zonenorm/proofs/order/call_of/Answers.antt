@@ -52,8 +52,14 @@ pub returns-in_ok-get_str-in-compare-4-clause-found : goal.returns-in_ok-get_str
 returns-in_ok-get_str-in-compare-4-clause-found c = record {
   rows = rows_of (found_of c.in_ok-command.found.now);
   entered = entered c.args.matches.now c.in_ok-command.found.now (codes "compare") (sym c.in_ok-command.ensures.name ∙ ap (λ (t : Text). Some t) c.in-compare.is) (sym c.in_ok-command.ensures.rows);
-  texts = (text_found _ _ _ _ c.get_str-in-compare.ensures c.in_ok-get_str-in-compare.was,
-    (text_found _ _ _ _ c.get_str-in-compare-2.ensures c.in_ok-get_str-in-compare-2.was,
-    (text_found _ _ _ _ c.get_str-in-compare-3.ensures c.in_ok-get_str-in-compare-3.was,
-    (text_found _ _ _ _ c.get_str-in-compare-4.ensures c.in_ok-get_str-in-compare-4.was, tt))));
+  texts = (
+    text_found _ _ _ _ c.get_str-in-compare.ensures c.in_ok-get_str-in-compare.was,
+    (
+      text_found _ _ _ _ c.get_str-in-compare-2.ensures c.in_ok-get_str-in-compare-2.was,
+      (
+        text_found _ _ _ _ c.get_str-in-compare-3.ensures c.in_ok-get_str-in-compare-3.was,
+        (text_found _ _ _ _ c.get_str-in-compare-4.ensures c.in_ok-get_str-in-compare-4.was, tt),
+      ),
+    ),
+  );
 }
