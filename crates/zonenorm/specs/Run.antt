@@ -42,6 +42,13 @@ AppendsPart old new text = (front rest : List ℕ) × (rest ≢ []) × (text ≡
 abbrev pub ReadsFew : Option (List ℕ) → Option (List ℕ) → Type 0
 ReadsFew old new = (given : List ℕ) × (length given ≤ text_limit + 1) × Consumes old new given
 
+-- what a user is told of a stop that is no refusal
+abbrev pub IsStopLine : Stop → List ℕ → Type 0
+IsStopLine (Refused fault place) line = Unit {0}
+IsStopLine Read line = line ≡ codes "read failed"
+IsStopLine Write line = line ≡ codes "write failed"
+IsStopLine Memory line = line ≡ codes "out of memory"
+
 -- a stop that is no refusal
 abbrev pub IsFailure : Stop → Type 0
 IsFailure (Refused fault place) = ⊥
@@ -121,7 +128,8 @@ Fails (Normalise origin) old new =
 Fails (Explain origin) old new = Unit {0}
 Fails (Compare first second) old new = Unit {0}
 
--- What a run of an order leaves, with its exit status.
+-- What a run of an order leaves, with its exit status. Status 4 tells neither which device failed nor that memory was
+-- wanting, since no contract of std says when they do, so of standard error nothing is said then.
 pub data Runs (order : Order) (old new : Devices) : ℕ → Type 0 where
   done : (status : ℕ) → CarriesOut order old new status → Keeps old.errors new.errors → Runs order old new status
   refused : Refuses order old new → Runs order old new 3

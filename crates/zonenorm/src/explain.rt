@@ -1,6 +1,6 @@
-ghost use Rattle.std.specs.Prelude.{[], IfErr, IfOk, OnOk};
+ghost use Rattle.std.specs.Prelude.{[], IfErr, IfOk, OnOk, string_bytes};
 ghost use Rattle.zonenorm.specs.Form.{form_of};
-ghost use Rattle.zonenorm.specs.Run.{AppendsLine, Explains, IsFailure, KeepsUnlessWrite, ReadsFew};
+ghost use Rattle.zonenorm.specs.Run.{AppendsLine, Explains, IsFailure, IsStopLine, KeepsUnlessWrite, ReadsFew};
 
 use crate::engine::accepted_zone;
 use crate::form::Form;
@@ -51,7 +51,9 @@ pub fn explain<R: Read, W: Write>(
 /// # Errors
 ///
 /// Want of memory.
-pub fn explain_line(alloc: Global, stop: &Stop) -> Result<String, AllocError> {
+pub fn explain_line(alloc: Global, stop: &Stop) -> Result<String, AllocError>
+    ensures { IfOk result (λ line. IsStopLine stop.now (string_bytes line)) }
+{
     match stop {
         Stop::Refused(fault, place) => refusal_line(alloc, fault, *place),
         Stop::Read => String::from_str(alloc, "read failed"),

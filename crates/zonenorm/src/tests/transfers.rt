@@ -11,7 +11,7 @@ use crate::tests::streams::{
 };
 use crate::tests::vectors::Answer;
 use crate::tests::{Case, Named, first_wrong_name, had_memory, is_explained, roomy};
-use crate::{normalise, normalise_bytes};
+use crate::{Verdict, compare, normalise, normalise_bytes};
 use std::alloc::Global;
 use std::test::Fail;
 use zone_name::Name;
@@ -73,6 +73,37 @@ fn is_ran(alloc: Global, answer: &Answer, octets: &[u8]) -> Result<bool, Fail> {
     }
 }
 
+/// Whether a canonical text under this origin is the zone of the stream, and normalises to itself.
+fn is_read_back(alloc: Global, octets: &[u8], text: &[u8], origin: &[u8]) -> Result<bool, Fail> {
+    let origin = Name::from_text(origin, None)?;
+    let again = normalise_bytes(alloc, Form::File(&origin), text)?;
+    let (mut first, mut second) = (octets, text);
+    let verdict = compare(
+        alloc,
+        Form::Transfer,
+        &mut first,
+        Form::File(&origin),
+        &mut second,
+    );
+    match verdict {
+        Ok(verdict) => Ok(verdict == Verdict::Same && again.as_slice() == text),
+        Err((_, stop)) => Err(Fail::from(stop)),
+    }
+}
+
+/// Whether an answer's canonical text is read back under other origins and its own.
+fn is_kept(alloc: Global, octets: &[u8], answer: &Answer) -> Result<bool, Fail> {
+    let Answer::Text(text) = answer else {
+        return Ok(true);
+    };
+    for origin in [b".".as_slice(), b"x.", b"other.example."] {
+        if !is_read_back(alloc, octets, text, origin)? {
+            return Ok(false);
+        }
+    }
+    Ok(true)
+}
+
 impl Case for Stream {
     fn is_right(&self, alloc: Global) -> Result<bool, Fail> {
         let octets = octets_of(alloc, self.octets)?;
@@ -80,7 +111,8 @@ impl Case for Stream {
         Ok(
             is_wanted(alloc, &self.answer, answered)?
                 && is_wanted(alloc, &self.answer, written(alloc, &octets)?)?
-                && is_ran(alloc, &self.answer, &octets)?,
+                && is_ran(alloc, &self.answer, &octets)?
+                && is_kept(alloc, &octets, &self.answer)?,
         )
     }
 }
