@@ -15,10 +15,10 @@ use Rattle.zone_wire.specs.WholeWalk.{IsWalk}
 use Rattle.zonenorm.specs.declared.compare.Verdict.{Verdict}
 use Rattle.zonenorm.specs.declared.compare.Verdict.TheVariants.{Different, Same}
 use Rattle.zonenorm.specs.Compare.{Compares, DifferFirstAt, IsVerdict, line_at}
-use Rattle.zonenorm.specs.Headline.{DenoteOne, DenotesOnly, IsBoundedWalk, IsRefused, NormalisesOnlyTo}
+use Rattle.zonenorm.specs.Headline.{DenoteOne, DenotesOnly, IsBoundedWalk, NormalisesOnlyTo}
 use Rattle.zonenorm.specs.Input.{file, Input, InputDenotes, IsInput}
 use Rattle.zonenorm.specs.Normalise.{Normalises, NormalisesTo}
-use Rattle.zonenorm.specs.Refusal.{IsRefusal}
+use Rattle.zonenorm.specs.Refusal.{IsRefusal, IsRefused}
 
 abbrev OneZone : Type 0
 OneZone = (input : Input) → AtMostOneIs (InputDenotes input)

@@ -1,6 +1,6 @@
 -- From what an order's call answers and what is told of it to what a run leaves.
 use Rattle.std.proofs.Common.{◌≡◌, ℕ, List, [], refl, sym, subst, inl, inr}
-use Rattle.std.specs.Prelude.{Option, Some, None, IfSome, ◌⊎◌}
+use Rattle.std.specs.Prelude.{Option, Some, None, IfSome}
 use Rattle.std.specs.Io.KnownBytes.{Keeps}
 use Rattle.zone_rdata.specs.declared.fault.Fault.{Fault}
 use Rattle.zone_rdata.specs.declared.fault.Place.{Place}
@@ -12,7 +12,7 @@ use Rattle.zonenorm.specs.Input.{InputDenotes, InputForm, input_of}
 use Rattle.zonenorm.specs.Machine.Telling.{which_words, TellsStop, TellsVerdict}
 use Rattle.zonenorm.specs.Normalise.{Normalises, WritesNothing, WritesPrefix}
 use Rattle.zonenorm.specs.Refusal.{IfRefused, IsRefusal}
-use Rattle.zonenorm.specs.Run.{form_with, AppendsLine, AreCompared, Devices, Explains, Fails, IsFailure, IsRefused, Runs, done, failed}
+use Rattle.zonenorm.specs.Run.{form_with, AppendsLine, AreCompared, Devices, Explains, Fails, IsFailure, AreRefused, Runs, done, failed}
 use Rattle.zonenorm.specs.Run as runs
 use Rattle.zonenorm.specs.declared.compare.Verdict.{Verdict}
 use Rattle.zonenorm.specs.declared.compare.Which.{Which}
@@ -29,7 +29,7 @@ if_known None P Q then h = tt
 if_known (Some octets) P Q then h = then octets h
 
 -- octets that are refused so are refused
-is_refused : (form : InputForm) (known : Known) (fault : Fault) (place : Place) → IfSome known (λ octets. IsRefusal (input_of form octets) fault place) → IsRefused form known
+is_refused : (form : InputForm) (known : Known) (fault : Fault) (place : Place) → IfSome known (λ octets. IsRefusal (input_of form octets) fault place) → AreRefused form known
 is_refused form known fault place h = if_known known (λ octets. IsRefusal (input_of form octets) fault place) _ (λ octets r. (fault, place, r)) h
 
 -- what explaining a zone and a refusal answer
@@ -64,14 +64,14 @@ module _ (origin : Option (List (List ℕ))) (form : InputForm) (is : form ≡ f
   pub normalise_stopped : (stop : Stop) (answer : ℕ) → WritesNothing stop old.output new.output → IfSome old.first (λ octets. WritesPrefix (input_of form octets) old.output new.output) → IfSome old.first (λ octets. IfRefused stop (IsRefusal (input_of form octets))) → TellsStop [] stop old.errors new.errors answer → Runs (Normalise origin) old new answer
   normalise_stopped stop answer nothing front fault (inl e) = fails (Normalise origin) old new answer (prefix front) e
   normalise_stopped (Refused fault place) answer nothing front refused (inr (e, line)) =
-      refuses (Normalise origin) old new answer (nothing, line, subst (λ (f : InputForm). IsRefused f old.first) is (is_refused form old.first fault place refused)) e
+      refuses (Normalise origin) old new answer (nothing, line, subst (λ (f : InputForm). AreRefused f old.first) is (is_refused form old.first fault place refused)) e
   normalise_stopped Read answer nothing front fault (inr (e, line)) = fails (Normalise origin) old new answer (prefix front) e
   normalise_stopped Write answer nothing front fault (inr (e, line)) = fails (Normalise origin) old new answer (prefix front) e
   normalise_stopped Memory answer nothing front fault (inr (e, line)) = fails (Normalise origin) old new answer (prefix front) e
 
   pub explained : (status : ℕ) → Explains form old.first status → AppendsLine [] old.output new.output → Keeps old.errors new.errors → Runs (Explain origin) old new status
   explained _ (runs.accepted h) line kept = done 0 (refl, line, subst (λ (f : InputForm). IsAccepted f old.first) is h) kept
-  explained _ (runs.refused h) line kept = runs.refused (kept, line, subst (λ (f : InputForm). IsRefused f old.first) is h)
+  explained _ (runs.refused h) line kept = runs.refused (kept, line, subst (λ (f : InputForm). AreRefused f old.first) is h)
 
   pub explain_stopped : (stop : Stop) (answer : ℕ) → IsFailure stop → TellsStop [] stop old.errors new.errors answer → Runs (Explain origin) old new answer
   explain_stopped stop answer failure (inl e) = fails (Explain origin) old new answer tt e
@@ -89,7 +89,7 @@ module _ (one other : Source) (form other_form : InputForm) (is : form ≡ form_
   first_stopped : (stop : Stop) (answer : ℕ) → Keeps old.output new.output → StopsReading form old.first stop → Keeps old.second new.second → TellsStop (which_words First) stop old.errors new.errors answer → Runs (Compare one other) old new answer
   first_stopped stop answer kept reading unread (inl e) = fails (Compare one other) old new answer tt e
   first_stopped (Refused fault place) answer kept reading unread (inr (e, line)) =
-      refuses (Compare one other) old new answer (kept, inl (line, subst (λ (f : InputForm). IsRefused f old.first) is (is_refused form old.first fault place reading.fault), unread)) e
+      refuses (Compare one other) old new answer (kept, inl (line, subst (λ (f : InputForm). AreRefused f old.first) is (is_refused form old.first fault place reading.fault), unread)) e
   first_stopped Read answer kept reading unread (inr (e, line)) = fails (Compare one other) old new answer tt e
   first_stopped Write answer kept reading unread (inr (e, line)) = fails (Compare one other) old new answer tt e
   first_stopped Memory answer kept reading unread (inr (e, line)) = fails (Compare one other) old new answer tt e
@@ -97,7 +97,7 @@ module _ (one other : Source) (form other_form : InputForm) (is : form ≡ form_
   second_stopped : (stop : Stop) (answer : ℕ) → Keeps old.output new.output → IsAccepted form old.first → StopsReading other_form old.second stop → TellsStop (which_words Second) stop old.errors new.errors answer → Runs (Compare one other) old new answer
   second_stopped stop answer kept accepted reading (inl e) = fails (Compare one other) old new answer tt e
   second_stopped (Refused fault place) answer kept accepted reading (inr (e, line)) =
-      refuses (Compare one other) old new answer (kept, inr (line, subst (λ (f : InputForm). IsAccepted f old.first) is accepted, subst (λ (f : InputForm). IsRefused f old.second) other_is (is_refused other_form old.second fault place reading.fault))) e
+      refuses (Compare one other) old new answer (kept, inr (line, subst (λ (f : InputForm). IsAccepted f old.first) is accepted, subst (λ (f : InputForm). AreRefused f old.second) other_is (is_refused other_form old.second fault place reading.fault))) e
   second_stopped Read answer kept accepted reading (inr (e, line)) = fails (Compare one other) old new answer tt e
   second_stopped Write answer kept accepted reading (inr (e, line)) = fails (Compare one other) old new answer tt e
   second_stopped Memory answer kept accepted reading (inr (e, line)) = fails (Compare one other) old new answer tt e

@@ -1,15 +1,12 @@
 -- The words of the sentence that the program stands for (the law `headline`).
 use Rattle.std.specs.Prelude.{◌≡◌, ℕ, ◌<◌, ◌≤◌, List, length}
 use Rattle.std.specs.List.{AllByRecursion}
-use Rattle.zone_rdata.specs.declared.fault.Fault.{Fault}
-use Rattle.zone_rdata.specs.declared.fault.Place.{Place}
 use Rattle.zone_set.specs.Zone.{Zone}
 use Rattle.zone_wire.specs.Name.{Found, IsNameAt}
 use Rattle.zone_wire.specs.Walk.{Visit}
 use Rattle.zone_wire.specs.WholeWalk.{IsWalk}
 use Rattle.zonenorm.specs.Input.{Input, InputDenotes}
 use Rattle.zonenorm.specs.Normalise.{NormalisesTo}
-use Rattle.zonenorm.specs.Refusal.{IsRefusal}
 
 -- two inputs denote the same zone
 abbrev pub DenoteOne : Input → Input → Type 0
@@ -24,10 +21,6 @@ pub record DenotesOnly (input : Input) (z : Zone) : Type 0 where
 pub record NormalisesOnlyTo (input : Input) (text : List ℕ) : Type 0 where
   pub normalises : NormalisesTo input text
   pub no_other : (other : List ℕ) → NormalisesTo input other → other ≡ text
-
--- the input is refused
-abbrev pub IsRefused : Input → Type 0
-IsRefused input = (fault : Fault) × (place : Place) × IsRefusal input fault place
 
 -- The walk of the name at an offset: at most 256 places, all in the message. A name that is decoded there takes a step
 -- for each.

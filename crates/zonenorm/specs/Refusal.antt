@@ -37,6 +37,10 @@ pub data IsRefusalWithin (limit : ℕ) (input : Input) : Fault → Place → Typ
 abbrev pub IsRefusal : Input → Fault → Place → Type 0
 IsRefusal = IsRefusalWithin text_limit
 
+-- the input is refused
+abbrev pub IsRefused : Input → Type 0
+IsRefused input = (fault : Fault) × (place : Place) × IsRefusal input fault place
+
 -- the fault and place of a refusal are so
 abbrev pub IfRefused : Stop → (Fault → Place → Type 0) → Type 0
 IfRefused (Refused fault place) P = P fault place

@@ -1,15 +1,13 @@
 -- What a run of an order reads, writes and answers.
-use Rattle.std.specs.Prelude.{◌≡◌, ◌≢◌, ℕ, ◌+◌, ◌≤◌, List, [], ◌∷◌, ◌++◌, codes, length, Option, Some, None, IfSome, ◌⊎◌}
-use Rattle.std.specs.Io.KnownBytes.{Appends, Consumes, Keeps}
-use Rattle.zone_rdata.specs.declared.fault.Fault.{Fault}
-use Rattle.zone_rdata.specs.declared.fault.Place.{Place}
+use Rattle.std.specs.Prelude.{◌≡◌, ◌≢◌, ℕ, ◌+◌, List, [], ◌∷◌, ◌++◌, codes, Option, Some, None, IfSome, ◌⊎◌}
+use Rattle.std.specs.Io.KnownBytes.{Appends, Keeps}
 use Rattle.zone_rdata.specs.declared.fault.Stop.{Stop}
 use Rattle.zone_rdata.specs.declared.fault.Stop.TheVariants.{Refused, Read, Write, Memory}
 use Rattle.zone_print.specs.Canonical.{text_limit}
 use Rattle.zonenorm.specs.Compare.{Compares, IsAccepted}
 use Rattle.zonenorm.specs.Input.{InputForm, as_file, as_transfer, input_of}
-use Rattle.zonenorm.specs.Normalise.{Normalises, WritesPrefix}
-use Rattle.zonenorm.specs.Refusal.{IsRefusal}
+use Rattle.zonenorm.specs.Normalise.{ConsumesAtMost, Normalises, WritesPrefix}
+use Rattle.zonenorm.specs.Refusal.{IsRefused}
 use Rattle.zonenorm.specs.declared.compare.Verdict.{Verdict}
 use Rattle.zonenorm.specs.declared.compare.Verdict.TheVariants.{Same, Different}
 use Rattle.zonenorm.specs.declared.order.Order.{Order}
@@ -21,14 +19,14 @@ abbrev pub form_with : Option (List (List ℕ)) → InputForm
 form_with None = as_transfer
 form_with (Some origin) = as_file origin
 
--- known octets denote no zone
-abbrev pub IsRefused : InputForm → Option (List ℕ) → Type 0
-IsRefused form known = IfSome known (λ octets. (fault : Fault) × (place : Place) × IsRefusal (input_of form octets) fault place)
+-- known octets are refused
+abbrev pub AreRefused : InputForm → Option (List ℕ) → Type 0
+AreRefused form known = IfSome known (λ octets. IsRefused (input_of form octets))
 
 -- what explaining an input answers: 0 for a zone, else 3
 pub data Explains (form : InputForm) (known : Option (List ℕ)) : ℕ → Type 0 where
   accepted : IsAccepted form known → Explains form known 0
-  refused : IsRefused form known → Explains form known 3
+  refused : AreRefused form known → Explains form known 3
 
 -- a line that begins with this was written, and nothing else
 abbrev pub AppendsLine : List ℕ → Option (List ℕ) → Option (List ℕ) → Type 0
@@ -40,7 +38,7 @@ AppendsPart old new text = (front rest : List ℕ) × (rest ≢ []) × (text ≡
 
 -- no more than the limit and one octet were read
 abbrev pub ReadsFew : Option (List ℕ) → Option (List ℕ) → Type 0
-ReadsFew old new = (given : List ℕ) × (length given ≤ text_limit + 1) × Consumes old new given
+ReadsFew = ConsumesAtMost (text_limit + 1)
 
 -- what a user is told of a stop that is no refusal
 abbrev pub IsStopLine : Stop → List ℕ → Type 0
@@ -108,17 +106,17 @@ CarriesOut (Compare first second) old new status =
 -- the first input is refused and the second is not read, or the first is accepted and the second is refused
 abbrev pub RefusesOne : Source → Source → Devices → Devices → Type 0
 RefusesOne first second old new =
-    (AppendsLine (codes "first: ") old.errors new.errors × IsRefused (form_with first.origin) old.first
+    (AppendsLine (codes "first: ") old.errors new.errors × AreRefused (form_with first.origin) old.first
     × Keeps old.second new.second)
     ⊎ (AppendsLine (codes "second: ") old.errors new.errors × IsAccepted (form_with first.origin) old.first
-    × IsRefused (form_with second.origin) old.second)
+    × AreRefused (form_with second.origin) old.second)
 
 -- What a run leaves whose input is refused: a line that tells why, on standard output where that was asked for.
 abbrev pub Refuses : Order → Devices → Devices → Type 0
 Refuses (Normalise origin) old new =
-    Keeps old.output new.output × AppendsLine [] old.errors new.errors × IsRefused (form_with origin) old.first
+    Keeps old.output new.output × AppendsLine [] old.errors new.errors × AreRefused (form_with origin) old.first
 Refuses (Explain origin) old new =
-    Keeps old.errors new.errors × AppendsLine [] old.output new.output × IsRefused (form_with origin) old.first
+    Keeps old.errors new.errors × AppendsLine [] old.output new.output × AreRefused (form_with origin) old.first
 Refuses (Compare first second) old new = Keeps old.output new.output × RefusesOne first second old new
 
 -- What a run leaves that failed: of a canonical text a prefix was written.

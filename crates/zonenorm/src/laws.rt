@@ -14,11 +14,11 @@ ghost use Rattle.zone_wire.specs.Walk.{Visit};
 ghost use Rattle.zonenorm.specs.declared.compare.Verdict.{Verdict};
 ghost use Rattle.zonenorm.specs.declared.compare.Verdict.TheVariants.{Same};
 ghost use Rattle.zonenorm.specs.Compare.{Compares};
-ghost use Rattle.zonenorm.specs.Headline.{DenoteOne, DenotesOnly, IsBoundedWalk, IsRefused, NormalisesOnlyTo};
+ghost use Rattle.zonenorm.specs.Headline.{DenoteOne, DenotesOnly, IsBoundedWalk, NormalisesOnlyTo};
 ghost use Rattle.zonenorm.specs.Input.{Decides, file, Input, InputDenotes, InputForm, input_of, IsForm, IsInput, Reads, States};
 ghost use Rattle.zonenorm.specs.Machine.Taking.{RefusesFront, RefusesRead};
 ghost use Rattle.zonenorm.specs.Normalise.{Normalises, NormalisesTo};
-ghost use Rattle.zonenorm.specs.Refusal.{IsRefusal, MakesZone, RefusesReading};
+ghost use Rattle.zonenorm.specs.Refusal.{IsRefusal, IsRefused, MakesZone, RefusesReading};
 
 /// A reading is refused for at most one fault, at one place.
 pub fn one_fault_of_a_reading()

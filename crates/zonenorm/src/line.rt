@@ -13,8 +13,10 @@ use zone_rdata::Stop;
 ///
 /// `Write`. A front of all that was written, but not all of it.
 pub(crate) fn write_line<W: Write>(writer: &mut W, words: &str, line: &str) -> Result<(), Stop>
-    ensures written { OnOk result (Appends (W.contents writer.old) (W.contents writer.new) (words.now ++ line.now ++ 10 ∷ [])) }
-    ensures part { OnErr result (AppendsPart (W.contents writer.old) (W.contents writer.new) (words.now ++ line.now ++ 10 ∷ [])) }
+    ensures written { OnOk result (Appends (W.contents writer.old) (W.contents writer.new)
+        (words.now ++ line.now ++ 10 ∷ [])) }
+    ensures part { OnErr result (AppendsPart (W.contents writer.old) (W.contents writer.new)
+        (words.now ++ line.now ++ 10 ∷ [])) }
     ensures stop { IfErr result (λ stop. stop ≡ Stop.Write) }
 {
     write_octets(writer, words.as_bytes())?;

@@ -1,5 +1,4 @@
 -- What the writer took is gone from the rest.
-use Rattle.std.proofs.Common.{◌≡◌, ℕ, List, ◌++◌, sym, ap, ◌∙◌, append_assoc, take, drop, take-append-drop, Option}
 use Rattle.zone_print.proofs.Front.{left_after}
 use Rattle.zonenorm.proofs.line.write_octets.Goals as goal
 
