@@ -3,4 +3,5 @@ pub mod Zone
 pub mod Builder
 pub mod Refusal
 pub mod View
+pub mod Message
 pub mod Machine
