@@ -1,5 +1,5 @@
 -- A record and the sets that are held: why it is refused, and what is held with it.
-use Rattle.std.proofs.Common.{◌≡◌, ◌≢◌, ◌⊎◌, ◌↔◌, ℕ, List, [], ◌∷◌, Option, Some, None, Ordering, Less, Equal, Greater, refl, sym, ap, ◌∙◌, subst, inl}
+use Rattle.std.proofs.Common.{◌≡◌, ◌≢◌, ◌⊎◌, ◌↔◌, ℕ, ◌+◌, ◌-◌, ◌^◌, min, Bool, true, if◌then◌else◌, List, [], ◌∷◌, Option, Some, None, Ordering, Less, Equal, Greater, refl, sym, ap, ◌∙◌, subst, inl}
 use Rattle.std.specs.BTreeMap.{insert_entry, is_at}
 use Rattle.std.specs.List.{AllByRecursion}
 use Rattle.std.specs.List.Sorted.{IsStrictlySortedBy}
@@ -10,13 +10,15 @@ use Rattle.std.specs.Ordering.{match_ordering}
 use Rattle.zone_rdata.specs.Record.{Record, IsRecord}
 use Rattle.zone_rdata.specs.declared.fault.Fault.TheVariants.{ClassMismatch, MultipleSoa, DifferingTtl}
 use Rattle.zone_set.proofs.Canonical.{class_of, all_ascend}
+use Rattle.zone_set.proofs.Counting.{octets_with, octets_counted}
 use Rattle.zone_set.proofs.Entries.{Has-append, first_of, stands_at, StandsAt, holds_one, kept_at, Grows, grows_first, grows_more, kept_with, has_with}
 use Rattle.zone_set.proofs.Inserting.{AreCompatible-with}
 use Rattle.zone_set.proofs.Together.{set_at, key_from_set, set_from_key, stable_number}
 use Rattle.zone_rdata.specs.declared.record.Placed.{Placed}
 use Rattle.zone_set.specs.Builder.{OtherClass, OtherSoa, Accepts, Adds, IsRefusedFor, StopsAdd, fault, memory, class as by_class, soa as by_soa, ttl as by_ttl}
-use Rattle.zone_set.specs.Machine.Held.{SetData, with_datum, entry_records, all_records, class_or_none, IsKept, HoldsSets}
+use Rattle.zone_set.specs.Machine.Held.{SetData, with_datum, entry_records, all_records, class_or_none, IsNew, IsKept, HoldsSets, KeepsSets}
 use Rattle.zone_set.specs.Machine.Key.{RecordSet, set_cmp}
+use Rattle.zone_set.specs.Message.{message_len, message_octets}
 use Rattle.zone_set.specs.Machine.Refusal.{IsOtherClass, IsRefusal, IsSetRefusal, stop_for}
 use Rattle.zone_set.specs.declared.refusal.Refusal.{Refusal}
 use Rattle.zone_set.specs.declared.refusal.Refusal.TheVariants as refusal
@@ -115,6 +117,17 @@ module _ (class : Option ℕ) (es : Entries) (r : Record) (k : RecordSet) (ttl :
         none = λ e. cc;
         some = λ e. some_insert es (set_at r) value (sym shape ∙ e);
       }
+
+      is_new_here : (is_new : Bool) → (is_new ≡ true ↔ IsNew (lookup (is_at (set_cmp k)) es) octets) → (is_new ≡ true ↔ IsNew (lookup (is_at (set_cmp (set_at r))) es) r.octets)
+      is_new_here is_new told = subst (λ os. is_new ≡ true ↔ IsNew (lookup (is_at (set_cmp (set_at r))) es) os) is_octets (subst (λ (q : RecordSet). is_new ≡ true ↔ IsNew (lookup (is_at (set_cmp q)) es) octets) is_k told)
+
+      pub KeepsSets-with : (before after : ℕ) (is_new : Bool) → before ≡ min (message_octets (all_records (class_or_none class) es)) (2 ^ 64 - 1) → (is_new ≡ true ↔ IsNew (lookup (is_at (set_cmp k)) es) octets) → after ≡ min (before + (if is_new then message_len r else 0)) (2 ^ 64 - 1) → KeepsSets (Some r.class) new after
+      unfolding value
+      KeepsSets-with before after is_new is told is_after =
+          let had : message_octets (all_records (class_or_none class) es) ≡ message_octets (all_records r.class es) = ap message_octets (same_records class es r held same) in
+          let now : message_octets (all_records r.class new) ≡ message_octets (all_records r.class es) + (if is_new then message_len r else 0) =
+          ap (λ (fs : Entries). message_octets (all_records r.class fs)) shape ∙ octets_with r.class es r ordered is_new (is_new_here is_new told) in
+          record { sets = HoldsSets-with; octets = octets_counted (message_octets (all_records r.class es)) (message_octets (all_records r.class new)) (if is_new then message_len r else 0) before after (is ∙ ap (λ n. min n (2 ^ 64 - 1)) had) now is_after }
 
 -- the stop for a record that is handed back
 pub stops_add : (held : List Record) (p : Placed) (e : Refusal) → IsRefusal held p.rr e → StopsAdd held p (stop_for e p.place)

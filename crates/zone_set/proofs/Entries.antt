@@ -143,11 +143,11 @@ pub record Grows (class : ℕ) (k : RecordSet) (r : Record) (found : Option SetD
   pub kept : IsKept (k, w)
   pub records : (s : Record) → Has (entry_records class (k, w)) s ↔ ((s ≡ r) ⊎ HasIn class k found s)
 
-none_above : (k : RecordSet) (es : Entries) → AllByRecursion (λ q. set_cmp k q ≡ Less) (keys_of es) → lookup (is_at (set_cmp k)) es ≡ None
+pub none_above : (k : RecordSet) (es : Entries) → AllByRecursion (λ q. set_cmp k q ≡ Less) (keys_of es) → lookup (is_at (set_cmp k)) es ≡ None
 none_above k [] each = refl
 none_above k (e ∷ es) each = ap (λ o. cond (is_eq o) (Some e.1) (lookup (is_at (set_cmp k)) es)) each.0 ∙ none_above k es each.1
 
-above : (k q : RecordSet) (ks : List RecordSet) → set_cmp k q ≡ Less → AllByRecursion (λ p. set_cmp q p ≡ Less) ks → AllByRecursion (λ p. set_cmp k p ≡ Less) ks
+pub above : (k q : RecordSet) (ks : List RecordSet) → set_cmp k q ≡ Less → AllByRecursion (λ p. set_cmp q p ≡ Less) ks → AllByRecursion (λ p. set_cmp k p ≡ Less) ks
 above k q [] less each = tt
 above k q (p ∷ ks) less each = (sets_total.trans k q p less each.0, above k q ks less each.1)
 

@@ -8,5 +8,6 @@ pub mod Canonical
 pub mod Inserting
 pub mod Finishing
 pub mod Taking
+pub mod Counting
 pub mod Adding
 pub mod Walking

@@ -1,6 +1,6 @@
-ghost use Rattle.std.specs.Prelude.{◌≡◌, ◌∷◌, [], length, IfErr, OnOk, OnErr, Some};
+ghost use Rattle.std.specs.Prelude.{◌≡◌, ◌∷◌, ◌↔◌, [], length, IsTrue, IfOk, IfErr, OnOk, OnErr, Some};
 ghost use Rattle.zone_set.specs.Machine.Datums.{left_of};
-ghost use Rattle.zone_set.specs.Machine.Held.{with_datum};
+ghost use Rattle.zone_set.specs.Machine.Held.{with_datum, IsNew};
 ghost use Rattle.zone_set.specs.Machine.Refusal.{IsSetRefusal};
 
 use crate::datum::Datum;
@@ -43,12 +43,13 @@ impl Held {
         }
     }
 
-    /// Takes the datum of a record with this TTL. An equal one is dropped.
+    /// Takes the datum of a record with this TTL, and tells whether it is new. An equal one is dropped.
     ///
     /// # Errors
     ///
     /// `OtherTtl` where the set has another, or want of memory. The set is unchanged.
-    pub(crate) fn add(&mut self, alloc: Global, ttl: u32, datum: Datum) -> Result<(), Refusal>
+    pub(crate) fn add(&mut self, alloc: Global, ttl: u32, datum: Datum) -> Result<bool, Refusal>
+        ensures told { IfOk result (λ is_new. IsTrue is_new ↔ IsNew (Some self.old) datum) }
         ensures one_ttl { OnOk result (self.old.ttl ≡ ttl) }
         ensures taken { OnOk result (self.new ≡ with_datum (Some self.old) ttl self.old.kind datum) }
         ensures refused { IfErr result (IsSetRefusal (Some self.old) ttl) }
@@ -57,11 +58,12 @@ impl Held {
         if self.ttl != ttl {
             return Err(Refusal::OtherTtl);
         }
+        let len = self.datums.len();
         let datums = replace(&mut self.datums, Datums::One(Datum::empty(alloc)));
         match datums.with(alloc, datum) {
             Ok(datums) => {
                 self.datums = datums;
-                Ok(())
+                Ok(self.datums.len() > len)
             }
             Err(datums) => {
                 self.datums = datums;

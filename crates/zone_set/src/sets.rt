@@ -1,11 +1,12 @@
-ghost use Rattle.std.specs.Prelude.{◌≡◌, ◌-◌, ◌^◌, ◌↔◌, [], length, min, IsTrue, OnOk, OnErr, IfErr, IfNone, IfSome};
+ghost use Rattle.std.specs.Prelude.{◌≡◌, ◌+◌, ◌-◌, ◌^◌, ◌↔◌, [], length, min, if◌then◌else◌, IsTrue, OnOk, OnErr, IfOk, IfErr, IfNone, IfSome};
 ghost use Rattle.std.specs.BTreeMap.{get, insert_entry, IsOrdered};
 ghost use Rattle.std.specs.List.{AllByRecursion};
 ghost use Rattle.zone_name.specs.Name.{IsWithin};
 ghost use Rattle.zone_set.specs.Builder.{Accepts, Adds, AreTwoSoas, OtherSoa};
-ghost use Rattle.zone_set.specs.Machine.Held.{with_datum, IsFirstOutside};
+ghost use Rattle.zone_set.specs.Machine.Held.{with_datum, IsFirstOutside, IsNew};
 ghost use Rattle.zone_set.specs.Machine.Key.{set_cmp};
 ghost use Rattle.zone_set.specs.Machine.Refusal.{IsOtherClass, IsRefusal, IsSetRefusal};
+ghost use Rattle.zone_set.specs.Message.{message_len, message_octets};
 ghost use Rattle.zone_set.specs.View.{record_of};
 ghost use Rattle.zone_set.specs.Zone.{AreCompatible};
 
@@ -28,18 +29,20 @@ pub(crate) struct Sets {
     /// The class of all records; `None` where there are none.
     class: Option<Class>,
     by_key: BTreeMap<SetKey, Held>,
+    /// What the records take in messages, or 2^64 - 1 where it is more.
+    octets: u64,
 }
 
 impl Model for Sets {
     ghost use Rattle.std.specs.Prelude.{List};
     ghost use Rattle.zone_rdata.specs.Record.{Record};
-    ghost use Rattle.zone_set.specs.Machine.Held.{all_records, class_or_none, HoldsSets};
+    ghost use Rattle.zone_set.specs.Machine.Held.{all_records, class_or_none, KeepsSets};
 
     ghost Value = { List Record };
 
     ghost view = { λ s. all_records (class_or_none s.class) s.by_key.entries };
 
-    ghost invariant = { λ s. HoldsSets s.class s.by_key.entries };
+    ghost invariant = { λ s. KeepsSets s.class s.by_key.entries s.octets };
 }
 
 impl Sets {
@@ -50,6 +53,7 @@ impl Sets {
         Sets {
             class: None,
             by_key: BTreeMap::new(alloc),
+            octets: 0,
         }
     }
 
@@ -74,6 +78,13 @@ impl Sets {
             len = len.saturating_add(held.len() as u64);
         }
         len
+    }
+
+    /// The octets that the records take in messages where no name is compressed, or 2^64 - 1 where they are more.
+    pub(crate) fn message_len(&self) -> u64
+        ensures { result ≡ min (message_octets self.now) (2 ^ 64 - 1) }
+    {
+        self.octets
     }
 
     /// The first owner that lies outside the zone of an apex.
@@ -117,8 +128,9 @@ impl Sets {
             return Err(Refusal::Memory);
         };
         match put(&mut self.by_key, alloc, key, ttl, rdata.kind(), datum) {
-            Ok(()) => {
+            Ok(is_new) => {
                 self.class = Some(rdata.class());
+                self.octets = octets_with(self.octets, rr, is_new);
                 Ok(())
             }
             Err(refusal) => Err(refusal),
@@ -160,7 +172,28 @@ fn is_other_soa(first: &RrRef<'_>, rr: &Rr) -> bool
     first.owner.wire() != rr.owner().wire() || first.rdata.octets() != rr.rdata().octets()
 }
 
-/// Puts a datum under the key of its set.
+/// The octets that records take in messages, and those of one more where it is new.
+fn octets_with(octets: u64, rr: &Rr, is_new: bool) -> u64
+    ensures { result ≡ min (octets + (if is_new then message_len rr.now else 0)) (2 ^ 64 - 1) }
+{
+    if is_new {
+        octets.saturating_add(len_in_messages(rr))
+    } else {
+        octets
+    }
+}
+
+/// The octets that a record takes in messages where no name is compressed (RFC 1035 3.2.1).
+fn len_in_messages(rr: &Rr) -> u64
+    ensures { result ≡ message_len rr.now }
+{
+    let owner = rr.owner();
+    owner.known();
+    // Behind the owner type, class, TTL and the length of the data.
+    owner.wire().len() as u64 + 10 + rr.rdata().octets().len() as u64
+}
+
+/// Puts a datum under the key of its set, and tells whether it is new to it.
 ///
 /// # Errors
 ///
@@ -173,7 +206,8 @@ fn put(
     ttl: u32,
     kind: Kind,
     datum: Datum,
-) -> Result<(), Refusal>
+) -> Result<bool, Refusal>
+    ensures told { IfOk result (λ is_new. IsTrue is_new ↔ IsNew (get set_cmp by_key.old key) datum) }
     ensures taken { OnOk result (by_key.new.entries
         ≡ insert_entry set_cmp by_key.old.entries key (with_datum (get set_cmp by_key.old key) ttl kind datum)) }
     ensures one_ttl { OnOk result (IfSome (get set_cmp by_key.old key) (λ d. d.ttl ≡ ttl)) }
@@ -187,10 +221,10 @@ fn put(
         // There is room for the entry.
         Ok(Entry::Vacant(vacant)) => {
             let _ = vacant.insert(Held::new(ttl, kind, datum));
-            Ok(())
+            Ok(true)
         }
         Ok(Entry::Occupied(mut occupied)) => match occupied.get_mut().add(alloc, ttl, datum) {
-            Ok(()) => Ok(()),
+            Ok(is_new) => Ok(is_new),
             Err(refusal) => Err(refusal),
         },
     }

@@ -1,5 +1,5 @@
 -- What the map of sets holds.
-use Rattle.std.specs.Prelude.{◌≡◌, ◌≢◌, ℕ, List, [], ◌∷◌, ◌++◌, map, Option, Some, None}
+use Rattle.std.specs.Prelude.{◌≡◌, ◌≢◌, ℕ, ◌-◌, ◌^◌, ◌<◌, min, List, [], ◌∷◌, ◌++◌, length, map, Option, Some, None, ⊤}
 use Rattle.std.specs.BTreeSet.{insert_key}
 use Rattle.std.specs.Cmp.Lexicographic.{slice_cmp}
 use Rattle.std.specs.List.{AllByRecursion, flat_map}
@@ -9,6 +9,7 @@ use Rattle.zone_name.specs.Name.{IsWithin}
 use Rattle.zone_rdata.specs.Record.{Record}
 use Rattle.zone_set.specs.Machine.Datums.{AscendingOctets}
 use Rattle.zone_set.specs.Machine.Key.{RecordSet, set_for}
+use Rattle.zone_set.specs.Message.{message_octets}
 use Rattle.zone_set.specs.Zone.{AreCompatible}
 
 -- what records of one set have in common, and the octets of their data
@@ -26,6 +27,11 @@ pub record AreDatums (octets : List (List ℕ)) : Type 0 where
 abbrev pub with_datum : Option SetData → ℕ → ℕ → List ℕ → SetData
 with_datum None ttl kind octets = record { ttl = ttl; kind = kind; rdatas = octets ∷ [] }
 with_datum (Some d) ttl kind octets = record { ttl = d.ttl; kind = d.kind; rdatas = insert_key (slice_cmp nat_cmp) d.rdatas octets }
+
+-- the data of a set, if it has any, are more with this one
+abbrev pub IsNew : Option SetData → List ℕ → Type 0
+IsNew None octets = ⊤
+IsNew (Some d) octets = length d.rdatas < length (insert_key (slice_cmp nat_cmp) d.rdatas octets)
 
 -- the record of a set and class with these octets
 abbrev pub set_record : ℕ → RecordSet → SetData → List ℕ → Record
@@ -54,6 +60,11 @@ pub record HoldsSets (class : Option ℕ) (entries : List (RecordSet × SetData)
   pub compatible : AreCompatible (all_records (class_or_none class) entries)
   pub none : class ≡ None → entries ≡ []
   pub some : IfSome class (λ _. entries ≢ [])
+
+-- such sets, and the octets that their records take in messages, as far as 64 bits count them
+pub record KeepsSets (class : Option ℕ) (entries : List (RecordSet × SetData)) (counted : ℕ) : Type 0 where
+  pub sets : HoldsSets class entries
+  pub octets : counted ≡ min (message_octets (all_records (class_or_none class) entries)) (2 ^ 64 - 1)
 
 -- the owner of the first of these records that lies outside the zone of the apex
 pub record IsFirstOutside (records : List Record) (apex owner : List (List ℕ)) : Type 0 where

@@ -8,7 +8,7 @@ pub loop-key-init : goal.loop-key-init
 loop-key-init c = record {
   can_next = tt;
   is_finite = tt;
-  walks = Walks-start (class_or_none c.self.inside.class) c.self.inside.by_key.entries _ _ _ c.self.invariant.kept c.self.view_is (c.into_iter-key-iterator.ensures.into_iter_gives ∙ c.iter-key-items.ensures.rest);
+  walks = Walks-start (class_or_none c.self.inside.class) c.self.inside.by_key.entries _ _ _ c.self.invariant.sets.kept c.self.view_is (c.into_iter-key-iterator.ensures.into_iter_gives ∙ c.iter-key-items.ensures.rest);
 }
 
 pub loop-key-preserved : goal.loop-key-preserved
