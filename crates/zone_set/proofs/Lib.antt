@@ -11,3 +11,4 @@ pub mod Taking
 pub mod Counting
 pub mod Adding
 pub mod Walking
+pub mod Interval

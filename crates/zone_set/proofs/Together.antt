@@ -79,7 +79,7 @@ module _ (held : List Record) (r : Record) (fits : Accepts held r) where
       λ i. record { owner = owner i; class = class i; kind = kind i; ttl = ttl i; octets = octets i }
 
 -- the first of these records is an SOA if any is
-soa_before : (b c : Bool) (o : Ordering) → ordering_then (nat_cmp (if b then 0 else 1) (if c then 0 else 1)) o ≡ Less → c ≡ true → b ≡ true
+pub soa_before : (b c : Bool) (o : Ordering) → ordering_then (nat_cmp (if b then 0 else 1) (if c then 0 else 1)) o ≡ Less → c ≡ true → b ≡ true
 soa_before true c o less is_soa = refl
 soa_before false true o less is_soa = cc
 soa_before false false o less is_soa = cc

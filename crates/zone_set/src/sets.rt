@@ -92,6 +92,9 @@ impl Sets {
         ensures within { IfNone result (AllByRecursion (λ r. IsWithin r.owner apex.now) self.now) }
         ensures outside { IfSome result (λ owner. IsFirstOutside self.now apex.now owner) }
     {
+        if self.lies_within(apex) {
+            return None;
+        }
         for (key, _) in self.by_key.iter() {
             let owner = key.owner();
             if !owner.is_within(apex) {
@@ -99,6 +102,18 @@ impl Sets {
             }
         }
         None
+    }
+
+    /// Whether the first owner, the least behind it and the greatest show that all lie within the zone of an apex: in
+    /// the order of names those at or below an apex stand together, and behind an SOA sets are in that order.
+    fn lies_within(&self, apex: &Name) -> bool
+        ensures { IsTrue result → AllByRecursion (λ r. IsWithin r.owner apex.now) self.now }
+    {
+        let mut keys = self.by_key.keys();
+        let (first, least, greatest) = (keys.next(), keys.next(), keys.next_back());
+        is_none_outside(first, apex)
+            && is_none_outside(least, apex)
+            && is_none_outside(greatest, apex)
     }
 
     /// Takes a record. An equal one is dropped.
@@ -149,6 +164,16 @@ impl Sets {
             Some(first) => is_other_soa(&first, rr),
             None => false,
         }
+    }
+}
+
+/// Whether there is no set, or its owner lies within the zone of an apex.
+fn is_none_outside(key: Option<&SetKey>, apex: &Name) -> bool
+    ensures { IsTrue result ↔ IfSome key.entry (λ k. IsWithin k.now.owner apex.now) }
+{
+    match key {
+        Some(key) => key.owner().is_within(apex),
+        None => true,
     }
 }
 
