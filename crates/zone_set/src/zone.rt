@@ -1,4 +1,5 @@
 ghost use Rattle.std.specs.Prelude.{◌≡◌, ◌-◌, ◌^◌, length, min};
+ghost use Rattle.zone_set.specs.Message.{message_octets};
 ghost use Rattle.zone_set.specs.Zone.{IsZone};
 
 use crate::records::Records;
@@ -45,6 +46,19 @@ impl Zone {
         ensures { result ≡ min (length self.now.records) (2 ^ 64 - 1) }
     {
         self.sets.len()
+    }
+
+    /// The octets that its records take in messages where no name is compressed (RFC 1035 3.2.1), or 2^64 - 1 where
+    /// they are more.
+    pub fn message_len(&self) -> u64
+        ensures { result ≡ min (message_octets self.now.records) (2 ^ 64 - 1) }
+    {
+        let mut message_len: u64 = 0;
+        for rr in self.records() {
+            let rr_len = rr.owner.wire().len() as u64 + 10 + rr.rdata.octets().len() as u64;
+            message_len = message_len.saturating_add(rr_len);
+        }
+        message_len
     }
 
     /// The records in canonical order.
