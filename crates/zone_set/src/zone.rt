@@ -27,6 +27,13 @@ impl Model for Zone {
 }
 
 impl Zone {
+    /// Does nothing, and tells contracts what holds of every zone.
+    pub fn known(&self)
+        ensures { IsZone self.now }
+    {
+        let _ = &self.apex;
+    }
+
     /// The owner of the SOA.
     pub fn apex(&self) -> &Name
         ensures { result.now ≡ self.now.apex }
