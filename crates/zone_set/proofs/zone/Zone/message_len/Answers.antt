@@ -1,4 +1,4 @@
-use Rattle.std.proofs.Common.{◌≡◌, ◌+◌, ◌≤◌, ◌-◌, ◌^◌, min, ap, sym, ◌∙◌, arith}
+use Rattle.std.proofs.Common.{ap, arith}
 use Rattle.zone_set.specs.Message.{message_octets}
 use Rattle.zone_set.proofs.zone.Zone.message_len.Goals as goal
 
