@@ -11,3 +11,4 @@ pub mod Answered
 pub mod Lawful
 pub mod Sinks
 pub mod Bare
+pub mod Lengths

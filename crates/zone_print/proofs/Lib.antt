@@ -1,6 +1,7 @@
 pub mod Feeds
 pub mod Front
 pub mod Lines
+pub mod Lengths
 pub mod Stops
 pub mod OneZone
 pub mod Items

@@ -1,5 +1,5 @@
 //! Laws of zones and their canonical text. The functions only call other laws: their contracts are the laws.
-ghost use Rattle.std.specs.Prelude.{◌≡◌, ◌≤◌, ◌↔◌, List, length};
+ghost use Rattle.std.specs.Prelude.{◌≡◌, ◌*◌, ◌≤◌, ◌↔◌, List, length};
 ghost use Rattle.std.specs.Cmp.{IsTotalOrder};
 ghost use Rattle.std.specs.List.{AllByRecursion};
 ghost use Rattle.std.specs.declared.cmp.Ordering.TheVariants.{Equal};
@@ -8,6 +8,7 @@ ghost use Rattle.zone_rdata.specs.Record.{IsRecord, Record, data_of};
 ghost use Rattle.zone_print.specs.Canonical.{canon, line, lines, text_limit};
 ghost use Rattle.zone_print.specs.Denotes.{Denotes};
 ghost use Rattle.zone_print.specs.Laws.{EachLineEnds, IsLineOf, placed_from};
+ghost use Rattle.zone_set.specs.Message.{message_octets};
 ghost use Rattle.zone_set.specs.Order.{canonical_cmp};
 ghost use Rattle.zone_set.specs.Zone.{Zone, IsZone, SameRecords};
 ghost use Rattle.zone_text.specs.File.{FileStates};
@@ -95,3 +96,9 @@ pub fn equal_texts_are_equal_zones()
     a_file_states_one_list();
     one_zone_of_records();
 }
+
+/// The canonical text of a zone has at most four times as many octets as its records take in messages where no name is
+/// compressed (RFC 1035 3.2.1).
+pub fn a_text_is_at_most_four_times_its_messages()
+    ensures { (z : Zone) → IsZone z → length (canon z) ≤ 4 * message_octets z.records }
+{}

@@ -6,4 +6,4 @@ mod line;
 mod print;
 mod write;
 
-pub use print::{TEXT_LIMIT, canon_len, push_zone, write_zone};
+pub use print::{TEXT_LIMIT, canon_len, push_zone, text_fits, write_zone};

@@ -1,12 +1,10 @@
-ghost use Rattle.std.specs.Prelude.{◌≡◌, ◌+◌, ◌<◌, ◌≤◌, length, min, IfOk, IfErr, OnOk, OnErr};
+ghost use Rattle.std.specs.Prelude.{◌≡◌, ◌+◌, ◌≤◌, ◌↔◌, length, min, IfOk, IfErr, OnOk, OnErr, IsTrue};
 ghost use Rattle.std.specs.Io.KnownBytes.{Appends};
 ghost use Rattle.zone_print.specs.Canonical.{canon, text_limit};
-ghost use Rattle.zone_rdata.specs.declared.fault.Fault.TheVariants.{ZoneTooLarge};
-ghost use Rattle.zone_rdata.specs.declared.fault.Place.TheVariants.{Whole};
-ghost use Rattle.zone_rdata.specs.declared.fault.Stop.TheVariants.{Refused};
 ghost use Rattle.zone_print.specs.Machine.Writing.{IsOfWriting, TellsWrite};
 ghost use Rattle.zone_print.specs.Writing.{AppendsPrefix, StopsPush, StopsWrite};
 
+use crate::laws::a_text_is_at_most_four_times_its_messages;
 use crate::line::{push_line, push_lines};
 use crate::write::{OctetWriter, Text, write_octets};
 use std::alloc::Global;
@@ -26,6 +24,13 @@ pub fn canon_len(zone: &Zone) -> u64
     ensures { result ≡ min (length (canon zone.now)) (text_limit + 1) }
 {
     len_within(zone, TEXT_LIMIT)
+}
+
+/// Whether the canonical text has at most [`TEXT_LIMIT`] octets. Takes no memory.
+pub fn text_fits(zone: &Zone) -> bool
+    ensures { IsTrue result ↔ length (canon zone.now) ≤ text_limit }
+{
+    text_fits_within(zone, TEXT_LIMIT)
 }
 
 /// The canonical text of the zone.
@@ -67,22 +72,15 @@ pub(crate) fn len_within(zone: &Zone, limit: u64) -> u64
     limit + 1 - room.left
 }
 
-/// The length of the canonical text, which is within the limit.
-///
-/// # Errors
-///
-/// `ZoneTooLarge` at the input as a whole.
-fn checked_len(zone: &Zone, limit: u64) -> Result<u64, Stop>
+/// Whether the canonical text has at most so many octets. It is counted only where four times the octets of its records
+/// in messages are more.
+pub(crate) fn text_fits_within(zone: &Zone, limit: u64) -> bool
     requires { limit ≤ text_limit }
-    ensures len { IfOk result (λ n. n ≡ length (canon zone.now)) }
-    ensures short { IfOk result (λ n. n ≤ limit) }
-    ensures stopped { IfErr result (λ stop. (stop ≡ Refused ZoneTooLarge Whole) × (limit < length (canon zone.now))) }
+    ensures { IsTrue result ↔ length (canon zone.now) ≤ limit }
 {
-    let text_len = len_within(zone, limit);
-    if text_len > limit {
-        return Err(Stop::Refused(Fault::ZoneTooLarge, Place::Whole));
-    }
-    Ok(text_len)
+    zone.known();
+    a_text_is_at_most_four_times_its_messages();
+    zone.message_len() <= limit / 4 || len_within(zone, limit) <= limit
 }
 
 /// `push_zone` under a limit.
@@ -92,7 +90,10 @@ pub(crate) fn push_within(alloc: Global, zone: &Zone, limit: u64) -> Result<Vec<
     ensures short { OnOk result (length (canon zone.now) ≤ limit) }
     ensures stopped { IfErr result (StopsPush limit (canon zone.now)) }
 {
-    let text_len = checked_len(zone, limit)?;
+    let text_len = len_within(zone, limit);
+    if text_len > limit {
+        return Err(Stop::Refused(Fault::ZoneTooLarge, Place::Whole));
+    }
     let mut text = Text {
         octets: Vec::with_capacity(alloc, text_len as usize)?,
     };
@@ -114,7 +115,9 @@ pub(crate) fn write_within<W: OctetWriter>(
         (StopsWrite limit (canon zone.now) (W.contents writer.old) (W.contents writer.new)) }
     ensures failed { IfErr result (TellsWrite (W.Failed writer.new)) }
 {
-    checked_len(zone, limit)?;
+    if !text_fits_within(zone, limit) {
+        return Err(Stop::Refused(Fault::ZoneTooLarge, Place::Whole));
+    }
     write_lines(alloc, zone, writer)
 }
 

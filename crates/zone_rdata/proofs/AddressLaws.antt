@@ -146,7 +146,7 @@ segments_each [] each = tt
 segments_each (a ∷ []) each = tt
 segments_each (a ∷ b ∷ octets) each = (let h = each.0 in let l = each.1.0 in omega arith, segments_each octets each.1.1)
 
-segments_count : (count : ℕ) (octets : List ℕ) → length octets ≡ 2 * count → length (segments_of octets) ≡ count
+pub segments_count : (count : ℕ) (octets : List ℕ) → length octets ≡ 2 * count → length (segments_of octets) ≡ count
 segments_count zero [] len = refl
 segments_count (suc count) [] len = absurd (omega arith)
 segments_count count (a ∷ []) len = absurd (omega arith)

@@ -1,5 +1,5 @@
 -- What is proved of any field. `kind_of` picks the laws of its kind.
-use Rattle.std.proofs.Common.{List, Some, [], ap, length, subst, sym, ℕ, ◌++◌, ◌<◌, ◌∙◌, ◌∷◌, ◌≡◌, ◌≢◌, ◌≤◌}
+use Rattle.std.proofs.Common.{List, Some, [], ap, length, subst, sym, ℕ, ◌++◌, ◌+◌, ◌*◌, ◌<◌, ◌∙◌, ◌∷◌, ◌≡◌, ◌≢◌, ◌≤◌}
 use Rattle.std.specs.List.{AllByRecursion}
 use Rattle.std.proofs.lemmas.List.{append_cancel_left}
 use Rattle.zone_name.specs.Name.{IsName}
@@ -8,7 +8,7 @@ use Rattle.zone_rdata.specs.declared.field.Field.{Field}
 use Rattle.zone_rdata.specs.declared.field.Field.TheVariants.{Name, Octets, OneString, Serial, Strings, Time, U16}
 use Rattle.zone_rdata.specs.Builder.{FitsString}
 use Rattle.zone_rdata.specs.Fault.{fault_of}
-use Rattle.zone_rdata.specs.Field.{FieldValue, Holds, IsFieldFault, SpellsField, Suits, field_at, field_items, field_octets, items_behind, own_items}
+use Rattle.zone_rdata.specs.Field.{FieldValue, Holds, IsFieldFault, SpellsField, Suits, field_at, field_items, field_octets, field_text, items_behind, own_items}
 use Rattle.zone_rdata.specs.Item.{IsGeneric, RawItem, bare, quoted}
 use Rattle.zone_rdata.specs.Layout.{IsSized}
 use Rattle.zone_rdata.specs.Machine.Appending.{BeginsWithValue}
@@ -125,3 +125,8 @@ field_stands f v sized h = let k = kind_of f in each f k (λ w. AllByRecursion S
 
 pub field_unmarked : (f : Field) (v : FieldValue) (rest : List RawItem) → IsSized f → Holds f v → IsGeneric (field_items v ++ rest) → ⊥
 field_unmarked f v rest sized h = let k = kind_of f in each f k (λ w. IsGeneric (field_items w ++ rest) → ⊥) (λ x held. k.laws.unmarked x rest sized held) v h
+
+-- ---- how long its text is
+
+pub field_few : (f : Field) (v : FieldValue) → IsSized f → Holds f v → length (field_text v) + 1 ≤ 4 * length (field_octets v)
+field_few f v sized h = let k = kind_of f in each f k (λ w. length (field_text w) + 1 ≤ 4 * length (field_octets w)) (λ x held. k.laws.few x sized held) v h

@@ -1,5 +1,5 @@
 -- What is proved of every kind of field, and what kinds share.
-use Rattle.std.proofs.Common.{List, Option, Some, [], ap, arith, decimal, drop, get_or, inl, inr, length, length-append, refl, subst, suc, sym, take, true, zero, ℕ, ◌++◌, ◌<◌, ◌^◌, ◌∙◌, ◌∷◌, ◌≡◌, ◌≢◌, ◌≤◌, ◌⊎◌}
+use Rattle.std.proofs.Common.{List, Option, Some, [], ap, arith, decimal, drop, get_or, inl, inr, length, length-append, refl, subst, suc, sym, take, true, zero, ℕ, ◌++◌, ◌+◌, ◌*◌, ◌<◌, ◌^◌, ◌∙◌, ◌∷◌, ◌≡◌, ◌≢◌, ◌≤◌, ◌⊎◌}
 use Rattle.std.specs.List.{AllByRecursion}
 use Rattle.std.specs.Prelude.{IfSome}
 use Rattle.std.proofs.lemmas.Bool.{cases_lt, false≢true}
@@ -13,7 +13,7 @@ use Rattle.zone_rdata.specs.declared.fault.Fault.TheVariants.{BadRdata}
 use Rattle.zone_rdata.specs.declared.field.Field.{Field}
 use Rattle.zone_rdata.specs.declared.field.Field.TheVariants.{Name, OneString, Strings}
 use Rattle.zone_rdata.specs.Builder.{FitsString}
-use Rattle.zone_rdata.specs.Field.{FieldValue, Holds, IsFieldFault, IsSent, SpellsField, Suits, field_at, field_items, field_octets, items_behind, name, own_items}
+use Rattle.zone_rdata.specs.Field.{FieldValue, Holds, IsFieldFault, IsSent, SpellsField, Suits, field_at, field_items, field_octets, field_text, items_behind, name, own_items}
 use Rattle.zone_rdata.specs.Item.{IsGeneric, RawItem, bare, quoted}
 use Rattle.zone_rdata.specs.Layout.{IsSized}
 use Rattle.zone_rdata.specs.Machine.Appending.{AppendsPrefix, AppendsValue, BeginsWithNone, BeginsWithValue}
@@ -99,6 +99,8 @@ pub record FieldLaws {X I : Type 0} (f : Field) (value : X → FieldValue) (item
   pub printed : NamesPrinted → (origin : List (List ℕ)) (x : X) (rest : List RawItem) → IsSized f → Holds f (value x) → (f ≡ Strings → rest ≡ []) → SpellsField origin f (own_items f (field_items (value x) ++ rest)) (value x) × (items_behind f (field_items (value x) ++ rest) ≡ rest)
   pub stands : (x : X) → IsSized f → Holds f (value x) → AllByRecursion Stands (field_items (value x))
   pub unmarked : (x : X) (rest : List RawItem) → IsSized f → Holds f (value x) → IsGeneric (field_items (value x) ++ rest) → ⊥
+  -- its text and a space have at most four octets for each of its own
+  pub few : (x : X) → IsSized f → Holds f (value x) → length (field_text (value x)) + 1 ≤ 4 * length (field_octets (value x))
 
 -- ---- one bare item
 

@@ -7,6 +7,7 @@ pub mod Sent
 pub mod Lists
 pub mod Choices
 pub mod Standing
+pub mod FieldLengths
 pub mod FieldLaws
 pub mod Fields
 pub mod AnyField
@@ -20,6 +21,7 @@ pub mod TimeLaws
 pub mod Values
 pub mod Texts
 pub mod TextItems
+pub mod TextLengths
 pub mod StringTexts
 pub mod Times
 pub mod Decimal

@@ -13,7 +13,7 @@ use crate::laws::what_is_read_is_stated;
 use crate::octets::{OctetReader, OctetSlice};
 use std::alloc::Global;
 use std::io::{Read, Write};
-use zone_print::{TEXT_LIMIT, canon_len, push_zone, write_zone};
+use zone_print::{TEXT_LIMIT, push_zone, text_fits, write_zone};
 use zone_rdata::{Fault, Place, Stop};
 use zone_set::Zone;
 use zone_text::TextSource;
@@ -73,7 +73,7 @@ pub(crate) fn accepted_zone<R: OctetReader>(
 {
     let stated = zone_of(alloc, form, reader)?;
     what_is_read_is_stated();
-    if canon_len(&stated) > TEXT_LIMIT {
+    if !text_fits(&stated) {
         return Err(Stop::Refused(Fault::ZoneTooLarge, Place::Whole));
     }
     Ok(stated)

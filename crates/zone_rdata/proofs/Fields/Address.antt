@@ -1,5 +1,5 @@
 -- An address of a fixed number of octets.
-use Rattle.std.proofs.Common.{List, Some, [], ap, arith, inl, inr, length, refl, subst, sym, ℕ, ◌<◌, ◌==◌, ◌∙◌, ◌∷◌, ◌≡◌, ◌≤◌, ◌⊎◌}
+use Rattle.std.proofs.Common.{List, Some, [], ap, arith, inl, inr, length, refl, subst, sym, ℕ, ◌+◌, ◌*◌, ◌<◌, ◌==◌, ◌∙◌, ◌∷◌, ◌≡◌, ◌≤◌, ◌⊎◌}
 use Rattle.std.specs.List.{AllByRecursion}
 use Rattle.std.specs.Prelude.{if◌then◌else◌}
 use Rattle.std.proofs.lemmas.List.{take_at}
@@ -19,6 +19,7 @@ use Rattle.zone_rdata.proofs.Addresses.{numbers_unique}
 use Rattle.zone_rdata.proofs.FieldLaws.{FieldLaws, SizedField, bare_item, bare_or_fault, mark, mark_text, sized_front, value_or_fault}
 use Rattle.zone_name.proofs.Bare.{StandsBare}
 use Rattle.zone_rdata.proofs.Standing.{bare_address}
+use Rattle.zone_rdata.proofs.FieldLengths.{ipv4_length, ipv6_length}
 
 only : (n : ℕ) (v : FieldValue) → Holds (Octets n) v → (octets : List ℕ) × (v ≡ fixed octets)
 only n (fixed octets) h = (octets, refl)
@@ -73,6 +74,14 @@ stands n octets (inr e) h =
     let size : length octets ≡ 16 = h.size ∙ e in
     subst StandsBare (sym (text_of_ipv6 octets size)) (bare_address (ipv6_text octets) (ipv6_some _ octets (ipv6_printed octets size h.each)) (ipv6_plain octets size h.each))
 
+few : (n : ℕ) (octets : List ℕ) → (n ≡ 4) ⊎ (n ≡ 16) → AreFixed n octets → length (address_text octets) + 1 ≤ 4 * length octets
+few n octets (inl e) h =
+    let size : length octets ≡ 4 = h.size ∙ e in
+    omega (arith, size, ap length (text_of_ipv4 octets size), ipv4_length octets size h.each)
+few n octets (inr e) h =
+    let size : length octets ≡ 16 = h.size ∙ e in
+    omega (arith, size, ap length (text_of_ipv6 octets size), ipv6_length octets size)
+
 pub laws : (n : ℕ) → FieldLaws (Octets n) fixed bare_item
 laws n = record {
   only = only n;
@@ -90,4 +99,5 @@ laws n = record {
   printed = λ names origin octets rest fixed_size h last. (printed n octets fixed_size h, refl);
   stands = λ octets fixed_size h. (stands n octets fixed_size h, tt);
   unmarked = λ octets rest fixed_size h g. unmarked n octets fixed_size h (mark_text (address_text octets) rest g);
+  few = λ octets fixed_size h. few n octets fixed_size h;
 }

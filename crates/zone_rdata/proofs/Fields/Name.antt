@@ -19,6 +19,7 @@ use Rattle.zone_rdata.proofs.FieldLaws.{AreLow, FieldLaws, FrontChoice, bare_ite
 use Rattle.zone_name.proofs.Octets.{labels_of-wire_append}
 use Rattle.zone_rdata.proofs.Sent.{AreSome, HasCut, cut_more, cut_name, cut_none, folded_some, goes_on, name_by, no_first, no_room, sent_once, some_behind}
 use Rattle.zone_name.proofs.Bare.{bare_name}
+use Rattle.zone_name.proofs.Lengths.{name_text_length}
 
 only : (v : FieldValue) → Holds Name v → (labels : List (List ℕ)) × (v ≡ name labels)
 only (name labels) h = (labels, refl)
@@ -170,4 +171,5 @@ laws = record {
   printed = λ names origin labels rest fixed_size h last. (names (Some origin) labels h, refl);
   stands = λ labels fixed_size h. (bare_name labels h, tt);
   unmarked = λ labels rest fixed_size h g. name_unmarked labels (mark_text (name_text labels) rest g);
+  few = λ labels fixed_size h. omega (arith, name_text_length labels);
 }

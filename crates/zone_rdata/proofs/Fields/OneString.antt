@@ -14,6 +14,7 @@ use Rattle.zone_rdata.specs.Strings.{IsString}
 use Rattle.zone_rdata.proofs.FieldLaws.{AreLow, AreLowItems, FieldChoice, FieldLaws, FrontChoice, appends_plain, found_front, front_of, low_take}
 use Rattle.zone_rdata.proofs.StringLaws.{printed-spells, printed-stands, string-never_both, string-once}
 use Rattle.zone_rdata.proofs.Strings.{string-or_fault}
+use Rattle.zone_rdata.proofs.FieldLengths.{string_length}
 
 only : (v : FieldValue) → Holds OneString v → (octets : List ℕ) × (v ≡ string octets)
 only (string octets) h = (octets, refl)
@@ -90,4 +91,5 @@ laws = record {
   printed = λ names origin octets rest fixed_size h last. (printed-spells octets h, refl);
   stands = λ octets fixed_size h. (printed-stands octets h, tt);
   unmarked = λ octets rest fixed_size h g. cc g.1;
+  few = λ octets fixed_size h. string_length octets;
 }

@@ -15,6 +15,7 @@ use Rattle.zone_rdata.proofs.Choices.{below_or_not}
 use Rattle.zone_rdata.proofs.FieldLaws.{AreLow, FieldLaws, SizedField, bare_item, bare_or_fault, low_at, mark_text, number_unmarked, sized_front, value_or_fault}
 use Rattle.zone_rdata.proofs.GenericLaws.{decimal-is, decimal_or_not}
 use Rattle.zone_rdata.proofs.Standing.{bare_decimal}
+use Rattle.std.proofs.lemmas.Fmt.{length-decimal-le}
 
 only : (v : FieldValue) → Holds Serial v → (n : ℕ) × (v ≡ u32_value n)
 only (u32_value n) h = (n, refl)
@@ -56,4 +57,5 @@ laws = record {
   printed = λ names origin n rest fixed_size h last. ((decimal-is n (omega arith), h), refl);
   stands = λ n fixed_size h. (bare_decimal n (omega arith), tt);
   unmarked = λ n rest fixed_size h g. number_unmarked n (omega arith) (mark_text (decimal n) rest g);
+  few = λ n fixed_size h. omega (arith, length-decimal-le 10 n (omega arith) (omega arith) (omega arith));
 }

@@ -24,6 +24,7 @@ use Rattle.zone_rdata.proofs.StringFields.{strings_back}
 use Rattle.zone_rdata.proofs.StringLaws.{fault-once, printed-spells, printed-stands, string-never_both, string-once}
 use Rattle.zone_rdata.proofs.Strings.{string-or_fault}
 use Rattle.zone_rdata.proofs.Standing.{Stands}
+use Rattle.zone_rdata.proofs.FieldLengths.{strings_length}
 
 only : (v : FieldValue) → Holds Strings v → (many : List (List ℕ)) × (v ≡ strings many)
 only (strings many) h = (many, refl)
@@ -225,4 +226,5 @@ laws = record {
   printed = λ names origin many rest fixed_size h last. printed many rest h (last refl);
   stands = λ many fixed_size h. stand_each many h.each;
   unmarked = λ many rest fixed_size. unmarked many rest;
+  few = λ many fixed_size h. strings_length many h.some;
 }

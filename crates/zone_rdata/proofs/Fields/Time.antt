@@ -37,4 +37,5 @@ laws = record {
   printed = λ names origin n rest fixed_size h last. ((plain (decimal-is n (omega arith)), h), refl);
   stands = serial.laws.stands;
   unmarked = serial.laws.unmarked;
+  few = serial.laws.few;
 }

@@ -3,7 +3,7 @@ use crate::tests::{Case, first_wrong, is_explained};
 use std::alloc::Global;
 use std::test::Fail;
 use zone_name::Name;
-use zone_print::{canon_len, push_zone, write_zone};
+use zone_print::{canon_len, push_zone, text_fits, write_zone};
 use zone_rdata::{Fault, Place, Placed, Reading, Stop};
 use zone_set::{Zone, ZoneBuilder};
 use zone_text::read_file;
@@ -44,6 +44,7 @@ impl Whole {
             written.as_slice() == self.0
                 && push_zone(alloc, zone)?.as_slice() == self.0
                 && canon_len(zone) == self.0.len() as u64
+                && text_fits(zone)
                 && zone.class().number() == 1
                 && zone.apex().wire() == b"\x01x\x00".as_slice()
                 && zone.len() == self.1.len() as u64

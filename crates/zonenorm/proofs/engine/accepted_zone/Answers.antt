@@ -1,15 +1,17 @@
-use Rattle.std.proofs.Common.{◌≤◌, ◌<◌, length, arith}
+use Rattle.std.proofs.Common.{◌≤◌, ◌<◌, length, refl, arith}
+use Rattle.std.proofs.lemmas.Bool.{false≢true}
 use Rattle.zone_print.specs.Canonical.{canon, text_limit}
 use Rattle.zonenorm.proofs.Feeding.{if_some, is_input}
 use Rattle.zonenorm.proofs.Written.{denotes_zone, large}
 use Rattle.zonenorm.proofs.engine.accepted_zone.Goals as goal
 
-pub returns-then-canon_len-gt-TEXT_LIMIT-clause-fault : goal.returns-then-canon_len-gt-TEXT_LIMIT-clause-fault
-returns-then-canon_len-gt-TEXT_LIMIT-clause-fault g c =
-    let long : text_limit < length (canon c.in_ok-stated.stated) = omega arith in
+pub returns-then-not-text_fits-clause-fault : goal.returns-then-not-text_fits-clause-fault
+returns-then-not-text_fits-clause-fault g c =
+    let never : length (canon c.in_ok-stated.stated) ≤ text_limit → ⊥ = λ short. false≢true (c.if-not-text_fits.ensures.1 short) in
+    let long : text_limit < length (canon c.in_ok-stated.stated) = omega (arith, never) in
     if_some _ _ _ (λ octets reads. large _ _ reads long) c.in_ok-stated.ensures.zone
 
 pub returns-clause-zone : goal.returns-clause-zone
 returns-clause-zone g c =
-    let short : length (canon c.in_ok-stated.stated) ≤ text_limit = omega arith in
+    let short : length (canon c.in_ok-stated.stated) ≤ text_limit = c.if-not-text_fits.ensures.0 refl in
     if_some _ _ _ (λ octets reads. denotes_zone _ _ reads c.what_is_read_is_stated.ensures (is_input _ octets c.in_ok-stated.ensures.form reads.each) short) c.in_ok-stated.ensures.zone

@@ -1,0 +1,36 @@
+-- How many octets lines have, against those that their records take in messages.
+use Rattle.std.proofs.Common.{◌≡◌, ℕ, ◌+◌, ◌*◌, ◌≤◌, List, [], ◌∷◌, ◌++◌, length, decimal, arith, length-append}
+use Rattle.std.specs.List.{AllByRecursion}
+use Rattle.std.proofs.lemmas.Fmt.{length-decimal-le}
+use Rattle.std.proofs.lemmas.List.Sums.{sum_by-cons}
+use Rattle.zone_name.specs.Text.{name_text}
+use Rattle.zone_name.proofs.Lengths.{name_text_length}
+use Rattle.zone_rdata.specs.Record.{Record, IsRecord, data_of}
+use Rattle.zone_rdata.specs.Text.{data_text}
+use Rattle.zone_rdata.specs.Words.{class_text, kind_text}
+use Rattle.zone_rdata.proofs.TextLengths.{class_length, data_text_length, kind_length}
+use Rattle.zone_set.specs.Message.{message_len, message_octets}
+use Rattle.zone_set.specs.Zone.{Zone, IsZone}
+use Rattle.zone_print.specs.Canonical.{canon, line, lines}
+
+-- the five parts, four spaces and the line feed
+parts_length : (owner ttl class kind rdata : List ℕ) → length (owner ++ 32 ∷ ttl ++ 32 ∷ class ++ 32 ∷ kind ++ 32 ∷ rdata ++ 10 ∷ []) ≡ length owner + length ttl + length class + length kind + length rdata + 5
+parts_length owner ttl class kind rdata =
+    omega (arith, length-append (owner ++ 32 ∷ ttl ++ 32 ∷ class ++ 32 ∷ kind ++ 32 ∷ rdata) (10 ∷ []), length-append (owner ++ 32 ∷ ttl ++ 32 ∷ class ++ 32 ∷ kind) (32 ∷ rdata), length-append (owner ++ 32 ∷ ttl ++ 32 ∷ class) (32 ∷ kind), length-append (owner ++ 32 ∷ ttl) (32 ∷ class), length-append owner (32 ∷ ttl))
+
+-- the TTL, the class and the type have at most ten octets each, and four times theirs in a message are forty
+line_length : (r : Record) → IsRecord r → length (line r) ≤ 4 * message_len r
+line_length r is =
+    let ttl = length-decimal-le 10 r.ttl (omega arith) (let low = is.ttl in omega arith) (let low = is.ttl in omega arith) in
+    let owner = name_text_length r.owner in
+    let class = class_length r.class is.rdata.class in
+    let kind = kind_length r.class r.kind is.rdata.kind in
+    let rdata = data_text_length (data_of r) is.rdata in
+    omega (arith, parts_length (name_text r.owner) (decimal r.ttl) (class_text r.class) (kind_text r.class r.kind) (data_text (data_of r)), ttl, owner, class, kind, rdata)
+
+lines_length : (records : List Record) → AllByRecursion IsRecord records → length (lines records) ≤ 4 * message_octets records
+lines_length [] each = omega arith
+lines_length (r ∷ records) each = omega (arith, sum_by-cons message_len r records, length-append (line r) (lines records), line_length r each.0, lines_length records each.1)
+
+pub canon_length : (z : Zone) → IsZone z → length (canon z) ≤ 4 * message_octets z.records
+canon_length z is = lines_length z.records is.compatible.each
