@@ -1,5 +1,6 @@
 -- From what an order's call answers and what is told of it to what a run leaves.
-use Rattle.std.proofs.Common.{◌≡◌, ℕ, List, [], refl, sym, subst, inl, inr}
+use Rattle.std.proofs.Common.{◌≡◌, ◌-◌, ◌^◌, ◌++◌, ℕ, List, [], codes, length, min, refl, sym, subst, inl, inr}
+use Rattle.std.specs.Fmt.{decimal}
 use Rattle.std.specs.Prelude.{Option, Some, None, IfSome}
 use Rattle.std.specs.Io.KnownBytes.{Keeps}
 use Rattle.zone_rdata.specs.declared.fault.Fault.{Fault}
@@ -12,7 +13,7 @@ use Rattle.zonenorm.specs.Input.{InputDenotes, InputForm, input_of}
 use Rattle.zonenorm.specs.Machine.Telling.{which_words, TellsStop, TellsVerdict}
 use Rattle.zonenorm.specs.Normalise.{Normalises, WritesNothing, WritesPrefix}
 use Rattle.zonenorm.specs.Refusal.{IfRefused, IsRefusal}
-use Rattle.zonenorm.specs.Run.{form_with, AppendsLine, AreCompared, Devices, Explains, Fails, IsFailure, AreRefused, Runs, done, failed}
+use Rattle.zonenorm.specs.Run.{form_with, AppendsLine, AppendsThisLine, AreCompared, Devices, Explains, Fails, IsFailure, AreRefused, Runs, TellsRecords, done, failed}
 use Rattle.zonenorm.specs.Run as runs
 use Rattle.zonenorm.specs.declared.compare.Verdict.{Verdict}
 use Rattle.zonenorm.specs.declared.compare.Which.{Which}
@@ -33,12 +34,12 @@ is_refused : (form : InputForm) (known : Known) (fault : Fault) (place : Place) 
 is_refused form known fault place h = if_known known (λ octets. IsRefusal (input_of form octets) fault place) _ (λ octets r. (fault, place, r)) h
 
 -- what explaining a zone and a refusal answer
-pub explains_zone : (form : InputForm) (known : Known) (z : Zone) → IfSome known (λ octets. InputDenotes (input_of form octets) z) → Explains form known 0
-explains_zone form known z h = runs.accepted (if_known known (λ octets. InputDenotes (input_of form octets) z) _ (λ octets d. (z, d)) h)
+pub explains_zone : (form : InputForm) (known old new : Known) (z : Zone) (count : ℕ) → IfSome known (λ octets. InputDenotes (input_of form octets) z) → count ≡ min (length z.records) (2 ^ 64 - 1) → AppendsThisLine (codes "accepted, records: " ++ decimal count) old new → Explains form known old new 0
+explains_zone form known old new z count h counted told = runs.accepted (count, if_known known (λ octets. InputDenotes (input_of form octets) z) _ (λ octets d. (z, d, counted)) h, told)
 
-pub explains_refusal : (form : InputForm) (known : Known) (stop : Stop) (fault : Fault) (place : Place) → stop ≡ Refused fault place → IfSome known (λ octets. IfRefused stop (IsRefusal (input_of form octets))) → Explains form known 3
-explains_refusal form known stop fault place is h =
-    runs.refused (is_refused form known fault place (subst (λ (s : Stop). IfSome known (λ octets. IfRefused s (IsRefusal (input_of form octets)))) is h))
+pub explains_refusal : (form : InputForm) (known old new : Known) (stop : Stop) (fault : Fault) (place : Place) → stop ≡ Refused fault place → IfSome known (λ octets. IfRefused stop (IsRefusal (input_of form octets))) → AppendsLine [] old new → Explains form known old new 3
+explains_refusal form known old new stop fault place is h told =
+    runs.refused (is_refused form known fault place (subst (λ (s : Stop). IfSome known (λ octets. IfRefused s (IsRefusal (input_of form octets)))) is h)) told
 
 pub tells_as : (words words' : List ℕ) (stop : Stop) (old new : Known) (answer : ℕ) → words ≡ words' → TellsStop words stop old new answer → TellsStop words' stop old new answer
 tells_as words words' stop old new answer is told = subst (λ (w : List ℕ). TellsStop w stop old new answer) is told
@@ -69,9 +70,9 @@ module _ (origin : Option (List (List ℕ))) (form : InputForm) (is : form ≡ f
   normalise_stopped Write answer nothing front fault (inr (e, line)) = fails (Normalise origin) old new answer (prefix front) e
   normalise_stopped Memory answer nothing front fault (inr (e, line)) = fails (Normalise origin) old new answer (prefix front) e
 
-  pub explained : (status : ℕ) → Explains form old.first status → AppendsLine [] old.output new.output → Keeps old.errors new.errors → Runs (Explain origin) old new status
-  explained _ (runs.accepted h) line kept = done 0 (refl, line, subst (λ (f : InputForm). IsAccepted f old.first) is h) kept
-  explained _ (runs.refused h) line kept = runs.refused (kept, line, subst (λ (f : InputForm). AreRefused f old.first) is h)
+  pub explained : (status : ℕ) → Explains form old.first old.output new.output status → Keeps old.errors new.errors → Runs (Explain origin) old new status
+  explained _ (runs.accepted h) kept = done 0 (refl, subst (λ (f : InputForm). TellsRecords f old.first old.output new.output) is h) kept
+  explained _ (runs.refused h line) kept = runs.refused (kept, line, subst (λ (f : InputForm). AreRefused f old.first) is h)
 
   pub explain_stopped : (stop : Stop) (answer : ℕ) → IsFailure stop → TellsStop [] stop old.errors new.errors answer → Runs (Explain origin) old new answer
   explain_stopped stop answer failure (inl e) = fails (Explain origin) old new answer tt e

@@ -5,7 +5,7 @@ use Rattle.std.specs.Io.KnownBytes.{Appends}
 use Rattle.std.proofs.KnownBytes.{Appends-trans}
 use Rattle.zonenorm.specs.Machine.Telling.{TellsFault}
 use Rattle.zonenorm.specs.Order.{line_text}
-use Rattle.zonenorm.specs.Run.{AppendsLine, AppendsPart}
+use Rattle.zonenorm.specs.Run.{AppendsPart, AppendsThisLine}
 use Rattle.zonenorm.specs.declared.order.LineFault.{LineFault}
 
 some_more : (rest more : List ℕ) → rest ≢ [] → rest ++ more ≢ []
@@ -29,10 +29,6 @@ part_as old new piece text is part = subst (λ (t : List ℕ). AppendsPart old n
 pub both_written : (a b c : Option (List ℕ)) (piece other text others : List ℕ) → piece ≡ text → other ≡ others → Appends a b piece → Appends b c other → Appends a c (text ++ others)
 both_written a b c piece other text others is are h k = Appends-trans a b c text others (subst (λ (t : List ℕ). Appends a b t) is h) (subst (λ (t : List ℕ). Appends b c t) are k)
 
--- a line is its words, what is behind them, and a line feed
-pub line_of : (words rest : List ℕ) (old new : Option (List ℕ)) → Appends old new (words ++ (rest ++ 10 ∷ [])) → AppendsLine words old new
-line_of words rest old new appended = (rest, subst (λ (t : List ℕ). Appends old new t) (sym (append_assoc words rest (10 ∷ []))) appended)
-
 pub on_err : {X Y : Type 0} (r : Result X Y) (P Q : Type 0) → (P → Q) → OnErr r P → OnErr r Q
 on_err (Ok x) P Q then h = tt
 on_err (Err y) P Q then h = then h
@@ -41,17 +37,13 @@ pub on_any_err : {X Y : Type 0} (r : Result X Y) (P : Type 0) → P → OnErr r 
 on_any_err (Ok x) P h = tt
 on_any_err (Err y) P h = h
 
--- a line that begins with some words is a line
-pub any_line : (words : List ℕ) (old new : Option (List ℕ)) → AppendsLine words old new → AppendsLine [] old new
-any_line words old new (line, appended) = (words ++ line, appended)
+-- words and digits that were written make this line
+pub this_line : (words digits line : List ℕ) (old new : Option (List ℕ)) → words ++ digits ≡ line → Appends old new (words ++ (digits ++ 10 ∷ [])) → AppendsThisLine line old new
+this_line words digits line old new is appended = subst (λ (t : List ℕ). Appends old new (t ++ 10 ∷ [])) is (subst (λ (t : List ℕ). Appends old new t) (sym (append_assoc words digits (10 ∷ []))) appended)
 
-pub any_line_on_ok : {X Y : Type 0} (r : Result X Y) (words : List ℕ) (old new : Option (List ℕ)) → OnOk r (AppendsLine words old new) → OnOk r (AppendsLine [] old new)
-any_line_on_ok (Ok x) words old new h = any_line words old new h
-any_line_on_ok (Err y) words old new h = tt
-
-pub line_on_ok : {X Y : Type 0} (r : Result X Y) (line : List ℕ) (old new : Option (List ℕ)) → OnOk r (Appends old new (line ++ 10 ∷ [])) → OnOk r (AppendsLine [] old new)
-line_on_ok (Ok x) line old new h = (line, h)
-line_on_ok (Err y) line old new h = tt
+pub this_line_on_ok : {X Y : Type 0} (r : Result X Y) (words digits line : List ℕ) (old new : Option (List ℕ)) → words ++ digits ≡ line → OnOk r (Appends old new (words ++ (digits ++ 10 ∷ []))) → OnOk r (AppendsThisLine line old new)
+this_line_on_ok (Ok x) words digits line old new is h = this_line words digits line old new is h
+this_line_on_ok (Err y) words digits line old new is h = tt
 
 -- the text of a fault was not written whole
 pub not_told : (fault : LineFault) (old new : Option (List ℕ)) (text : List ℕ) → text ≡ line_text fault → AppendsPart old new (text ++ 10 ∷ []) → TellsFault fault old new 4

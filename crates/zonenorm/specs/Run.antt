@@ -1,11 +1,12 @@
 -- What a run of an order reads, writes and answers.
-use Rattle.std.specs.Prelude.{◌≡◌, ◌≢◌, ℕ, ◌+◌, List, [], ◌∷◌, ◌++◌, codes, Option, Some, None, IfSome, ◌⊎◌}
+use Rattle.std.specs.Prelude.{◌≡◌, ◌≢◌, ℕ, ◌+◌, ◌-◌, ◌^◌, List, [], ◌∷◌, ◌++◌, codes, decimal, length, min, Option, Some, None, IfSome, ◌⊎◌}
 use Rattle.std.specs.Io.KnownBytes.{Appends, Keeps}
 use Rattle.zone_rdata.specs.declared.fault.Stop.{Stop}
 use Rattle.zone_rdata.specs.declared.fault.Stop.TheVariants.{Refused, Read, Write, Memory}
+use Rattle.zone_set.specs.Zone.{Zone}
 use Rattle.zone_print.specs.Canonical.{text_limit}
 use Rattle.zonenorm.specs.Compare.{Compares, IsAccepted}
-use Rattle.zonenorm.specs.Input.{InputForm, as_file, as_transfer, input_of}
+use Rattle.zonenorm.specs.Input.{InputDenotes, InputForm, as_file, as_transfer, input_of}
 use Rattle.zonenorm.specs.Normalise.{ConsumesAtMost, Normalises, WritesPrefix}
 use Rattle.zonenorm.specs.Refusal.{IsRefused}
 use Rattle.zonenorm.specs.declared.compare.Verdict.{Verdict}
@@ -23,14 +24,28 @@ form_with (Some origin) = as_file origin
 abbrev pub AreRefused : InputForm → Option (List ℕ) → Type 0
 AreRefused form known = IfSome known (λ octets. IsRefused (input_of form octets))
 
--- what explaining an input answers: 0 for a zone, else 3
-pub data Explains (form : InputForm) (known : Option (List ℕ)) : ℕ → Type 0 where
-  accepted : IsAccepted form known → Explains form known 0
-  refused : AreRefused form known → Explains form known 3
-
 -- a line that begins with this was written, and nothing else
 abbrev pub AppendsLine : List ℕ → Option (List ℕ) → Option (List ℕ) → Type 0
 AppendsLine front old new = (line : List ℕ) × Appends old new (front ++ line ++ 10 ∷ [])
+
+-- this line was written, and nothing else
+abbrev pub AppendsThisLine : List ℕ → Option (List ℕ) → Option (List ℕ) → Type 0
+AppendsThisLine line old new = Appends old new (line ++ 10 ∷ [])
+
+-- known octets denote a zone of so many records
+abbrev pub HasRecords : InputForm → Option (List ℕ) → ℕ → Type 0
+HasRecords form known count =
+    IfSome known (λ octets. (z : Zone) × InputDenotes (input_of form octets) z × (count ≡ min (length z.records) (2 ^ 64 - 1)))
+
+-- the line on an input that is accepted: how many records its zone has
+abbrev pub TellsRecords : InputForm → Option (List ℕ) → Option (List ℕ) → Option (List ℕ) → Type 0
+TellsRecords form known old new =
+    (count : ℕ) × HasRecords form known count × AppendsThisLine (codes "accepted, records: " ++ decimal count) old new
+
+-- what explaining an input answers and writes: 0 and how many records its zone has, or 3 and why it is refused
+pub data Explains (form : InputForm) (known old new : Option (List ℕ)) : ℕ → Type 0 where
+  accepted : TellsRecords form known old new → Explains form known old new 0
+  refused : AreRefused form known → AppendsLine [] old new → Explains form known old new 3
 
 -- a part of the text was written, but not all of it
 abbrev pub AppendsPart : Option (List ℕ) → Option (List ℕ) → List ℕ → Type 0
@@ -73,6 +88,11 @@ abbrev pub verdict_status : Verdict → ℕ
 verdict_status Same = 0
 verdict_status (Different line) = 1
 
+-- the line of a comparison's verdict
+abbrev pub verdict_line : Verdict → List ℕ
+verdict_line Same = codes "same"
+verdict_line (Different line) = codes "different at line " ++ decimal line
+
 -- what is known of the octets of two inputs, standard output and standard error
 pub record Devices : Type 0 where
   pub first : Option (List ℕ)
@@ -92,15 +112,15 @@ abbrev pub AreCompared : InputForm → Option (List ℕ) → InputForm → Optio
 AreCompared form known other_form other verdict =
     IfSome known (λ octets. IfSome other (λ others. Compares (input_of form octets) (input_of other_form others) verdict))
 
--- What a run leaves that carried its order out with this status: the canonical text of the zone, a line on a zone, or a
--- line on two zones.
+-- What a run leaves that carried its order out with this status: the canonical text of the zone, how many records it has,
+-- or the verdict on two zones.
 abbrev pub CarriesOut : Order → Devices → Devices → ℕ → Type 0
 CarriesOut (Normalise origin) old new status =
     (status ≡ 0) × WritesZone (form_with origin) old.first old.output new.output
 CarriesOut (Explain origin) old new status =
-    (status ≡ 0) × AppendsLine [] old.output new.output × IsAccepted (form_with origin) old.first
+    (status ≡ 0) × TellsRecords (form_with origin) old.first old.output new.output
 CarriesOut (Compare first second) old new status =
-    (verdict : Verdict) × (status ≡ verdict_status verdict) × AppendsLine [] old.output new.output
+    (verdict : Verdict) × (status ≡ verdict_status verdict) × AppendsThisLine (verdict_line verdict) old.output new.output
     × AreCompared (form_with first.origin) old.first (form_with second.origin) old.second verdict
 
 -- the first input is refused and the second is not read, or the first is accepted and the second is refused

@@ -1,10 +1,11 @@
 ghost use Rattle.std.specs.Prelude.{[], IfErr, IfOk, OnOk, string_bytes};
 ghost use Rattle.zonenorm.specs.Form.{form_of};
-ghost use Rattle.zonenorm.specs.Run.{AppendsLine, Explains, IsFailure, IsStopLine, KeepsUnlessWrite, ReadsFew};
+ghost use Rattle.zonenorm.specs.Run.{Explains, IsFailure, IsStopLine, KeepsUnlessWrite, ReadsFew};
 
 use crate::engine::accepted_zone;
 use crate::form::Form;
-use crate::line::{write_line, write_number};
+use crate::line::write_line;
+use itoa::Buffer;
 use std::alloc::{AllocError, Global};
 use std::io::{Read, Write};
 use zone_name::Name;
@@ -25,8 +26,8 @@ pub fn explain<R: Read, W: Write>(
     reader: &mut R,
     writer: &mut W,
 ) -> Result<u8, Stop>
-    ensures explained { IfOk result (Explains (form_of form.entry) (R.remaining reader.old)) }
-    ensures told { OnOk result (AppendsLine [] (W.contents writer.old) (W.contents writer.new)) }
+    ensures explained { IfOk result (Explains (form_of form.entry) (R.remaining reader.old)
+        (W.contents writer.old) (W.contents writer.new)) }
     ensures failed { IfErr result IsFailure }
     ensures kept { IfErr result (λ stop.
         KeepsUnlessWrite stop (W.contents writer.old) (W.contents writer.new)) }
@@ -34,7 +35,8 @@ pub fn explain<R: Read, W: Write>(
 {
     match accepted_zone(alloc, form, reader) {
         Ok(zone) => {
-            write_number(writer, "accepted, records: ", zone.len())?;
+            let mut digits = Buffer::new();
+            write_line(writer, "accepted, records: ", digits.format(zone.len()))?;
             Ok(0)
         }
         Err(Stop::Refused(fault, place)) => {

@@ -1,7 +1,7 @@
 //! Lines for people.
 ghost use Rattle.std.specs.Prelude.{◌≡◌, ◌++◌, ◌∷◌, [], IfErr, OnErr, OnOk};
 ghost use Rattle.std.specs.Io.KnownBytes.{Appends};
-ghost use Rattle.zonenorm.specs.Run.{AppendsLine, AppendsPart};
+ghost use Rattle.zonenorm.specs.Run.{AppendsPart};
 
 use std::io::Write;
 use zone_rdata::Stop;
@@ -22,21 +22,6 @@ pub(crate) fn write_line<W: Write>(writer: &mut W, words: &str, line: &str) -> R
     write_octets(writer, words.as_bytes())?;
     write_octets(writer, line.as_bytes())?;
     write_octets(writer, b"\n")
-}
-
-/// Writes these words, a number and a line feed. It takes no memory.
-///
-/// # Errors
-///
-/// `Write`.
-pub(crate) fn write_number<W: Write>(writer: &mut W, words: &str, number: u64) -> Result<(), Stop>
-    ensures written { OnOk result (AppendsLine words.now (W.contents writer.old) (W.contents writer.new)) }
-    ensures stop { IfErr result (λ stop. stop ≡ Stop.Write) }
-{
-    match writeln!(writer, "{words}{number}") {
-        Ok(()) => Ok(()),
-        Err(_) => Err(Stop::Write),
-    }
 }
 
 /// Writes all these octets.

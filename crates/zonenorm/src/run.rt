@@ -1,13 +1,14 @@
 ghost use Rattle.std.specs.Prelude.{◌≡◌, [], OnOk};
 ghost use Rattle.zonenorm.specs.Machine.Telling.{which_words, TellsFault, TellsStop, TellsVerdict};
-ghost use Rattle.zonenorm.specs.Run.{devices, verdict_status, AppendsLine, ReadsFew, ReadsSecond, Runs};
+ghost use Rattle.zonenorm.specs.Run.{devices, verdict_line, verdict_status, AppendsThisLine, ReadsFew, ReadsSecond, Runs};
 
 use crate::compare::{Verdict, Which, compare};
 use crate::engine::normalise;
 use crate::explain::{OUT_OF_MEMORY, explain, explain_line};
 use crate::form::Form;
-use crate::line::{write_line, write_number};
+use crate::line::write_line;
 use crate::order::{LineFault, Order};
+use itoa::Buffer;
 use std::alloc::Global;
 use std::io::{Read, Write};
 use zone_rdata::Stop;
@@ -81,11 +82,14 @@ fn tell_verdict<W: Write, E: Write>(
 ///
 /// `Write`.
 fn write_verdict<W: Write>(verdict: Verdict, output: &mut W) -> Result<(), Stop>
-    ensures { OnOk result (AppendsLine [] (W.contents output.old) (W.contents output.new)) }
+    ensures { OnOk result (AppendsThisLine (verdict_line verdict) (W.contents output.old) (W.contents output.new)) }
 {
     match verdict {
         Verdict::Same => write_line(output, "", "same"),
-        Verdict::Different(line) => write_number(output, "different at line ", line),
+        Verdict::Different(line) => {
+            let mut digits = Buffer::new();
+            write_line(output, "different at line ", digits.format(line))
+        }
     }
 }
 

@@ -3,7 +3,7 @@ use Rattle.std.specs.Prelude.{◌≡◌, ℕ, List, [], ◌∷◌, ◌++◌, cod
 use Rattle.std.specs.Io.KnownBytes.{Appends, Keeps}
 use Rattle.zone_rdata.specs.declared.fault.Stop.{Stop}
 use Rattle.zonenorm.specs.Order.{line_status, line_text}
-use Rattle.zonenorm.specs.Run.{AppendsLine, AppendsPart, status_of, verdict_status}
+use Rattle.zonenorm.specs.Run.{AppendsLine, AppendsPart, AppendsThisLine, status_of, verdict_line, verdict_status}
 use Rattle.zonenorm.specs.declared.compare.Verdict.{Verdict}
 use Rattle.zonenorm.specs.declared.compare.Which.{Which}
 use Rattle.zonenorm.specs.declared.compare.Which.TheVariants.{First, Second}
@@ -21,7 +21,7 @@ TellsStop words stop old new answer = (answer ≡ 4) ⊎ ((answer ≡ status_of 
 -- the verdict of a comparison was told, with its status and nothing on standard error, or the answer is 4
 abbrev pub TellsVerdict : Verdict → Option (List ℕ) → Option (List ℕ) → Option (List ℕ) → Option (List ℕ) → ℕ → Type 0
 TellsVerdict verdict old new errors errors' answer =
-    ((answer ≡ verdict_status verdict) × AppendsLine [] old new × Keeps errors errors') ⊎ (answer ≡ 4)
+    ((answer ≡ verdict_status verdict) × AppendsThisLine (verdict_line verdict) old new × Keeps errors errors') ⊎ (answer ≡ 4)
 
 -- the text of a fault of the command line was told whole, with its status, or not whole, and the answer is 4
 abbrev pub TellsFault : LineFault → Option (List ℕ) → Option (List ℕ) → ℕ → Type 0

@@ -1,9 +1,8 @@
-use Rattle.std.proofs.Common.{codes}
-use Rattle.zonenorm.proofs.Telling.{line_on_ok, any_line_on_ok}
+use Rattle.std.proofs.Common.{List, ap, codes, ℕ, ◌++◌}
+use Rattle.std.specs.Fmt.{decimal}
+use Rattle.zonenorm.proofs.Telling.{this_line_on_ok}
 use Rattle.zonenorm.proofs.run.write_verdict.Goals as goal
 
-pub returns-in-Same : goal.returns-in-Same
-returns-in-Same g c = line_on_ok c.write_line.result (codes "same") _ _ c.write_line.ensures.written
-
 pub returns-in-Different : goal.returns-in-Different
-returns-in-Different g c = any_line_on_ok c.write_number.result (codes "different at line ") _ _ c.write_number.ensures.written
+returns-in-Different g c =
+    rw c.in-Different.is (this_line_on_ok c.write_line-in-Different.result (codes "different at line ") c.format.result.now (codes "different at line " ++ decimal c.in-Different.line) _ _ (ap (λ (digits : List ℕ). codes "different at line " ++ digits) c.format.ensures.text) c.write_line-in-Different.ensures.written)
