@@ -123,20 +123,20 @@ quoted_front octets after inside close left c n m whole quote len front back one
         let first_one : m ≡ 1 = omega arith in
         (ap (λ t. raw.quoted t ∷ []) inner, behind ∙ rw (first_one, outer) refl)
 
-pub bare_front : (octets after item left : List ℕ) (c n : ℕ) → octets ≡ c ∷ after → c ≢ 34 → c ≢ 59 → ends_item c ≡ false → n ≡ item_len ends_item false octets → item ≡ take n octets → left ≡ drop n octets → FrontIs octets (raw.bare item ∷ []) left
-bare_front octets after item left c n whole no_quote no_comment goes_on len front back p rest is at e = by p is at e (piece_first p c after rest is (sym whole ∙ e))
+pub bare_front : (octets after item left : List ℕ) (c n : ℕ) → octets ≡ c ∷ after → ends_item c ≡ false → n ≡ item_len ends_item false octets → item ≡ take n octets → left ≡ drop n octets → FrontIs octets (raw.bare item ∷ []) left
+bare_front octets after item left c n whole goes_on len front back p rest is at e = by p is at e (piece_first p c after rest is (sym whole ∙ e))
   where
     by : (p : Piece) → IsPiece p → EndsBefore p rest → octets ≡ piece_text p ++ rest → IsFirstOf p c → Front (raw.bare item ∷ []) left p rest
     by (blank d) is at e first = absurd (both_ways (ends_item c) goes_on (rw first refl))
     by opening is at e first = absurd (both_ways (ends_item c) goes_on (ap ends_item first))
     by closing is at e first = absurd (both_ways (ends_item c) goes_on (ap ends_item first))
     by line_feed is at e first = absurd (both_ways (ends_item c) goes_on (ap ends_item first))
-    by (comment octets) is at e first = absurd (no_comment first)
+    by (comment octets) is at e first = absurd (both_ways (ends_item c) goes_on (ap ends_item first))
     by (bare units) is at e first =
         let whole_len : n ≡ length (written_text units) = len ∙ (ap (item_len ends_item false) e ∙ item_len_of ends_item units rest bare_ends is.1 at) in
         let inner : item ≡ written_text units = front ∙ rw (whole_len, e) (take-append_seam (written_text units) rest) in
         (ap (λ t. raw.bare t ∷ []) inner, back ∙ rw (whole_len, e) (drop-append_seam (written_text units) rest))
-    by (quoted units) is at e first = absurd (no_quote first)
+    by (quoted units) is at e first = absurd (both_ways (ends_item c) goes_on (ap ends_item first))
 
 -- an octet that begins a bare item is taken
 some_octets : (octets after : List ℕ) (c n : ℕ) → octets ≡ c ∷ after → ends_item c ≡ false → n ≡ item_len ends_item false octets → 0 < n

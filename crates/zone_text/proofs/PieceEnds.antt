@@ -1,12 +1,13 @@
 -- How far the piece at the front of a text goes.
-use Rattle.std.proofs.Common.{◌≡◌, ◌≢◌, ℕ, suc, ◌+◌, ◌<◌, ◌≤◌, Bool, true, false, ◌==◌, List, [], ◌∷◌, ◌++◌, length, get_or, drop, refl, ap, ◌∙◌, arith, add-one, drop-cons, drop_of_length-le}
+use Rattle.std.proofs.Common.{◌≡◌, ◌≢◌, ℕ, suc, ◌+◌, ◌-◌, ◌<◌, ◌≤◌, min, Bool, true, false, ◌==◌, ◌||◌, List, [], ◌∷◌, ◌++◌, length, get_or, drop, refl, sym, ap, ◌∙◌, subst, arith, add-one, drop-cons, drop_of_length-le}
 use Rattle.std.specs.List.{AllByRecursion}
 use Rattle.std.proofs.lemmas.Bool.{ne_eqb, both_ways}
 use Rattle.std.proofs.lemmas.Bool.Decides.{nat_tests}
+use Rattle.std.proofs.lemmas.List.{length-drop, drop-drop}
 use Rattle.zone_name.specs.Spelling.{Written, plain, escaped, decimal, written_text, IsUnit, is_digit}
 use Rattle.zone_rdata.specs.Strings.{is_quote}
 use Rattle.zone_text.specs.Machine.Cutting.{before_line_feed}
-use Rattle.zone_text.specs.Machine.ItemLengths.{item_len, EndsAt}
+use Rattle.zone_text.specs.Machine.ItemLengths.{item_len, EndsAt, Reaches}
 use Rattle.zone_text.specs.Pieces.{ends_item}
 
 -- ---- items
@@ -51,38 +52,76 @@ comment_len_of (c ∷ octets) rest each at = rw (ne_eqb c 10 each.0) (ap suc (co
 first_at : (text : List ℕ) (i : ℕ) → i < length text → drop i text ≡ get_or text i 0 ∷ drop (i + 1) text
 first_at text i less = rw (add-one, drop-cons text i 0) refl
 
--- behind a backslash any octet goes on
-pub len_escaped : (ends : ℕ → Bool) (text : List ℕ) (i n : ℕ) → i < length text → n ≡ i + item_len ends true (drop i text) → n ≡ i + 1 + item_len ends false (drop (i + 1) text)
+neither : (a b : Bool) → (a || b) ≡ false → (a ≡ false) × (b ≡ false)
+neither false false _ = (refl, refl)
+neither false true none = absurd (both_ways true none refl)
+neither true b none = absurd (both_ways true none refl)
+
+-- an octet that neither ends the item nor is a backslash goes on
+pub plain_on : (ends : ℕ → Bool) (text : List ℕ) (i : ℕ) → i < length text → (ends (get_or text i 0) || get_or text i 0 == 92) ≡ false → Reaches ends text i → Reaches ends text (i + 1)
 unfolding item_len
-len_escaped ends text i n less so_far =
-    let next : item_len ends true (drop i text) ≡ suc (item_len ends false (drop (i + 1) text)) = rw (first_at text i less) refl in
+plain_on ends text i less goes so_far =
+    let neither_is = neither (ends (get_or text i 0)) (get_or text i 0 == 92) goes in
+    let next : item_len ends false (drop i text) ≡ suc (item_len ends false (drop (i + 1) text)) = rw (first_at text i less, neither_is.1, neither_is.0) refl in
     omega arith
 
-pub len_backslash : (ends : ℕ → Bool) (text : List ℕ) (i n : ℕ) → i < length text → get_or text i 0 ≡ 92 → n ≡ i + item_len ends false (drop i text) → n ≡ i + 1 + item_len ends true (drop (i + 1) text)
-unfolding item_len
-len_backslash ends text i n less is so_far =
-    let next : item_len ends false (drop i text) ≡ suc (item_len ends true (drop (i + 1) text)) = rw (first_at text i less, is) refl in
-    omega arith
-
-pub len_goes_on : (ends : ℕ → Bool) (text : List ℕ) (i n : ℕ) → i < length text → get_or text i 0 ≢ 92 → ends (get_or text i 0) ≡ false → n ≡ i + item_len ends false (drop i text) → n ≡ i + 1 + item_len ends false (drop (i + 1) text)
-unfolding item_len
-len_goes_on ends text i n less other goes so_far =
-    let next : item_len ends false (drop i text) ≡ suc (item_len ends false (drop (i + 1) text)) = rw (first_at text i less, ne_eqb (get_or text i 0) 92 other, goes) refl in
-    omega arith
-
-pub len_ends : (ends : ℕ → Bool) (text : List ℕ) (i n : ℕ) → i < length text → get_or text i 0 ≢ 92 → ends (get_or text i 0) ≡ true → n ≡ i + item_len ends false (drop i text) → i ≡ n
-unfolding item_len
-len_ends ends text i n less other at so_far =
-    let next : item_len ends false (drop i text) ≡ 0 = rw (first_at text i less, ne_eqb (get_or text i 0) 92 other, at) refl in
-    omega arith
+pub plain_stops : (stops : ℕ → Bool) (text : List ℕ) (i : ℕ) → i < length text → stops (get_or text i 0) ≡ true → EndsAt stops (drop i text)
+plain_stops stops text i less at = rw (first_at text i less) at
 
 nothing_left : (text : List ℕ) (i : ℕ) → length text ≤ i → drop i text ≡ []
 nothing_left text i less = drop_of_length-le text less
 
-pub len_whole : (ends : ℕ → Bool) (is_escaped : Bool) (text : List ℕ) (i n : ℕ) → length text ≤ i → i ≤ length text → n ≡ i + item_len ends is_escaped (drop i text) → length text ≡ n
+pub end_stops : (stops : ℕ → Bool) (text : List ℕ) (i : ℕ) → length text ≤ i → EndsAt stops (drop i text)
+end_stops stops text i over = rw (nothing_left text i over) tt
+
+pub all_reached : (ends : ℕ → Bool) (text : List ℕ) (i : ℕ) → length text ≤ i → i ≤ length text → Reaches ends text i → Reaches ends text (length text)
+all_reached ends text i over within so_far = let same : i ≡ length text = omega arith in subst (Reaches ends text) same so_far
+
+-- one way after another
+pub reach_on : (ends : ℕ → Bool) (text : List ℕ) (i m : ℕ) → Reaches ends text i → Reaches ends (drop i text) m → Reaches ends text (i + m)
+reach_on ends text i m so_far next =
+    let same : drop m (drop i text) ≡ drop (i + m) text = drop-drop m i text in
+    let more : item_len ends false (drop i text) ≡ m + item_len ends false (drop (i + m) text) = rw (sym same) next in
+    omega arith
+
+pub stops_on : (stops : ℕ → Bool) (text : List ℕ) (i m : ℕ) → EndsAt stops (drop m (drop i text)) → EndsAt stops (drop (i + m) text)
+stops_on stops text i m at = subst (EndsAt stops) (drop-drop m i text) at
+
+-- an escape of a backslash and any octet, or of a backslash at the end
+one_escape : (ends : ℕ → Bool) (octets after : List ℕ) (m : ℕ) → octets ≡ 92 ∷ after → m ≡ min (length octets) 2 → Reaches ends octets m
 unfolding item_len
-len_whole ends is_escaped text i n over within so_far =
-    let none : item_len ends is_escaped (drop i text) ≡ 0 = rw (nothing_left text i over) refl in
+one_escape ends octets [] m whole taken =
+    let len : length octets ≡ 1 = ap length whole in
+    let one : m ≡ 1 = omega arith in
+    rw (one, whole) refl
+one_escape ends octets (x ∷ after) m whole taken =
+    let len : length octets ≡ suc (suc (length after)) = ap length whole in
+    let two : m ≡ 2 = omega arith in
+    let all : item_len ends false octets ≡ suc (suc (item_len ends false after)) = rw whole refl in
+    let left : item_len ends false (drop m octets) ≡ item_len ends false after = rw (two, whole) refl in
+    omega arith
+
+pub escape_on : (ends : ℕ → Bool) (text : List ℕ) (i m : ℕ) → i < length text → get_or text i 0 ≡ 92 → m ≡ min (length text - i) 2 → Reaches ends text i → Reaches ends text (i + m)
+escape_on ends text i m less is taken so_far =
+    let whole : drop i text ≡ 92 ∷ drop (i + 1) text = first_at text i less ∙ ap (λ c. c ∷ drop (i + 1) text) is in
+    reach_on ends text i m so_far (one_escape ends (drop i text) _ m whole (taken ∙ ap (λ n. min n 2) (sym (length-drop i text))))
+
+-- the item ends where something stops it that is no backslash
+last_at : (ends : ℕ → Bool) (octets : List ℕ) → EndsAt (λ c. ends c || c == 92) octets → (0 < length octets → get_or octets 0 0 ≢ 92) → item_len ends false octets ≡ 0
+unfolding item_len
+last_at ends [] at other = refl
+last_at ends (c ∷ rest) at other =
+    let differs : (c == 92) ≡ false = ne_eqb c 92 (other (omega arith)) in
+    let ended : ends c ≡ true = by (ends c) (c == 92) differs at in
+    rw (differs, ended) refl
+  where
+    by : (a b : Bool) → b ≡ false → (a || b) ≡ true → a ≡ true
+    by true b differs stopped = refl
+    by false b differs stopped = absurd (both_ways b differs stopped)
+
+pub len_reached : (ends : ℕ → Bool) (text : List ℕ) (i : ℕ) → EndsAt (λ c. ends c || c == 92) (drop i text) → (i < length text → get_or text i 0 ≢ 92) → Reaches ends text i → i ≡ item_len ends false text
+len_reached ends text i at other so_far =
+    let none : item_len ends false (drop i text) ≡ 0 = last_at ends (drop i text) at (λ some. let less : i < length text = (let len = length-drop i text in omega arith) in λ e. other less (ap (λ t. get_or t 0 0) (sym (first_at text i less)) ∙ e)) in
     omega arith
 
 pub comment_goes_on : (text : List ℕ) (i n : ℕ) → i < length text → get_or text i 0 ≢ 10 → n ≡ i + length (before_line_feed (drop i text)) → n ≡ i + 1 + length (before_line_feed (drop (i + 1) text))

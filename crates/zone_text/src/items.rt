@@ -1,13 +1,13 @@
-ghost use Rattle.std.specs.Prelude.{◌≡◌, ◌≤◌, ◌<◌, List, [], ◌∷◌, ◌++◌, map, length, false, IfNone, IfSome, OnOk, option_map, option_to_list};
+ghost use Rattle.std.specs.Prelude.{◌≡◌, ◌≤◌, ◌<◌, List, [], ◌∷◌, ◌++◌, map, length, drop, false, not, IfNone, IfSome, OnOk, option_map, option_to_list};
 ghost use Rattle.std.specs.List.{flat_map};
 ghost use Rattle.zone_name.specs.Common.{Octets};
 ghost use Rattle.zone_rdata.specs.Item.{raw};
 ghost use Rattle.zone_text.specs.Entries.{item_of};
-ghost use Rattle.zone_text.specs.Pieces.{Piece, Cuts, IsPiece, is_blank, piece_text};
+ghost use Rattle.zone_text.specs.Pieces.{Piece, Cuts, IsPiece, ends_item, is_blank, piece_text};
 ghost use Rattle.zone_text.specs.Machine.Cutting.{before_line_feed};
-ghost use Rattle.zone_text.specs.Machine.ItemLengths.{EndsBefore, ends_within, item_len};
+ghost use Rattle.zone_text.specs.Machine.ItemLengths.{EndsAt, EndsBefore, Reaches, ends_within, item_len, stops_within};
 
-use crate::table::ends_item;
+use crate::table::stops_bare;
 use std::alloc::AllocError;
 use zone_rdata::Item;
 
@@ -28,33 +28,64 @@ pub(crate) enum Extent {
 }
 
 impl Extent {
-    /// Whether the octet ends the item where no backslash stands before it.
-    fn ends_at(self, octet: u8) -> bool
-        ensures { result ≡ ends_within self octet }
+    /// Whether the octet ends the item or is a backslash.
+    #[inline(always)]
+    fn stops_at(self, octet: u8) -> bool
+        ensures { result ≡ stops_within self octet }
     {
         match self {
-            Extent::Bare => ends_item(octet),
-            Extent::Quoted => octet == b'"',
+            Extent::Bare => stops_bare(octet),
+            Extent::Quoted => matches!(octet, b'"' | b'\\'),
         }
     }
 }
 
-/// The number of octets of the item at the front, without quotes.
-fn item_len(text: &[u8], extent: Extent) -> usize
-    ensures len { result ≡ item_len (ends_within extent) false text.now }
+/// The number of octets in front of the first that ends the item or is a backslash.
+fn plain_len(text: &[u8], extent: Extent) -> usize
     ensures within { result ≤ length text.now }
+    ensures reaches { Reaches (ends_within extent) text.now result }
+    ensures stops { EndsAt (stops_within extent) (drop result text.now) }
 {
-    let mut is_escaped = false;
     for (index, octet) in text.iter().enumerate() {
-        if is_escaped {
-            is_escaped = false;
-        } else if *octet == b'\\' {
-            is_escaped = true;
-        } else if extent.ends_at(*octet) {
+        if extent.stops_at(*octet) {
             return index;
         }
     }
     text.len()
+}
+
+/// The number of octets of the item at the front, of which these many are plain.
+// Not inlined: few items have a backslash.
+#[inline(never)]
+fn escaped_len(text: &[u8], plain: usize, extent: Extent) -> usize
+    requires within { plain ≤ length text.now }
+    requires reaches { Reaches (ends_within extent) text.now plain }
+    requires stops { EndsAt (stops_within extent) (drop plain text.now) }
+    ensures len { result ≡ item_len (ends_within extent) false text.now }
+    ensures within { result ≤ length text.now }
+{
+    let mut len = plain;
+    while len < text.len() && text[len] == b'\\' {
+        // The octet behind a backslash goes with it.
+        len += (text.len() - len).min(2);
+        let (_, behind) = text.split_at(len);
+        len += plain_len(behind, extent);
+    }
+    len
+}
+
+/// The number of octets of the item at the front, without quotes.
+#[inline(always)]
+fn item_len(text: &[u8], extent: Extent) -> usize
+    ensures len { result ≡ item_len (ends_within extent) false text.now }
+    ensures within { result ≤ length text.now }
+{
+    let plain = plain_len(text, extent);
+    if plain < text.len() && text[plain] == b'\\' {
+        escaped_len(text, plain, extent)
+    } else {
+        plain
+    }
 }
 
 /// The number of octets of the comment at the front, without its semicolon.
@@ -70,6 +101,14 @@ fn comment_len(text: &[u8]) -> usize
     text.len()
 }
 
+/// Whether the octet begins a bare item.
+#[inline(always)]
+fn begins_bare(octet: u8) -> bool
+    ensures { result ≡ not (ends_item octet) }
+{
+    !stops_bare(octet) || octet == b'\\'
+}
+
 /// The piece at the front of a text that is cut into pieces: its item, if it is one, and what is behind it. `None`: the
 /// text ends.
 fn split_piece(text: &[u8]) -> Option<(Option<Item<'_>>, &[u8])>
@@ -80,18 +119,19 @@ fn split_piece(text: &[u8]) -> Option<(Option<Item<'_>>, &[u8])>
     ensures shorter { IfSome result (λ found. length found.1.now < length text.now) }
 {
     let (first, after) = text.split_first()?;
-    if *first == b'"' {
+    let octet = *first;
+    if begins_bare(octet) {
+        let (item, rest) = text.split_at(item_len(text, Extent::Bare));
+        Some((Some(Item::Bare(item)), rest))
+    } else if octet == b'"' {
         let (inside, closing) = after.split_at(item_len(after, Extent::Quoted));
         let (_, rest) = closing.split_at(closing.len().min(1));
         Some((Some(Item::Quoted(inside)), rest))
-    } else if *first == b';' {
+    } else if octet == b';' {
         let (_, rest) = after.split_at(comment_len(after));
         Some((None, rest))
-    } else if ends_item(*first) {
-        Some((None, after))
     } else {
-        let (item, rest) = text.split_at(item_len(text, Extent::Bare));
-        Some((Some(Item::Bare(item)), rest))
+        Some((None, after))
     }
 }
 

@@ -1,7 +1,7 @@
 //! Kinds of octets, each by a table: a look-up costs less than six comparisons.
 ghost use Rattle.std.specs.Prelude.{◌≡◌};
 ghost use Rattle.zone_text.specs.Machine.Scan.{moves};
-ghost use Rattle.zone_text.specs.Pieces.{ends_item};
+ghost use Rattle.zone_text.specs.Machine.ItemLengths.{stops_bare};
 ghost use Rattle.zone_text.specs.declared.scan.Mode.TheVariants.{Open};
 
 // names as short as the rows of the table want
@@ -38,15 +38,15 @@ pub(crate) fn moves_open(octet: u8) -> bool
     MOVES_OPEN[octet as usize]
 }
 
-/// By octet, sixteen a row: a space, a tab, a carriage return, a line feed, `"`, `(` and `)`, and `;`.
+/// By octet, sixteen a row: a space, a tab, a carriage return, a line feed, `"`, `(` and `)`, `;` and a backslash.
 #[rattlefmt::skip]
-static ENDS_ITEM: [bool; 256] = [
+static STOPS_BARE: [bool; 256] = [
     N, N, N, N, N, N, N, N, N, Y, Y, N, N, Y, N, N,
     N, N, N, N, N, N, N, N, N, N, N, N, N, N, N, N,
     Y, N, Y, N, N, N, N, N, Y, Y, N, N, N, N, N, N,
     N, N, N, N, N, N, N, N, N, N, N, Y, N, N, N, N,
     N, N, N, N, N, N, N, N, N, N, N, N, N, N, N, N,
-    N, N, N, N, N, N, N, N, N, N, N, N, N, N, N, N,
+    N, N, N, N, N, N, N, N, N, N, N, N, Y, N, N, N,
     N, N, N, N, N, N, N, N, N, N, N, N, N, N, N, N,
     N, N, N, N, N, N, N, N, N, N, N, N, N, N, N, N,
     N, N, N, N, N, N, N, N, N, N, N, N, N, N, N, N,
@@ -59,10 +59,10 @@ static ENDS_ITEM: [bool; 256] = [
     N, N, N, N, N, N, N, N, N, N, N, N, N, N, N, N,
 ];
 
-/// Whether the octet ends a bare item where no backslash stands before it.
+/// Whether the octet ends a bare item where no backslash stands before it, or is a backslash.
 #[inline(always)]
-pub(crate) fn ends_item(octet: u8) -> bool
-    ensures { result ≡ ends_item octet }
+pub(crate) fn stops_bare(octet: u8) -> bool
+    ensures { result ≡ stops_bare octet }
 {
-    ENDS_ITEM[octet as usize]
+    STOPS_BARE[octet as usize]
 }

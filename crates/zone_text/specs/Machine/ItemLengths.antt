@@ -1,5 +1,5 @@
 -- How far a piece goes, as it is looked for from the left (RFC 1035 5.1).
-use Rattle.std.specs.Prelude.{◌≡◌, ℕ, suc, List, [], ◌∷◌, ◌==◌, Bool, true, false, if◌then◌else◌}
+use Rattle.std.specs.Prelude.{◌≡◌, ℕ, suc, ◌+◌, drop, List, [], ◌∷◌, ◌==◌, ◌||◌, Bool, true, false, if◌then◌else◌}
 use Rattle.zone_rdata.specs.Strings.{is_quote}
 use Rattle.zone_text.specs.Pieces.{Piece, comment, bare, ends_item}
 use Rattle.zone_text.specs.declared.items.Extent.{Extent}
@@ -9,6 +9,14 @@ use Rattle.zone_text.specs.declared.items.Extent.TheVariants.{Bare, Quoted}
 abbrev pub ends_within : Extent → ℕ → Bool
 ends_within Bare c = ends_item c
 ends_within Quoted c = is_quote c
+
+-- what ends an item there, or a backslash
+abbrev pub stops_within : Extent → ℕ → Bool
+stops_within extent c = ends_within extent c || c == 92
+
+-- of a bare item
+abbrev pub stops_bare : ℕ → Bool
+stops_bare c = ends_item c || c == 92
 
 -- the octets in front of the first that ends an item and stands behind no backslash
 unfoldable pub item_len : (ℕ → Bool) → Bool → List ℕ → ℕ
@@ -26,3 +34,7 @@ abbrev pub EndsBefore : Piece → List ℕ → Type 0
 EndsBefore (bare units) rest = EndsAt ends_item rest
 EndsBefore (comment octets) rest = EndsAt (λ c. c == 10) rest
 EndsBefore p rest = Unit {0}
+
+-- the first n octets are of the item, and the last of them is no backslash that takes the octet behind it
+abbrev pub Reaches : (ℕ → Bool) → List ℕ → ℕ → Type 0
+Reaches ends text n = item_len ends false text ≡ n + item_len ends false (drop n text)

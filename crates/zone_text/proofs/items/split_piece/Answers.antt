@@ -1,23 +1,28 @@
-use Rattle.std.proofs.Common.{sym, ◌∙◌}
+use Rattle.std.proofs.Common.{sym, ◌∙◌, ◌≡◌, true, false}
+use Rattle.std.proofs.lemmas.Bool.{not-true, not-false}
+use Rattle.zone_text.specs.Pieces.{ends_item}
 use Rattle.zone_text.proofs.ItemsLeft.{plain_front, comment_front, quoted_front, bare_front, bare_takes}
 use Rattle.zone_text.proofs.items.split_piece.Goals as goal
 
-pub returns-then-first-eq34-clause-found : goal.returns-then-first-eq34-clause-found
-returns-then-first-eq34-clause-found c =
-    quoted_front _ _ _ _ _ c.in_ok-first.first.now _ _ c.in_ok-first.ensures.cases.0 c.if-first-eq34.true c.item_len.ensures.len c.split_at.ensures.front c.split_at.ensures.back c.min.ensures c.split_at-then-first-eq34.ensures.back
+pub returns-then-begins_bare-clause-found : goal.returns-then-begins_bare-clause-found
+returns-then-begins_bare-clause-found c =
+    let goes_on : ends_item c.in_ok-first.first.now ≡ false = not-true (ends_item c.in_ok-first.first.now) (sym c.begins_bare.ensures ∙ c.if-begins_bare.true) in
+    bare_front _ _ _ _ c.in_ok-first.first.now _ c.in_ok-first.ensures.cases.0 goes_on c.item_len.ensures.len c.split_at.ensures.front c.split_at.ensures.back
 
-pub returns-then-first-eq59-clause-found : goal.returns-then-first-eq59-clause-found
-returns-then-first-eq59-clause-found c =
-    comment_front _ _ _ c.in_ok-first.first.now _ c.in_ok-first.ensures.cases.0 c.if-first-eq59.true c.comment_len.ensures.len c.split_at-then-first-eq59.ensures.back
+pub returns-then-begins_bare-clause-shorter : goal.returns-then-begins_bare-clause-shorter
+returns-then-begins_bare-clause-shorter c =
+    let goes_on : ends_item c.in_ok-first.first.now ≡ false = not-true (ends_item c.in_ok-first.first.now) (sym c.begins_bare.ensures ∙ c.if-begins_bare.true) in
+    bare_takes _ _ _ c.in_ok-first.first.now _ c.in_ok-first.ensures.cases.0 goes_on c.item_len.ensures.len c.item_len.ensures.within c.split_at.ensures.back
 
-pub returns-then-ends_item-clause-found : goal.returns-then-ends_item-clause-found
-returns-then-ends_item-clause-found c =
-    plain_front _ _ c.in_ok-first.first.now c.in_ok-first.ensures.cases.0 c.if-first-eq34.false c.if-first-eq59.false (sym c.ends_item.ensures ∙ c.if-ends_item.true)
+pub returns-then-octet-eq34-clause-found : goal.returns-then-octet-eq34-clause-found
+returns-then-octet-eq34-clause-found c =
+    quoted_front _ _ _ _ _ c.in_ok-first.first.now _ _ c.in_ok-first.ensures.cases.0 c.if-octet-eq34.true c.item_len-then-octet-eq34.ensures.len c.split_at-then-octet-eq34.ensures.front c.split_at-then-octet-eq34.ensures.back c.min.ensures c.split_at-then-octet-eq34-2.ensures.back
 
-pub returns-else-ends_item-clause-found : goal.returns-else-ends_item-clause-found
-returns-else-ends_item-clause-found c =
-    bare_front _ _ _ _ c.in_ok-first.first.now _ c.in_ok-first.ensures.cases.0 c.if-first-eq34.false c.if-first-eq59.false (sym c.ends_item.ensures ∙ c.if-ends_item.false) c.item_len-else-ends_item.ensures.len c.split_at-else-ends_item.ensures.front c.split_at-else-ends_item.ensures.back
+pub returns-then-octet-eq59-clause-found : goal.returns-then-octet-eq59-clause-found
+returns-then-octet-eq59-clause-found c =
+    comment_front _ _ _ c.in_ok-first.first.now _ c.in_ok-first.ensures.cases.0 c.if-octet-eq59.true c.comment_len.ensures.len c.split_at-then-octet-eq59.ensures.back
 
-pub returns-else-ends_item-clause-shorter : goal.returns-else-ends_item-clause-shorter
-returns-else-ends_item-clause-shorter c =
-    bare_takes _ _ _ c.in_ok-first.first.now _ c.in_ok-first.ensures.cases.0 (sym c.ends_item.ensures ∙ c.if-ends_item.false) c.item_len-else-ends_item.ensures.len c.item_len-else-ends_item.ensures.within c.split_at-else-ends_item.ensures.back
+pub returns-else-octet-eq59-clause-found : goal.returns-else-octet-eq59-clause-found
+returns-else-octet-eq59-clause-found c =
+    let ends : ends_item c.in_ok-first.first.now ≡ true = not-false (ends_item c.in_ok-first.first.now) (sym c.begins_bare.ensures ∙ c.if-begins_bare.false) in
+    plain_front _ _ c.in_ok-first.first.now c.in_ok-first.ensures.cases.0 c.if-octet-eq34.false c.if-octet-eq59.false ends
