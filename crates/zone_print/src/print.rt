@@ -78,7 +78,6 @@ pub(crate) fn text_fits_within(zone: &Zone, limit: u64) -> bool
     requires { limit ≤ text_limit }
     ensures { IsTrue result ↔ length (canon zone.now) ≤ limit }
 {
-    zone.known();
     a_text_is_at_most_four_times_its_messages();
     zone.message_len() <= limit / 4 || len_within(zone, limit) <= limit
 }

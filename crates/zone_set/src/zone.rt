@@ -51,7 +51,8 @@ impl Zone {
     /// The octets that its records take in messages where no name is compressed (RFC 1035 3.2.1), or 2^64 - 1 where
     /// they are more.
     pub fn message_len(&self) -> u64
-        ensures { result ≡ min (message_octets self.now.records) (2 ^ 64 - 1) }
+        ensures len { result ≡ min (message_octets self.now.records) (2 ^ 64 - 1) }
+        ensures zone { IsZone self.now }
     {
         self.sets.message_len()
     }
