@@ -109,9 +109,9 @@ begins_with c rest = pointwise nat_eq (take 1 rest) (c ∷ [])
 plain_end : (rest : List ℕ) → begins_with 92 rest ≡ false → (0 < length rest → IsUnit is_dot (plain (get_or rest 0 0)) → ⊥) → EndsLabel rest
 plain_end [] other stops = inl refl
 plain_end (c ∷ rest) other stops = elim (cases_Bool (is_dot c)) [
-    inl dot ↦ inr (rest, ap (λ t. t ∷ rest) (eqb-true c 46 dot))
+  | inl dot ↦ inr (rest, ap (λ t. t ∷ rest) (eqb-true c 46 dot))
   | inr h ↦ absurd (stops (omega arith) (h, λ e. both_ways (begins_with 92 (c ∷ rest)) other ((bytes_decides (c ∷ []) (92 ∷ [])).1 (ap (λ t. t ∷ []) e))))
-  ]
+]
 
 plain_stop : (text back : List ℕ) (len : ℕ) → begins_with 92 back ≡ false → back ≡ drop len text → (len < length text → IsUnit is_dot (plain (get_or text len 0)) → ⊥) → EndsLabel (drop len text)
 plain_stop text back len other e stops =
@@ -133,9 +133,12 @@ plain_by (suc len) (suc n) labels open_label (c ∷ text) each fits enough room 
     let grown : length (open_label ++ c ∷ []) + len ≤ 63 = omega (arith, length-append open_label (c ∷ [])) in
     let fits' : len ≤ length text = omega arith in
     let enough' : length text < n = omega arith in
-    let next = plain_by len n labels (open_label ++ c ∷ []) text (λ k h. each (suc k) (omega (arith, h))) fits' enough' grown in
-    (next.0, next.1, read_step n labels open_label (c ∷ text) (at_octet c text) (ahead-plain c text (each 0 (omega arith))) ∙ octet_step n labels open_label text c space ∙ next.2
-    ∙ ap (λ t. read next.0 labels t (drop len text)) (append_assoc open_label (c ∷ []) (take len text)))
+    let next = plain_by len n labels (open_label ++ c ∷ []) text (λ k h. each (suc k) (omega (arith, h))) fits' enough' grown in (
+      next.0,
+      next.1,
+      read_step n labels open_label (c ∷ text) (at_octet c text) (ahead-plain c text (each 0 (omega arith))) ∙ octet_step n labels open_label text c space ∙ next.2
+          ∙ ap (λ t. read next.0 labels t (drop len text)) (append_assoc open_label (c ∷ []) (take len text)),
+    )
 
 long_by : (len fuel : ℕ) (labels : List (List ℕ)) (open_label text : List ℕ) → ArePlain text len → len ≤ length text → length text < fuel → length open_label ≤ 63 → 63 < length open_label + len → read fuel labels open_label text ≡ Err LabelTooLong
 long_by zero fuel labels open_label text each fits enough short over = absurd (omega arith)
@@ -146,11 +149,11 @@ long_by (suc len) (suc n) labels open_label (c ∷ text) each fits enough short 
     let enough' : length text < n = omega arith in
     let first : ahead_in (c ∷ text) ≡ at_octet c text = ahead-plain c text (each 0 (omega arith)) in
     elim (cases_lt (length open_label) 63) [
-      inl room ↦
-      let short' : length (open_label ++ c ∷ []) ≤ 63 = omega (arith, room, length-append open_label (c ∷ [])) in
-      let over' : 63 < length (open_label ++ c ∷ []) + len = omega (arith, over, length-append open_label (c ∷ [])) in
-      read_step n labels open_label (c ∷ text) (at_octet c text) first ∙ octet_step n labels open_label text c room ∙ long_by len n labels (open_label ++ c ∷ []) text (λ k h. each (suc k) (omega (arith, h))) fits' enough' short' over'
-    | inr full ↦ read_step n labels open_label (c ∷ text) (at_octet c text) first ∙ ap (after_step n) (full_step labels open_label text c full)
+      | inl room ↦
+          let short' : length (open_label ++ c ∷ []) ≤ 63 = omega (arith, room, length-append open_label (c ∷ [])) in
+          let over' : 63 < length (open_label ++ c ∷ []) + len = omega (arith, over, length-append open_label (c ∷ [])) in
+          read_step n labels open_label (c ∷ text) (at_octet c text) first ∙ octet_step n labels open_label text c room ∙ long_by len n labels (open_label ++ c ∷ []) text (λ k h. each (suc k) (omega (arith, h))) fits' enough' short' over'
+      | inr full ↦ read_step n labels open_label (c ∷ text) (at_octet c text) first ∙ ap (after_step n) (full_step labels open_label text c full)
     ]
 
 -- what ends a plain label
@@ -255,10 +258,11 @@ Reads-label text before after is_too_long is_left_out rest label behind more c r
 -- at the end of the text, in a label
 pub Reads-relative : (text : List ℕ) (before after : List (List ℕ)) (is_too_long is_left_out : Bool) (rest label behind : List ℕ) → Reads text before is_too_long rest → EndsLabelAt rest label behind → Closes before label is_left_out after → behind ≡ [] → (labels : List (List ℕ)) × (reading text ≡ Ok (labels, false)) × Collects after (is_too_long || is_left_out) labels
 Reads-relative text before after is_too_long is_left_out rest label behind reads at closes is =
-    let reached = at.goes reads.labels reads.fuel reads.enough in
-    (reads.labels ++ folded_label label ∷ [],
-    sym reads.leads ∙ reached.2 ∙ end_step reached.0 reads.labels label behind reached.1 closes.some is,
-    joined_collects before after reads.labels label is_too_long is_left_out reads.collects closes.joins)
+    let reached = at.goes reads.labels reads.fuel reads.enough in (
+      reads.labels ++ folded_label label ∷ [],
+      sym reads.leads ∙ reached.2 ∙ end_step reached.0 reads.labels label behind reached.1 closes.some is,
+      joined_collects before after reads.labels label is_too_long is_left_out reads.collects closes.joins,
+    )
 
 ends_by : (fuel : ℕ) (labels : List (List ℕ)) (rest : List ℕ) → length rest < fuel → rest ≡ [] → read fuel labels [] rest ≡ Ok (labels, true)
 ends_by zero labels rest enough e = absurd (omega arith)

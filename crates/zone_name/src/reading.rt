@@ -1,9 +1,11 @@
-ghost use Rattle.std.specs.Prelude.{◌≡◌, ◌≤◌, ◌<◌, ◌↔◌, ◌++◌, [], ℕ, length, map, slice_index, IsTrue, IfOk, IfErr, Ok, Err, option_copied};
+ghost use Rattle.std.specs.Prelude.{◌≡◌, ◌≤◌, ◌<◌, ◌↔◌, ◌++◌, [], ℕ, length, map, slice_index, option_copied};
+ghost use Rattle.std.specs.Prelude.{IsTrue, IfOk, IfErr, Ok, Err};
 ghost use Rattle.zone_name.specs.Common.{Labels};
 ghost use Rattle.zone_name.specs.Name.{HoldsName, IsName, folded_octet, labels_of};
 ghost use Rattle.zone_name.specs.Spelling.{IsUnit, is_dot, plain};
 ghost use Rattle.zone_name.specs.Machine.LabelWalk.{Collects, reading, under, sized};
-ghost use Rattle.zone_name.specs.Machine.Seen.{Closes, HasForm, HoldsUnfolded, IsClosable, Refuses, RefusesLabel, unfolded_labels, EndsLabelAt};
+ghost use Rattle.zone_name.specs.Machine.Seen.{Closes, EndsLabelAt, HasForm, HoldsUnfolded, IsClosable};
+ghost use Rattle.zone_name.specs.Machine.Seen.{Refuses, RefusesLabel, unfolded_labels};
 
 use crate::escape::{NextUnit, next_unit};
 use crate::fault::NameFault;
@@ -92,7 +94,8 @@ fn read_label<'t>(
     requires some { 0 < length text.now }
     requires holds { HoldsUnfolded octets.old.items }
     ensures holds { HoldsUnfolded octets.new.items }
-    ensures ok { IfOk result (λ read. IsClosable text.now read.1.now (λ label. Closes (unfolded_labels octets.old.items) label read.0 (unfolded_labels octets.new.items))) }
+    ensures ok { IfOk result (λ read. IsClosable text.now read.1.now (λ label.
+        Closes (unfolded_labels octets.old.items) label read.0 (unfolded_labels octets.new.items))) }
     ensures err { IfErr result (Refuses text.now) }
 {
     let (label, behind) = text.split_at(plain_len(text));
@@ -113,7 +116,8 @@ fn read_escaped_label<'t>(
     requires some { 0 < length text.now }
     requires holds { HoldsUnfolded octets.old.items }
     ensures holds { HoldsUnfolded octets.new.items }
-    ensures ok { IfOk result (λ read. IsClosable text.now read.1.now (λ label. Closes (unfolded_labels octets.old.items) label read.0 (unfolded_labels octets.new.items))) }
+    ensures ok { IfOk result (λ read. IsClosable text.now read.1.now (λ label.
+        Closes (unfolded_labels octets.old.items) label read.0 (unfolded_labels octets.new.items))) }
     ensures err { IfErr result (Refuses text.now) }
 {
     let mut label: ArrayVec<u8, 63> = ArrayVec::new();
@@ -190,8 +194,10 @@ fn fold(octets: &mut ArrayVec<u8, 255>)
 fn end_with(octets: &mut ArrayVec<u8, 255>, ending: &[u8]) -> Result<(), NameFault>
     requires holds { HoldsUnfolded octets.old.items }
     requires name { HoldsName ending.now }
-    ensures ok { IfOk result (λ _. HoldsName octets.new.items × (sized (unfolded_labels octets.old.items ++ labels_of ending.now) ≡ Ok (labels_of octets.new.items))) }
-    ensures err { IfErr result (λ fault. sized (unfolded_labels octets.old.items ++ labels_of ending.now) ≡ Err fault) }
+    ensures ok { IfOk result (λ _. HoldsName octets.new.items
+        × (sized (unfolded_labels octets.old.items ++ labels_of ending.now) ≡ Ok (labels_of octets.new.items))) }
+    ensures err { IfErr result (λ fault.
+        sized (unfolded_labels octets.old.items ++ labels_of ending.now) ≡ Err fault) }
 {
     fold(octets);
     match octets.try_extend_from_slice(ending) {
@@ -207,10 +213,12 @@ fn finish(
     origin: Option<&Name>,
 ) -> Result<(), NameFault>
     requires { HoldsUnfolded octets.old.items }
-    ensures ok { IfOk result (λ _. HoldsName octets.new.items × ((labels : Labels) → Collects (unfolded_labels octets.old.items) spelled.is_too_long labels
-            → under (option_copied origin.entry) (Ok (labels, spelled.is_absolute)) ≡ Ok (labels_of octets.new.items))) }
-    ensures err { IfErr result (λ fault. (labels : Labels) → Collects (unfolded_labels octets.old.items) spelled.is_too_long labels
-            → under (option_copied origin.entry) (Ok (labels, spelled.is_absolute)) ≡ Err fault) }
+    ensures ok { IfOk result (λ _. HoldsName octets.new.items × ((labels : Labels)
+        → Collects (unfolded_labels octets.old.items) spelled.is_too_long labels
+        → under (option_copied origin.entry) (Ok (labels, spelled.is_absolute)) ≡ Ok (labels_of octets.new.items))) }
+    ensures err { IfErr result (λ fault. (labels : Labels)
+        → Collects (unfolded_labels octets.old.items) spelled.is_too_long labels
+        → under (option_copied origin.entry) (Ok (labels, spelled.is_absolute)) ≡ Err fault) }
 {
     if spelled.is_absolute {
         if spelled.is_too_long {
