@@ -43,11 +43,11 @@ struct Spelled {
     is_absolute: bool,
 }
 
-/// Whether the octet stands for itself and parts no labels. Letters are told first, as most octets are one.
+/// Whether the octet stands for itself and parts no labels.
 fn is_plain(octet: u8) -> bool
     ensures { IsTrue result ↔ IsUnit is_dot (plain octet) }
 {
-    octet > b'\\' || (octet != b'.' && octet != b'\\')
+    octet != b'.' && octet != b'\\'
 }
 
 /// How many octets at the front of a text are plain.
