@@ -1,15 +1,20 @@
 -- A label that is put behind others.
-use Rattle.std.proofs.Common.{◌≡◌, ℕ, suc, ◌+◌, ◌<◌, ◌≤◌, Bool, Ok, Err, List, [], ◌∷◌, ◌++◌, length, take, get_or, if◌then◌else◌, sym, ap, ◌∙◌, subst, arith, append_assoc, length-append}
+use Rattle.std.proofs.Common.{◌≡◌, ℕ, suc, ◌+◌, ◌<◌, ◌≤◌, Bool, true, false, Option, Result, IfOk, IfErr, Ok, Err, refl, ap₂, List, [], ◌∷◌, ◌++◌, length, take, drop, get_or, if◌then◌else◌, sym, ap, ◌∙◌, subst, arith, append_assoc, length-append}
 use Rattle.std.specs.Prelude.{map}
-use Rattle.std.specs.List.{flat_map, AllByRecursion}
-use Rattle.std.proofs.lemmas.List.{length-map, append-nil, take_all}
+use Rattle.std.specs.List.{flat_map, AllByRecursion, refill}
+use Rattle.std.specs.Result.{IsOk, OnOk}
+use Rattle.std.specs.Char.{to_ascii_lowercase}
+use Rattle.std.proofs.lemmas.List.{length-map, append-nil, take_all, take_at, map-append}
 use Rattle.std.proofs.lemmas.List.Concat.{flat_map-append}
-use Rattle.std.proofs.lemmas.Bool.{le-leb, lt-leb}
+use Rattle.std.proofs.lemmas.Bool.{le-leb, lt-leb, false≢true}
 use Rattle.std.proofs.lemmas.Bool.Decides.{nat_tests}
 use Rattle.zone_name.specs.Name.{IsLabel, IsName, IsFoldedOctet, folded_octet, folded_label, with_length, wire, labels_of, HoldsName, HoldsLabels}
-use Rattle.zone_name.specs.Machine.LabelWalk.{sized}
+use Rattle.zone_name.specs.Machine.LabelWalk.{Collects, under, sized}
+use Rattle.zone_name.specs.Machine.Seen.{HoldsUnfolded, unfolded_labels}
+use Rattle.zone_name.specs.declared.reading.Spelled.{Spelled}
+use Rattle.zone_name.specs.declared.fault.NameFault.{NameFault}
 use Rattle.zone_name.specs.declared.fault.NameFault.TheVariants.{NameTooLong}
-use Rattle.zone_name.proofs.Octets.{labels_of-open, labels_of-wire, HoldsName-wire}
+use Rattle.zone_name.proofs.Octets.{labels_of-open, labels_of-root, labels_of-wire, HoldsName-wire}
 
 -- each of the octets, by its place
 pub AllByRecursion-from_places : (P : ℕ → Type 0) (octets : List ℕ) → ((k : ℕ) → k < length octets → P (get_or octets k 0)) → AllByRecursion P octets
@@ -98,6 +103,27 @@ pushed_octets octets label pushed new n first after all =
     after ∙ ap (λ t. t ++ map folded_octet (take n label)) first ∙ ap (λ t. octets ++ length label ∷ [] ++ map folded_octet t) (take_all n label all)
     ∙ append_assoc octets (length label ∷ []) (map folded_octet label) ∙ ap (λ k. octets ++ (k ∷ map folded_octet label)) (sym (length-map label folded_octet))
 
+-- a length is no letter
+folded_length : (n : ℕ) → n ≤ 63 → folded_octet n ≡ n
+folded_length n short = grind (arith, nat_tests)
+
+-- a length and the octets after it, folded together
+pub folded_frame : (octets label pushed new : List ℕ) → length label ≤ 63 → pushed ≡ octets ++ length label ∷ [] → new ≡ pushed ++ label → map folded_octet new ≡ map folded_octet octets ++ with_length (folded_label label)
+folded_frame octets label pushed new short first after =
+    ap (map folded_octet) (after ∙ ap (λ t. t ++ label) first ∙ append_assoc octets (length label ∷ []) label) ∙ map-append folded_octet octets (length label ∷ label)
+    ∙ ap (λ k. map folded_octet octets ++ (k ∷ map folded_octet label)) (folded_length (length label) short ∙ sym (length-map label folded_octet))
+
+pub push_unfolded : (octets label pushed new : List ℕ) → HoldsUnfolded octets → AllByRecursion (λ x. x < 256) label → 0 < length label → length label ≤ 63 → length octets + length label + 2 ≤ 255 → pushed ≡ octets ++ length label ∷ [] → new ≡ pushed ++ label → Pushed (map folded_octet octets) (folded_label label) (map folded_octet new)
+push_unfolded octets label pushed new holds each some short room first after =
+    let space : length (map folded_octet octets) + length (folded_label label) + 2 ≤ 255 = omega (arith, room, length-map label folded_octet, length-map octets folded_octet) in
+    push_frame (map folded_octet octets) (folded_label label) (map folded_octet new) holds (IsLabel-folded label some short each) space (folded_frame octets label pushed new short first after)
+
+pub HoldsUnfolded-nil : (octets : List ℕ) → octets ≡ [] → HoldsUnfolded octets
+HoldsUnfolded-nil octets e = HoldsLabels-nil (map folded_octet octets) (ap (map folded_octet) e)
+
+pub unfolded_labels-none : (octets : List ℕ) → octets ≡ [] → unfolded_labels octets ≡ []
+unfolded_labels-none octets e = labels_of-none (map folded_octet octets) (ap (map folded_octet) e)
+
 -- the labels of two names, one behind the other
 pub record Joined (left right : List (List ℕ)) (new : List ℕ) : Type 0 where
   pub holds : HoldsName new
@@ -127,3 +153,37 @@ pub sized-joined : (left right : List (List ℕ)) (new : List ℕ) (name : List 
 sized-joined left right new name both is =
     let named : IsName (left ++ right) = subst IsName both.gives both.holds.name in
     sized-name (left ++ right) named.short ∙ ap (λ t. Ok t) (sym both.gives ∙ sym is)
+
+-- what puts letters in lower case folds them
+lowered : (octets : List ℕ) → map to_ascii_lowercase octets ≡ map folded_octet octets
+lowered [] = refl
+lowered (c ∷ octets) = let same : to_ascii_lowercase c ≡ folded_octet c = grind (arith, nat_tests) in ap₂ (λ (x : ℕ) (t : List ℕ). x ∷ t) same (lowered octets)
+
+pub folded_again : (octets lower : List ℕ) → lower ≡ map to_ascii_lowercase octets → refill (length octets) octets lower ≡ map folded_octet octets
+folded_again octets lower e = take_at lower (drop (length lower) octets) (length octets) (ap length e ∙ length-map octets to_ascii_lowercase) ∙ e ∙ lowered octets
+
+-- the octets of a name behind labels that are folded now
+pub ended_with : (octets lower ending new : List ℕ) → HoldsUnfolded octets → HoldsName ending → lower ≡ map folded_octet octets → new ≡ lower ++ ending → length lower + length ending ≤ 255 → HoldsName new × (sized (unfolded_labels octets ++ labels_of ending) ≡ Ok (labels_of new))
+ended_with octets lower ending new holds name is e room =
+    let space : length (map folded_octet octets) + length ending ≤ 255 = omega (arith, room, ap length is) in
+    let both = joined (map folded_octet octets) ending new (unfolded_labels octets) (labels_of ending) holds refl name.name (sym name.whole) (e ∙ ap (λ t. t ++ ending) is) space in
+    (both.holds, sized-joined (unfolded_labels octets) (labels_of ending) new (labels_of new) both refl)
+
+-- an answer that is a value keeps what is promised of one
+pub taken : {T E P : Type 0} (result : Result T E) → IsOk result → OnOk result P → P
+taken (Ok x) is holds = holds
+taken (Err e) is holds = absurd (false≢true is)
+
+-- nothing is behind the labels of an absolute text
+under_root : (origin : Option (List (List ℕ))) (spelled : Spelled) (held labels : List (List ℕ)) (result : Result (List (List ℕ)) NameFault) → spelled.is_absolute ≡ true → spelled.is_too_long ≡ false → sized (held ++ labels_of (0 ∷ [])) ≡ result → Collects held spelled.is_too_long labels → under origin (Ok (labels, spelled.is_absolute)) ≡ result
+under_root origin spelled held labels result absolute short e collects =
+    let same : held ≡ labels = subst (λ b. Collects held b labels) short collects in
+    ap (λ b. under origin (Ok (labels, b))) absolute ∙ ap sized (sym (append-nil labels) ∙ ap (λ t. labels ++ t) (sym (labels_of-root (0 ∷ []) refl)) ∙ ap (λ t. t ++ labels_of (0 ∷ [])) (sym same)) ∙ e
+
+pub finished : (origin : Option (List (List ℕ))) (spelled : Spelled) (held : List (List ℕ)) (new : List ℕ) (result : Result (Unit {0}) NameFault) → spelled.is_absolute ≡ true → spelled.is_too_long ≡ false → IfOk result (λ _. HoldsName new × (sized (held ++ labels_of (0 ∷ [])) ≡ Ok (labels_of new))) → IfOk result (λ _. HoldsName new × ((labels : List (List ℕ)) → Collects held spelled.is_too_long labels → under origin (Ok (labels, spelled.is_absolute)) ≡ Ok (labels_of new)))
+finished origin spelled held new (Ok x) absolute short is = (is.0, λ labels collects. under_root origin spelled held labels (Ok (labels_of new)) absolute short is.1 collects)
+finished origin spelled held new (Err fault) absolute short is = tt
+
+pub unfinished : (origin : Option (List (List ℕ))) (spelled : Spelled) (held : List (List ℕ)) (result : Result (Unit {0}) NameFault) → spelled.is_absolute ≡ true → spelled.is_too_long ≡ false → IfErr result (λ fault. sized (held ++ labels_of (0 ∷ [])) ≡ Err fault) → IfErr result (λ fault. (labels : List (List ℕ)) → Collects held spelled.is_too_long labels → under origin (Ok (labels, spelled.is_absolute)) ≡ Err fault)
+unfinished origin spelled held (Ok x) absolute short is = tt
+unfinished origin spelled held (Err fault) absolute short is = λ labels collects. under_root origin spelled held labels (Err fault) absolute short is collects

@@ -1,35 +1,20 @@
 -- The walk over a text: what was read so far, and what it leads to.
-use Rattle.std.proofs.Common.{◌≡◌, ℕ, zero, suc, ◌<◌, Bool, true, false, if◌then◌else◌, List, [], ◌∷◌, ◌++◌, length, Result, Ok, Err, refl, sym, ap, ◌∙◌, subst, arith}
-use Rattle.std.proofs.lemmas.Bool.{lt-leb}
-use Rattle.zone_name.specs.Name.{folded_label}
-use Rattle.zone_name.specs.Spelling.{IsBadEscape}
+use Rattle.std.proofs.Common.{◌≡◌, nat_eq, ◌-◌, ℕ, zero, suc, ◌+◌, ◌<◌, ◌≤◌, ◌||◌, Bool, true, false, if◌then◌else◌, List, [], ◌∷◌, ◌++◌, length, take, drop, get_or, Result, Ok, Err, refl, sym, ap, ◌∙◌, subst, inl, inr, arith, append_assoc, length-append}
+use Rattle.std.specs.List.{flat_map}
+use Rattle.std.specs.Cmp.Lexicographic.{pointwise, bytes_decides}
+use Rattle.std.proofs.lemmas.Bool.{lt-leb, le-leb, cases_lt, cases_Bool, eqb-true, both_ways}
+use Rattle.std.proofs.lemmas.List.{append-nil, length-take-le, take-append-drop, length-drop, get_or-drop}
+use Rattle.std.proofs.lemmas.List.Concat.{flat_map-append}
+use Rattle.zone_name.specs.Name.{folded_label, with_length, wire}
+use Rattle.zone_name.specs.Spelling.{IsBadEscape, IsUnit, EndsLabel, plain, is_dot}
 use Rattle.zone_name.specs.declared.fault.NameFault.{NameFault}
-use Rattle.zone_name.specs.declared.fault.NameFault.TheVariants.{EmptyLabel, LabelTooLong, BadEscape}
-use Rattle.zone_name.specs.Machine.LabelWalk.{Ahead, at_end, at_octet, at_fault, ahead_in, Step, done, failed, goes, step_at, read, reading, Collects}
-use Rattle.zone_name.specs.Machine.Seen.{Closes}
-use Rattle.zone_name.specs.declared.reading.Spelled.{Spelled}
-use Rattle.zone_name.proofs.Ahead.{Shrinks, ahead_shrinks, ahead-bad}
+use Rattle.zone_name.specs.declared.fault.NameFault.TheVariants.{EmptyLabel, LabelTooLong, NameTooLong, BadEscape, RelativeName}
+use Rattle.zone_name.specs.Machine.LabelWalk.{Ahead, at_end, at_dot, at_octet, at_fault, ahead_in, Step, done, failed, goes, step_at, read, reading, Collects}
+use Rattle.zone_name.specs.Machine.Seen.{Closes, Joins, Goes, Refuses, RefusesLabel, empty, long, EndsLabelAt}
+use Rattle.zone_name.proofs.Ahead.{Shrinks, ahead_shrinks, ahead-bad, ahead-unit}
 
--- the labels that were closed lead to what the whole text leads to
-pub record Reads (text : List ℕ) (held : List (List ℕ)) (is_too_long : Bool) (open_label rest : List ℕ) : Type 0 where
-  pub labels : List (List ℕ)
-  pub collects : Collects held is_too_long labels
-  pub fuel : ℕ
-  pub enough : length rest < fuel
-  pub leads : read fuel labels open_label rest ≡ reading text
+-- ---- one step of the reading
 
-pub Reads-start : (text open_label : List ℕ) (held : List (List ℕ)) → 0 < length text → held ≡ [] → open_label ≡ [] → Reads text held false open_label text
-unfolding reading
-Reads-start [] open_label held some none closed = absurd (omega arith)
-Reads-start (c ∷ text) open_label held some none closed = record {
-  labels = [];
-  collects = none;
-  fuel = suc (length (c ∷ text));
-  enough = omega arith;
-  leads = ap (λ t. read (suc (length (c ∷ text))) [] t (c ∷ text)) closed;
-}
-
--- one step of the reading
 abbrev pub after_step : ℕ → Step → Result (List (List ℕ) × Bool) NameFault
 after_step n (done found whole) = Ok (found, whole)
 after_step n (failed fault) = Err fault
@@ -46,22 +31,181 @@ pub octet_step : (n : ℕ) (labels : List (List ℕ)) (open_label after : List �
 octet_step n labels [] after c room = refl
 octet_step n labels (x ∷ open_label) after c room = ap (λ (b : Bool). after_step n (if b then failed LabelTooLong else goes labels (x ∷ open_label ++ c ∷ []) after)) (lt-leb 63 (length (x ∷ open_label)) room)
 
-octet_by : (fuel : ℕ) (text : List ℕ) (labels : List (List ℕ)) (open_label rest after : List ℕ) (c : ℕ) → length rest < fuel → read fuel labels open_label rest ≡ reading text → ahead_in rest ≡ at_octet c after → length open_label < 63 → (n : ℕ) × (length rest < suc n) × (read n labels (open_label ++ c ∷ []) after ≡ reading text)
-octet_by zero text labels open_label rest after c enough leads e room = absurd (omega arith)
-octet_by (suc n) text labels open_label rest after c enough leads e room =
-    (n, enough, sym (octet_step n labels open_label after c room) ∙ sym (read_step n labels open_label rest (at_octet c after) e) ∙ leads)
+-- and of one that has none
+full_step : (labels : List (List ℕ)) (open_label after : List ℕ) (c : ℕ) → 63 ≤ length open_label → step_at labels open_label (at_octet c after) ≡ failed LabelTooLong
+full_step labels [] after c full = absurd (omega arith)
+full_step labels (x ∷ open_label) after c full = ap (λ (b : Bool). if b then failed LabelTooLong else goes labels (x ∷ open_label ++ c ∷ []) after) (le-leb 63 (length (x ∷ open_label)) full)
 
-pub Reads-octet : (text : List ℕ) (held : List (List ℕ)) (is_too_long : Bool) (open_label rest after new : List ℕ) (c : ℕ) → Reads text held is_too_long open_label rest → at_octet c after ≡ ahead_in rest → length open_label < 63 → new ≡ open_label ++ c ∷ [] → Reads text held is_too_long new after
-Reads-octet text held is_too_long open_label rest after new c reads e room grown =
-    let next = octet_by reads.fuel text reads.labels open_label rest after c reads.enough reads.leads (sym e) room in
+pub bad_step : (labels : List (List ℕ)) (open_label : List ℕ) → step_at labels open_label at_fault ≡ failed BadEscape
+bad_step labels [] = refl
+bad_step labels (c ∷ open_label) = refl
+
+octet_by : (fuel : ℕ) (labels : List (List ℕ)) (open_label rest after : List ℕ) (c : ℕ) → length rest < fuel → ahead_in rest ≡ at_octet c after → length open_label < 63 → (n : ℕ) × (length rest < suc n) × (read fuel labels open_label rest ≡ read n labels (open_label ++ c ∷ []) after)
+octet_by zero labels open_label rest after c enough e room = absurd (omega arith)
+octet_by (suc n) labels open_label rest after c enough e room =
+    (n, enough, read_step n labels open_label rest (at_octet c after) e ∙ octet_step n labels open_label after c room)
+
+fault_by : (fuel : ℕ) (labels : List (List ℕ)) (open_label rest : List ℕ) (ahead : Ahead) (fault : NameFault) → length rest < fuel → ahead_in rest ≡ ahead → step_at labels open_label ahead ≡ failed fault → read fuel labels open_label rest ≡ Err fault
+fault_by zero labels open_label rest ahead fault enough e fails = absurd (omega arith)
+fault_by (suc n) labels open_label rest ahead fault enough e fails = read_step n labels open_label rest ahead e ∙ ap (after_step n) fails
+
+-- ---- a label, octet by octet
+
+pub Goes-start : (text open_label : List ℕ) → open_label ≡ [] → Goes text open_label text
+Goes-start text open_label e = λ labels n enough. (n, enough, ap (λ t. read n labels t text) (sym e))
+
+pub Goes-octet : (text open_label rest after new : List ℕ) (c : ℕ) → Goes text open_label rest → at_octet c after ≡ ahead_in rest → length open_label < 63 → new ≡ open_label ++ c ∷ [] → Goes text new after
+Goes-octet text open_label rest after new c so_far e room grown = λ labels n enough.
+    let reached = so_far labels n enough in
+    let next = octet_by reached.0 labels open_label rest after c reached.1 (sym e) room in
     let shorter : length after < length rest = subst (Shrinks rest) (sym e) (ahead_shrinks rest) in
-    record {
-      labels = reads.labels;
-      collects = reads.collects;
-      fuel = next.0;
-      enough = omega (arith, next.1, shorter);
-      leads = ap (λ t. read next.0 reads.labels t after) grown ∙ next.2;
-    }
+    let left : length after < next.0 = omega (arith, next.1, shorter) in
+    (next.0, left, reached.2 ∙ next.2 ∙ ap (λ t. read next.0 labels t after) (sym grown))
+
+-- what fails from here on fails from the start
+refuses_by : (text open_label rest : List ℕ) (ahead : Ahead) (fault : NameFault) → Goes text open_label rest → ahead_in rest ≡ ahead → ((labels : List (List ℕ)) → step_at labels open_label ahead ≡ failed fault) → Refuses text fault
+refuses_by text open_label rest ahead fault so_far e fails = λ labels n enough.
+    let reached = so_far labels n enough in
+    reached.2 ∙ fault_by reached.0 labels open_label rest ahead fault reached.1 e (fails labels)
+
+-- at a backslash that begins no escape
+pub Refuses-bad : (text open_label rest : List ℕ) → Goes text open_label rest → IsBadEscape rest → Refuses text BadEscape
+Refuses-bad text open_label rest so_far bad = refuses_by text open_label rest at_fault BadEscape so_far (ahead-bad rest bad) (λ labels. bad_step labels open_label)
+
+-- at the 64th octet
+pub Refuses-full : (text open_label rest after : List ℕ) (c : ℕ) → Goes text open_label rest → at_octet c after ≡ ahead_in rest → 63 ≤ length open_label → Refuses text LabelTooLong
+Refuses-full text open_label rest after c so_far e full = refuses_by text open_label rest (at_octet c after) LabelTooLong so_far (sym e) (λ labels. full_step labels open_label after c full)
+
+-- at a dot with no label before it
+dot_refused : (text label rest : List ℕ) → EndsLabelAt text label rest → length label ≡ 0 → Refuses text EmptyLabel
+dot_refused text (c ∷ label) rest at none = absurd (omega arith)
+dot_refused text [] rest at none = let some : 0 < length rest = omega (arith, at.some) in by rest at.goes some at.ends
+  where
+    by : (rest : List ℕ) → Goes text [] rest → 0 < length rest → EndsLabel rest → Refuses text EmptyLabel
+    by rest so_far some (inl e) = absurd (omega (arith, ap length e))
+    by rest so_far some (inr e) = refuses_by text [] rest (at_dot e.0) EmptyLabel so_far (ap ahead_in e.1) (λ labels. refl)
+
+-- a label that is not closed
+pub Refuses-label : (text label rest : List ℕ) (fault : NameFault) → EndsLabelAt text label rest → length label ≤ 63 → RefusesLabel label fault → Refuses text fault
+Refuses-label text label rest EmptyLabel at short (empty none) = dot_refused text label rest at none
+Refuses-label text label rest LabelTooLong at short (long more) = absurd (omega arith)
+Refuses-label text label rest NameTooLong at short x = elim x [ ]
+Refuses-label text label rest BadEscape at short x = elim x [ ]
+Refuses-label text label rest RelativeName at short x = elim x [ ]
+
+-- ---- a label of plain octets
+
+-- each of the octets at the front is plain
+abbrev pub ArePlain : List ℕ → ℕ → Type 0
+ArePlain text len = (k : ℕ) → k < len → IsUnit is_dot (plain (get_or text k 0))
+
+pub plain_more : (text : List ℕ) (len : ℕ) → ArePlain text len → IsUnit is_dot (plain (get_or text len 0)) → ArePlain text (suc len)
+plain_more text len each next k h = elim (cases_lt k len) [ inl below ↦ each k below | inr from ↦ let same : len ≡ k = omega arith in subst (λ t. IsUnit is_dot (plain (get_or text t 0))) same next ]
+
+-- what is behind them ends a label where it is no backslash
+abbrev pub begins_with : ℕ → List ℕ → Bool
+begins_with c rest = pointwise nat_eq (take 1 rest) (c ∷ [])
+
+plain_end : (rest : List ℕ) → begins_with 92 rest ≡ false → (0 < length rest → IsUnit is_dot (plain (get_or rest 0 0)) → ⊥) → EndsLabel rest
+plain_end [] other stops = inl refl
+plain_end (c ∷ rest) other stops = elim (cases_Bool (is_dot c)) [
+  | inl dot ↦ inr (rest, ap (λ t. t ∷ rest) (eqb-true c 46 dot))
+  | inr h ↦ absurd (stops (omega arith) (h, λ e. both_ways (begins_with 92 (c ∷ rest)) other ((bytes_decides (c ∷ []) (92 ∷ [])).1 (ap (λ t. t ∷ []) e))))
+]
+
+plain_stop : (text back : List ℕ) (len : ℕ) → begins_with 92 back ≡ false → back ≡ drop len text → (len < length text → IsUnit is_dot (plain (get_or text len 0)) → ⊥) → EndsLabel (drop len text)
+plain_stop text back len other e stops =
+    let more : length (drop len text) ≡ length text - len = length-drop len text in
+    plain_end (drop len text) (ap (begins_with 92) (sym e) ∙ other) (λ some is. stops (omega (arith, some, more)) (subst (λ t. IsUnit is_dot (plain t)) (get_or-drop len text 0 0 ∙ ap (λ k. get_or text k 0) (plus_zero len)) is))
+  where
+    plus_zero : (n : ℕ) → n + 0 ≡ n
+    plus_zero n = omega arith
+
+ahead-plain : (c : ℕ) (text : List ℕ) → IsUnit is_dot (plain c) → ahead_in (c ∷ text) ≡ at_octet c text
+ahead-plain c text is = ahead-unit (plain c) text is
+
+plain_by : (len fuel : ℕ) (labels : List (List ℕ)) (open_label text : List ℕ) → ArePlain text len → len ≤ length text → length text < fuel → length open_label + len ≤ 63 → (m : ℕ) × (length (drop len text) < m) × (read fuel labels open_label text ≡ read m labels (open_label ++ take len text) (drop len text))
+plain_by zero fuel labels open_label text each fits enough room = (fuel, enough, ap (λ t. read fuel labels t text) (sym (append-nil open_label)))
+plain_by (suc len) fuel labels open_label [] each fits enough room = absurd (omega arith)
+plain_by (suc len) zero labels open_label (c ∷ text) each fits enough room = absurd (omega arith)
+plain_by (suc len) (suc n) labels open_label (c ∷ text) each fits enough room =
+    let space : length open_label < 63 = omega arith in
+    let grown : length (open_label ++ c ∷ []) + len ≤ 63 = omega (arith, length-append open_label (c ∷ [])) in
+    let fits' : len ≤ length text = omega arith in
+    let enough' : length text < n = omega arith in
+    let next = plain_by len n labels (open_label ++ c ∷ []) text (λ k h. each (suc k) (omega (arith, h))) fits' enough' grown in (
+      next.0,
+      next.1,
+      read_step n labels open_label (c ∷ text) (at_octet c text) (ahead-plain c text (each 0 (omega arith))) ∙ octet_step n labels open_label text c space ∙ next.2
+          ∙ ap (λ t. read next.0 labels t (drop len text)) (append_assoc open_label (c ∷ []) (take len text)),
+    )
+
+long_by : (len fuel : ℕ) (labels : List (List ℕ)) (open_label text : List ℕ) → ArePlain text len → len ≤ length text → length text < fuel → length open_label ≤ 63 → 63 < length open_label + len → read fuel labels open_label text ≡ Err LabelTooLong
+long_by zero fuel labels open_label text each fits enough short over = absurd (omega arith)
+long_by (suc len) fuel labels open_label [] each fits enough short over = absurd (omega arith)
+long_by (suc len) zero labels open_label (c ∷ text) each fits enough short over = absurd (omega arith)
+long_by (suc len) (suc n) labels open_label (c ∷ text) each fits enough short over =
+    let fits' : len ≤ length text = omega arith in
+    let enough' : length text < n = omega arith in
+    let first : ahead_in (c ∷ text) ≡ at_octet c text = ahead-plain c text (each 0 (omega arith)) in
+    elim (cases_lt (length open_label) 63) [
+      | inl room ↦
+          let short' : length (open_label ++ c ∷ []) ≤ 63 = omega (arith, room, length-append open_label (c ∷ [])) in
+          let over' : 63 < length (open_label ++ c ∷ []) + len = omega (arith, over, length-append open_label (c ∷ [])) in
+          read_step n labels open_label (c ∷ text) (at_octet c text) first ∙ octet_step n labels open_label text c room ∙ long_by len n labels (open_label ++ c ∷ []) text (λ k h. each (suc k) (omega (arith, h))) fits' enough' short' over'
+      | inr full ↦ read_step n labels open_label (c ∷ text) (at_octet c text) first ∙ ap (after_step n) (full_step labels open_label text c full)
+    ]
+
+-- what ends a plain label
+pub EndsLabelAt-plain : (text : List ℕ) (len : ℕ) → 0 < length text → ArePlain text len → len ≤ length text → EndsLabel (drop len text) → len ≤ 63 → EndsLabelAt text (take len text) (drop len text)
+EndsLabelAt-plain text len some each fits ends short = record {
+  goes = λ labels n enough. plain_by len n labels [] text each fits enough (omega (arith, short));
+  ends = ends;
+  some = omega (arith, some, ap length (take-append-drop len text), length-append (take len text) (drop len text));
+  behind = omega (arith, length-drop len text);
+}
+
+pub Refuses-plain : (text : List ℕ) (len : ℕ) (fault : NameFault) → 0 < length text → ArePlain text len → len ≤ length text → EndsLabel (drop len text) → RefusesLabel (take len text) fault → Refuses text fault
+Refuses-plain text len EmptyLabel some each fits ends (empty none) =
+    let short : len ≤ 63 = omega (arith, none, length-take-le len text fits) in
+    dot_refused text (take len text) (drop len text) (EndsLabelAt-plain text len some each fits ends short) none
+Refuses-plain text len LabelTooLong some each fits ends (long more) = λ labels n enough.
+    let over : 63 < length {A = ℕ} [] + len = omega (arith, more, length-take-le len text fits) in
+    long_by len n labels [] text each fits enough (omega arith) over
+Refuses-plain text len NameTooLong some each fits ends x = elim x [ ]
+Refuses-plain text len BadEscape some each fits ends x = elim x [ ]
+Refuses-plain text len RelativeName some each fits ends x = elim x [ ]
+
+-- the same of the parts that a text was cut into
+pub EndsLabelAt-split : (text front back : List ℕ) (len : ℕ) → 0 < length text → ArePlain text len → len ≤ length text → (len < length text → IsUnit is_dot (plain (get_or text len 0)) → ⊥) → begins_with 92 back ≡ false → front ≡ take len text → back ≡ drop len text → length front ≤ 63 → EndsLabelAt text front back
+EndsLabelAt-split text front back len some each fits stops other front_is back_is short =
+    let low : len ≤ 63 = omega (arith, short, ap length front_is, length-take-le len text fits) in
+    rw (front_is, back_is) (EndsLabelAt-plain text len some each fits (plain_stop text back len other back_is stops) low)
+
+pub Refuses-split : (text front back : List ℕ) (len : ℕ) (fault : NameFault) → 0 < length text → ArePlain text len → len ≤ length text → (len < length text → IsUnit is_dot (plain (get_or text len 0)) → ⊥) → begins_with 92 back ≡ false → front ≡ take len text → back ≡ drop len text → RefusesLabel front fault → Refuses text fault
+Refuses-split text front back len fault some each fits stops other front_is back_is refused =
+    Refuses-plain text len fault some each fits (plain_stop text back len other back_is stops) (subst (λ t. RefusesLabel t fault) front_is refused)
+
+-- ---- the labels of a text
+
+-- the labels that were closed lead to what the whole text leads to
+pub record Reads (text : List ℕ) (held : List (List ℕ)) (is_too_long : Bool) (rest : List ℕ) : Type 0 where
+  pub labels : List (List ℕ)
+  pub collects : Collects held is_too_long labels
+  pub fuel : ℕ
+  pub enough : length rest < fuel
+  pub leads : read fuel labels [] rest ≡ reading text
+
+pub Reads-start : (text : List ℕ) (held : List (List ℕ)) → 0 < length text → held ≡ [] → Reads text held false text
+unfolding reading
+Reads-start [] held some none = absurd (omega arith)
+Reads-start (c ∷ text) held some none = record {
+  labels = [];
+  collects = none;
+  fuel = suc (length (c ∷ text));
+  enough = omega arith;
+  leads = refl;
+}
 
 -- no text spells no label
 pub reading-nil : (text : List ℕ) → length text ≡ 0 → reading text ≡ Err EmptyLabel
@@ -69,30 +213,62 @@ unfolding reading
 reading-nil [] e = refl
 reading-nil (c ∷ text) e = absurd (omega arith)
 
-ends_by : (fuel : ℕ) (text : List ℕ) (labels : List (List ℕ)) (open_label rest : List ℕ) → length rest < fuel → read fuel labels open_label rest ≡ reading text → at_end ≡ ahead_in rest → reading text ≡ after_step zero (step_at labels open_label at_end)
-ends_by zero text labels open_label rest enough leads e = absurd (omega arith)
-ends_by (suc n) text labels [] rest enough leads e = sym leads ∙ read_step n labels [] rest at_end (sym e)
-ends_by (suc n) text labels (c ∷ open_label) rest enough leads e = sym leads ∙ read_step n labels (c ∷ open_label) rest at_end (sym e)
+pub Reads-refused : (text : List ℕ) (held : List (List ℕ)) (is_too_long : Bool) (rest : List ℕ) (fault : NameFault) → Reads text held is_too_long rest → Refuses rest fault → reading text ≡ Err fault
+Reads-refused text held is_too_long rest fault reads refuses = sym reads.leads ∙ refuses reads.labels reads.fuel reads.enough
 
-pub bad_step : (labels : List (List ℕ)) (open_label : List ℕ) → step_at labels open_label at_fault ≡ failed BadEscape
-bad_step labels [] = refl
-bad_step labels (c ∷ open_label) = refl
+-- more labels take no fewer octets
+wire-more : (labels : List (List ℕ)) (label : List ℕ) → 255 < length (wire labels) → 255 < length (wire (labels ++ label ∷ []))
+wire-more labels label over = omega (arith, over, ap length (flat_map-append with_length labels (label ∷ [])), length-append (flat_map with_length labels) (flat_map with_length (label ∷ [])), length-append (flat_map with_length labels) (0 ∷ []), length-append (flat_map with_length (labels ++ label ∷ [])) (0 ∷ []))
 
--- at a backslash that begins no escape
-pub Reads-bad : (text : List ℕ) (held : List (List ℕ)) (is_too_long : Bool) (open_label rest : List ℕ) → Reads text held is_too_long open_label rest → IsBadEscape rest → reading text ≡ Err BadEscape
-Reads-bad text held is_too_long open_label rest reads bad = by reads.fuel reads.enough reads.leads
-  where
-    by : (fuel : ℕ) → length rest < fuel → read fuel reads.labels open_label rest ≡ reading text → reading text ≡ Err BadEscape
-    by zero enough leads = absurd (omega arith)
-    by (suc n) enough leads = sym leads ∙ read_step n reads.labels open_label rest at_fault (ahead-bad rest bad) ∙ ap (after_step n) (bad_step reads.labels open_label)
+joined_collects : (before after labels : List (List ℕ)) (label : List ℕ) (is_too_long is_left_out : Bool) → Collects before is_too_long labels → Joins before label is_left_out after → Collects after (is_too_long || is_left_out) (labels ++ folded_label label ∷ [])
+joined_collects before after labels label true is_left_out collects joins = wire-more labels (folded_label label) collects
+joined_collects before after labels label false true collects joins = subst (λ t. 255 < length (wire (t ++ folded_label label ∷ []))) collects joins.1
+joined_collects before after labels label false false collects joins = joins ∙ ap (λ t. t ++ folded_label label ∷ []) collects
 
--- at the end of the text, behind a dot
-pub Reads-absolute : (text : List ℕ) (held : List (List ℕ)) (is_too_long : Bool) (open_label rest : List ℕ) → Reads text held is_too_long open_label rest → at_end ≡ ahead_in rest → open_label ≡ [] → (labels : List (List ℕ)) × (reading text ≡ Ok (labels, true)) × Collects held is_too_long labels
-Reads-absolute text held is_too_long open_label rest reads e closed =
-    (reads.labels, ends_by reads.fuel text reads.labels open_label rest reads.enough reads.leads e ∙ ap (λ t. after_step zero (step_at reads.labels t at_end)) closed, reads.collects)
+-- a label's end, as the next step finds it
+end_step : (fuel : ℕ) (labels : List (List ℕ)) (label rest : List ℕ) → length rest < fuel → 0 < length label → rest ≡ [] → read fuel labels label rest ≡ Ok (labels ++ folded_label label ∷ [], false)
+end_step zero labels label rest enough some e = absurd (omega arith)
+end_step (suc n) labels [] rest enough some e = absurd (omega arith)
+end_step (suc n) labels (c ∷ label) rest enough some e = read_step n labels (c ∷ label) rest at_end (ap ahead_in e)
+
+dot_step : (fuel : ℕ) (labels : List (List ℕ)) (label rest more : List ℕ) → length rest < fuel → 0 < length label → rest ≡ 46 ∷ more → (m : ℕ) × (length more < m) × (read fuel labels label rest ≡ read m (labels ++ folded_label label ∷ []) [] more)
+dot_step zero labels label rest more enough some e = absurd (omega arith)
+dot_step (suc n) labels [] rest more enough some e = absurd (omega arith)
+dot_step (suc n) labels (c ∷ label) rest more enough some e =
+    let left : length more < n = omega (arith, enough, ap length e) in
+    (n, left, read_step n labels (c ∷ label) rest (at_dot more) (ap ahead_in e))
+
+dot_is : (rest more : List ℕ) (c : ℕ) → EndsLabel rest → rest ≡ c ∷ more → rest ≡ 46 ∷ more
+dot_is rest more c (inl e) is = absurd (omega (arith, ap length e, ap length is))
+dot_is rest more c (inr e) is = let same : e.0 ≡ more = cc (sym e.1 ∙ is) in e.1 ∙ ap (λ t. 46 ∷ t) same
+
+-- a label with its dot
+pub Reads-label : (text : List ℕ) (before after : List (List ℕ)) (is_too_long is_left_out : Bool) (rest label behind more : List ℕ) (c : ℕ) → Reads text before is_too_long rest → EndsLabelAt rest label behind → Closes before label is_left_out after → behind ≡ c ∷ more → Reads text after (is_too_long || is_left_out) more
+Reads-label text before after is_too_long is_left_out rest label behind more c reads at closes is =
+    let reached = at.goes reads.labels reads.fuel reads.enough in
+    let next = dot_step reached.0 reads.labels label behind more reached.1 closes.some (dot_is behind more c at.ends is) in
+    record {
+      labels = reads.labels ++ folded_label label ∷ [];
+      collects = joined_collects before after reads.labels label is_too_long is_left_out reads.collects closes.joins;
+      fuel = next.0;
+      enough = next.1;
+      leads = sym next.2 ∙ sym reached.2 ∙ reads.leads;
+    }
 
 -- at the end of the text, in a label
-pub Reads-relative : (text : List ℕ) (before after : Spelled) (open_label rest : List ℕ) (result : Result (Unit {0}) NameFault) → Reads text before.labels before.is_too_long open_label rest → at_end ≡ ahead_in rest → 0 < length open_label → Closes before open_label result after → (labels : List (List ℕ)) × (reading text ≡ Ok (labels, false)) × Collects after.labels after.is_too_long labels
-Reads-relative text before after [] rest result reads e some closes = absurd (omega arith)
-Reads-relative text before after (c ∷ open_label) rest result reads e some closes =
-    (reads.labels ++ folded_label (c ∷ open_label) ∷ [], ends_by reads.fuel text reads.labels (c ∷ open_label) rest reads.enough reads.leads e, closes.2 reads.labels reads.collects)
+pub Reads-relative : (text : List ℕ) (before after : List (List ℕ)) (is_too_long is_left_out : Bool) (rest label behind : List ℕ) → Reads text before is_too_long rest → EndsLabelAt rest label behind → Closes before label is_left_out after → behind ≡ [] → (labels : List (List ℕ)) × (reading text ≡ Ok (labels, false)) × Collects after (is_too_long || is_left_out) labels
+Reads-relative text before after is_too_long is_left_out rest label behind reads at closes is =
+    let reached = at.goes reads.labels reads.fuel reads.enough in (
+      reads.labels ++ folded_label label ∷ [],
+      sym reads.leads ∙ reached.2 ∙ end_step reached.0 reads.labels label behind reached.1 closes.some is,
+      joined_collects before after reads.labels label is_too_long is_left_out reads.collects closes.joins,
+    )
+
+ends_by : (fuel : ℕ) (labels : List (List ℕ)) (rest : List ℕ) → length rest < fuel → rest ≡ [] → read fuel labels [] rest ≡ Ok (labels, true)
+ends_by zero labels rest enough e = absurd (omega arith)
+ends_by (suc n) labels rest enough e = read_step n labels [] rest at_end (ap ahead_in e)
+
+-- at the end of the text, behind a dot
+pub Reads-absolute : (text : List ℕ) (held : List (List ℕ)) (is_too_long : Bool) (rest : List ℕ) → Reads text held is_too_long rest → rest ≡ [] → (labels : List (List ℕ)) × (reading text ≡ Ok (labels, true)) × Collects held is_too_long labels
+Reads-absolute text held is_too_long rest reads e =
+    (reads.labels, sym reads.leads ∙ ends_by reads.fuel reads.labels rest reads.enough e, reads.collects)

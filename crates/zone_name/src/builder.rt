@@ -1,6 +1,5 @@
-ghost use Rattle.std.specs.Prelude.{◌≡◌, ◌<◌, ◌≤◌, ◌↔◌, ◌++◌, ◌∷◌, [], List, ℕ, length, OnOk, OnErr, IfOk, IfErr, Err};
+ghost use Rattle.std.specs.Prelude.{◌≡◌, ◌<◌, ◌≤◌, ◌↔◌, ◌++◌, ◌∷◌, [], List, ℕ, length, OnOk, OnErr, IfErr, Err};
 ghost use Rattle.zone_name.specs.Name.{folded_label, folded_octet, wire, IsName};
-ghost use Rattle.zone_name.specs.Machine.LabelWalk.{sized};
 ghost use Rattle.zone_name.specs.Spelling.{IsLabelFault};
 ghost use Rattle.zone_name.specs.declared.fault.NameFault.TheVariants.{EmptyLabel, LabelTooLong, NameTooLong};
 
@@ -76,22 +75,6 @@ impl NameBuilder {
         let mut octets = self.octets;
         octets.push(0);
         Name::of_octets(octets)
-    }
-
-    /// The name of the labels that were pushed, with those of another name behind them.
-    ///
-    /// # Errors
-    ///
-    /// `NameTooLong` where they take more than 255 octets.
-    pub(crate) fn finish_under(self, above: &Name) -> Result<Name, NameFault>
-        ensures value { result ≡ sized (self ++ above.now) }
-        ensures name { IfOk result IsName }
-    {
-        let mut octets = self.octets;
-        match octets.try_extend_from_slice(above.wire()) {
-            Ok(()) => Ok(Name::of_octets(octets)),
-            Err(_) => Err(NameFault::NameTooLong),
-        }
     }
 }
 

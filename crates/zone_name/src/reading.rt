@@ -1,10 +1,12 @@
-ghost use Rattle.std.specs.Prelude.{◌≡◌, ◌≤◌, [], length, true, false, IfOk, IfErr, OnOk, Ok, Err, option_copied};
+ghost use Rattle.std.specs.Prelude.{◌≡◌, ◌≤◌, ◌<◌, ◌↔◌, ◌++◌, [], ℕ, length, map, slice_index, option_copied};
+ghost use Rattle.std.specs.Prelude.{IsTrue, IfOk, IfErr, Ok, Err};
 ghost use Rattle.zone_name.specs.Common.{Labels};
-ghost use Rattle.zone_name.specs.Name.{IsName};
-ghost use Rattle.zone_name.specs.Machine.LabelWalk.{Collects, reading, under};
-ghost use Rattle.zone_name.specs.Machine.Seen.{Closes, HasForm};
+ghost use Rattle.zone_name.specs.Name.{HoldsName, IsName, folded_octet, labels_of};
+ghost use Rattle.zone_name.specs.Spelling.{IsUnit, is_dot, plain};
+ghost use Rattle.zone_name.specs.Machine.LabelWalk.{Collects, reading, under, sized};
+ghost use Rattle.zone_name.specs.Machine.Seen.{Closes, EndsLabelAt, HasForm, HoldsUnfolded, IsClosable};
+ghost use Rattle.zone_name.specs.Machine.Seen.{Refuses, RefusesLabel, unfolded_labels};
 
-use crate::builder::NameBuilder;
 use crate::escape::{NextUnit, next_unit};
 use crate::fault::NameFault;
 use crate::name::Name;
@@ -32,95 +34,222 @@ pub(crate) fn form_of(text: &[u8]) -> NameForm
     }
 }
 
-/// The labels that a text spells.
+/// What a text says of the labels that it spells.
 #[derive(Drop)]
 struct Spelled {
-    labels: NameBuilder,
-    /// The labels take more octets than a name has, and `labels` says nothing.
+    /// The labels take more octets than a name has, and the octets that were kept say nothing.
     is_too_long: bool,
     /// The text ends with a dot that parts labels.
     is_absolute: bool,
 }
 
-impl Spelled {
-    /// Puts a label behind the others, however long they are together.
-    fn close(&mut self, label: &[u8]) -> Result<(), NameFault>
-        requires { length label.now ≤ 63 }
-        ensures { Closes self.old label.now result self.new }
-    {
-        match self.labels.push_label(label) {
-            Err(NameFault::NameTooLong) => {
-                self.is_too_long = true;
-                Ok(())
+/// Whether the octet stands for itself and parts no labels.
+fn is_plain(octet: u8) -> bool
+    ensures { IsTrue result ↔ IsUnit is_dot (plain octet) }
+{
+    octet != b'.' && octet != b'\\'
+}
+
+/// How many octets at the front of a text are plain.
+fn plain_len(text: &[u8]) -> usize
+    ensures short { result ≤ length text.now }
+    ensures each { (k : ℕ) → k < result → IsUnit is_dot (plain (slice_index text.now k)) }
+    ensures ends { result < length text.now → IsUnit is_dot (plain (slice_index text.now result)) → ⊥ }
+{
+    let mut len = 0;
+    while len < text.len() && is_plain(text[len]) {
+        len += 1;
+    }
+    len
+}
+
+/// Puts a label behind the others, its letters as they are, and tells whether there was no room for it.
+fn close(octets: &mut ArrayVec<u8, 255>, label: &[u8]) -> Result<bool, NameFault>
+    requires { HoldsUnfolded octets.old.items }
+    ensures holds { HoldsUnfolded octets.new.items }
+    ensures ok { IfOk result (λ full. Closes (unfolded_labels octets.old.items) label.now full
+        (unfolded_labels octets.new.items)) }
+    ensures err { IfErr result (RefusesLabel label.now) }
+{
+    let len = label.len();
+    if len == 0 {
+        return Err(NameFault::EmptyLabel);
+    }
+    if len > 63 {
+        return Err(NameFault::LabelTooLong);
+    }
+    if octets.remaining_capacity() < len + 2 {
+        return Ok(true);
+    }
+    octets.push(len as u8);
+    let _ = octets.try_extend_from_slice(label);
+    Ok(false)
+}
+
+/// Puts the label at the front of a text in place, and returns what stands behind it: nothing, or a dot and more.
+fn read_label<'t>(
+    octets: &mut ArrayVec<u8, 255>,
+    text: &'t [u8],
+) -> Result<(bool, &'t [u8]), NameFault>
+    requires some { 0 < length text.now }
+    requires holds { HoldsUnfolded octets.old.items }
+    ensures holds { HoldsUnfolded octets.new.items }
+    ensures ok { IfOk result (λ read. IsClosable text.now read.1.now (λ label.
+        Closes (unfolded_labels octets.old.items) label read.0 (unfolded_labels octets.new.items))) }
+    ensures err { IfErr result (Refuses text.now) }
+{
+    let (label, behind) = text.split_at(plain_len(text));
+    if let Some(_) = behind.strip_prefix(b"\\") {
+        return read_escaped_label(octets, text);
+    }
+    let is_left_out = close(octets, label)?;
+    Ok((is_left_out, behind))
+}
+
+/// The same where the label may have escapes: octet by octet.
+// Not inlined: only such a label needs room of its own.
+#[inline(never)]
+fn read_escaped_label<'t>(
+    octets: &mut ArrayVec<u8, 255>,
+    text: &'t [u8],
+) -> Result<(bool, &'t [u8]), NameFault>
+    requires some { 0 < length text.now }
+    requires holds { HoldsUnfolded octets.old.items }
+    ensures holds { HoldsUnfolded octets.new.items }
+    ensures ok { IfOk result (λ read. IsClosable text.now read.1.now (λ label.
+        Closes (unfolded_labels octets.old.items) label read.0 (unfolded_labels octets.new.items))) }
+    ensures err { IfErr result (Refuses text.now) }
+{
+    let mut label: ArrayVec<u8, 63> = ArrayVec::new();
+    let behind = open_label(&mut label, text)?;
+    let is_left_out = close(octets, label.as_slice())?;
+    Ok((is_left_out, behind))
+}
+
+/// Reads the octets of the label at the front of a text, and returns what stands behind it.
+fn open_label<'t>(label: &mut ArrayVec<u8, 63>, text: &'t [u8]) -> Result<&'t [u8], NameFault>
+    requires some { 0 < length text.now }
+    requires none { label.old.items ≡ [] }
+    ensures ok { IfOk result (λ rest. EndsLabelAt text.now label.new.items rest.now) }
+    ensures err { IfErr result (Refuses text.now) }
+{
+    let mut rest = text;
+    loop {
+        if let Some(_) = rest.strip_prefix(b".") {
+            return Ok(rest);
+        }
+        match next_unit(rest) {
+            NextUnit::End => return Ok(rest),
+            NextUnit::Octet(octet, after) => {
+                if label.is_full() {
+                    return Err(NameFault::LabelTooLong);
+                }
+                label.push(octet);
+                rest = after;
             }
-            pushed => pushed,
+            NextUnit::BadEscape => return Err(NameFault::BadEscape),
         }
     }
+}
 
-    /// The name of the labels, with the origin's behind them where the text is relative.
-    fn under(self, origin: Option<&Name>) -> Result<Name, NameFault>
-        ensures value { (labels : Labels) → Collects self.labels self.is_too_long labels
-            → result ≡ under (option_copied origin.entry) (Ok (labels, self.is_absolute)) }
-        ensures name { IfOk result IsName }
-    {
-        if self.is_absolute {
-            if self.is_too_long {
-                return Err(NameFault::NameTooLong);
-            }
-            return Ok(self.labels.finish());
-        }
-        let Some(above) = origin else {
-            return Err(NameFault::RelativeName);
+/// Puts the labels of a text that is neither `.` nor `@` in place, their letters as they are (RFC 1035 5.1).
+fn read_labels(octets: &mut ArrayVec<u8, 255>, text: &[u8]) -> Result<Spelled, NameFault>
+    requires { octets.old.items ≡ [] }
+    ensures holds { HoldsUnfolded octets.new.items }
+    ensures labels { IfOk result (λ spelled. (labels : Labels)
+        × (reading text.now ≡ Ok (labels, spelled.is_absolute))
+        × Collects (unfolded_labels octets.new.items) spelled.is_too_long labels) }
+    ensures fault { IfErr result (λ fault. reading text.now ≡ Err fault) }
+{
+    if text.is_empty() {
+        return Err(NameFault::EmptyLabel);
+    }
+    let mut is_too_long = false;
+    let mut rest = text;
+    while !rest.is_empty() {
+        let (is_left_out, behind) = read_label(octets, rest)?;
+        is_too_long = is_too_long | is_left_out;
+        let Some((_, after)) = behind.split_first() else {
+            return Ok(Spelled {
+                is_too_long,
+                is_absolute: false,
+            });
         };
-        if self.is_too_long {
+        rest = after;
+    }
+    Ok(Spelled {
+        is_too_long,
+        is_absolute: true,
+    })
+}
+
+/// Puts the letters in lower case (RFC 4343 3). A label's length is no letter, and stays.
+fn fold(octets: &mut ArrayVec<u8, 255>)
+    ensures { octets.new.items ≡ map folded_octet octets.old.items }
+{
+    octets.as_mut_slice().make_ascii_lowercase();
+}
+
+/// Puts the labels in lower case, and the octets of a name behind them.
+fn end_with(octets: &mut ArrayVec<u8, 255>, ending: &[u8]) -> Result<(), NameFault>
+    requires holds { HoldsUnfolded octets.old.items }
+    requires name { HoldsName ending.now }
+    ensures ok { IfOk result (λ _. HoldsName octets.new.items
+        × (sized (unfolded_labels octets.old.items ++ labels_of ending.now) ≡ Ok (labels_of octets.new.items))) }
+    ensures err { IfErr result (λ fault.
+        sized (unfolded_labels octets.old.items ++ labels_of ending.now) ≡ Err fault) }
+{
+    fold(octets);
+    match octets.try_extend_from_slice(ending) {
+        Ok(()) => Ok(()),
+        Err(_) => Err(NameFault::NameTooLong),
+    }
+}
+
+/// Ends the name of the labels, with the origin's behind them where the text is relative.
+fn finish(
+    octets: &mut ArrayVec<u8, 255>,
+    spelled: Spelled,
+    origin: Option<&Name>,
+) -> Result<(), NameFault>
+    requires { HoldsUnfolded octets.old.items }
+    ensures ok { IfOk result (λ _. HoldsName octets.new.items × ((labels : Labels)
+        → Collects (unfolded_labels octets.old.items) spelled.is_too_long labels
+        → under (option_copied origin.entry) (Ok (labels, spelled.is_absolute)) ≡ Ok (labels_of octets.new.items))) }
+    ensures err { IfErr result (λ fault. (labels : Labels)
+        → Collects (unfolded_labels octets.old.items) spelled.is_too_long labels
+        → under (option_copied origin.entry) (Ok (labels, spelled.is_absolute)) ≡ Err fault) }
+{
+    if spelled.is_absolute {
+        if spelled.is_too_long {
             return Err(NameFault::NameTooLong);
         }
-        self.labels.finish_under(above)
+        return end_with(octets, b"\0");
     }
+    let Some(above) = origin else {
+        return Err(NameFault::RelativeName);
+    };
+    if spelled.is_too_long {
+        return Err(NameFault::NameTooLong);
+    }
+    end_with(octets, above.wire())
+}
 
-    /// Puts the labels of a text that is neither `.` nor `@` in place (RFC 1035 5.1).
-    // Not inlined: the labels are then read where they stay, and not moved.
-    #[inline(never)]
-    fn read(&mut self, text: &[u8]) -> Result<(), NameFault>
-        requires none { self.old.labels ≡ [] }
-        requires short { self.old.is_too_long ≡ false }
-        requires absolute { self.old.is_absolute ≡ true }
-        ensures labels { OnOk result ((labels : Labels)
-            × (reading text.now ≡ Ok (labels, self.new.is_absolute))
-            × Collects self.new.labels self.new.is_too_long labels) }
-        ensures fault { IfErr result (λ fault. reading text.now ≡ Err fault) }
-    {
-        if text.is_empty() {
-            return Err(NameFault::EmptyLabel);
-        }
-        let mut open: ArrayVec<u8, 63> = ArrayVec::new();
-        let mut rest = text;
-        loop {
-            if let Some(after) = rest.strip_prefix(b".") {
-                self.close(open.as_slice())?;
-                open.clear();
-                rest = after;
-                continue;
-            }
-            match next_unit(rest) {
-                NextUnit::End => {
-                    if !open.is_empty() {
-                        self.close(open.as_slice())?;
-                        self.is_absolute = false;
-                    }
-                    return Ok(());
-                }
-                NextUnit::Octet(octet, after) => {
-                    if open.is_full() {
-                        return Err(NameFault::LabelTooLong);
-                    }
-                    open.push(octet);
-                    rest = after;
-                }
-                NextUnit::BadEscape => return Err(NameFault::BadEscape),
-            }
-        }
-    }
+/// Puts the octets of the name of a text that is neither `.` nor `@` in place (RFC 1035 5.1).
+// Not inlined: the octets are then written where they stay, and not moved.
+#[inline(never)]
+fn read_into(
+    octets: &mut ArrayVec<u8, 255>,
+    text: &[u8],
+    origin: Option<&Name>,
+) -> Result<(), NameFault>
+    requires { octets.old.items ≡ [] }
+    ensures ok { IfOk result (λ _. HoldsName octets.new.items
+        × (under (option_copied origin.entry) (reading text.now) ≡ Ok (labels_of octets.new.items))) }
+    ensures err { IfErr result (λ fault. under (option_copied origin.entry) (reading text.now) ≡ Err fault) }
+{
+    let spelled = read_labels(octets, text)?;
+    finish(octets, spelled, origin)
 }
 
 /// The name of a text that is neither `.` nor `@` (RFC 1035 5.1).
@@ -128,11 +257,7 @@ pub(crate) fn named(text: &[u8], origin: Option<&Name>) -> Result<Name, NameFaul
     ensures value { result ≡ under (option_copied origin.entry) (reading text.now) }
     ensures name { IfOk result IsName }
 {
-    let mut spelled = Spelled {
-        labels: NameBuilder::new(),
-        is_too_long: false,
-        is_absolute: true,
-    };
-    spelled.read(text)?;
-    spelled.under(origin)
+    let mut octets = ArrayVec::new();
+    read_into(&mut octets, text, origin)?;
+    Ok(Name::of_octets(octets))
 }

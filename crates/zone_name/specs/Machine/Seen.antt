@@ -1,12 +1,12 @@
--- The form of a text that the code saw, and what closing a label does.
-use Rattle.std.specs.Prelude.{◌≡◌, ◌≢◌, codes, ℕ, List, [], ◌∷◌, ◌++◌, Result, Ok, Err}
-use Rattle.zone_name.specs.Name.{folded_label}
-use Rattle.zone_name.specs.Machine.LabelWalk.{Collects}
+-- The form of a text that the code saw, and what reading and closing a label does.
+use Rattle.std.specs.Prelude.{◌≡◌, ◌≢◌, codes, ℕ, ◌+◌, ◌<◌, ◌≤◌, Bool, true, false, List, [], ◌∷◌, ◌++◌, length, map, Err}
+use Rattle.zone_name.specs.Name.{folded_label, folded_octet, labels_of, wire, HoldsLabels}
+use Rattle.zone_name.specs.Spelling.{EndsLabel}
+use Rattle.zone_name.specs.Machine.LabelWalk.{read}
 use Rattle.zone_name.specs.declared.fault.NameFault.{NameFault}
-use Rattle.zone_name.specs.declared.fault.NameFault.TheVariants.{EmptyLabel}
+use Rattle.zone_name.specs.declared.fault.NameFault.TheVariants.{EmptyLabel, LabelTooLong}
 use Rattle.zone_name.specs.declared.reading.NameForm.{NameForm}
 use Rattle.zone_name.specs.declared.reading.NameForm.TheVariants.{Root, Origin, Labels}
-use Rattle.zone_name.specs.declared.reading.Spelled.{Spelled}
 
 -- a dot alone, an `@` alone, or another text
 abbrev pub HasForm : List ℕ → NameForm → Type 0
@@ -14,7 +14,44 @@ HasForm text Root = text ≡ codes "."
 HasForm text Origin = text ≡ codes "@"
 HasForm text Labels = (text ≢ codes ".") × (text ≢ codes "@")
 
--- an empty label is refused, and any other is behind the labels that were collected
-abbrev pub Closes : Spelled → List ℕ → Result (Unit {0}) NameFault → Spelled → Type 0
-Closes before [] result after = result ≡ Err EmptyLabel
-Closes before (c ∷ label) result after = (result ≡ Ok tt) × (after.is_absolute ≡ before.is_absolute) × ((labels : List (List ℕ)) → Collects before.labels before.is_too_long labels → Collects after.labels after.is_too_long (labels ++ folded_label (c ∷ label) ∷ []))
+-- the octets of labels, each behind its length, with their letters as they are
+abbrev pub HoldsUnfolded : List ℕ → Type 0
+HoldsUnfolded octets = HoldsLabels (map folded_octet octets)
+
+abbrev pub unfolded_labels : List ℕ → List (List ℕ)
+unfolded_labels octets = labels_of (map folded_octet octets)
+
+-- a label is put behind others, or left out where it makes them too long
+abbrev pub Joins : List (List ℕ) → List ℕ → Bool → List (List ℕ) → Type 0
+Joins before label true after = (after ≡ before) × (255 < length (wire (before ++ folded_label label ∷ [])))
+Joins before label false after = after ≡ before ++ folded_label label ∷ []
+
+-- a label of 1 to 63 octets is closed
+pub record Closes (before : List (List ℕ)) (label : List ℕ) (is_left_out : Bool) (after : List (List ℕ)) : Type 0 where
+  pub some : 0 < length label
+  pub short : length label ≤ 63
+  pub joins : Joins before label is_left_out after
+
+-- no other label is
+pub data RefusesLabel (label : List ℕ) : NameFault → Type 0 where
+  empty : length label ≡ 0 → RefusesLabel label EmptyLabel
+  long : 63 < length label → RefusesLabel label LabelTooLong
+
+-- the reading of a text goes on, with a label open, to what is left
+abbrev pub Goes : List ℕ → List ℕ → List ℕ → Type 0
+Goes text open_label rest = (labels : List (List ℕ)) (n : ℕ) → length text < n → (m : ℕ) × (length rest < m) × (read n labels [] text ≡ read m labels open_label rest)
+
+-- the reading of a text ends with a fault, whatever labels are before it
+abbrev pub Refuses : List ℕ → NameFault → Type 0
+Refuses text fault = (labels : List (List ℕ)) (n : ℕ) → length text < n → read n labels [] text ≡ Err fault
+
+-- the label at the front of a text, and what is left from its dot or the end on
+pub record EndsLabelAt (text label rest : List ℕ) : Type 0 where
+  pub goes : Goes text label rest
+  pub ends : EndsLabel rest
+  pub some : 0 < length label + length rest
+  pub behind : length rest ≤ length text
+
+-- the same of a label for which something holds
+abbrev pub IsClosable : List ℕ → List ℕ → (List ℕ → Type 0) → Type 0
+IsClosable text rest Is = (label : List ℕ) × EndsLabelAt text label rest × Is label

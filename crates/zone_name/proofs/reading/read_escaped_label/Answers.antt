@@ -1,0 +1,11 @@
+use Rattle.std.proofs.Common.{◌≤◌, length, ap, subst, arith}
+use Rattle.std.proofs.lemmas.Result.{err_from_is_err_and}
+use Rattle.zone_name.specs.Machine.Seen.{RefusesLabel}
+use Rattle.zone_name.proofs.Steps.{Refuses-label}
+use Rattle.zone_name.proofs.reading.read_escaped_label.Goals as goal
+
+pub returns-in_err-is_left_out-clause-err : goal.returns-in_err-is_left_out-clause-err
+returns-in_err-is_left_out-clause-err c =
+    let p = err_from_is_err_and c.from_residual-in_err-is_left_out.result c.from_residual-in_err-is_left_out.ensures.1 in
+    let short : length c.open_label.new.label.items ≤ 63 = omega (arith, c.as_slice.ensures.fits, ap length c.as_slice.ensures.value) in
+    rw (p.1, p.2) (Refuses-label c.args.text.now c.open_label.new.label.items c.in_ok-behind.behind.now c.in_err-is_left_out.field-0.0 c.in_ok-behind.ensures.ok short (subst (λ t. RefusesLabel t c.in_err-is_left_out.field-0.0) c.as_slice.ensures.value c.in_err-is_left_out.ensures.err))

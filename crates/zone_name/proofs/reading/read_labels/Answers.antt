@@ -1,0 +1,30 @@
+use Rattle.std.proofs.Common.{◌≡◌, ◌<◌, length, ap, arith}
+use Rattle.std.proofs.lemmas.Bool.Decides.{nat_tests}
+use Rattle.std.proofs.lemmas.List.{nil_from_length}
+use Rattle.zone_name.specs.Machine.Seen.{unfolded_labels}
+use Rattle.zone_name.proofs.Pushing.{HoldsUnfolded-nil, unfolded_labels-none}
+use Rattle.zone_name.proofs.Steps.{reading-nil, Reads-start, Reads-label, Reads-relative}
+use Rattle.zone_name.proofs.reading.read_labels.Goals as goal
+
+pub returns-then-is_empty-clause-holds : goal.returns-then-is_empty-clause-holds
+returns-then-is_empty-clause-holds c = HoldsUnfolded-nil c.args.octets.now.items c.requires
+
+pub returns-then-is_empty-clause-fault : goal.returns-then-is_empty-clause-fault
+returns-then-is_empty-clause-fault c = reading-nil c.args.text.now (grind (arith, nat_tests, c.is_empty.ensures, c.if-is_empty.true))
+
+pub loop-rest-init : goal.loop-rest-init
+loop-rest-init c =
+    (HoldsUnfolded-nil c.args.octets.now.items c.requires, Reads-start c.args.text.now (unfolded_labels c.args.octets.now.items) (grind (arith, nat_tests, c.is_empty.ensures, c.if-is_empty.false)) (unfolded_labels-none c.args.octets.now.items c.requires))
+
+pub returns-in_default-clause-labels : goal.returns-in_default-clause-labels
+returns-in_default-clause-labels c =
+    let read = c.in_ok-is_left_out.ensures.ok in
+    Reads-relative c.args.text.now (unfolded_labels c.loop-rest.octets.items) (unfolded_labels c.read_label.new.octets.items) c.loop-rest.is_too_long c.in_ok-is_left_out.is_left_out c.loop-rest.rest.now read.0 c.in_ok-is_left_out.behind.now c.loop-rest.invariant.1 read.1 read.2 (nil_from_length c.in_ok-is_left_out.behind.now c.in_default.ensures.cases)
+
+pub loop-rest-smaller : goal.loop-rest-smaller
+loop-rest-smaller c = omega (arith, c.in_ok-is_left_out.ensures.ok.1.behind, ap length c.in-Some.ensures.cases.0)
+
+pub loop-rest-preserved : goal.loop-rest-preserved
+loop-rest-preserved c =
+    let read = c.in_ok-is_left_out.ensures.ok in
+    (c.in_ok-is_left_out.ensures.holds, Reads-label c.args.text.now (unfolded_labels c.loop-rest.octets.items) (unfolded_labels c.read_label.new.octets.items) c.loop-rest.is_too_long c.in_ok-is_left_out.is_left_out c.loop-rest.rest.now read.0 c.in_ok-is_left_out.behind.now c.in-Some.after.now _ c.loop-rest.invariant.1 read.1 read.2 c.in-Some.ensures.cases.0)

@@ -1,0 +1,10 @@
+use Rattle.std.proofs.Common.{length}
+use Rattle.zone_name.specs.Machine.Seen.{HoldsUnfolded, unfolded_labels}
+use Rattle.zone_name.proofs.Steps.{Reads}
+use Rattle.zone_name.proofs.reading.read_labels.Given as goal
+
+abbrev pub invariant-loop-rest : goal.invariant-loop-rest
+invariant-loop-rest l = HoldsUnfolded l.octets.items × Reads l.text (unfolded_labels l.octets.items) l.is_too_long l.rest
+
+abbrev pub decreases-loop-rest : goal.decreases-loop-rest
+decreases-loop-rest l = length l.rest
