@@ -72,9 +72,9 @@ pub(crate) fn len_within(zone: &Zone, limit: u64) -> u64
     limit + 1 - room.left
 }
 
-/// Whether the canonical text has at most so many octets. It is counted only where four times the octets of its records
+/// Whether the canonical text has at most so many octets. It is counted only where four times the octets of the records
 /// in messages are more.
-pub(crate) fn text_fits_within(zone: &Zone, limit: u64) -> bool
+fn text_fits_within(zone: &Zone, limit: u64) -> bool
     requires { limit ≤ text_limit }
     ensures { IsTrue result ↔ length (canon zone.now) ≤ limit }
 {
