@@ -1,27 +1,30 @@
 -- An entry read behind others: what it states, or its fault.
-use Rattle.std.proofs.Common.{◌≡◌, ℕ, ◌+◌, ◌≤◌, List, [], ◌∷◌, ◌++◌, length, Option, Some, None, Result, Ok, Err, refl, sym, ap, ◌∙◌, arith}
+use Rattle.std.proofs.Common.{◌≡◌, ℕ, ◌+◌, ◌≤◌, List, [], ◌∷◌, length, None, Result, Ok, Err, refl, sym, ap, ◌∙◌, arith}
 use Rattle.std.proofs.lemmas.List.{append-nil}
 use Rattle.zone_name.specs.Common.{Labels}
-use Rattle.zone_rdata.specs.Record.{Record}
+use Rattle.std.specs.Prelude.{OnOk}
+use Rattle.zone_rdata.specs.Fault.{IfFault}
 use Rattle.zone_rdata.specs.declared.fault.Failing.{Failing}
-use Rattle.zone_rdata.specs.declared.fault.Failing.TheVariants as failing
-use Rattle.zone_rdata.specs.declared.fault.Fault.{Fault}
+use Rattle.zone_rdata.specs.declared.fault.Failing.TheVariants as failings
+use Rattle.zone_rdata.specs.declared.fault.Place.{Place}
 use Rattle.zone_rdata.specs.declared.fault.Place.TheVariants.{Line}
 use Rattle.zone_rdata.specs.declared.record.Placed.{Placed}
+use Rattle.zone_rdata.specs.declared.source.Reading.{Reading}
 use Rattle.zone_text.specs.declared.defaults.Defaults.{Defaults}
 use Rattle.zone_text.specs.declared.ended.EndedEntries.{EndedEntries}
-use Rattle.zone_text.specs.Defaults.{AreDefaults}
 use Rattle.zone_text.specs.Entries.{Entry, entry_of}
+use Rattle.zone_text.specs.Defaults.{AreDefaults}
+use Rattle.zone_text.specs.EntryFault.{EntryFault}
 use Rattle.zone_text.specs.Given.{gives_none, gives_one, refused}
-use Rattle.zone_text.specs.Machine.EntryReading.{AnswersEntry}
-use Rattle.zone_text.specs.Machine.Feeding.{ReadsOctets}
+use Rattle.zone_text.specs.Machine.EntryReading.{DecidesEntry, Refuses, decides_fault, decides_none, decides_one}
+use Rattle.zone_text.specs.Machine.Feeding.{ReadsEntry, ReadsOctets}
 use Rattle.zone_text.specs.Pieces.{Piece, Cuts, text}
 use Rattle.zone_text.proofs.Left.{line_feeds}
 
--- what is answered for octets, whatever stands before them
-abbrev pub AnswersOctets : List ℕ → Defaults → Result (Option Record) Failing → Defaults → Type 0
-AnswersOctets octets old result new =
-    (origin : Labels) (before : List Entry) (line : ℕ) (pieces : List Piece) → AreDefaults origin before old → Cuts octets pieces → AnswersEntry origin before (entry_of line pieces) result new
+-- what octets decide as the entry behind others, whatever these are
+abbrev pub DecidesOctets : List ℕ → Place → Defaults → Reading → Reading → Defaults → Type 0
+DecidesOctets octets place d old new next =
+    (origin : Labels) (before : List Entry) (line : ℕ) (pieces : List Piece) → AreDefaults origin before d → Cuts octets pieces → DecidesEntry origin before (entry_of line pieces) place old new next
 
 -- the line behind octets
 pub record IsLineBehind (octets : List ℕ) (old new : EndedEntries) : Type 0 where
@@ -37,49 +40,41 @@ lines_behind octets old new n count few line = record {
 line_of : (octets : List ℕ) (old new : EndedEntries) (pieces : List Piece) → IsLineBehind octets old new → Cuts octets pieces → new.line ≡ old.line + line_feeds (text pieces)
 line_of octets old new pieces behind cut = behind.count ∙ ap (λ t. old.line + line_feeds t) cut.whole
 
-pub takes_nothing : (octets : List ℕ) (old new : EndedEntries) (result : Result (Option Record) Failing) → AnswersOctets octets old.defaults result new.defaults → result ≡ Ok None → old.decided.ending ≡ None → new.decided ≡ old.decided → IsLineBehind octets old new → ReadsOctets octets old new
-takes_nothing octets old new result answers e none same behind = record {
-  reads = λ origin before pieces are cut.
-      let stated = rw e at (answers origin before old.line pieces are cut) in
-      record {
-        others = [];
-        read = gives_none stated.0 (refl, ap (λ d. d.ending) same ∙ none);
-        records = ap (λ d. d.placed.items) same ∙ sym (append-nil old.decided.placed.items);
-        defaults = λ _. stated.1;
-        line = λ _. line_of octets old new pieces behind cut;
-      };
-  later = omega (arith, behind.count);
-  near = omega (arith, behind.count, behind.few);
+-- what an entry decides is what is read of it
+entry_read : (origin : Labels) (before : List Entry) (pieces : List Piece) (octets : List ℕ) (old new : EndedEntries) → old.decided.ending ≡ None → IsLineBehind octets old new → Cuts octets pieces → DecidesEntry origin before (entry_of old.line pieces) (Line old.line) old.decided new.decided new.defaults → ReadsEntry origin before pieces old new
+entry_read origin before pieces octets old new none behind cut (decides_none leaves same) = record {
+  others = [];
+  read = gives_none leaves.0 (refl, ap (λ d. d.ending) same ∙ none);
+  records = ap (λ d. d.placed.items) same ∙ sym (append-nil old.decided.placed.items);
+  defaults = λ _. leaves.1;
+  line = λ _. line_of octets old new pieces behind cut;
 }
-
-pub takes_record : (octets : List ℕ) (old new : EndedEntries) (result : Result (Option Record) Failing) (r : Record) → AnswersOctets octets old.defaults result new.defaults → result ≡ Ok (Some r) → old.decided.ending ≡ None → new.decided.ending ≡ old.decided.ending → new.decided.placed.items ≡ old.decided.placed.items ++ (record { rr = r; place = Line old.line }) ∷ [] → IsLineBehind octets old new → ReadsOctets octets old new
-takes_record octets old new result r answers e none same more behind =
+entry_read origin before pieces octets old new none behind cut (decides_one r states are more same) =
     let p : Placed = record { rr = r; place = Line old.line } in
     record {
-      reads = λ origin before pieces are cut.
-          let stated = rw e at (answers origin before old.line pieces are cut) in
-          record {
-            others = p ∷ [];
-            read = gives_one p [] stated.0 refl refl (refl, same ∙ none);
-            records = more;
-            defaults = λ _. stated.1;
-            line = λ _. line_of octets old new pieces behind cut;
-          };
-      later = omega (arith, behind.count);
-      near = omega (arith, behind.count, behind.few);
+      others = p ∷ [];
+      read = gives_one p [] states refl refl (refl, same ∙ none);
+      records = more;
+      defaults = λ _. are;
+      line = λ _. line_of octets old new pieces behind cut;
     }
+entry_read origin before pieces octets old new none behind cut (decides_fault fault bad same ending) = record {
+  others = [];
+  read = refused fault bad refl ending;
+  records = same ∙ sym (append-nil old.decided.placed.items);
+  defaults = λ going. absurd (let t : ⊥ = cc in t);
+  line = λ going. absurd (let t : ⊥ = cc in t);
+}
 
-pub takes_fault : (octets : List ℕ) (old new : EndedEntries) (result : Result (Option Record) Failing) (fault : Fault) → AnswersOctets octets old.defaults result new.defaults → result ≡ Err (failing.Fault fault) → new.decided.ending ≡ Some (fault, Line old.line) → new.decided.placed.items ≡ old.decided.placed.items → IsLineBehind octets old new → ReadsOctets octets old new
-takes_fault octets old new result fault answers e ending same behind = record {
-  reads = λ origin before pieces are cut.
-      let stated = rw e at (answers origin before old.line pieces are cut) in
-      record {
-        others = [];
-        read = refused fault stated refl ending;
-        records = same ∙ sym (append-nil old.decided.placed.items);
-        defaults = λ none. absurd (let t : ⊥ = cc in t);
-        line = λ none. absurd (let t : ⊥ = cc in t);
-      };
+pub takes_entry : (octets : List ℕ) (old new : EndedEntries) → DecidesOctets octets (Line old.line) old.defaults old.decided new.decided new.defaults → old.decided.ending ≡ None → IsLineBehind octets old new → ReadsOctets octets old new
+takes_entry octets old new decides none behind = record {
+  reads = λ origin before pieces are cut. entry_read origin before pieces octets old new none behind cut (decides origin before old.line pieces are cut);
   later = omega (arith, behind.count);
   near = omega (arith, behind.count, behind.few);
 }
+
+-- what is refused decides its fault
+pub refused_entry : {T E : Type 0} (result : Result T E) (origin : Labels) (before : List Entry) (entry : Entry) (place : Place) (old new : Reading) (next : Defaults) (failing : Failing) → IfFault (EntryFault origin before entry) failing → OnOk result (Refuses failing place old new) → OnOk result (DecidesEntry origin before entry place old new next)
+refused_entry (Ok x) origin before entry place old new next (failings.Fault fault) bad refuses = decides_fault fault bad refuses.0 refuses.1
+refused_entry (Ok x) origin before entry place old new next failings.Memory bad refuses = absurd refuses
+refused_entry (Err e) origin before entry place old new next failing bad refuses = tt

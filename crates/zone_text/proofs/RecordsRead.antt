@@ -1,5 +1,5 @@
 -- A record entry whose parts are read behind known defaults: what it states, or why it is refused.
-use Rattle.std.proofs.Common.{◌≡◌, ℕ, ◌<◌, List, ◌∷◌, Option, Some, None, refl, sym, ap, ◌∙◌, subst}
+use Rattle.std.proofs.Common.{◌≡◌, ℕ, ◌<◌, List, ◌∷◌, Option, Some, None, MatchOption, refl, sym, ap, ◌∙◌, subst}
 use Rattle.std.specs.Option.{option_or}
 use Rattle.zone_name.specs.Common.{Labels}
 use Rattle.zone_rdata.specs.DataFault.{IsDataFault}
@@ -8,13 +8,13 @@ use Rattle.zone_rdata.specs.Minimum.{minimum}
 use Rattle.zone_rdata.specs.Record.{Data, Record, IsRecord}
 use Rattle.zone_rdata.specs.Spelling.{States}
 use Rattle.zone_rdata.specs.declared.fault.Fault.{Fault}
-use Rattle.zone_rdata.specs.declared.fault.Fault.TheVariants.{NoTtl, BadTtl}
+use Rattle.zone_rdata.specs.declared.fault.Fault.TheVariants.{NoOwner, NoTtl, BadTtl}
 use Rattle.zone_text.specs.Defaults.{AreDefaults, IsOneOrNone, IsTtlOrNone}
 use Rattle.zone_text.specs.Entries.{Entry}
-use Rattle.zone_text.specs.EntryFault.{EntryFault, of_rdata, of_ttl, none, long}
+use Rattle.zone_text.specs.EntryFault.{EntryFault, of_owner, of_rdata, of_ttl, none, long}
 use Rattle.zone_text.specs.Forms.{owned, unowned, form_of, parts_in}
 use Rattle.zone_text.specs.Inherited.{IsLastOwner, IsOwner, owner_in, owner_text, ttl_text}
-use Rattle.zone_text.specs.Machine.EntryReading.{IsRecordEntry, with_owner}
+use Rattle.zone_text.specs.Machine.EntryReading.{HasOwnerOrNone, IsReadTo, IsRecordEntry, with_owner}
 use Rattle.zone_text.specs.Machine.Lower.{Lower}
 use Rattle.zone_text.specs.Records.{Head, HasHead, HasTtl, IsLastMinimum, StatesData, StatesRecord}
 use Rattle.zone_text.specs.declared.defaults.Defaults.{Defaults}
@@ -22,8 +22,9 @@ use Rattle.zone_text.proofs.Inheriting.{has_no_ttl, has_ttl, next_minimum, recor
 
 -- ---- the owner
 
-pub owned_entry : (origin : Labels) (before : List Entry) (entry : Entry) (d : Defaults) (name : Labels) (owner : RawItem) (items : List RawItem) → form_of entry ≡ owned owner items → AreDefaults origin before d → IsOwner origin before (owned owner items) name → IsRecordEntry origin before entry d name items
-owned_entry origin before entry d name owner items form so_far owns = record {
+owned_entry : (origin : Labels) (before : List Entry) (entry : Entry) (d : Defaults) (held : Option Labels) (name : Labels) (owner : RawItem) (items : List RawItem) → form_of entry ≡ owned owner items → AreDefaults origin before (with_owner held d) → IsOwner origin before (owned owner items) name → IsRecordEntry origin before entry d name items
+owned_entry origin before entry d held name owner items form so_far owns = record {
+  held = held;
   defaults = so_far;
   owner = subst (λ f. IsOwner origin before f name) (sym form) owns;
   parts = ap parts_in form;
@@ -33,40 +34,46 @@ owner_now : (origin : Labels) (before : List Entry) (entry : Entry) (name : Labe
 owner_now origin before entry name (bare text) items e owns = rw e owns
 owner_now origin before entry name (quoted text) items e owns = absurd owns
 
-pub owner_stated : (origin : Labels) (before : List Entry) (entry : Entry) (name : Labels) (owner : RawItem) (items : List RawItem) → form_of entry ≡ owned owner items → IsOwner origin before (owned owner items) name → IsLastOwner origin (entry ∷ before) name
+owner_stated : (origin : Labels) (before : List Entry) (entry : Entry) (name : Labels) (owner : RawItem) (items : List RawItem) → form_of entry ≡ owned owner items → IsOwner origin before (owned owner items) name → IsLastOwner origin (entry ∷ before) name
 owner_stated origin before entry name owner items form owns = owner_now origin before entry name owner items (ap owner_in form) owns
 
-pub unowned_entry : (origin : Labels) (before : List Entry) (entry : Entry) (d : Defaults) (name : Labels) (items : List RawItem) → form_of entry ≡ unowned items → AreDefaults origin before d → d.owner ≡ Some name → IsRecordEntry origin before entry d name items
-unowned_entry origin before entry d name items form so_far owns =
-    let last : IsLastOwner origin before name = subst (IsOneOrNone (IsLastOwner origin before)) owns so_far.owner in
-    record {
-      defaults = so_far;
-      owner = subst (λ f. IsOwner origin before f name) (sym form) last;
-      parts = ap parts_in form;
-    }
+-- an entry states the owner that became the last one
+pub has_stated_owner : (origin : Labels) (before : List Entry) (entry : Entry) (d : Defaults) (name : Labels) (owner : RawItem) (items : List RawItem) → form_of entry ≡ owned owner items → AreDefaults origin before d → IsOwner origin before (owned owner items) name → HasOwnerOrNone origin before entry (with_owner (Some name) d) items
+has_stated_owner origin before entry d name owner items form so_far owns = (
+  owned_entry origin before entry (with_owner (Some name) d) d.owner name owner items form so_far owns,
+  owner_stated origin before entry name owner items form owns,
+)
 
-pub owner_kept : (origin : Labels) (before : List Entry) (entry : Entry) (d : Defaults) (owner : Option Labels) (items : List RawItem) → form_of entry ≡ unowned items → AreDefaults origin before d → owner ≡ d.owner → IsOneOrNone (IsLastOwner origin (entry ∷ before)) owner
-owner_kept origin before entry d owner items form so_far same =
-    same_owner origin before entry (unowned items) owner form refl (subst (IsOneOrNone (IsLastOwner origin before)) (sym same) so_far.owner)
+unowned_choice : (origin : Labels) (before : List Entry) (entry : Entry) (d : Defaults) (owner : Option Labels) (items : List RawItem) → form_of entry ≡ unowned items → AreDefaults origin before d → IsOneOrNone (IsLastOwner origin before) owner → d.owner ≡ owner → HasOwnerOrNone origin before entry (with_owner owner d) items
+unowned_choice origin before entry d None items form so_far last e = of_owner (rw form (refl, last))
+unowned_choice origin before entry d (Some name) items form so_far last e = (
+  record {
+    held = d.owner;
+    defaults = so_far;
+    owner = subst (λ f. IsOwner origin before f name) (sym form) last;
+    parts = ap parts_in form;
+  },
+  same_owner origin before entry (unowned items) (Some name) form refl last,
+)
+
+-- an entry omits its owner
+pub has_last_owner : (origin : Labels) (before : List Entry) (entry : Entry) (d : Defaults) (items : List RawItem) → form_of entry ≡ unowned items → AreDefaults origin before d → HasOwnerOrNone origin before entry d items
+has_last_owner origin before entry d items form so_far = unowned_choice origin before entry d d.owner items form so_far so_far.owner refl
+
+pub no_owner : (origin : Labels) (before : List Entry) (entry : Entry) (d : Defaults) (items : List RawItem) → HasOwnerOrNone origin before entry d items → d.owner ≡ None → EntryFault origin before entry NoOwner
+no_owner origin before entry d items has e = subst (λ o. MatchOption o (EntryFault origin before entry NoOwner) (λ name. IsRecordEntry origin before entry d name items × IsLastOwner origin (entry ∷ before) name)) e has
+
+pub one_owner : (origin : Labels) (before : List Entry) (entry : Entry) (d : Defaults) (items : List RawItem) (name : Labels) → HasOwnerOrNone origin before entry d items → d.owner ≡ Some name → IsRecordEntry origin before entry d name items × IsLastOwner origin (entry ∷ before) name
+one_owner origin before entry d items name has e = subst (λ o. MatchOption o (EntryFault origin before entry NoOwner) (λ own. IsRecordEntry origin before entry d own items × IsLastOwner origin (entry ∷ before) own)) e has
 
 -- ---- data and TTL
 
 pub rdata_refused : (origin : Labels) (before : List Entry) (entry : Entry) (d : Defaults) (name : Labels) (items : List RawItem) (head : Head) (fault : Fault) → IsRecordEntry origin before entry d name items → HasHead origin before entry head → IsDataFault d.origin head.class head.kind head.items fault → EntryFault origin before entry fault
 rdata_refused origin before entry d name items head fault is has bad = of_rdata head d.origin has is.defaults.under bad
 
--- a record entry up to its data, and the TTL that is looked for
-pub record IsReadTo (origin : Labels) (before : List Entry) (entry : Entry) (d : Defaults) (head : Head) (own : Option ℕ) (rdata : Data) (last found : Option ℕ) : Type 0 where
-  pub defaults : AreDefaults origin before d
-  pub has : HasHead origin before entry head
-  pub own_ttl : IsTtlOrNone (ttl_text entry) own
-  pub class : rdata.class ≡ head.class
-  pub kind : rdata.kind ≡ head.kind
-  pub states : States d.origin head.class head.kind head.items rdata.octets
-  pub least : last ≡ option_or (minimum rdata) d.minimum
-  pub ttl : found ≡ option_or (option_or (option_or own d.default_ttl) d.last_ttl) last
-
 pub read_to : (origin : Labels) (before : List Entry) (entry : Entry) (d : Defaults) (name : Labels) (items : List RawItem) (head : Head) (own : Option ℕ) (rdata : Data) (a stated soa last result found : Option ℕ) → IsRecordEntry origin before entry d name items → HasHead origin before entry head × IsTtlOrNone (ttl_text entry) own → rdata.class ≡ head.class → rdata.kind ≡ head.kind → States d.origin head.class head.kind head.items rdata.octets → a ≡ option_or own d.default_ttl → stated ≡ option_or a d.last_ttl → soa ≡ minimum rdata → last ≡ option_or soa d.minimum → result ≡ option_or stated last → result ≡ found → IsReadTo origin before entry d head own rdata last found
 read_to origin before entry d name items head own rdata a stated soa last result found is has class kind states first second of_soa least third is_found = record {
+  held = is.held;
   defaults = is.defaults;
   has = has.0;
   own_ttl = has.1;
@@ -91,11 +98,11 @@ last_is lower origin before entry d head own rdata last found is =
 pub no_ttl : Lower → (origin : Labels) (before : List Entry) (entry : Entry) (d : Defaults) (head : Head) (own : Option ℕ) (rdata : Data) (last : Option ℕ) → IsReadTo origin before entry d head own rdata last None → EntryFault origin before entry NoTtl
 no_ttl lower origin before entry d head own rdata last is =
     of_ttl head rdata.octets is.has (states_data origin before entry d head own rdata last None is)
-    (none (has_no_ttl origin before entry (option_or (option_or own d.default_ttl) d.last_ttl) last (ttl_stated origin before entry d own is.defaults is.own_ttl) (last_is lower origin before entry d head own rdata last None is) (sym is.ttl)))
+    (none (has_no_ttl origin before entry (option_or (option_or own d.default_ttl) d.last_ttl) last (ttl_stated origin before entry (with_owner is.held d) own is.defaults is.own_ttl) (last_is lower origin before entry d head own rdata last None is) (sym is.ttl)))
 
 ttl_is : Lower → (origin : Labels) (before : List Entry) (entry : Entry) (d : Defaults) (head : Head) (own : Option ℕ) (rdata : Data) (last : Option ℕ) (n : ℕ) → IsReadTo origin before entry d head own rdata last (Some n) → HasTtl origin before entry n
 ttl_is lower origin before entry d head own rdata last n is =
-    has_ttl origin before entry (option_or (option_or own d.default_ttl) d.last_ttl) last n (ttl_stated origin before entry d own is.defaults is.own_ttl) (last_is lower origin before entry d head own rdata last (Some n) is) (sym is.ttl)
+    has_ttl origin before entry (option_or (option_or own d.default_ttl) d.last_ttl) last n (ttl_stated origin before entry (with_owner is.held d) own is.defaults is.own_ttl) (last_is lower origin before entry d head own rdata last (Some n) is) (sym is.ttl)
 
 pub long_ttl : Lower → (origin : Labels) (before : List Entry) (entry : Entry) (d : Defaults) (head : Head) (own : Option ℕ) (rdata : Data) (last : Option ℕ) (n : ℕ) → IsReadTo origin before entry d head own rdata last (Some n) → 2147483647 < n → EntryFault origin before entry BadTtl
 long_ttl lower origin before entry d head own rdata last n is over =
@@ -116,6 +123,6 @@ states_record lower origin before entry d head own rdata last n r is e fits =
 
 pub record_left : Lower → (origin : Labels) (before : List Entry) (entry : Entry) (d next : Defaults) (head : Head) (own : Option ℕ) (rdata : Data) (last found : Option ℕ) (owner : Option Labels) → IsReadTo origin before entry d head own rdata last found → next.origin ≡ d.origin → next.class ≡ head.class → next.default_ttl ≡ d.default_ttl → next.last_ttl ≡ option_or own d.last_ttl → next.minimum ≡ last → IsOneOrNone (IsLastOwner origin (entry ∷ before)) owner → AreDefaults origin (entry ∷ before) (with_owner owner next)
 record_left lower origin before entry d next head own rdata last found owner is above class default_ttl last_ttl least owner_is =
-    record_leaves origin before entry d next head own owner is.defaults is.has is.own_ttl above class default_ttl last_ttl
+    record_leaves origin before entry (with_owner is.held d) next head own owner is.defaults is.has is.own_ttl above class default_ttl last_ttl
     (subst (IsOneOrNone (IsLastMinimum origin (entry ∷ before))) (sym least) (last_is lower origin before entry d head own rdata last found is))
     owner_is

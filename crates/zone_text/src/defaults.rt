@@ -1,18 +1,20 @@
-ghost use Rattle.std.specs.Prelude.{◌≡◌, ℕ, List, [], map};
+ghost use Rattle.std.specs.Prelude.{◌≡◌, ℕ, List, [], map, IfErr, OnOk};
 ghost use Rattle.zone_name.specs.Common.{Labels};
 ghost use Rattle.zone_rdata.specs.Item.{raw};
 ghost use Rattle.zone_text.specs.Defaults.{AreDefaults};
 ghost use Rattle.zone_text.specs.Entries.{Entry, entry_of};
-ghost use Rattle.zone_text.specs.Forms.{form_of, owned, unowned};
+ghost use Rattle.zone_text.specs.EntryFault.{EntryFault};
+ghost use Rattle.zone_text.specs.Forms.{form_of, owned};
 ghost use Rattle.zone_text.specs.Pieces.{Cuts, Piece};
-ghost use Rattle.zone_text.specs.Machine.EntryReading.{AnswersEntry};
+ghost use Rattle.zone_text.specs.Machine.EntryReading.{DecidesEntry, LeavesNoRecord};
 ghost use Rattle.zone_text.specs.Machine.Form.{directive_in, form_in};
 
 use crate::form::{Directive, Form, form_of};
 use crate::items::cut_items;
-use std::alloc::Global;
+use crate::record::refuse;
+use std::alloc::{AllocError, Global};
 use zone_name::Name;
-use zone_rdata::{Class, Failing, Fault, Item, Rr};
+use zone_rdata::{Class, Failing, Fault, Item, Place, Reading};
 
 /// What the entries of a master file leave to those behind them (RFC 1035 5.1, RFC 2308 4).
 #[derive(Debug, Drop)]
@@ -53,86 +55,87 @@ impl Defaults {
         }
     }
 
-    /// The record that an entry states behind those before it. `None`: it states nothing, as a blank entry, `$ORIGIN`
-    /// and `$TTL`. The entry is known to be cut into pieces. `items` holds nothing that is used again.
-    ///
-    /// # Errors
-    ///
-    /// The entry's first fault, and want of memory. What the defaults hold then says nothing.
+    /// Reads an entry behind those before it, and takes what it decides into `decided`: the record that it states, with
+    /// its place; or its first fault; or nothing, as of a blank entry, `$ORIGIN` and `$TTL`. The entry is known to be
+    /// cut into pieces. `items` holds nothing that is used again. Behind a fault the defaults say nothing.
+    // Records and faults hold names, and are wide. So no function on the way of a record answers with one.
     pub(crate) fn read<'t>(
         &mut self,
         alloc: Global,
         entry: &'t [u8],
         items: &mut Vec<Item<'t>>,
-    ) -> Result<Option<Rr>, Failing>
+        place: Place,
+        decided: &mut Reading,
+    ) -> Result<(), AllocError>
         ensures { (origin : Labels) (before : List Entry) (line : ℕ) (pieces : List Piece)
             → AreDefaults origin before self.old → Cuts entry.now pieces
-            → AnswersEntry origin before (entry_of line pieces) result self.new }
+            → OnOk result (DecidesEntry origin before (entry_of line pieces) place decided.old decided.new self.new) }
     {
         cut_items(entry, items)?;
-        self.read_form(alloc, form_of(entry, items))
+        self.read_form(alloc, form_of(entry, items), place, decided)
     }
 
-    /// The record of an entry of this form.
-    fn read_form(&mut self, alloc: Global, form: Form) -> Result<Option<Rr>, Failing>
+    /// Reads an entry of this form.
+    fn read_form(
+        &mut self,
+        alloc: Global,
+        form: Form,
+        place: Place,
+        decided: &mut Reading,
+    ) -> Result<(), AllocError>
         ensures { (origin : Labels) (before : List Entry) (entry : Entry)
             → AreDefaults origin before self.old → form_of entry ≡ form_in form.entry
-            → AnswersEntry origin before entry result self.new }
+            → OnOk result (DecidesEntry origin before entry place decided.old decided.new self.new) }
     {
         match form {
-            Form::Blank => Ok(None),
-            Form::Directs(directive) => self.read_directive(directive),
-            Form::Owned(owner, items) => self.read_owned(alloc, owner, items),
-            Form::Unowned(items) => self.read_unowned(alloc, items),
+            Form::Blank => Ok(()),
+            Form::Directs(directive) => match self.follow(directive) {
+                Ok(()) => Ok(()),
+                Err(fault) => refuse(Failing::Fault(fault), place, decided),
+            },
+            Form::Owned(owner, items) => self.read_owned(alloc, owner, items, place, decided),
+            Form::Unowned(items) => self.read_record(alloc, items, place, decided),
         }
     }
 
     /// Follows a directive, which states no record.
-    // Not inlined, and so the two below, as `owner_in`: results with names are wide, and each would pay for all of them.
     #[inline(never)]
-    fn read_directive(&mut self, directive: Directive) -> Result<Option<Rr>, Failing>
-        ensures { (origin : Labels) (before : List Entry) (entry : Entry)
+    fn follow(&mut self, directive: Directive) -> Result<(), Fault>
+        ensures found { (origin : Labels) (before : List Entry) (entry : Entry)
             → AreDefaults origin before self.old → form_of entry ≡ directive_in directive.entry
-            → AnswersEntry origin before entry result self.new }
+            → OnOk result (LeavesNoRecord origin before entry self.new) }
+        ensures fault { (origin : Labels) (before : List Entry) (entry : Entry)
+            → AreDefaults origin before self.old → form_of entry ≡ directive_in directive.entry
+            → IfErr result (EntryFault origin before entry) }
     {
         match directive {
-            Directive::Origin(items) => {
-                self.set_origin(items)?;
-                Ok(None)
-            }
-            Directive::Ttl(items) => {
-                self.set_default_ttl(items)?;
-                Ok(None)
-            }
-            Directive::Include => Err(Failing::Fault(Fault::IncludeDirective)),
-            Directive::Unknown => Err(Failing::Fault(Fault::UnknownDirective)),
+            Directive::Origin(items) => self.set_origin(items),
+            Directive::Ttl(items) => self.set_default_ttl(items),
+            Directive::Include => Err(Fault::IncludeDirective),
+            Directive::Unknown => Err(Fault::UnknownDirective),
         }
     }
 
-    /// The record of an entry that states its owner.
-    #[inline(never)]
+    /// Reads an entry that states its owner.
     fn read_owned(
         &mut self,
         alloc: Global,
         owner: Item,
         items: &[Item],
-    ) -> Result<Option<Rr>, Failing>
+        place: Place,
+        decided: &mut Reading,
+    ) -> Result<(), AllocError>
         ensures { (origin : Labels) (before : List Entry) (entry : Entry)
             → AreDefaults origin before self.old → form_of entry ≡ owned (raw owner.entry) (map raw items.now)
-            → AnswersEntry origin before entry result self.new }
+            → OnOk result (DecidesEntry origin before entry place decided.old decided.new self.new) }
     {
-        let owner = self.owner_in(owner)?;
-        self.read_record(alloc, owner, items)
-    }
-
-    /// The record of an entry that omits its owner.
-    #[inline(never)]
-    fn read_unowned(&mut self, alloc: Global, items: &[Item]) -> Result<Option<Rr>, Failing>
-        ensures { (origin : Labels) (before : List Entry) (entry : Entry)
-            → AreDefaults origin before self.old → form_of entry ≡ unowned (map raw items.now)
-            → AnswersEntry origin before entry result self.new }
-    {
-        let owner = self.last_owner()?;
-        self.read_record(alloc, owner, items)
+        let Item::Bare(text) = owner else {
+            return refuse(Failing::Fault(Fault::NoOwner), place, decided);
+        };
+        match Name::from_text(text, Some(&self.origin)) {
+            Ok(name) => self.owner = Some(name),
+            Err(fault) => return refuse(Failing::from(fault), place, decided),
+        }
+        self.read_record(alloc, items, place, decided)
     }
 }

@@ -7,7 +7,7 @@ use crate::defaults::Defaults;
 use std::alloc::{AllocError, Global};
 use std::collections::VecDeque;
 use zone_name::Name;
-use zone_rdata::{Failing, Fault, Item, Place, Placed, Reading};
+use zone_rdata::{Fault, Item, Place, Reading};
 
 /// What was read of the entries that were ended.
 #[derive(Drop)]
@@ -62,12 +62,8 @@ impl EndedEntries {
         ensures { OnOk result (ReadsOctets entry.now self.old self.new) }
     {
         let place = Place::Line(self.line);
-        match self.defaults.read(alloc, entry, items) {
-            Ok(None) => {}
-            Ok(Some(rr)) => self.decided.placed.push_back(Placed { rr, place })?,
-            Err(Failing::Fault(fault)) => self.decided.ending = Some((fault, place)),
-            Err(Failing::Memory) => return Err(AllocError),
-        }
+        self.defaults
+            .read(alloc, entry, items, place, &mut self.decided)?;
         self.line += line_feeds(entry) as u64;
         Ok(())
     }

@@ -1,20 +1,20 @@
-ghost use Rattle.std.specs.Prelude.{◌≡◌, List, ◌∷◌, None, Some, map, IfOk, IfErr};
+ghost use Rattle.std.specs.Prelude.{List, map, IfOk, IfErr, OnOk};
 ghost use Rattle.zone_name.specs.Common.{Labels};
-ghost use Rattle.zone_rdata.specs.Item.{RawItem, raw};
-ghost use Rattle.zone_text.specs.Defaults.{AreDefaults, IsTtlOrNone};
+ghost use Rattle.zone_rdata.specs.Fault.{IfFault};
+ghost use Rattle.zone_rdata.specs.Item.{raw};
+ghost use Rattle.zone_text.specs.Defaults.{IsTtlOrNone};
 ghost use Rattle.zone_text.specs.Entries.{Entry};
-ghost use Rattle.zone_text.specs.EntryFault.{EntryFault, OwnerFault};
-ghost use Rattle.zone_text.specs.Forms.{owned, unowned};
-ghost use Rattle.zone_text.specs.Inherited.{IsLastOwner, IsOwner, ttl_text};
+ghost use Rattle.zone_text.specs.EntryFault.{EntryFault};
+ghost use Rattle.zone_text.specs.Inherited.{ttl_text};
 ghost use Rattle.zone_text.specs.Records.{HasHead};
-ghost use Rattle.zone_text.specs.Machine.EntryReading.{AnswersEntry, IsRecordEntry};
+ghost use Rattle.zone_text.specs.Machine.EntryReading.{DecidesEntry, HasOwnerOrNone, IsRecordEntry};
+ghost use Rattle.zone_text.specs.Machine.EntryReading.{ReadsContents, Refuses};
 
 use crate::defaults::Defaults;
 use crate::laws::entry::lower_laws;
 use crate::words::{split_bare, words_of};
-use std::alloc::Global;
-use zone_name::Name;
-use zone_rdata::{Class, Failing, Fault, Item, Kind, Rdata, Rr};
+use std::alloc::{AllocError, Global};
+use zone_rdata::{Class, Failing, Fault, Item, Kind, Place, Placed, Rdata, Reading, Rr};
 
 /// What a record states behind its owner: the words before its type, its type, and the items of its data.
 #[derive(Drop)]
@@ -27,58 +27,86 @@ pub(crate) struct Head<'i, 't> {
     rdata: &'i [Item<'t>],
 }
 
+/// What is read of a record behind its owner.
+#[derive(Drop)]
+pub(crate) struct Contents {
+    /// The TTL that the record states or inherits, in seconds.
+    ttl: u32,
+    /// The TTL that the record states, in seconds.
+    stated_ttl: Option<u32>,
+    /// The MINIMUM of the last SOA up to it, in seconds.
+    minimum: Option<u32>,
+    rdata: Rdata,
+}
+
+/// Decides the fault of the entry at a place, and passes want of memory on.
+#[cold]
+#[inline(never)]
+pub(crate) fn refuse(
+    failing: Failing,
+    place: Place,
+    decided: &mut Reading,
+) -> Result<(), AllocError>
+    ensures { OnOk result (Refuses failing place decided.old decided.new) }
+{
+    match failing {
+        Failing::Fault(fault) => {
+            decided.ending = Some((fault, place));
+            Ok(())
+        }
+        Failing::Memory => Err(AllocError),
+    }
+}
+
 impl Defaults {
-    /// The owner that a record states.
-    ///
-    /// # Errors
-    ///
-    /// `NoOwner` for a quoted item, and the faults of the name.
-    // Not inlined: where names and faults are moved side by side, each move is made octet by octet.
+    /// Reads the record of the last owner, and of the items behind the owner where it is stated: the record comes
+    /// behind those that were decided, or the entry's fault behind the owner is decided.
     #[inline(never)]
-    pub(crate) fn owner_in(&self, owner: Item) -> Result<Name, Fault>
-        ensures found { (origin : Labels) (before : List Entry) (items : List RawItem)
-            → AreDefaults origin before self.now
-            → IfOk result (IsOwner origin before (owned (raw owner.entry) items)) }
-        ensures fault { (origin : Labels) (before : List Entry) (items : List RawItem)
-            → AreDefaults origin before self.now
-            → IfErr result (OwnerFault origin before (owned (raw owner.entry) items)) }
-    {
-        match owner {
-            Item::Bare(text) => Ok(Name::from_text(text, Some(&self.origin))?),
-            Item::Quoted(_) => Err(Fault::NoOwner),
-        }
-    }
-
-    /// The owner of a record that omits it.
-    ///
-    /// # Errors
-    ///
-    /// `NoOwner` where none was stated so far.
-    pub(crate) fn last_owner(&self) -> Result<Name, Fault>
-        ensures found { IfOk result (λ name. self.now.owner ≡ Some name) }
-        ensures fault { IfErr result (λ fault. (fault ≡ Fault.NoOwner) × (self.now.owner ≡ None)) }
-    {
-        match &self.owner {
-            Some(owner) => Ok(owner.copy()),
-            None => Err(Fault::NoOwner),
-        }
-    }
-
-    /// The record of an owner, and of the items behind it where it is stated.
-    ///
-    /// # Errors
-    ///
-    /// The first fault behind the owner, and want of memory.
     pub(crate) fn read_record(
         &mut self,
         alloc: Global,
-        owner: Name,
         items: &[Item],
-    ) -> Result<Option<Rr>, Failing>
+        place: Place,
+        decided: &mut Reading,
+    ) -> Result<(), AllocError>
         ensures { (origin : Labels) (before : List Entry) (entry : Entry)
-            → IsRecordEntry origin before entry self.old owner (map raw items.now)
-            → IsLastOwner origin (entry ∷ before) owner
-            → AnswersEntry origin before entry result self.new }
+            → HasOwnerOrNone origin before entry self.old (map raw items.now)
+            → OnOk result (DecidesEntry origin before entry place decided.old decided.new self.new) }
+    {
+        lower_laws();
+        let Some(owner) = &self.owner else {
+            return refuse(Failing::Fault(Fault::NoOwner), place, decided);
+        };
+        let owner = owner.copy();
+        let contents = match self.contents_of(alloc, items) {
+            Ok(contents) => contents,
+            Err(failing) => return refuse(failing, place, decided),
+        };
+        self.class = contents.rdata.class();
+        self.last_ttl = contents.stated_ttl.or(self.last_ttl);
+        self.minimum = contents.minimum;
+        match Rr::new(owner, contents.ttl, contents.rdata) {
+            Ok(rr) => {
+                decided.placed.push_back(Placed { rr, place })?;
+                Ok(())
+            }
+            Err(fault) => refuse(Failing::Fault(fault), place, decided),
+        }
+    }
+
+    /// What the items behind the owner state or inherit.
+    ///
+    /// # Errors
+    ///
+    /// The first fault behind the owner but `BadTtl` of a TTL that is inherited, and want of memory.
+    fn contents_of(&self, alloc: Global, items: &[Item]) -> Result<Contents, Failing>
+        ensures found { (origin : Labels) (before : List Entry) (entry : Entry) (owner : Labels)
+            → IsRecordEntry origin before entry self.now owner (map raw items.now)
+            → IfOk result (λ contents. ReadsContents origin before entry self.now owner
+            contents.stated_ttl contents.rdata contents.minimum contents.ttl) }
+        ensures fault { (origin : Labels) (before : List Entry) (entry : Entry) (owner : Labels)
+            → IsRecordEntry origin before entry self.now owner (map raw items.now)
+            → IfErr result (IfFault (EntryFault origin before entry)) }
     {
         lower_laws();
         let head = self.head_of(items)?;
@@ -88,12 +116,12 @@ impl Defaults {
         let Some(ttl) = stated.or(minimum) else {
             return Err(Failing::Fault(Fault::NoTtl));
         };
-        self.owner = Some(owner.copy());
-        let rr = Rr::new(owner, ttl, rdata)?;
-        self.class = head.class;
-        self.last_ttl = head.ttl.or(self.last_ttl);
-        self.minimum = minimum;
-        Ok(Some(rr))
+        Ok(Contents {
+            ttl,
+            stated_ttl: head.ttl,
+            minimum,
+            rdata,
+        })
     }
 
     /// What the items behind the owner state in front of the data.

@@ -1,33 +1,82 @@
 -- How an entry is read behind others that left defaults.
-use Rattle.std.specs.Prelude.{◌≡◌, ℕ, List, [], ◌∷◌, Option, Some, None, Result, Ok, Err}
+use Rattle.std.specs.Prelude.{◌≡◌, ℕ, List, [], ◌∷◌, ◌++◌, Option, Some, None, MatchOption}
+use Rattle.std.specs.Option.{option_or}
 use Rattle.zone_name.specs.Common.{Labels}
 use Rattle.zone_name.specs.Spelling.{Spells}
-use Rattle.zone_rdata.specs.Fault.{IfFault}
 use Rattle.zone_rdata.specs.Fields.Name.{IsNameFault}
-use Rattle.zone_rdata.specs.Record.{Record}
-use Rattle.zone_rdata.specs.Spelling.{RawItem}
+use Rattle.zone_rdata.specs.Minimum.{minimum}
+use Rattle.zone_rdata.specs.Record.{Data, Record}
+use Rattle.zone_rdata.specs.Spelling.{RawItem, States}
 use Rattle.zone_rdata.specs.declared.fault.Failing.{Failing}
+use Rattle.zone_rdata.specs.declared.fault.Failing.TheVariants as failings
 use Rattle.zone_rdata.specs.declared.fault.Fault.{Fault}
-use Rattle.zone_rdata.specs.declared.fault.Fault.TheVariants.{BadDirective}
-use Rattle.zone_text.specs.Defaults.{AreDefaults}
+use Rattle.zone_rdata.specs.declared.fault.Fault.TheVariants.{BadDirective, NoOwner}
+use Rattle.zone_rdata.specs.declared.fault.Place.{Place}
+use Rattle.zone_rdata.specs.declared.source.Reading.{Reading}
+use Rattle.zone_text.specs.Defaults.{AreDefaults, IsTtlOrNone}
 use Rattle.zone_text.specs.Entries.{Entry}
 use Rattle.zone_text.specs.EntryFault.{EntryFault}
 use Rattle.zone_text.specs.Forms.{form_of, parts_of, parts_behind}
-use Rattle.zone_text.specs.Inherited.{IsOwner, IsTtl, one_bare}
-use Rattle.zone_text.specs.Records.{StatesNothing, StatesRecord}
+use Rattle.zone_text.specs.Inherited.{IsLastOwner, IsOwner, IsTtl, one_bare, ttl_text}
+use Rattle.zone_text.specs.Records.{Head, HasHead, StatesNothing, StatesRecord}
 use Rattle.zone_text.specs.declared.defaults.Defaults.{Defaults}
 
--- what is answered for an entry, and what is left to those behind it
-abbrev pub AnswersEntry : Labels → List Entry → Entry → Result (Option Record) Failing → Defaults → Type 0
-AnswersEntry origin before entry (Ok None) next = StatesNothing origin before (form_of entry) × AreDefaults origin (entry ∷ before) next
-AnswersEntry origin before entry (Ok (Some r)) next = StatesRecord origin before entry r × AreDefaults origin (entry ∷ before) next
-AnswersEntry origin before entry (Err failing) next = IfFault (EntryFault origin before entry) failing
+-- an entry that states no record, and what is left to those behind it
+abbrev pub LeavesNoRecord : Labels → List Entry → Entry → Defaults → Type 0
+LeavesNoRecord origin before entry next = StatesNothing origin before (form_of entry) × AreDefaults origin (entry ∷ before) next
 
--- a record entry behind others that left defaults: its owner, and its items behind the owner
+-- What an entry at a place decides behind what was decided, and what is left to those behind it: nothing; the record that
+-- it states; or its fault, behind which nothing is said of what is left
+pub data DecidesEntry (origin : Labels) (before : List Entry) (entry : Entry) (place : Place) (old new : Reading) (next : Defaults) : Type 0 where
+  decides_none : LeavesNoRecord origin before entry next → new ≡ old → DecidesEntry origin before entry place old new next
+  decides_one : (r : Record) → StatesRecord origin before entry r → AreDefaults origin (entry ∷ before) next → new.placed.items ≡ old.placed.items ++ (record { rr = r; place = place }) ∷ [] → new.ending ≡ old.ending → DecidesEntry origin before entry place old new next
+  decides_fault : (fault : Fault) → EntryFault origin before entry fault → new.placed.items ≡ old.placed.items → new.ending ≡ Some (fault, place) → DecidesEntry origin before entry place old new next
+
+-- the fault is the last word
+abbrev pub Refuses : Failing → Place → Reading → Reading → Type 0
+Refuses (failings.Fault fault) place old new = (new.placed.items ≡ old.placed.items) × (new.ending ≡ Some (fault, place))
+Refuses failings.Memory place old new = ⊥
+
+abbrev pub with_owner : Option Labels → Defaults → Defaults
+with_owner owner d = record {
+  origin = d.origin;
+  owner = owner;
+  class = d.class;
+  default_ttl = d.default_ttl;
+  last_ttl = d.last_ttl;
+  minimum = d.minimum;
+}
+
+-- A record entry behind others that left defaults, but for the owner, which is the entry's: that owner, and the items
+-- behind it
 pub record IsRecordEntry (origin : Labels) (before : List Entry) (entry : Entry) (d : Defaults) (name : Labels) (items : List RawItem) : Type 0 where
-  pub defaults : AreDefaults origin before d
+  pub held : Option Labels
+  pub defaults : AreDefaults origin before (with_owner held d)
   pub owner : IsOwner origin before (form_of entry) name
   pub parts : parts_of entry ≡ Some (parts_behind [] items)
+
+-- the owner of a record entry and of those behind it, or the fault that there is none
+abbrev pub HasOwnerOrNone : Labels → List Entry → Entry → Defaults → List RawItem → Type 0
+HasOwnerOrNone origin before entry d items =
+    MatchOption d.owner (EntryFault origin before entry NoOwner) (λ name. IsRecordEntry origin before entry d name items × IsLastOwner origin (entry ∷ before) name)
+
+-- a record entry up to its data, and the TTL that is looked for
+pub record IsReadTo (origin : Labels) (before : List Entry) (entry : Entry) (d : Defaults) (head : Head) (own : Option ℕ) (rdata : Data) (last found : Option ℕ) : Type 0 where
+  pub held : Option Labels
+  pub defaults : AreDefaults origin before (with_owner held d)
+  pub has : HasHead origin before entry head
+  pub own_ttl : IsTtlOrNone (ttl_text entry) own
+  pub class : rdata.class ≡ head.class
+  pub kind : rdata.kind ≡ head.kind
+  pub states : States d.origin head.class head.kind head.items rdata.octets
+  pub least : last ≡ option_or (minimum rdata) d.minimum
+  pub ttl : found ≡ option_or (option_or (option_or own d.default_ttl) d.last_ttl) last
+
+-- a record entry of the owner up to its data and TTL
+pub record ReadsContents (origin : Labels) (before : List Entry) (entry : Entry) (d : Defaults) (name : Labels) (own : Option ℕ) (rdata : Data) (last : Option ℕ) (ttl : ℕ) : Type 0 where
+  pub head : Head
+  pub named : head.owner ≡ name
+  pub read : IsReadTo origin before entry d head own rdata last (Some ttl)
 
 abbrev pub with_origin : Labels → Defaults → Defaults
 with_origin origin d = record {
@@ -45,16 +94,6 @@ with_default_ttl seconds d = record {
   owner = d.owner;
   class = d.class;
   default_ttl = seconds;
-  last_ttl = d.last_ttl;
-  minimum = d.minimum;
-}
-
-abbrev pub with_owner : Option Labels → Defaults → Defaults
-with_owner owner d = record {
-  origin = d.origin;
-  owner = owner;
-  class = d.class;
-  default_ttl = d.default_ttl;
   last_ttl = d.last_ttl;
   minimum = d.minimum;
 }

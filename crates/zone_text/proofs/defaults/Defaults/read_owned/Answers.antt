@@ -1,9 +1,25 @@
-use Rattle.std.proofs.Common.{map}
+use Rattle.std.proofs.Common.{refl}
 use Rattle.zone_rdata.specs.Item.{raw}
-use Rattle.zone_text.proofs.RecordsRead.{owned_entry, owner_stated}
+use Rattle.zone_rdata.specs.declared.fault.Failing.TheVariants as failings
+use Rattle.zone_rdata.specs.declared.fault.Fault.TheVariants.{NoOwner}
+use Rattle.zone_text.specs.EntryFault.{of_owner}
+use Rattle.zone_text.proofs.EntryTaken.{refused_entry}
+use Rattle.zone_text.proofs.RecordsRead.{has_stated_owner}
 use Rattle.zone_text.proofs.defaults.Defaults.read_owned.Goals as goal
+
+pub returns-in_default : goal.returns-in_default
+returns-in_default c origin before entry so_far form =
+    refused_entry c.refuse.result origin before entry c.args.place c.args.decided.now c.refuse.new.decided _ (failings.Fault NoOwner)
+    (of_owner (rw (form, c.in_default.is) refl))
+    c.refuse.ensures
+
+pub returns-in-Err : goal.returns-in-Err
+returns-in-Err c origin before entry so_far form =
+    refused_entry c.refuse-in-Err.result origin before entry c.args.place c.args.decided.now c.refuse-in-Err.new.decided _ c.from.result
+    (rw c.from.ensures (of_owner (rw (form, c.in-Bare.is) (c.args.self.now.origin, (so_far.under, (c.in-Err.fault, c.in-Err.ensures.fault, refl))))))
+    c.refuse-in-Err.ensures
 
 pub returns : goal.returns
 returns c origin before entry so_far form =
-    let owns = c.in_ok-owner.ensures.found origin before (map raw c.args.items.now) so_far in
-    c.read_record.ensures origin before entry (owned_entry origin before entry c.args.self.now _ (raw c.args.owner) _ form so_far owns) (owner_stated origin before entry _ (raw c.args.owner) _ form owns)
+    c.read_record.ensures origin before entry
+    (has_stated_owner origin before entry c.args.self.now c.in-Ok.name (raw c.args.owner) _ form so_far (rw c.in-Bare.is (c.args.self.now.origin, (so_far.under, c.in-Ok.ensures.found))))

@@ -1,33 +1,46 @@
 use Rattle.std.proofs.lemmas.Bool.{cases_lt}
-use Rattle.std.proofs.Common.{◌<◌, true, false, inl, inr, ◌≡◌, refl, Some}
-use Rattle.std.proofs.lemmas.Result.{err_from_is_err_and}
-use Rattle.zone_rdata.proofs.Failings.{IfFault-weaker}
-use Rattle.zone_text.proofs.RecordsRead.{read_to, rdata_refused, no_ttl, long_ttl, states_record, record_left}
+use Rattle.std.proofs.Common.{◌<◌, true, false, inl, inr, ◌≡◌, refl, sym, ap, ◌∙◌, subst, ◌∷◌}
+use Rattle.zone_name.specs.Common.{Labels}
+use Rattle.zone_rdata.specs.Record.{Record}
+use Rattle.zone_rdata.specs.declared.fault.Failing.TheVariants as failings
+use Rattle.zone_rdata.specs.declared.fault.Fault.TheVariants.{NoOwner}
+use Rattle.zone_text.specs.Defaults.{IsOneOrNone}
+use Rattle.zone_text.specs.Inherited.{IsLastOwner}
+use Rattle.zone_text.specs.Machine.EntryReading.{decides_one}
+use Rattle.zone_text.proofs.EntryTaken.{refused_entry}
+use Rattle.zone_text.proofs.RecordsRead.{long_ttl, no_owner, one_owner, record_left, states_record}
 use Rattle.zone_text.proofs.defaults.Defaults.read_record.Goals as goal
 
-pub returns-in_err-rdata : goal.returns-in_err-rdata
-returns-in_err-rdata c origin before entry is last =
-    let p = err_from_is_err_and c.from_residual-in_err-rdata.result c.from_residual-in_err-rdata.ensures.1 in
-    let has = c.in_ok-head.ensures.found origin before entry c.args.owner is in
-    rw (p.1, p.2) (IfFault-weaker _ _ _ (λ fault bad. rdata_refused origin before entry c.args.self.now c.args.owner _ _ fault is has.0 bad) c.in_err-rdata.ensures.fault)
-
 pub returns-in_default : goal.returns-in_default
-returns-in_default c origin before entry is last =
-    no_ttl c.lower_laws.ensures origin before entry c.args.self.now _ _ _ _
-    (read_to origin before entry c.args.self.now c.args.owner _ _ c.in_ok-head.head.ttl c.in_ok-rdata.rdata c.or.result c.or-stated.result c.soa_minimum.result c.or-minimum.result c.or-2.result _ is (c.in_ok-head.ensures.found origin before entry c.args.owner is) c.in_ok-rdata.ensures.class c.in_ok-rdata.ensures.kind c.in_ok-rdata.ensures.found c.or.ensures c.or-stated.ensures c.soa_minimum.ensures c.or-minimum.ensures c.or-2.ensures c.in_default.is)
+returns-in_default c origin before entry has =
+    refused_entry c.refuse.result origin before entry c.args.place c.args.decided.now c.refuse.new.decided _ (failings.Fault NoOwner)
+    (no_owner origin before entry c.args.self.now _ has c.in_default.is)
+    c.refuse.ensures
 
-pub returns-in_err-rr : goal.returns-in_err-rr
-returns-in_err-rr c origin before entry is last =
-    let p = err_from_is_err_and c.from_residual-in_err-rr.result c.from_residual-in_err-rr.ensures.1 in
-    let over : 2147483647 < c.in-Some.ttl = elim (cases_lt 2147483647 c.in-Some.ttl) [ inl more ↦ more | inr few ↦ absurd (let clash : false ≡ true = c.in_err-rr.ensures.ok.1 few in let never : ⊥ = cc in never) ] in
-    rw (p.1, p.2, c.in_err-rr.ensures.err)
-    (long_ttl c.lower_laws.ensures origin before entry c.args.self.now _ _ _ _ _
-    (read_to origin before entry c.args.self.now c.args.owner _ _ c.in_ok-head.head.ttl c.in_ok-rdata.rdata c.or.result c.or-stated.result c.soa_minimum.result c.or-minimum.result c.or-2.result _ is (c.in_ok-head.ensures.found origin before entry c.args.owner is) c.in_ok-rdata.ensures.class c.in_ok-rdata.ensures.kind c.in_ok-rdata.ensures.found c.or.ensures c.or-stated.ensures c.soa_minimum.ensures c.or-minimum.ensures c.or-2.ensures c.in-Some.is)
-    over)
+pub returns-in-Err : goal.returns-in-Err
+returns-in-Err c origin before entry has =
+    let one = one_owner origin before entry c.args.self.now _ _ has c.in-Some.is in
+    refused_entry c.refuse-in-Err.result origin before entry c.args.place c.args.decided.now c.refuse-in-Err.new.decided _ c.in-Err.failing
+    (c.in-Err.ensures.fault origin before entry _ one.0)
+    c.refuse-in-Err.ensures
 
-pub returns : goal.returns
-returns c origin before entry is last =
-    let reads = read_to origin before entry c.args.self.now c.args.owner _ _ c.in_ok-head.head.ttl c.in_ok-rdata.rdata c.or.result c.or-stated.result c.soa_minimum.result c.or-minimum.result c.or-2.result _ is (c.in_ok-head.ensures.found origin before entry c.args.owner is) c.in_ok-rdata.ensures.class c.in_ok-rdata.ensures.kind c.in_ok-rdata.ensures.found c.or.ensures c.or-stated.ensures c.soa_minimum.ensures c.or-minimum.ensures c.or-2.ensures c.in-Some.is in (
-      states_record c.lower_laws.ensures origin before entry c.args.self.now _ _ _ _ _ _ reads c.in_ok-rr.ensures.value c.in_ok-rr.ensures.record,
-      record_left c.lower_laws.ensures origin before entry c.args.self.now (record { origin = c.args.self.now.origin; owner = Some c.copy.result; class = c.in_ok-head.head.class; default_ttl = c.args.self.now.default_ttl; last_ttl = c.or-self.result; minimum = c.or-minimum.result }) _ _ _ _ _ (Some c.copy.result) reads refl refl refl c.or-self.ensures refl (rw c.copy.ensures last),
-    )
+pub returns-in_ok-push_back-in-Ok-new : goal.returns-in_ok-push_back-in-Ok-new
+returns-in_ok-push_back-in-Ok-new c origin before entry has =
+    let one = one_owner origin before entry c.args.self.now _ _ has c.in-Some.is in
+    let reads = c.in-Ok.ensures.found origin before entry _ one.0 in
+    let rdata = c.in-Ok.contents.rdata in
+    let named : Labels → Record = λ owner. record { owner = owner; class = rdata.class; kind = rdata.kind; ttl = c.in-Ok.contents.ttl; octets = rdata.octets } in
+    decides_one c.in-Ok-new.rr
+    (states_record c.lower_laws.ensures origin before entry c.args.self.now reads.head _ _ _ _ _ reads.read (c.in-Ok-new.ensures.value ∙ ap named (c.copy-owner.ensures ∙ sym reads.named)) c.in-Ok-new.ensures.record)
+    (record_left c.lower_laws.ensures origin before entry c.args.self.now (record { origin = c.args.self.now.origin; owner = c.args.self.now.owner; class = c.class-self.result; default_ttl = c.args.self.now.default_ttl; last_ttl = c.or-self.result; minimum = c.in-Ok.contents.minimum }) reads.head _ _ _ _ c.args.self.now.owner reads.read refl (c.class-self.ensures ∙ reads.read.class) refl c.or-self.ensures refl (subst (IsOneOrNone (IsLastOwner origin (entry ∷ before))) (sym c.in-Some.is) one.1))
+    c.in_ok-push_back-in-Ok-new.ensures.items
+    refl
+
+pub returns-in-Err-new : goal.returns-in-Err-new
+returns-in-Err-new c origin before entry has =
+    let one = one_owner origin before entry c.args.self.now _ _ has c.in-Some.is in
+    let reads = c.in-Ok.ensures.found origin before entry _ one.0 in
+    let over : 2147483647 < c.in-Ok.contents.ttl = elim (cases_lt 2147483647 c.in-Ok.contents.ttl) [ inl more ↦ more | inr few ↦ absurd (let clash : false ≡ true = c.in-Err-new.ensures.ok.1 few in let never : ⊥ = cc in never) ] in
+    refused_entry c.refuse-in-Err-new.result origin before entry c.args.place c.args.decided.now c.refuse-in-Err-new.new.decided _ (failings.Fault c.in-Err-new.fault)
+    (rw c.in-Err-new.ensures.err (long_ttl c.lower_laws.ensures origin before entry c.args.self.now reads.head _ _ _ _ reads.read over))
+    c.refuse-in-Err-new.ensures
