@@ -1,5 +1,5 @@
 -- One octet of a scan, and how answers of scans are joined.
-use Rattle.std.proofs.Common.{◌≡◌, ℕ, suc, ◌+◌, ◌-◌, ◌<◌, ◌≤◌, List, length, drop, get_or, false, ◌==◌, ◌||◌, refl, sym, ap, ◌∙◌, subst, arith, drop-cons}
+use Rattle.std.proofs.Common.{◌≡◌, ℕ, suc, Bool, ◌+◌, ◌-◌, ◌<◌, ◌≤◌, List, length, drop, get_or, false, ◌==◌, ◌||◌, refl, sym, ap, ◌∙◌, subst, arith, drop-cons}
 use Rattle.std.proofs.Math.Seq.{drop-length}
 use Rattle.std.proofs.lemmas.Bool.{cond_both, or_parts, both_ways}
 use Rattle.zone_text.specs.declared.scan.Behind.{Behind}
@@ -11,7 +11,7 @@ use Rattle.zone_text.specs.declared.scan.Scanned.{Scanned}
 use Rattle.zone_text.specs.declared.scan.Spot.{Spot}
 use Rattle.zone_text.specs.declared.scan.Step.{Step}
 use Rattle.zone_text.specs.declared.scan.Step.TheVariants.{On, Ends, LostEscape, ClosesNothing}
-use Rattle.zone_text.specs.Machine.Scan.{on, moves, fed_line, closed, open_step, quoted_step, comment_step, behind_backslash, escape_step, step_in, step_of, further, scan_on, scan_of}
+use Rattle.zone_text.specs.Machine.Scan.{on, moves, fed_line, closed, open_step, quoted_step, comment_step, behind_backslash, escape_step, step_in, step_of, further, scan_on, scan_of, open_at, AreQuiet}
 
 -- ---- an octet that leaves the spot as it is
 
@@ -125,3 +125,26 @@ pub all_taken : (start at : Spot) (octets : List ℕ) (i : ℕ) → i ≡ length
 unfolding scan_of
 all_taken start at octets i e before =
     sym (before ∙ ap (λ t. further i (scan_of at t)) (ap (λ n. drop n octets) e ∙ drop-length octets) ∙ (let n : i + 0 ≡ length octets = omega arith in ap (λ t. record { taken = t; step = On at }) n))
+
+-- ---- octets that leave an open spot as it is
+
+quiet_on : (octets : List ℕ) (i : ℕ) → i < length octets → moves Open (get_or octets i 0) ≡ false → AreQuiet octets i → AreQuiet octets (i + 1)
+quiet_on octets i less still quiet depth =
+    one_on (open_at depth) (open_at depth) (open_at depth) octets i less (stays (open_at depth) (get_or octets i 0) still) (quiet depth)
+
+pub four_on : (octets : List ℕ) (i : ℕ) (first second third fourth : Bool) → first ≡ moves Open (get_or octets i 0) → second ≡ moves Open (get_or octets (i + 1) 0) → third ≡ moves Open (get_or octets (i + 2) 0) → fourth ≡ moves Open (get_or octets (i + 3) 0) → (first || second || third || fourth) ≡ false → i ≤ length octets → 4 ≤ length octets - i → AreQuiet octets i → AreQuiet octets (i + 4)
+four_on octets i first second third fourth is1 is2 is3 is4 none within fits quiet =
+    let p3 = or_parts (first || second || third) fourth none in
+    let p2 = or_parts (first || second) third p3.0 in
+    let p1 = or_parts first second p2.0 in
+    let two : i + 1 + 1 ≡ i + 2 = omega arith in
+    let three : i + 2 + 1 ≡ i + 3 = omega arith in
+    let four : i + 3 + 1 ≡ i + 4 = omega arith in
+    let q1 = quiet_on octets i (omega arith) (sym is1 ∙ p1.0) quiet in
+    let q2 = subst (AreQuiet octets) two (quiet_on octets (i + 1) (omega arith) (sym is2 ∙ p1.1) q1) in
+    let q3 = subst (AreQuiet octets) three (quiet_on octets (i + 2) (omega arith) (sym is3 ∙ p2.1) q2) in
+    subst (AreQuiet octets) four (quiet_on octets (i + 3) (omega arith) (sym is4 ∙ p3.1) q3)
+
+pub quiet_at : (at : Spot) (octets : List ℕ) (n : ℕ) → at.mode ≡ Open → AreQuiet octets n → scan_of at octets ≡ further n (scan_of at (drop n octets))
+quiet_at at octets n is quiet =
+    subst (λ mode. scan_of (record { mode = mode; depth = at.depth }) octets ≡ further n (scan_of (record { mode = mode; depth = at.depth }) (drop n octets))) (sym is) (quiet at.depth)

@@ -1,7 +1,7 @@
 //! Where the octets of a master file leave its pieces, octet by octet (RFC 1035 5.1).
-ghost use Rattle.std.specs.Prelude.{◌≡◌, ◌+◌, ◌<◌, ◌≤◌, ◌^◌, length, not};
+ghost use Rattle.std.specs.Prelude.{◌≡◌, ◌+◌, ◌<◌, ◌≤◌, ◌^◌, drop, length, not};
 ghost use Rattle.zone_name.specs.Spelling.{is_digit};
-ghost use Rattle.zone_text.specs.Machine.Scan.{behind_backslash, beginning, closed, end_fault_of, ends_number, escape_step, fed_line, moves, open_step, scan_of, step_of, unclosed};
+ghost use Rattle.zone_text.specs.Machine.Scan.{AreQuiet, behind_backslash, beginning, closed, end_fault_of, ends_number, escape_step, fed_line, further, moves, open_step, scan_of, step_of, unclosed};
 
 use crate::table::moves_open;
 use zone_rdata::Fault;
@@ -186,8 +186,29 @@ fn take_octet(at: Spot, octet: u8) -> Step
     }
 }
 
-/// Takes octets up to the end of the entry or to what breaks it, and all of them where neither comes.
-pub(crate) fn scan(octets: &[u8], start: Spot) -> Scanned
+/// How many octets at the front lead nowhere else where no quote, comment or escape is open. It counts by four, and so
+/// may leave out up to three.
+fn quiet_len(octets: &[u8]) -> usize
+    ensures within { result ≤ length octets.now }
+    ensures quiet { AreQuiet octets.now result }
+{
+    let mut len = 0;
+    while octets.len() - len >= 4 {
+        // `|` and not `||`: one branch for four octets.
+        if moves_open(octets[len])
+            | moves_open(octets[len + 1])
+            | moves_open(octets[len + 2])
+            | moves_open(octets[len + 3])
+        {
+            return len;
+        }
+        len += 4;
+    }
+    len
+}
+
+/// As `scan`, octet by octet.
+fn scan_each(octets: &[u8], start: Spot) -> Scanned
     requires { start.depth + length octets.now + 1 < 2 ^ 64 }
     ensures found { result ≡ scan_of start octets.now }
     ensures within { result.taken ≤ length octets.now }
@@ -211,6 +232,33 @@ pub(crate) fn scan(octets: &[u8], start: Spot) -> Scanned
     Scanned {
         taken: octets.len(),
         step: Step::On(at),
+    }
+}
+
+/// How many octets at the front leave the spot as it is, as far as that is seen at a glance.
+fn quiet_front(octets: &[u8], at: Spot) -> usize
+    ensures within { result ≤ length octets.now }
+    ensures reaches { scan_of at octets.now ≡ further result (scan_of at (drop result octets.now)) }
+{
+    match at.mode {
+        Mode::Open => quiet_len(octets),
+        Mode::Quoted | Mode::Comment | Mode::Escaped(_) | Mode::QuotedEscaped(_) => 0,
+    }
+}
+
+/// Takes octets up to the end of the entry or to what breaks it, and all of them where neither comes.
+pub(crate) fn scan(octets: &[u8], start: Spot) -> Scanned
+    requires { start.depth + length octets.now + 1 < 2 ^ 64 }
+    ensures found { result ≡ scan_of start octets.now }
+    ensures within { result.taken ≤ length octets.now }
+    ensures moves { 0 < length octets.now → 0 < result.taken }
+{
+    let quiet = quiet_front(octets, start);
+    let (_, behind) = octets.split_at(quiet);
+    let found = scan_each(behind, start);
+    Scanned {
+        taken: quiet + found.taken,
+        step: found.step,
     }
 }
 

@@ -1,5 +1,5 @@
 -- How the octets of a master file are taken one by one: what each leaves open, and where an entry ends (RFC 1035 5.1).
-use Rattle.std.specs.Prelude.{◌≡◌, ℕ, zero, ◌+◌, ◌-◌, Bool, true, List, [], ◌∷◌, ◌==◌, ◌&&◌, ◌||◌, nat_le, if◌then◌else◌, Option, Some, None}
+use Rattle.std.specs.Prelude.{◌≡◌, ℕ, zero, ◌+◌, ◌-◌, Bool, true, List, [], ◌∷◌, drop, ◌==◌, ◌&&◌, ◌||◌, nat_le, if◌then◌else◌, Option, Some, None}
 use Rattle.zone_name.specs.Spelling.{decimal, octet_of, is_digit}
 use Rattle.zone_rdata.specs.declared.fault.Fault.{Fault}
 use Rattle.zone_rdata.specs.declared.fault.Fault.TheVariants.{BadEscape, UnclosedQuote, UnbalancedParenthesis}
@@ -98,6 +98,14 @@ scan_on go_on ClosesNothing = record { taken = 1; step = ClosesNothing }
 unfoldable pub scan_of : Spot → List ℕ → Scanned
 scan_of at [] = record { taken = 0; step = On at }
 scan_of at (c ∷ rest) = scan_on (λ next. scan_of next rest) (step_of at c)
+
+-- where no quote, comment or escape is open
+abbrev pub open_at : ℕ → Spot
+open_at depth = record { mode = Open; depth = depth }
+
+-- there, the first n octets lead nowhere else
+abbrev pub AreQuiet : List ℕ → ℕ → Type 0
+AreQuiet octets n = (depth : ℕ) → scan_of (open_at depth) octets ≡ further n (scan_of (open_at depth) (drop n octets))
 
 -- ---- the end of the input
 

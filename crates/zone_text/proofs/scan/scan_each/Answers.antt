@@ -1,6 +1,6 @@
 use Rattle.std.proofs.Common.{sym, ◌∙◌, arith}
 use Rattle.zone_text.proofs.ScanSteps.{stays, one_on, rises, one_stops, all_taken}
-use Rattle.zone_text.proofs.scan.scan.Goals as goal
+use Rattle.zone_text.proofs.scan.scan_each.Goals as goal
 
 pub loop-index-preserved-then-not-moves : goal.loop-index-preserved-then-not-moves
 loop-index-preserved-then-not-moves c =
