@@ -5,13 +5,14 @@ use crate::run::run;
 use crate::tests::parsing::octets_of;
 use crate::tests::pieces::{Fed, MOST, is_right_in_two, is_right_singly};
 use crate::tests::readings::{Given, is_read, line_of};
+use crate::tests::runs::{is_kept, is_wanted};
 use crate::tests::scripts::{Script, Step, wrong_script};
 use crate::tests::streams::{
     FIFTH_STREAMS, FIRST_STREAMS, FOURTH_STREAMS, SECOND_STREAMS, SIXTH_STREAMS, THIRD_STREAMS,
 };
 use crate::tests::vectors::Answer;
 use crate::tests::{Case, Named, first_wrong_name, had_memory, is_explained, roomy};
-use crate::{Verdict, compare, normalise, normalise_bytes};
+use crate::{normalise, normalise_bytes};
 use std::alloc::Global;
 use std::test::Fail;
 use zone_name::Name;
@@ -23,20 +24,6 @@ pub(super) struct Stream {
     pub(super) name: &'static str,
     pub(super) octets: &'static str,
     pub(super) answer: Answer,
-}
-
-/// Whether this is the canonical text, or the stop, that is wanted.
-fn is_wanted(
-    alloc: Global,
-    answer: &Answer,
-    answered: Result<Vec<u8>, Stop>,
-) -> Result<bool, Fail> {
-    match (answered, answer) {
-        (Ok(text), Answer::Text(wanted)) => Ok(text.as_slice() == *wanted),
-        (Err(Stop::Memory), _) => Err(Fail::from("memory")),
-        (Err(stop), Answer::Refused(front)) => is_explained(alloc, &stop, front),
-        _ => Ok(false),
-    }
 }
 
 /// What `normalise` writes, over a reader of these octets.
@@ -73,37 +60,6 @@ fn is_ran(alloc: Global, answer: &Answer, octets: &[u8]) -> Result<bool, Fail> {
     }
 }
 
-/// Whether a canonical text under this origin is the zone of the stream, and normalises to itself.
-fn is_read_back(alloc: Global, octets: &[u8], text: &[u8], origin: &[u8]) -> Result<bool, Fail> {
-    let origin = Name::from_text(origin, None)?;
-    let again = normalise_bytes(alloc, Form::File(&origin), text)?;
-    let (mut first, mut second) = (octets, text);
-    let verdict = compare(
-        alloc,
-        Form::Transfer,
-        &mut first,
-        Form::File(&origin),
-        &mut second,
-    );
-    match verdict {
-        Ok(verdict) => Ok(verdict == Verdict::Same && again.as_slice() == text),
-        Err((_, stop)) => Err(Fail::from(stop)),
-    }
-}
-
-/// Whether an answer's canonical text is read back under other origins and its own.
-fn is_kept(alloc: Global, octets: &[u8], answer: &Answer) -> Result<bool, Fail> {
-    let Answer::Text(text) = answer else {
-        return Ok(true);
-    };
-    for origin in [b".".as_slice(), b"x.", b"other.example."] {
-        if !is_read_back(alloc, octets, text, origin)? {
-            return Ok(false);
-        }
-    }
-    Ok(true)
-}
-
 impl Case for Stream {
     fn is_right(&self, alloc: Global) -> Result<bool, Fail> {
         let octets = octets_of(alloc, self.octets)?;
@@ -112,7 +68,7 @@ impl Case for Stream {
             is_wanted(alloc, &self.answer, answered)?
                 && is_wanted(alloc, &self.answer, written(alloc, &octets)?)?
                 && is_ran(alloc, &self.answer, &octets)?
-                && is_kept(alloc, &octets, &self.answer)?,
+                && is_kept(alloc, Form::Transfer, &octets, &self.answer)?,
         )
     }
 }
