@@ -33,8 +33,9 @@ pub(super) fn taken(alloc: Global, mut reading: Reading) -> Result<Zone, Stop> {
 /// A record of the owner `x.` in class IN: its type, its TTL and its octets.
 struct Held(u16, u32, &'static [u8]);
 
-/// A zone of the apex `x.` in class IN: its canonical text and its records.
-struct Whole(&'static [u8], &'static [Held]);
+/// A zone of the apex `x.` in class IN: its canonical text, the octets that its records take in messages (RFC 1035 3.2.1:
+/// 13 beside the data, with an owner of three), and its records.
+struct Whole(&'static [u8], u64, &'static [Held]);
 
 impl Whole {
     fn is(&self, alloc: Global, zone: &Zone) -> Result<bool, Fail> {
@@ -47,8 +48,9 @@ impl Whole {
                 && text_fits(zone)
                 && zone.class().number() == 1
                 && zone.apex().wire() == b"\x01x\x00".as_slice()
-                && zone.len() == self.1.len() as u64
-                && has_records(zone, self.1),
+                && zone.message_len() == self.1
+                && zone.len() == self.2.len() as u64
+                && has_records(zone, self.2),
         )
     }
 }
@@ -99,6 +101,7 @@ static ZONED: [Zoned; 5] = [
         b"x. 3600 IN NS n.x.\nx. 3600 IN SOA n.x. h.x. 1 2 3 4 5\n",
         Ok(Whole(
             b"x. 3600 IN SOA n.x. h.x. 1 2 3 4 5\nx. 3600 IN NS n.x.\n",
+            61,
             &[Held(6, 3600, SOA), Held(2, 3600, b"\x01n\x01x\x00")],
         )),
     ),
@@ -106,6 +109,7 @@ static ZONED: [Zoned; 5] = [
         b"x. 3600 IN SOA n.x. h.x. 1 2 3 4 5\nx. 3600 IN NS n.x.\nx. 3600 IN NS n.x.\n",
         Ok(Whole(
             b"x. 3600 IN SOA n.x. h.x. 1 2 3 4 5\nx. 3600 IN NS n.x.\n",
+            61,
             &[Held(6, 3600, SOA), Held(2, 3600, b"\x01n\x01x\x00")],
         )),
     ),
