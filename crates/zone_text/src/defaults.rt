@@ -58,7 +58,7 @@ impl Defaults {
     /// Reads an entry behind those before it, and takes what it decides into `decided`: the record that it states, with
     /// its place; or its first fault; or nothing, as of a blank entry, `$ORIGIN` and `$TTL`. The entry is known to be
     /// cut into pieces. `items` holds nothing that is used again. Behind a fault the defaults say nothing.
-    // Records and faults hold names, and are wide. So no function on the way of a record answers with one.
+    // Records and faults hold names, and are wide. So they are written where they go, and not handed up.
     pub(crate) fn read<'t>(
         &mut self,
         alloc: Global,
