@@ -80,13 +80,16 @@ impl ZoneBuilder {
         ensures stopped { IfErr result (StopsTaking self.old (S.pending source.old) self.new (S.pending source.new)) }
         ensures beside { S.beside source.new ≡ S.beside source.old }
     {
-        while let Some(placed) = source.next()? {
-            match self.hold(&placed) {
-                Ok(()) => {}
-                Err(refusal) => return Err(refusal.stop_at(placed.place)),
+        loop {
+            match source.next() {
+                Ok(Some(placed)) => match self.hold(&placed) {
+                    Ok(()) => {}
+                    Err(refusal) => return Err(refusal.stop_at(placed.place)),
+                },
+                Ok(None) => return Ok(()),
+                Err(stop) => return Err(stop),
             }
         }
-        Ok(())
     }
 
     /// The zone of the records held.

@@ -1,5 +1,4 @@
 use Rattle.std.proofs.Common.{subst, refl, sym, ◌∙◌, ap, Ok}
-use Rattle.std.proofs.lemmas.Result.{err_from_is_err_and}
 use Rattle.zone_set.proofs.Taking.{HasTaken-start, HasTaken-more, StopsTaking-at_end, StopsTaking-refused}
 use Rattle.zone_set.specs.Builder.{StopsAdd}
 use Rattle.zone_set.proofs.builder.ZoneBuilder.take_all.Goals as goal
@@ -9,13 +8,11 @@ loop-placed-init g c = (HasTaken-start _ _, refl)
 
 pub loop-placed-preserved : goal.loop-placed-preserved
 loop-placed-preserved g c =
-    (HasTaken-more _ _ _ _ c.loop-placed.invariant.0 c.in-Some.placed _ _ (sym c.next.ensures.answer ∙ c.in_ok-placed.was ∙ ap Ok c.in-Some.is) c.next.ensures.left c.in-Ok.ensures.accepted c.in-Ok.ensures.taken, c.next.ensures.beside ∙ c.loop-placed.invariant.1)
-
-pub returns-in_err-placed-clause-stopped : goal.returns-in_err-placed-clause-stopped
-returns-in_err-placed-clause-stopped g c =
-    let p = err_from_is_err_and c.from_residual.result c.from_residual.ensures.1 in
-    rw (p.1, p.2) (StopsTaking-at_end _ _ _ _ c.loop-placed.invariant.0 _ _ (sym c.next.ensures.answer ∙ c.in_err-placed.was) c.next.ensures.left)
+    (HasTaken-more _ _ _ _ c.loop-placed.invariant.0 c.in-Ok-Some.placed _ _ (sym c.next.ensures.answer ∙ c.in-Ok-Some.is ∙ ap Ok c.in-Ok-Some.field-0-is) c.next.ensures.left c.in-Ok.ensures.accepted c.in-Ok.ensures.taken, c.next.ensures.beside ∙ c.loop-placed.invariant.1)
 
 pub returns-in-Err-clause-stopped : goal.returns-in-Err-clause-stopped
-returns-in-Err-clause-stopped g c =
-    StopsTaking-refused _ _ _ _ c.loop-placed.invariant.0 c.in-Some.placed _ _ _ (sym c.next.ensures.answer ∙ c.in_ok-placed.was ∙ ap Ok c.in-Some.is) c.next.ensures.left (subst (StopsAdd _ c.in-Some.placed) (sym c.stop_at.ensures) c.in-Err.ensures.refused) c.in-Err.ensures.unchanged
+returns-in-Err-clause-stopped g c = StopsTaking-at_end _ _ _ _ c.loop-placed.invariant.0 _ _ (sym c.next.ensures.answer ∙ c.in-Err.is) c.next.ensures.left
+
+pub returns-in-Err-hold-clause-stopped : goal.returns-in-Err-hold-clause-stopped
+returns-in-Err-hold-clause-stopped g c =
+    StopsTaking-refused _ _ _ _ c.loop-placed.invariant.0 c.in-Ok-Some.placed _ _ _ (sym c.next.ensures.answer ∙ c.in-Ok-Some.is ∙ ap Ok c.in-Ok-Some.field-0-is) c.next.ensures.left (subst (StopsAdd _ c.in-Ok-Some.placed) (sym c.stop_at.ensures) c.in-Err-hold.ensures.refused) c.in-Err-hold.ensures.unchanged
