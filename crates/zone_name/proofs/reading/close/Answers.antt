@@ -1,4 +1,4 @@
-use Rattle.std.proofs.Common.{◌≡◌, ◌<◌, ◌≤◌, ◌+◌, ◌++◌, length, arith, refl}
+use Rattle.std.proofs.Common.{◌≡◌, ◌<◌, ◌≤◌, ◌+◌, ◌++◌, length, arith}
 use Rattle.zone_name.specs.Name.{folded_label, folded_octet}
 use Rattle.std.specs.Prelude.{map}
 use Rattle.zone_name.specs.Machine.Seen.{empty, long}

@@ -1,4 +1,4 @@
-use Rattle.std.proofs.Common.{◌+◌, ◌≤◌, length, refl, arith}
+use Rattle.std.proofs.Common.{refl}
 use Rattle.zone_name.proofs.Pushing.{ended_with}
 use Rattle.zone_name.proofs.reading.end_with.Goals as goal
 

@@ -1,4 +1,3 @@
-use Rattle.std.proofs.Common.{refl}
 use Rattle.std.proofs.lemmas.Result.{err_from_is_err_and}
 use Rattle.zone_name.proofs.Steps.{EndsLabelAt-split, Refuses-split}
 use Rattle.zone_name.proofs.reading.read_label.Goals as goal
