@@ -22,8 +22,8 @@ pub struct Question {
     pub class: u16,
 }
 
-/// A message of a zone transfer: a header without a fault, as many questions and records as it counts, and nothing after
-/// them (RFC 1035 4.1, RFC 5936 2.2). It borrows the octets.
+/// A message of a zone transfer: a header without a fault, as many questions and records as it counts, and nothing
+/// after them (RFC 1035 4.1, RFC 5936 2.2). It borrows the octets.
 #[derive(Debug, Drop)]
 pub struct Message<'m> {
     octets: &'m [u8],
@@ -48,8 +48,8 @@ impl<'m> Message<'m> {
     ///
     /// # Errors
     ///
-    /// The first fault of the message's structure and the offset at which it stands: 0 for a fault of the header and for
-    /// `TrailingOctets`, else the start of the question or record.
+    /// The first fault of the message's structure and the offset at which it stands: 0 for a fault of the header and
+    /// for `TrailingOctets`, else the start of the question or record.
     pub fn parse(octets: &'m [u8]) -> Result<Message<'m>, (Fault, usize)>
         ensures octets { IfOk result (λ m. m.octets ≡ octets.now) }
         ensures found { IfOk result (λ m. IsMessage octets.now m.sections) }
@@ -69,7 +69,8 @@ impl<'m> Message<'m> {
 
     /// The message's question; none, where it has none.
     pub fn question(&self) -> Option<Question>
-        ensures { MatchOption result (self.now.sections.questions ≡ []) (λ q. map asked self.now.sections.questions ≡ q ∷ []) }
+        ensures { MatchOption result (self.now.sections.questions ≡ [])
+            (λ q. map asked self.now.sections.questions ≡ q ∷ []) }
     {
         if u16_at(self.octets, 4) == 0 {
             return None;

@@ -170,7 +170,8 @@ impl Transfer {
 
     /// Takes the record that an answer states.
     fn take_answer(&mut self, answer: &RawRr<'_>) -> Result<(), Failing>
-        ensures taken { OnOk result ((questions : List QuestionAt) (placed : List Placed) → Among questions placed self.old
+        ensures taken { OnOk result ((questions : List QuestionAt) (placed : List Placed)
+            → Among questions placed self.old
             → Takes answer.now.octets answer.now.at questions placed self.old self.new) }
         ensures fault { IfErr result (IfFault (λ f. (questions : List QuestionAt) (placed : List Placed)
             → Among questions placed self.old → AnswerFault answer.now.octets questions placed answer.now.at f)) }
@@ -191,8 +192,10 @@ impl Transfer {
     /// Takes the record that an answer states behind those before it.
     fn take_record(&mut self, rr: Rr, answer: &RawRr<'_>) -> Result<(), AllocError>
         requires { StatesRecord answer.now.octets answer.now.at rr }
-        ensures gains { OnOk result ((questions : List QuestionAt) (placed : List Placed) → Among questions placed self.old
-            → Gains (record { rr = rr; place = in_message self.old.messages answer.now.at.offset } ∷ []) questions placed self.old self.new) }
+        ensures gains { OnOk result ((questions : List QuestionAt) (placed : List Placed)
+            → Among questions placed self.old
+            → Gains (record { rr = rr; place = in_message self.old.messages answer.now.at.offset } ∷ [])
+            questions placed self.old self.new) }
         ensures count { self.new.messages ≡ self.old.messages }
         ensures ending { self.new.decided.ending ≡ self.old.decided.ending }
     {
