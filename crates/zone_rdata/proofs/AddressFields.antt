@@ -2,7 +2,8 @@
 use Rattle.std.proofs.Common.{◌≡◌, ℕ, List, sym, ◌∙◌, arith, Err, Option, Some, None}
 use Rattle.std.specs.Prelude.{IfNone}
 use Rattle.std.specs.Option.{ok_or}
-use Rattle.zone_rdata.specs.declared.fault.Fault.{Fault}
+use Rattle.zone_rdata.specs.declared.fault.Failing.{Failing}
+use Rattle.zone_rdata.specs.declared.fault.Failing.TheVariants as failings
 use Rattle.zone_rdata.specs.declared.fault.Fault.TheVariants.{BadRdata}
 use Rattle.zone_rdata.specs.Address.{IsIpv4Address, IsIpv6Address}
 use Rattle.zone_rdata.specs.Fields.Address.{AreFixed, IsAddress, of_ipv4, of_ipv6}
@@ -21,13 +22,13 @@ pub no_ipv6 : (n : ℕ) (text : List ℕ) → n ≡ 16 → ((octets : List ℕ) 
 no_ipv6 n text is none octets (of_ipv4 e h) = absurd (omega arith)
 no_ipv6 n text is none octets (of_ipv6 e h) = none octets h
 
--- the fault of an address that no text states
-missing : {A : Type 0} (found : Option A) (fault e : Fault) (N : Type 0) → Err e ≡ ok_or found fault → IfNone found N → (e ≡ fault) × N
-missing None fault e N h none = (cc, none)
-missing (Some a) fault e N h none = absurd (cc)
+-- the refusal of an address that no text states
+missing : {A : Type 0} (found : Option A) (refusal e : Failing) (N : Type 0) → Err e ≡ ok_or found refusal → IfNone found N → (e ≡ refusal) × N
+missing None refusal e N h none = (cc, none)
+missing (Some a) refusal e N h none = absurd (cc)
 
-pub ipv4_missing : {A : Type 0} (found : Option A) (e : Fault) (n : ℕ) (text : List ℕ) → n ≡ 4 → Err e ≡ ok_or found BadRdata → IfNone found ((octets : List ℕ) → IsIpv4Address text octets → ⊥) → (e ≡ BadRdata) × ((octets : List ℕ) → IsAddress n text octets → ⊥)
-ipv4_missing found e n text is h none = let m = missing found BadRdata e ((octets : List ℕ) → IsIpv4Address text octets → ⊥) h none in (m.0, no_ipv4 n text is m.1)
+pub ipv4_missing : {A : Type 0} (found : Option A) (refusal e : Failing) (n : ℕ) (text : List ℕ) → refusal ≡ failings.Fault BadRdata → n ≡ 4 → Err e ≡ ok_or found refusal → IfNone found ((octets : List ℕ) → IsIpv4Address text octets → ⊥) → (e ≡ failings.Fault BadRdata) × ((octets : List ℕ) → IsAddress n text octets → ⊥)
+ipv4_missing found refusal e n text own is h none = let m = missing found refusal e ((octets : List ℕ) → IsIpv4Address text octets → ⊥) h none in (m.0 ∙ own, no_ipv4 n text is m.1)
 
-pub ipv6_missing : {A : Type 0} (found : Option A) (e : Fault) (n : ℕ) (text : List ℕ) → n ≡ 16 → Err e ≡ ok_or found BadRdata → IfNone found ((octets : List ℕ) → IsIpv6Address text octets → ⊥) → (e ≡ BadRdata) × ((octets : List ℕ) → IsAddress n text octets → ⊥)
-ipv6_missing found e n text is h none = let m = missing found BadRdata e ((octets : List ℕ) → IsIpv6Address text octets → ⊥) h none in (m.0, no_ipv6 n text is m.1)
+pub ipv6_missing : {A : Type 0} (found : Option A) (refusal e : Failing) (n : ℕ) (text : List ℕ) → refusal ≡ failings.Fault BadRdata → n ≡ 16 → Err e ≡ ok_or found refusal → IfNone found ((octets : List ℕ) → IsIpv6Address text octets → ⊥) → (e ≡ failings.Fault BadRdata) × ((octets : List ℕ) → IsAddress n text octets → ⊥)
+ipv6_missing found refusal e n text own is h none = let m = missing found refusal e ((octets : List ℕ) → IsIpv6Address text octets → ⊥) h none in (m.0 ∙ own, no_ipv6 n text is m.1)

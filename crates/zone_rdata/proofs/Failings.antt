@@ -6,6 +6,7 @@ use Rattle.zone_rdata.specs.declared.fault.Fault.{Fault}
 use Rattle.zone_rdata.specs.declared.fault.Failing.{Failing}
 use Rattle.zone_rdata.specs.declared.fault.Failing.TheVariants as failings
 use Rattle.zone_rdata.specs.Fault.{IfFault}
+use Rattle.zone_rdata.specs.Machine.Refusal.{IsFaultOf}
 
 same_fault : {T : Type 0} (r : Result T Failing) (e : Failing) (a b : Fault) → r ≡ Err e → e ≡ failings.Fault a → r ≡ Err (failings.Fault b) → a ≡ b
 same_fault r e a b is was h = cc
@@ -41,3 +42,12 @@ stopped e = Err e
 pub each_fault_passed : {T : Type 0} (r : Result T Failing) (e : Failing) (P Q : Fault → Type 0) → IsErrAnd r (λ y. y ≡ e) → ((fault : Fault) → P fault → Q fault) → ((fault : Fault) → stopped e ≡ Err (failings.Fault fault) → P fault) → IfErr r (IfFault Q)
 each_fault_passed r (failings.Fault own) P Q is goes h = if_fault_passed r (failings.Fault own) P Q is goes (h own refl)
 each_fault_passed r failings.Memory P Q is goes h = if_fault_passed r failings.Memory P Q is goes tt
+
+-- the answer of a `?` on a failing that is such a fault
+pub same_fault_answered : {T : Type 0} (r : Result T Failing) (e : Failing) (own : Fault) (P : Fault → Type 0) → IsErrAnd r (λ y. y ≡ e) → e ≡ failings.Fault own → P own → IfErr r (IfFault P)
+same_fault_answered r e own P is same holds = if_fault_passed r e P P is (λ fault h. h) (subst (IfFault P) (sym same) holds)
+
+-- likewise where the failing is a fault
+pub own_fault_passed : {T : Type 0} (r : Result T Failing) (e : Failing) (P : Fault → Type 0) → IsErrAnd r (λ y. y ≡ e) → IsFaultOf P e → (fault : Fault) → r ≡ Err (failings.Fault fault) → P fault
+own_fault_passed r (failings.Fault own) P is holds = fault_passed r own P is holds
+own_fault_passed r failings.Memory P is never = absurd never

@@ -19,6 +19,7 @@ mod printing;
 mod rdata;
 mod reading;
 mod record;
+mod refusal;
 mod source;
 mod string;
 mod table;

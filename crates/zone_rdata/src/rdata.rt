@@ -79,7 +79,7 @@ fn octets_for(
         return octets_in_form(alloc, layout, items);
     }
     match layout {
-        Some(layout) => octets_of_items(alloc, layout, items, origin),
+        Some(layout) => Ok(octets_of_items(alloc, layout, items, origin)?),
         None => Err(Failing::Fault(Fault::BadGeneric)),
     }
 }

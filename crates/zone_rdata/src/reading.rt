@@ -10,6 +10,7 @@ use crate::fault::{Failing, Fault};
 use crate::item::Item;
 use crate::layout::Layout;
 use crate::record::LONGEST_DATA;
+use crate::refusal::{Cause, Refusal};
 use std::alloc::Global;
 use zone_name::Name;
 
@@ -36,7 +37,7 @@ pub(crate) fn octets_of_items(
     layout: Layout,
     items: &[Item],
     origin: &Name,
-) -> Result<Vec<u8>, Failing>
+) -> Result<Vec<u8>, Refusal>
     ensures found { IfOk result (λ octets.
         AreSpelt origin.now (fields_of layout) (map raw items.now) octets.items) }
     ensures short { IfOk result (λ octets. length octets.items ≤ LONGEST_DATA) }
@@ -49,10 +50,10 @@ pub(crate) fn octets_of_items(
         place += field.push_items(&items[place..], origin, &mut octets)?;
     }
     if place < items.len() {
-        return Err(Failing::Fault(Fault::BadRdata));
+        return Err(Refusal::of(Cause::BadRdata));
     }
     if octets.len() > LONGEST_DATA {
-        return Err(Failing::Fault(Fault::RdataTooLong));
+        return Err(Refusal::of(Cause::RdataTooLong));
     }
     Ok(octets)
 }

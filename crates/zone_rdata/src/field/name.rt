@@ -8,10 +8,11 @@ ghost use Rattle.zone_rdata.specs.Machine.Appending.{AppendsValue, BeginsWithNon
 
 use super::Field;
 use crate::fault::{Failing, Fault};
+use crate::refusal::Refusal;
 use zone_name::{Name, NameBuilder};
 
 /// Appends the octets of the name that a text spells under the origin.
-pub(crate) fn push_name(text: &[u8], origin: &Name, octets: &mut Vec<u8>) -> Result<(), Failing>
+pub(crate) fn push_name(text: &[u8], origin: &Name, octets: &mut Vec<u8>) -> Result<(), Refusal>
     ensures found { OnOk result
         (Appends (Spells (Some origin.now) text.now) wire octets.old.items octets.new.items) }
     ensures fault { IfErr result (IfFault (IsNameFault origin.now text.now)) }

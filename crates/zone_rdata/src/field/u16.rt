@@ -4,12 +4,13 @@ ghost use Rattle.zone_rdata.specs.Fault.{NoValue, IfFault};
 ghost use Rattle.zone_rdata.specs.Fields.U16.{SpellsU16};
 ghost use Rattle.zone_rdata.specs.Machine.Appending.{Appends};
 
-use crate::fault::{Failing, Fault};
+use crate::fault::Fault;
 use crate::number::{at_most, decimal_of, u16_octets_of};
+use crate::refusal::Refusal;
 use byteorder::{BigEndian, ByteOrder};
 
 /// Appends the number that decimal digits stand for.
-pub(crate) fn push_u16(text: &[u8], octets: &mut Vec<u8>) -> Result<(), Failing>
+pub(crate) fn push_u16(text: &[u8], octets: &mut Vec<u8>) -> Result<(), Refusal>
     ensures found { OnOk result (Appends (SpellsU16 text.now) (to_be_bytes w16) octets.old.items octets.new.items) }
     ensures fault { IfErr result (IfFault (NoValue Fault.BadNumber (SpellsU16 text.now))) }
 {

@@ -1,0 +1,101 @@
+ghost use Rattle.std.specs.Prelude.{◌≡◌};
+ghost use Rattle.zone_rdata.specs.Machine.Refusal.{failing_of};
+
+use crate::fault::{Failing, Fault};
+use std::alloc::AllocError;
+use std::marker::Model;
+use zone_name::NameFault;
+
+/// What items can be refused for.
+#[derive(Clone, Copy, Debug)]
+pub(crate) enum Cause {
+    EmptyLabel,
+    LabelTooLong,
+    NameTooLong,
+    BadEscape,
+    RelativeName,
+    BadRdata,
+    StringTooLong,
+    RdataTooLong,
+    BadNumber,
+    Memory,
+}
+
+/// Why items state no data, in one octet: a `Failing` has room for a name. Contracts see the failing.
+#[derive(Debug, Drop)]
+pub(crate) struct Refusal {
+    cause: Cause,
+}
+
+impl Model for Refusal {
+    ghost use Rattle.zone_rdata.specs.Machine.Refusal.{failing_of};
+    ghost use Rattle.zone_rdata.specs.declared.fault.Failing.{Failing};
+
+    ghost Value = { Failing };
+
+    ghost view = { λ r. failing_of r.cause };
+}
+
+impl Refusal {
+    /// The refusal for the cause.
+    pub(crate) fn of(cause: Cause) -> Refusal
+        ensures { result ≡ failing_of cause }
+    {
+        Refusal { cause }
+    }
+
+    /// The failing that the refusal stands for.
+    #[cold]
+    #[inline(never)]
+    fn widened(self) -> Failing
+        ensures { result ≡ self }
+    {
+        match self.cause {
+            Cause::EmptyLabel => Failing::Fault(Fault::EmptyLabel),
+            Cause::LabelTooLong => Failing::Fault(Fault::LabelTooLong),
+            Cause::NameTooLong => Failing::Fault(Fault::NameTooLong),
+            Cause::BadEscape => Failing::Fault(Fault::BadEscape),
+            Cause::RelativeName => Failing::Fault(Fault::RelativeName),
+            Cause::BadRdata => Failing::Fault(Fault::BadRdata),
+            Cause::StringTooLong => Failing::Fault(Fault::StringTooLong),
+            Cause::RdataTooLong => Failing::Fault(Fault::RdataTooLong),
+            Cause::BadNumber => Failing::Fault(Fault::BadNumber),
+            Cause::Memory => Failing::Memory,
+        }
+    }
+}
+
+impl From<NameFault> for Refusal {
+    ghost use Rattle.zone_rdata.specs.Fault.{fault_of};
+    ghost use Rattle.zone_rdata.specs.declared.fault.Failing.TheVariants as failings;
+
+    ghost from_gives = { λ fault e. e ≡ failings.Fault (fault_of fault) };
+
+    fn from(fault: NameFault) -> Refusal {
+        match fault {
+            NameFault::EmptyLabel => Refusal::of(Cause::EmptyLabel),
+            NameFault::LabelTooLong => Refusal::of(Cause::LabelTooLong),
+            NameFault::NameTooLong => Refusal::of(Cause::NameTooLong),
+            NameFault::BadEscape => Refusal::of(Cause::BadEscape),
+            NameFault::RelativeName => Refusal::of(Cause::RelativeName),
+        }
+    }
+}
+
+impl From<AllocError> for Refusal {
+    ghost use Rattle.zone_rdata.specs.declared.fault.Failing.TheVariants.{Memory};
+
+    ghost from_gives = { λ _ e. e ≡ Memory };
+
+    fn from(_error: AllocError) -> Refusal {
+        Refusal::of(Cause::Memory)
+    }
+}
+
+impl From<Refusal> for Failing {
+    ghost from_gives = { λ refusal e. e ≡ refusal };
+
+    fn from(refusal: Refusal) -> Failing {
+        refusal.widened()
+    }
+}
