@@ -44,10 +44,6 @@ words_fault origin laid own items b fault e plain_items test bad = faults.in_wor
 pub opaque_fault : (origin : List (List ℕ)) (laid : Option Layout) (items : List RawItem) (b : Bool) → laid ≡ None → b ≡ false → (IsTrue b ↔ IsGeneric items) → IsFaultFor origin (option_map fields_of laid) items BadGeneric
 opaque_fault origin laid items b e plain_items test = opaque_words (ap (option_map fields_of) e) (not_marked items b plain_items test)
 
-pub if_ok_both : {T E : Type 0} (r : Result T E) (P Q R : T → Type 0) → ((x : T) → P x → Q x → R x) → IfOk r P → IfOk r Q → IfOk r R
-if_ok_both (Ok x) P Q R more p q = more x p q
-if_ok_both (Err e) P Q R more p q = tt
-
 -- items that state a value are refused for want of memory alone
 memory_left : (e : Failing) (P : Fault → Type 0) → IfFault P e → ((fault : Fault) → P fault → ⊥) → e ≡ failings.Memory
 memory_left (failings.Fault fault) P bad none = absurd (none fault bad)

@@ -45,6 +45,7 @@ impl Refusal {
     }
 
     /// The failing that the refusal stands for.
+    // Not inlined: only what is refused needs the room.
     #[cold]
     #[inline(never)]
     fn widened(self) -> Failing
