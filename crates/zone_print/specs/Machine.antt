@@ -1,2 +1,3 @@
 -- What only private functions and proofs cite.
+pub mod Front
 pub mod Writing
