@@ -1,3 +1,3 @@
 -- What only private functions and proofs cite.
-pub mod Front
+pub mod Middle
 pub mod Writing

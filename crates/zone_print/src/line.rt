@@ -1,6 +1,6 @@
 ghost use Rattle.std.specs.Prelude.{[], ◌∷◌, ◌++◌, OnOk};
 ghost use Rattle.zone_print.specs.Canonical.{canon, line};
-ghost use Rattle.zone_print.specs.Machine.Front.{line_front};
+ghost use Rattle.zone_print.specs.Machine.Middle.{line_middle};
 ghost use Rattle.zone_rdata.specs.Record.{data_of};
 ghost use Rattle.zone_rdata.specs.Text.{data_text};
 ghost use Rattle.zone_set.specs.View.{record_of};
@@ -9,16 +9,15 @@ use itoa::Buffer;
 use zone_name::Sink;
 use zone_set::{RrRef, Zone};
 
-/// Appends owner, TTL, class and type of the record, each with the space behind it.
+/// Appends TTL, class and type of the record between spaces.
 ///
 /// # Errors
 ///
 /// `out` refuses octets. A front of the text may have been appended.
-pub(crate) fn push_front<S: Sink>(out: &mut S, rr: &RrRef) -> Result<(), S::Error>
-    ensures { OnOk result (S.takes out.old (line_front (record_of rr.now)) out.new) }
+pub(crate) fn push_middle<S: Sink>(out: &mut S, rr: &RrRef) -> Result<(), S::Error>
+    ensures { OnOk result (S.takes out.old (line_middle (record_of rr.now)) out.new) }
 {
     let mut digits = Buffer::new();
-    rr.owner.print(out)?;
     out.push(b" ")?;
     out.push(digits.format(rr.ttl).as_bytes())?;
     out.push(b" ")?;
@@ -49,7 +48,8 @@ pub(crate) fn push_data<S: Sink>(out: &mut S, rr: &RrRef) -> Result<(), S::Error
 pub fn push_line<S: Sink>(out: &mut S, rr: &RrRef) -> Result<(), S::Error>
     ensures { OnOk result (S.takes out.old (line (record_of rr.now)) out.new) }
 {
-    push_front(out, rr)?;
+    rr.owner.print(out)?;
+    push_middle(out, rr)?;
     push_data(out, rr)
 }
 

@@ -2,7 +2,7 @@
 use Rattle.std.proofs.Common.{◌≡◌, ◌++◌, [], sym, ap, ◌∙◌}
 use Rattle.std.proofs.lemmas.Result.{err_from_is_err_and, MatchResult-weaker}
 use Rattle.zone_print.specs.Canonical.{lines}
-use Rattle.zone_print.proofs.Front.{left_less, front_more}
+use Rattle.zone_print.proofs.Front.{left_less, left_none, front_more}
 use Rattle.zone_print.proofs.Lines.{line_moves, line_ends}
 use Rattle.zone_print.proofs.print.write_lines.Goals as goal
 
@@ -28,3 +28,9 @@ returns-clause-front g c =
     let whole : c.loop-rr.piece ++ lines c.loop-rr.rr-iterator ≡ c.as_slice-2.result.now ++ [] =
     line_ends c.loop-rr.piece _ c.in-None.ensures.steps.0 ∙ ap (λ l. l ++ []) (sym c.as_slice-2.ensures.value) in
     MatchResult-weaker c.write_octets-2.result c.write_octets-2.ensures.front (λ x h. h) (λ stop. front_more _ _ _ _ _ _ _ c.loop-rr.invariant whole)
+
+pub returns-clause-text : goal.returns-clause-text
+returns-clause-text g c =
+    let whole : c.loop-rr.piece ++ lines c.loop-rr.rr-iterator ≡ c.as_slice-2.result.now ++ [] =
+    line_ends c.loop-rr.piece _ c.in-None.ensures.steps.0 ∙ ap (λ l. l ++ []) (sym c.as_slice-2.ensures.value) in
+    MatchResult-weaker c.write_octets-2.result c.write_octets-2.ensures.written (λ x taken. left_none _ _ _ _ _ _ c.loop-rr.invariant whole taken) (λ stop h. h)
