@@ -1,5 +1,6 @@
 -- A front of a text that a writer has taken.
-use Rattle.std.proofs.Common.{◌≡◌, ℕ, List, ◌++◌, sym, ap, ◌∙◌, append_assoc, take, drop, take-append-drop, Option}
+use Rattle.std.proofs.Common.{◌≡◌, ℕ, List, [], ◌++◌, sym, ap, subst, ◌∙◌, append_assoc, take, drop, take-append-drop, Option}
+use Rattle.std.proofs.lemmas.List.{append-nil}
 use Rattle.std.specs.Io.KnownBytes.{Appends}
 use Rattle.std.proofs.KnownBytes.{Appends-trans}
 use Rattle.zone_print.specs.Writing.{AppendsPrefix}
@@ -30,3 +31,9 @@ front_more old mid new text rest part others left e (front, back, split, taken) 
   left.split ∙ ap (λ l. left.front ++ l) (e ∙ ap (λ l. l ++ others) split ∙ append_assoc front back others) ∙ sym (append_assoc left.front front (back ++ others)),
   Appends-trans old mid new left.front front left.taken taken,
 )
+
+-- all of the rest is taken
+pub left_none : (old mid new : Option (List ℕ)) (text rest part : List ℕ) → Left old mid text rest → rest ≡ part ++ [] → Appends mid new part → Appends old new text
+left_none old mid new text rest part left e taken =
+    let whole = left_less old mid new text rest part [] left e taken in
+    subst (λ t. Appends old new t) (sym (whole.split ∙ append-nil whole.front)) whole.taken

@@ -18,6 +18,7 @@ use Rattle.zone_text.specs.Line.{IsItem, line_of}
 use Rattle.zone_text.specs.Pieces.{Piece, text, is_blank}
 use Rattle.zone_text.proofs.StandingItems.{BeginsOwner, pieces_of, text_begins}
 use Rattle.zone_print.specs.Canonical.{line}
+use Rattle.zone_print.proofs.Lines.{line_parts}
 
 -- A printed line as a line of items: owner, TTL, class, type and the items of the data. It begins with neither a blank nor
 -- `$`
@@ -29,14 +30,6 @@ pub record LineItems (r : Record) : Type 0 where
   pub begins : IfSome (entry_of 1 (line_of pieces)).first (λ c. (is_blank c ≡ false) × (c ≢ 36))
 
 -- ---- the parts of a line
-
--- the spaces and the line feed, each in front of what stands behind it
-line_parts : (owner ttl class kind rdata : List ℕ) → owner ++ 32 ∷ ttl ++ 32 ∷ class ++ 32 ∷ kind ++ 32 ∷ rdata ++ 10 ∷ [] ≡ owner ++ (32 ∷ (ttl ++ (32 ∷ (class ++ (32 ∷ (kind ++ (32 ∷ (rdata ++ 10 ∷ []))))))))
-line_parts owner ttl class kind rdata =
-    append_assoc (owner ++ 32 ∷ ttl ++ 32 ∷ class ++ 32 ∷ kind) (32 ∷ rdata) (10 ∷ [])
-    ∙ append_assoc (owner ++ 32 ∷ ttl ++ 32 ∷ class) (32 ∷ kind) (32 ∷ (rdata ++ 10 ∷ []))
-    ∙ append_assoc (owner ++ 32 ∷ ttl) (32 ∷ class) (32 ∷ (kind ++ (32 ∷ (rdata ++ 10 ∷ []))))
-    ∙ append_assoc owner (32 ∷ ttl) (32 ∷ (class ++ (32 ∷ (kind ++ (32 ∷ (rdata ++ 10 ∷ []))))))
 
 joined_before : (first front rest : List ℕ) → rest ++ 10 ∷ [] ≡ front → (first ++ (32 ∷ rest)) ++ 10 ∷ [] ≡ first ++ (32 ∷ front)
 joined_before first front rest e = append_assoc first (32 ∷ rest) (10 ∷ []) ∙ ap (λ t. first ++ (32 ∷ t)) e

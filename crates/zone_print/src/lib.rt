@@ -3,6 +3,7 @@
 
 pub mod laws;
 mod line;
+mod piece;
 mod print;
 mod write;
 

@@ -1,10 +1,44 @@
-ghost use Rattle.std.specs.Prelude.{OnOk};
+ghost use Rattle.std.specs.Prelude.{[], ◌∷◌, ◌++◌, OnOk};
 ghost use Rattle.zone_print.specs.Canonical.{canon, line};
+ghost use Rattle.zone_print.specs.Machine.Middle.{line_middle};
+ghost use Rattle.zone_rdata.specs.Record.{data_of};
+ghost use Rattle.zone_rdata.specs.Text.{data_text};
 ghost use Rattle.zone_set.specs.View.{record_of};
 
 use itoa::Buffer;
 use zone_name::Sink;
 use zone_set::{RrRef, Zone};
+
+/// Appends TTL, class and type of the record between spaces.
+///
+/// # Errors
+///
+/// `out` refuses octets. A front of the text may have been appended.
+pub(crate) fn push_middle<S: Sink>(out: &mut S, rr: &RrRef) -> Result<(), S::Error>
+    ensures { OnOk result (S.takes out.old (line_middle (record_of rr.now)) out.new) }
+{
+    let mut digits = Buffer::new();
+    out.push(b" ")?;
+    out.push(digits.format(rr.ttl).as_bytes())?;
+    out.push(b" ")?;
+    rr.class.push_word(out)?;
+    out.push(b" ")?;
+    rr.kind.push_word(rr.class, out)?;
+    out.push(b" ")
+}
+
+/// Appends the record's data and the line feed behind it.
+///
+/// # Errors
+///
+/// `out` refuses octets. A front of the text may have been appended.
+pub(crate) fn push_data<S: Sink>(out: &mut S, rr: &RrRef) -> Result<(), S::Error>
+    ensures { OnOk result (S.takes out.old (data_text (data_of (record_of rr.now)) ++ 10 ∷ []) out.new) }
+{
+    rr.rdata.print(out)?;
+    out.push(b"\n")?;
+    Ok(())
+}
 
 /// Appends the record's line.
 ///
@@ -14,18 +48,9 @@ use zone_set::{RrRef, Zone};
 pub fn push_line<S: Sink>(out: &mut S, rr: &RrRef) -> Result<(), S::Error>
     ensures { OnOk result (S.takes out.old (line (record_of rr.now)) out.new) }
 {
-    let mut digits = Buffer::new();
     rr.owner.print(out)?;
-    out.push(b" ")?;
-    out.push(digits.format(rr.ttl).as_bytes())?;
-    out.push(b" ")?;
-    rr.class.push_word(out)?;
-    out.push(b" ")?;
-    rr.kind.push_word(rr.class, out)?;
-    out.push(b" ")?;
-    rr.rdata.print(out)?;
-    out.push(b"\n")?;
-    Ok(())
+    push_middle(out, rr)?;
+    push_data(out, rr)
 }
 
 /// Appends the line of each record of the zone, in canonical order.

@@ -5,7 +5,8 @@ ghost use Rattle.zone_print.specs.Machine.Writing.{IsOfWriting, TellsWrite};
 ghost use Rattle.zone_print.specs.Writing.{AppendsPrefix, StopsPush, StopsWrite};
 
 use crate::laws::a_text_is_at_most_four_times_its_messages;
-use crate::line::{push_line, push_lines};
+use crate::line::push_lines;
+use crate::piece::Piece;
 use crate::write::{OctetWriter, Text, write_octets};
 use std::alloc::Global;
 use std::io::Write;
@@ -130,9 +131,9 @@ fn write_lines<W: OctetWriter>(alloc: Global, zone: &Zone, writer: &mut W) -> Re
     ensures stopped { IfErr result (IsOfWriting (W.Failed writer.new)) }
     ensures front { OnErr result (AppendsPrefix (W.contents writer.old) (W.contents writer.new) (canon zone.now)) }
 {
-    let mut piece = Vec::new(alloc);
+    let mut piece = Piece::new(alloc);
     for rr in zone.records() {
-        push_line(&mut piece, &rr)?;
+        piece.push_record(rr)?;
         if piece.len() >= PIECE_LEN {
             write_octets(writer, piece.as_slice())?;
             piece.clear();

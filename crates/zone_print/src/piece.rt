@@ -1,0 +1,132 @@
+ghost use Rattle.std.specs.Prelude.{◌≡◌, [], ◌++◌, length, IfSome, IsTrue, OnOk};
+ghost use Rattle.zone_name.specs.Text.{name_text};
+ghost use Rattle.zone_print.specs.Canonical.{line};
+ghost use Rattle.zone_print.specs.Machine.Middle.{line_middle};
+ghost use Rattle.zone_set.specs.View.{record_of};
+
+use crate::line::{push_data, push_middle};
+use std::alloc::{AllocError, Global};
+use std::marker::Model;
+use zone_name::NameRef;
+use zone_set::RrRef;
+
+/// Lines that are gathered. What a line has in common with the one before it is copied.
+#[derive(Drop)]
+pub(crate) struct Piece<'z> {
+    octets: Vec<u8>,
+    /// The last record; `None` where `owner` and `middle` are those of no record.
+    last: Option<RrRef<'z>>,
+    /// The text of its owner.
+    owner: Vec<u8>,
+    /// What stands between its owner and its data.
+    middle: Vec<u8>,
+}
+
+impl<'z> Model for Piece<'z> {
+    ghost use Rattle.std.specs.Prelude.{◌≡◌, List, ℕ, IfSome};
+    ghost use Rattle.zone_name.specs.Text.{name_text};
+    ghost use Rattle.zone_print.specs.Machine.Middle.{line_middle};
+    ghost use Rattle.zone_set.specs.View.{record_of};
+
+    ghost Value = { List ℕ };
+
+    ghost view = { λ p. p.octets.items };
+
+    ghost invariant = { λ p. IfSome p.last (λ r.
+        (p.owner.items ≡ name_text r.owner) × (p.middle.items ≡ line_middle (record_of r))) };
+}
+
+impl<'z> Piece<'z> {
+    /// No line.
+    pub(crate) fn new(alloc: Global) -> Piece<'z>
+        ensures { result ≡ [] }
+    {
+        Piece {
+            octets: Vec::new(alloc),
+            last: None,
+            owner: Vec::new(alloc),
+            middle: Vec::new(alloc),
+        }
+    }
+
+    /// The lines.
+    pub(crate) fn as_slice(&self) -> &[u8]
+        ensures value { result.now ≡ self.now }
+    {
+        self.octets.as_slice()
+    }
+
+    /// How many octets the lines have.
+    pub(crate) fn len(&self) -> usize
+        ensures { result ≡ length self.now }
+    {
+        self.octets.len()
+    }
+
+    /// Drops the lines.
+    pub(crate) fn clear(&mut self)
+        ensures items { self.new ≡ [] }
+    {
+        self.octets.clear();
+    }
+
+    /// Appends the record's line.
+    ///
+    /// # Errors
+    ///
+    /// Want of memory. A front of the line may have been appended.
+    pub(crate) fn push_record(&mut self, rr: RrRef<'z>) -> Result<(), AllocError>
+        ensures { OnOk result (self.new ≡ self.old ++ line (record_of rr.entry)) }
+    {
+        let last = self.last.take();
+        hold_owner(&mut self.owner, &last, &rr)?;
+        hold_middle(&mut self.middle, &last, &rr)?;
+        self.octets.extend_from_slice(self.owner.as_slice())?;
+        self.octets.extend_from_slice(self.middle.as_slice())?;
+        push_data(&mut self.octets, &rr)?;
+        self.last = Some(rr);
+        Ok(())
+    }
+}
+
+/// Makes the text that of the record's owner, where it isn't already the last one's.
+fn hold_owner(text: &mut Vec<u8>, last: &Option<RrRef>, rr: &RrRef) -> Result<(), AllocError>
+    requires { IfSome last.now (λ last. text.old.items ≡ name_text last.owner) }
+    ensures { OnOk result (text.new.items ≡ name_text rr.now.owner) }
+{
+    if let Some(last) = last {
+        if is_one_name(&last.owner, &rr.owner) {
+            return Ok(());
+        }
+    }
+    text.clear();
+    rr.owner.print(text)
+}
+
+/// Makes the text what stands between the record's owner and its data, where it isn't already the last one's.
+fn hold_middle(text: &mut Vec<u8>, last: &Option<RrRef>, rr: &RrRef) -> Result<(), AllocError>
+    requires { IfSome last.now (λ last. text.old.items ≡ line_middle (record_of last)) }
+    ensures { OnOk result (text.new.items ≡ line_middle (record_of rr.now)) }
+{
+    if let Some(last) = last {
+        if has_same_numbers(last, rr) {
+            return Ok(());
+        }
+    }
+    text.clear();
+    push_middle(text, rr)
+}
+
+/// Whether the labels are equal.
+fn is_one_name(name: &NameRef, other: &NameRef) -> bool
+    ensures { IsTrue result → name.now ≡ other.now }
+{
+    name.wire() == other.wire()
+}
+
+/// Whether type, TTL and class are equal.
+fn has_same_numbers(rr: &RrRef, other: &RrRef) -> bool
+    ensures { IsTrue result → line_middle (record_of rr.now) ≡ line_middle (record_of other.now) }
+{
+    rr.kind == other.kind && rr.ttl == other.ttl && rr.class == other.class
+}
