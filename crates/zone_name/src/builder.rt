@@ -1,5 +1,6 @@
 ghost use Rattle.std.specs.Prelude.{◌≡◌, ◌<◌, ◌≤◌, ◌↔◌, ◌++◌, ◌∷◌, [], List, ℕ, length, OnOk, OnErr, IfErr, Err};
-ghost use Rattle.zone_name.specs.Name.{folded_label, folded_octet, wire, IsName};
+ghost use Rattle.zone_name.specs.Name.{folded_label, wire, IsName};
+ghost use Rattle.zone_name.specs.Machine.Seen.{RefusesLabel};
 ghost use Rattle.zone_name.specs.Spelling.{IsLabelFault};
 ghost use Rattle.zone_name.specs.declared.fault.NameFault.TheVariants.{EmptyLabel, LabelTooLong, NameTooLong};
 
@@ -50,19 +51,13 @@ impl NameBuilder {
         ensures err { OnErr result (self.new ≡ self.old) }
         ensures only { IfErr result IsLabelFault }
     {
-        let len = label.len();
-        if len == 0 {
-            return Err(NameFault::EmptyLabel);
-        }
-        if len > 63 {
-            return Err(NameFault::LabelTooLong);
-        }
-        if self.octets.remaining_capacity() < len + 2 {
+        check_label(label)?;
+        if self.octets.remaining_capacity() < label.len() + 2 {
             return Err(NameFault::NameTooLong);
         }
-        self.octets.push(len as u8);
+        self.octets.push(label.len() as u8);
         for octet in label {
-            self.octets.push(folded(*octet));
+            self.octets.push(octet.to_ascii_lowercase());
         }
         Ok(())
     }
@@ -78,13 +73,14 @@ impl NameBuilder {
     }
 }
 
-/// The octet, a letter in lower case (RFC 4343 3).
-fn folded(octet: u8) -> u8
-    ensures { result ≡ folded_octet octet }
+/// Refuses octets that are no label (RFC 1035 2.3.4).
+pub(crate) fn check_label(label: &[u8]) -> Result<(), NameFault>
+    ensures ok { OnOk result ((0 < length label.now) × (length label.now ≤ 63)) }
+    ensures err { IfErr result (RefusesLabel label.now) }
 {
-    if octet >= b'A' && octet <= b'Z' {
-        octet + 32
-    } else {
-        octet
+    match label.len() {
+        0 => Err(NameFault::EmptyLabel),
+        1..=63 => Ok(()),
+        _ => Err(NameFault::LabelTooLong),
     }
 }

@@ -7,6 +7,7 @@ ghost use Rattle.zone_name.specs.Machine.LabelWalk.{Collects, reading, under, si
 ghost use Rattle.zone_name.specs.Machine.Seen.{Closes, EndsLabelAt, HasForm, HoldsUnfolded, IsClosable};
 ghost use Rattle.zone_name.specs.Machine.Seen.{Refuses, RefusesLabel, unfolded_labels};
 
+use crate::builder::check_label;
 use crate::escape::{NextUnit, next_unit};
 use crate::fault::NameFault;
 use crate::name::Name;
@@ -71,17 +72,11 @@ fn close(octets: &mut ArrayVec<u8, 255>, label: &[u8]) -> Result<bool, NameFault
         (unfolded_labels octets.new.items)) }
     ensures err { IfErr result (RefusesLabel label.now) }
 {
-    let len = label.len();
-    if len == 0 {
-        return Err(NameFault::EmptyLabel);
-    }
-    if len > 63 {
-        return Err(NameFault::LabelTooLong);
-    }
-    if octets.remaining_capacity() < len + 2 {
+    check_label(label)?;
+    if octets.remaining_capacity() < label.len() + 2 {
         return Ok(true);
     }
-    octets.push(len as u8);
+    octets.push(label.len() as u8);
     let _ = octets.try_extend_from_slice(label);
     Ok(false)
 }

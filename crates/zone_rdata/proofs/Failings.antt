@@ -6,7 +6,7 @@ use Rattle.zone_rdata.specs.declared.fault.Fault.{Fault}
 use Rattle.zone_rdata.specs.declared.fault.Failing.{Failing}
 use Rattle.zone_rdata.specs.declared.fault.Failing.TheVariants as failings
 use Rattle.zone_rdata.specs.Fault.{IfFault}
-use Rattle.zone_rdata.specs.Machine.Refusal.{IsFaultOf}
+use Rattle.zone_rdata.specs.Machine.NarrowFailing.{IsFaultOf}
 
 same_fault : {T : Type 0} (r : Result T Failing) (e : Failing) (a b : Fault) → r ≡ Err e → e ≡ failings.Fault a → r ≡ Err (failings.Fault b) → a ≡ b
 same_fault r e a b is was h = cc

@@ -1,7 +1,7 @@
 -- What private functions and proofs cite, and no public clause.
 pub mod AddressReading
 pub mod Pushed
-pub mod Refusal
+pub mod NarrowFailing
 pub mod Printing
 pub mod Appending
 pub mod TimeProgress

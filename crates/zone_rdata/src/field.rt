@@ -22,8 +22,8 @@ mod u16;
 use crate::builder::Pushed;
 use crate::fault::{Failing, Fault};
 use crate::item::Item;
+use crate::narrow_failing::{Cause, NarrowFailing};
 use crate::number::push_decimal;
-use crate::refusal::{Cause, Refusal};
 use crate::string::{push_string, push_string_text};
 use address::{push_address, push_address_text};
 use name::{push_name, push_sent_name};
@@ -63,7 +63,7 @@ impl Field {
     }
 
     /// Appends the octets of the value that an item by itself spells for the field.
-    fn push_item(self, item: Item, origin: &Name, octets: &mut Vec<u8>) -> Result<(), Refusal>
+    fn push_item(self, item: Item, origin: &Name, octets: &mut Vec<u8>) -> Result<(), NarrowFailing>
         ensures found { OnOk result
             (AppendsField origin.now self (raw item.entry ∷ []) octets.old.items octets.new.items) }
         ensures fault { IfErr result
@@ -72,7 +72,7 @@ impl Field {
         match (self, item) {
             (Field::OneString, _) => push_string(item, octets),
             (Field::Strings, _) => push_strings(&[item], octets),
-            (_, Item::Quoted(_)) => Err(Refusal::of(Cause::BadRdata)),
+            (_, Item::Quoted(_)) => Err(NarrowFailing::of(Cause::BadRdata)),
             (Field::Name, Item::Bare(text)) => push_name(text, origin, octets),
             (Field::Serial, Item::Bare(text)) => push_serial(text, octets),
             (Field::Time, Item::Bare(text)) => push_time(text, octets),
@@ -87,7 +87,7 @@ impl Field {
         items: &[Item],
         origin: &Name,
         octets: &mut Vec<u8>,
-    ) -> Result<usize, Refusal>
+    ) -> Result<usize, NarrowFailing>
         ensures found { IfOk result (λ n.
             AppendsFirst origin.now self (map raw items.now) (map raw (drop n items.now)) octets.old.items octets.new.items) }
         ensures inside { IfOk result (λ n. n ≤ length items.now) }
@@ -99,7 +99,7 @@ impl Field {
             return Ok(items.len());
         }
         let Some(item) = items.first() else {
-            return Err(Refusal::of(Cause::BadRdata));
+            return Err(NarrowFailing::of(Cause::BadRdata));
         };
         self.push_item(*item, origin, octets)?;
         Ok(1)

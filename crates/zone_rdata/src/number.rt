@@ -4,7 +4,7 @@ ghost use Rattle.zone_name.specs.Common.{NothingIs};
 ghost use Rattle.zone_rdata.specs.Number.{IsCapped, IsDecimal};
 
 use crate::fault::{Failing, Fault};
-use crate::refusal::{Cause, Refusal};
+use crate::narrow_failing::{Cause, NarrowFailing};
 use byteorder::{BigEndian, ByteOrder};
 use itoa::Buffer;
 use zone_name::Sink;
@@ -31,13 +31,13 @@ pub(crate) fn decimal_of(text: &[u8]) -> Option<u64>
 }
 
 /// A number that was read, where it is at most so great.
-pub(crate) fn at_most(most: u32, number: Option<u64>) -> Result<u32, Refusal>
+pub(crate) fn at_most(most: u32, number: Option<u64>) -> Result<u32, NarrowFailing>
     ensures found { IfOk result (λ n. (number ≡ Some n) × (n ≤ most)) }
     ensures fault { IfErr result (λ e. (e ≡ Failing.Fault Fault.BadNumber) × IfSome number (λ n. most < n)) }
 {
     match number {
         Some(number) if number <= u64::from(most) => Ok(number as u32),
-        _ => Err(Refusal::of(Cause::BadNumber)),
+        _ => Err(NarrowFailing::of(Cause::BadNumber)),
     }
 }
 

@@ -9,8 +9,8 @@ ghost use Rattle.zone_rdata.specs.Machine.Appending.{AreSpelt};
 use crate::fault::{Failing, Fault};
 use crate::item::Item;
 use crate::layout::Layout;
+use crate::narrow_failing::{Cause, NarrowFailing};
 use crate::record::LONGEST_DATA;
-use crate::refusal::{Cause, Refusal};
 use std::alloc::Global;
 use zone_name::Name;
 
@@ -37,7 +37,7 @@ pub(crate) fn octets_of_items(
     layout: Layout,
     items: &[Item],
     origin: &Name,
-) -> Result<Vec<u8>, Refusal>
+) -> Result<Vec<u8>, NarrowFailing>
     ensures found { IfOk result (λ octets.
         AreSpelt origin.now (fields_of layout) (map raw items.now) octets.items) }
     ensures short { IfOk result (λ octets. length octets.items ≤ LONGEST_DATA) }
@@ -50,10 +50,10 @@ pub(crate) fn octets_of_items(
         place += field.push_items(&items[place..], origin, &mut octets)?;
     }
     if place < items.len() {
-        return Err(Refusal::of(Cause::BadRdata));
+        return Err(NarrowFailing::of(Cause::BadRdata));
     }
     if octets.len() > LONGEST_DATA {
-        return Err(Refusal::of(Cause::RdataTooLong));
+        return Err(NarrowFailing::of(Cause::RdataTooLong));
     }
     Ok(octets)
 }

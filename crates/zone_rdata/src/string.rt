@@ -4,12 +4,12 @@ ghost use Rattle.zone_name.specs.Sink.{TakesSome};
 ghost use Rattle.zone_rdata.specs.Item.{raw};
 ghost use Rattle.zone_rdata.specs.Strings.{SpellsString, StringFault, item_text, string_text, unit_text};
 ghost use Rattle.zone_rdata.specs.Machine.Appending.{AppendsString};
-ghost use Rattle.zone_rdata.specs.Machine.Refusal.{IsFaultOf};
+ghost use Rattle.zone_rdata.specs.Machine.NarrowFailing.{IsFaultOf};
 
 use crate::fault::{Failing, Fault};
 use crate::item::Item;
+use crate::narrow_failing::{Cause, NarrowFailing};
 use crate::reading::are_octets;
-use crate::refusal::{Cause, Refusal};
 use arrayvec::ArrayVec;
 use std::alloc::AllocError;
 use zone_name::{NextUnit, Sink, next_unit};
@@ -20,7 +20,7 @@ use zone_name::{NextUnit, Sink, next_unit};
 /// # Errors
 ///
 /// The leftmost `BadEscape` or `StringTooLong`, and want of memory.
-pub(crate) fn push_string(item: Item, out: &mut Vec<u8>) -> Result<(), Refusal>
+pub(crate) fn push_string(item: Item, out: &mut Vec<u8>) -> Result<(), NarrowFailing>
     ensures found { OnOk result (AppendsString (raw item.entry) out.old.items out.new.items) }
     ensures fault { (fault : Fault) → result ≡ Err (Failing.Fault fault)
         → StringFault (raw item.entry) fault }
@@ -56,7 +56,7 @@ fn text_of(item: Item<'_>) -> &[u8]
 }
 
 /// The octets of the string that the item spells (RFC 1035 3.3, 5.1).
-fn string_of(item: Item<'_>) -> Result<ArrayVec<u8, 255>, Refusal>
+fn string_of(item: Item<'_>) -> Result<ArrayVec<u8, 255>, NarrowFailing>
     ensures found { IfOk result (λ octets. SpellsString (raw item.entry) octets.items) }
     ensures fault { IfErr result (IsFaultOf (StringFault (raw item.entry))) }
 {
@@ -70,12 +70,12 @@ fn string_of(item: Item<'_>) -> Result<ArrayVec<u8, 255>, Refusal>
             }
             NextUnit::Octet(octet, after) => {
                 if octets.is_full() {
-                    return Err(Refusal::of(Cause::StringTooLong));
+                    return Err(NarrowFailing::of(Cause::StringTooLong));
                 }
                 octets.push(octet);
                 rest = after;
             }
-            NextUnit::BadEscape => return Err(Refusal::of(Cause::BadEscape)),
+            NextUnit::BadEscape => return Err(NarrowFailing::of(Cause::BadEscape)),
         }
     }
 }

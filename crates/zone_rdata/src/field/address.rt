@@ -6,25 +6,29 @@ ghost use Rattle.zone_rdata.specs.Machine.Appending.{Appends};
 
 use crate::address::{ipv4_octets_of, ipv6_octets_of, push_ipv4, push_ipv6};
 use crate::fault::Fault;
-use crate::refusal::{Cause, Refusal};
+use crate::narrow_failing::{Cause, NarrowFailing};
 use zone_name::Sink;
 
 /// Appends the address of so many octets.
-pub(crate) fn push_address(count: usize, text: &[u8], octets: &mut Vec<u8>) -> Result<(), Refusal>
+pub(crate) fn push_address(
+    count: usize,
+    text: &[u8],
+    octets: &mut Vec<u8>,
+) -> Result<(), NarrowFailing>
     ensures found { OnOk result
         (Appends (IsAddress count text.now) (λ address. address) octets.old.items octets.new.items) }
     ensures fault { IfErr result (IfFault (NoValue Fault.BadRdata (IsAddress count text.now))) }
 {
     match count {
         4 => {
-            let address = ipv4_octets_of(text).ok_or(Refusal::of(Cause::BadRdata))?;
+            let address = ipv4_octets_of(text).ok_or(NarrowFailing::of(Cause::BadRdata))?;
             octets.extend_from_slice(&address)?;
         }
         16 => {
-            let address = ipv6_octets_of(text).ok_or(Refusal::of(Cause::BadRdata))?;
+            let address = ipv6_octets_of(text).ok_or(NarrowFailing::of(Cause::BadRdata))?;
             octets.extend_from_slice(&address)?;
         }
-        _ => return Err(Refusal::of(Cause::BadRdata)),
+        _ => return Err(NarrowFailing::of(Cause::BadRdata)),
     }
     Ok(())
 }

@@ -8,11 +8,15 @@ ghost use Rattle.zone_rdata.specs.Machine.Appending.{AppendsValue, BeginsWithNon
 
 use super::Field;
 use crate::fault::{Failing, Fault};
-use crate::refusal::Refusal;
+use crate::narrow_failing::NarrowFailing;
 use zone_name::{Name, NameBuilder};
 
 /// Appends the octets of the name that a text spells under the origin.
-pub(crate) fn push_name(text: &[u8], origin: &Name, octets: &mut Vec<u8>) -> Result<(), Refusal>
+pub(crate) fn push_name(
+    text: &[u8],
+    origin: &Name,
+    octets: &mut Vec<u8>,
+) -> Result<(), NarrowFailing>
     ensures found { OnOk result
         (Appends (Spells (Some origin.now) text.now) wire octets.old.items octets.new.items) }
     ensures fault { IfErr result (IfFault (IsNameFault origin.now text.now)) }

@@ -5,12 +5,12 @@ ghost use Rattle.zone_rdata.specs.Fields.Serial.{SpellsSerial};
 ghost use Rattle.zone_rdata.specs.Machine.Appending.{Appends};
 
 use crate::fault::Fault;
+use crate::narrow_failing::NarrowFailing;
 use crate::number::{at_most, decimal_of, u32_octets_of};
-use crate::refusal::Refusal;
 use byteorder::{BigEndian, ByteOrder};
 
 /// Appends the number that decimal digits stand for.
-pub(crate) fn push_serial(text: &[u8], octets: &mut Vec<u8>) -> Result<(), Refusal>
+pub(crate) fn push_serial(text: &[u8], octets: &mut Vec<u8>) -> Result<(), NarrowFailing>
     ensures found { OnOk result (Appends (SpellsSerial text.now) (to_be_bytes w32) octets.old.items octets.new.items) }
     ensures fault { IfErr result (IfFault (NoValue Fault.BadNumber (SpellsSerial text.now))) }
 {

@@ -14,18 +14,18 @@ use super::prefix::push_prefix;
 use super::string::split_string;
 use crate::fault::{Failing, Fault};
 use crate::item::Item;
-use crate::refusal::{Cause, Refusal};
+use crate::narrow_failing::{Cause, NarrowFailing};
 use crate::string::{push_string, push_string_text};
 use zone_name::Sink;
 
 /// Appends the strings that the items spell, one or more, each behind its length.
-pub(crate) fn push_strings(items: &[Item], octets: &mut Vec<u8>) -> Result<(), Refusal>
+pub(crate) fn push_strings(items: &[Item], octets: &mut Vec<u8>) -> Result<(), NarrowFailing>
     ensures found { OnOk result
         (Appends (SpellsStrings (map raw items.now)) (flat_map with_length) octets.old.items octets.new.items) }
     ensures fault { IfErr result (IfFault (StringsFault (map raw items.now))) }
 {
     if items.is_empty() {
-        return Err(Refusal::of(Cause::BadRdata));
+        return Err(NarrowFailing::of(Cause::BadRdata));
     }
     for item in items {
         push_string(*item, octets)?;

@@ -5,12 +5,12 @@ ghost use Rattle.zone_rdata.specs.Fields.Time.{SpellsTime};
 ghost use Rattle.zone_rdata.specs.Machine.Appending.{Appends};
 
 use crate::fault::Fault;
+use crate::narrow_failing::NarrowFailing;
 use crate::number::{at_most, u32_octets_of};
-use crate::refusal::Refusal;
 use crate::time::seconds_of;
 
 /// Appends the number of seconds that a time stands for.
-pub(crate) fn push_time(text: &[u8], octets: &mut Vec<u8>) -> Result<(), Refusal>
+pub(crate) fn push_time(text: &[u8], octets: &mut Vec<u8>) -> Result<(), NarrowFailing>
     ensures found { OnOk result (Appends (SpellsTime text.now) (to_be_bytes w32) octets.old.items octets.new.items) }
     ensures fault { IfErr result (IfFault (NoValue Fault.BadNumber (SpellsTime text.now))) }
 {

@@ -5,12 +5,12 @@ ghost use Rattle.zone_rdata.specs.Fields.U16.{SpellsU16};
 ghost use Rattle.zone_rdata.specs.Machine.Appending.{Appends};
 
 use crate::fault::Fault;
+use crate::narrow_failing::NarrowFailing;
 use crate::number::{at_most, decimal_of, u16_octets_of};
-use crate::refusal::Refusal;
 use byteorder::{BigEndian, ByteOrder};
 
 /// Appends the number that decimal digits stand for.
-pub(crate) fn push_u16(text: &[u8], octets: &mut Vec<u8>) -> Result<(), Refusal>
+pub(crate) fn push_u16(text: &[u8], octets: &mut Vec<u8>) -> Result<(), NarrowFailing>
     ensures found { OnOk result (Appends (SpellsU16 text.now) (to_be_bytes w16) octets.old.items octets.new.items) }
     ensures fault { IfErr result (IfFault (NoValue Fault.BadNumber (SpellsU16 text.now))) }
 {

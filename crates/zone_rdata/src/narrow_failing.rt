@@ -1,5 +1,5 @@
 ghost use Rattle.std.specs.Prelude.{◌≡◌};
-ghost use Rattle.zone_rdata.specs.Machine.Refusal.{failing_of};
+ghost use Rattle.zone_rdata.specs.Machine.NarrowFailing.{failing_of};
 
 use crate::fault::{Failing, Fault};
 use std::alloc::AllocError;
@@ -23,12 +23,12 @@ pub(crate) enum Cause {
 
 /// Why items state no data, in one octet: a `Failing` has room for a name. Contracts see the failing.
 #[derive(Debug, Drop)]
-pub(crate) struct Refusal {
+pub(crate) struct NarrowFailing {
     cause: Cause,
 }
 
-impl Model for Refusal {
-    ghost use Rattle.zone_rdata.specs.Machine.Refusal.{failing_of};
+impl Model for NarrowFailing {
+    ghost use Rattle.zone_rdata.specs.Machine.NarrowFailing.{failing_of};
     ghost use Rattle.zone_rdata.specs.declared.fault.Failing.{Failing};
 
     ghost Value = { Failing };
@@ -36,15 +36,15 @@ impl Model for Refusal {
     ghost view = { λ r. failing_of r.cause };
 }
 
-impl Refusal {
-    /// The refusal for the cause.
-    pub(crate) fn of(cause: Cause) -> Refusal
+impl NarrowFailing {
+    /// The failing for the cause.
+    pub(crate) fn of(cause: Cause) -> NarrowFailing
         ensures { result ≡ failing_of cause }
     {
-        Refusal { cause }
+        NarrowFailing { cause }
     }
 
-    /// The failing that the refusal stands for.
+    /// The failing itself.
     // Not inlined: only what is refused needs the room.
     #[cold]
     #[inline(never)]
@@ -66,37 +66,37 @@ impl Refusal {
     }
 }
 
-impl From<NameFault> for Refusal {
+impl From<NameFault> for NarrowFailing {
     ghost use Rattle.zone_rdata.specs.Fault.{fault_of};
     ghost use Rattle.zone_rdata.specs.declared.fault.Failing.TheVariants as failings;
 
     ghost from_gives = { λ fault e. e ≡ failings.Fault (fault_of fault) };
 
-    fn from(fault: NameFault) -> Refusal {
+    fn from(fault: NameFault) -> NarrowFailing {
         match fault {
-            NameFault::EmptyLabel => Refusal::of(Cause::EmptyLabel),
-            NameFault::LabelTooLong => Refusal::of(Cause::LabelTooLong),
-            NameFault::NameTooLong => Refusal::of(Cause::NameTooLong),
-            NameFault::BadEscape => Refusal::of(Cause::BadEscape),
-            NameFault::RelativeName => Refusal::of(Cause::RelativeName),
+            NameFault::EmptyLabel => NarrowFailing::of(Cause::EmptyLabel),
+            NameFault::LabelTooLong => NarrowFailing::of(Cause::LabelTooLong),
+            NameFault::NameTooLong => NarrowFailing::of(Cause::NameTooLong),
+            NameFault::BadEscape => NarrowFailing::of(Cause::BadEscape),
+            NameFault::RelativeName => NarrowFailing::of(Cause::RelativeName),
         }
     }
 }
 
-impl From<AllocError> for Refusal {
+impl From<AllocError> for NarrowFailing {
     ghost use Rattle.zone_rdata.specs.declared.fault.Failing.TheVariants.{Memory};
 
     ghost from_gives = { λ _ e. e ≡ Memory };
 
-    fn from(_error: AllocError) -> Refusal {
-        Refusal::of(Cause::Memory)
+    fn from(_error: AllocError) -> NarrowFailing {
+        NarrowFailing::of(Cause::Memory)
     }
 }
 
-impl From<Refusal> for Failing {
-    ghost from_gives = { λ refusal e. e ≡ refusal };
+impl From<NarrowFailing> for Failing {
+    ghost from_gives = { λ narrow e. e ≡ narrow };
 
-    fn from(refusal: Refusal) -> Failing {
-        refusal.widened()
+    fn from(narrow: NarrowFailing) -> Failing {
+        narrow.widened()
     }
 }

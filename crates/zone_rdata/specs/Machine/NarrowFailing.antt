@@ -3,8 +3,8 @@ use Rattle.zone_rdata.specs.declared.fault.Failing.{Failing}
 use Rattle.zone_rdata.specs.declared.fault.Failing.TheVariants as failings
 use Rattle.zone_rdata.specs.declared.fault.Fault.{Fault}
 use Rattle.zone_rdata.specs.declared.fault.Fault.TheVariants as faults
-use Rattle.zone_rdata.specs.declared.refusal.Cause.{Cause}
-use Rattle.zone_rdata.specs.declared.refusal.Cause.TheVariants as causes
+use Rattle.zone_rdata.specs.declared.narrow_failing.Cause.{Cause}
+use Rattle.zone_rdata.specs.declared.narrow_failing.Cause.TheVariants as causes
 
 abbrev pub failing_of : Cause → Failing
 failing_of causes.EmptyLabel = failings.Fault faults.EmptyLabel
