@@ -81,6 +81,7 @@ impl ZoneBuilder {
         ensures beside { S.beside source.new ≡ S.beside source.old }
     {
         loop {
+            // Matched whole: a `?` would move each record once more.
             match source.next() {
                 Ok(Some(placed)) => match self.hold(&placed) {
                     Ok(()) => {}

@@ -1,6 +1,7 @@
 ghost use Rattle.std.specs.Prelude.{◌≡◌};
 ghost use Rattle.zone_set.specs.Machine.Refusal.{stop_for};
 
+use std::alloc::AllocError;
 use zone_rdata::{Fault, Place, Stop};
 
 /// Why a record may not stand with those held, or that memory was refused.
@@ -23,5 +24,15 @@ impl Refusal {
             Refusal::OtherTtl => Stop::Refused(Fault::DifferingTtl, place),
             Refusal::Memory => Stop::Memory,
         }
+    }
+}
+
+impl From<AllocError> for Refusal {
+    ghost use Rattle.zone_set.specs.declared.refusal.Refusal.TheVariants.{Memory};
+
+    ghost from_gives = { λ _ e. e ≡ Memory };
+
+    fn from(_error: AllocError) -> Refusal {
+        Refusal::Memory
     }
 }

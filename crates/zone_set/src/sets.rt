@@ -136,20 +136,12 @@ impl Sets {
         if self.has_other_soa(rr) {
             return Err(Refusal::OtherSoa);
         }
-        let Ok(key) = SetKey::new(alloc, owner, rdata) else {
-            return Err(Refusal::Memory);
-        };
-        let Ok(datum) = Datum::copy_of(alloc, rdata.octets()) else {
-            return Err(Refusal::Memory);
-        };
-        match put(&mut self.by_key, alloc, key, ttl, rdata.kind(), datum) {
-            Ok(is_new) => {
-                self.class = Some(rdata.class());
-                self.octets = octets_with(self.octets, rr, is_new);
-                Ok(())
-            }
-            Err(refusal) => Err(refusal),
-        }
+        let key = SetKey::new(alloc, owner, rdata)?;
+        let datum = Datum::copy_of(alloc, rdata.octets())?;
+        let is_new = put(&mut self.by_key, alloc, key, ttl, rdata.kind(), datum)?;
+        self.class = Some(rdata.class());
+        self.octets = octets_with(self.octets, rr, is_new);
+        Ok(())
     }
 
     /// Whether the record is an SOA, and another is held.
@@ -248,9 +240,6 @@ fn put(
             let _ = vacant.insert(Held::new(ttl, kind, datum));
             Ok(true)
         }
-        Ok(Entry::Occupied(mut occupied)) => match occupied.get_mut().add(alloc, ttl, datum) {
-            Ok(is_new) => Ok(is_new),
-            Err(refusal) => Err(refusal),
-        },
+        Ok(Entry::Occupied(mut occupied)) => occupied.get_mut().add(alloc, ttl, datum),
     }
 }
