@@ -9,7 +9,7 @@ use Rattle.zone_set.specs.Zone.{Zone}
 use Rattle.zone_print.specs.Canonical.{canon, line, lines}
 use Rattle.zone_print.specs.Laws.{HasNoFeed, EndsWithItsFeed}
 use Rattle.zone_print.proofs.Feeds.{line_ends_with_feed}
-use Rattle.zonenorm.specs.Compare.{Compares, DifferFirstAt, IsAccepted, IsVerdict, line_at, lines_of}
+use Rattle.zonenorm.specs.Compare.{Compares, DifferFirstAt, IsAccepted, IsVerdictOnTexts, line_at, lines_of}
 use Rattle.zonenorm.specs.Input.{InputForm, input_of, InputDenotes}
 use Rattle.zonenorm.specs.declared.compare.Verdict.{Verdict}
 
@@ -132,7 +132,7 @@ other_record records others left right left' right' r s number exact each each' 
 
 -- ---- the zones of known octets
 
-pub compares_zones : (form form' : InputForm) (known known' : Option Octets) (z w : Zone) (verdict : Verdict) → IfSome known (λ octets. InputDenotes (input_of form octets) z) → IfSome known' (λ octets. InputDenotes (input_of form' octets) w) → IsVerdict verdict (canon z) (canon w) → IfSome known (λ octets. IfSome known' (λ others. Compares (input_of form octets) (input_of form' others) verdict))
+pub compares_zones : (form form' : InputForm) (known known' : Option Octets) (z w : Zone) (verdict : Verdict) → IfSome known (λ octets. InputDenotes (input_of form octets) z) → IfSome known' (λ octets. InputDenotes (input_of form' octets) w) → IsVerdictOnTexts verdict (canon z) (canon w) → IfSome known (λ octets. IfSome known' (λ others. Compares (input_of form octets) (input_of form' others) verdict))
 compares_zones form form' None known' z w verdict denotes denotes' judged = tt
 compares_zones form form' (Some octets) None z w verdict denotes denotes' judged = tt
 compares_zones form form' (Some octets) (Some others) z w verdict denotes denotes' judged =

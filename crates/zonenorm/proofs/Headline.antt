@@ -14,7 +14,7 @@ use Rattle.zone_wire.specs.Walk.{Visit}
 use Rattle.zone_wire.specs.WholeWalk.{IsWalk}
 use Rattle.zonenorm.specs.declared.compare.Verdict.{Verdict}
 use Rattle.zonenorm.specs.declared.compare.Verdict.TheVariants.{Different, Same}
-use Rattle.zonenorm.specs.Compare.{Compares, DifferFirstAt, IsVerdict, line_at}
+use Rattle.zonenorm.specs.Compare.{Compares, DifferFirstAt, IsVerdictOnTexts, line_at}
 use Rattle.zonenorm.specs.Headline.{DenoteOne, DenotesOnly, IsBoundedWalk, NormalisesOnlyTo}
 use Rattle.zonenorm.specs.Input.{file, Input, InputDenotes, IsInput}
 use Rattle.zonenorm.specs.Normalise.{Normalises, NormalisesTo}
@@ -99,12 +99,12 @@ written_text input old new count is = (canon is.zone, record { zone = is.zone; d
 
 -- ---- comparisons
 
-equal_is_same : (verdict : Verdict) (text other : Octets) → IsVerdict verdict text other → text ≡ other → verdict ≡ Same
+equal_is_same : (verdict : Verdict) (text other : Octets) → IsVerdictOnTexts verdict text other → text ≡ other → verdict ≡ Same
 equal_is_same Same text other is equal = refl
 equal_is_same (Different line) text other is equal = absurd (is.differs (ap (λ t. line_at t line) equal))
 
-same_is_equal : (verdict : Verdict) (text other : Octets) → IsVerdict verdict text other → verdict ≡ Same → text ≡ other
-same_is_equal verdict text other is same = subst (λ v. IsVerdict v text other) same is
+same_is_equal : (verdict : Verdict) (text other : Octets) → IsVerdictOnTexts verdict text other → verdict ≡ Same → text ≡ other
+same_is_equal verdict text other is same = subst (λ v. IsVerdictOnTexts v text other) same is
 
 pub same_if_one : ((a b : Input) (z w : Zone) → InputDenotes a z → InputDenotes b w → (canon z ≡ canon w) ↔ DenoteOne a b)
     → (first second : Input) (verdict : Verdict) → Compares first second verdict → (verdict ≡ Same) ↔ DenoteOne first second
@@ -117,7 +117,7 @@ one_line text other n m at_n at_m =
     ⊎_elim (λ up. ⊎_elim (λ down. omega (arith, up.1, down.1)) (λ less. absurd (at_n.differs (at_m.equal n less.1))) (leb_tells m n))
     (λ more. absurd (at_m.differs (at_n.equal m more.1))) (leb_tells n m)
 
-one_judgement : (verdict another : Verdict) (text other : Octets) → IsVerdict verdict text other → IsVerdict another text other → verdict ≡ another
+one_judgement : (verdict another : Verdict) (text other : Octets) → IsVerdictOnTexts verdict text other → IsVerdictOnTexts another text other → verdict ≡ another
 one_judgement Same another text other is too = sym (equal_is_same another text other too is)
 one_judgement (Different line) Same text other is too = equal_is_same (Different line) text other is too
 one_judgement (Different line) (Different another) text other is too = ap Different (one_line text other line another is too)
@@ -127,5 +127,5 @@ one_verdict one first second verdict another is too =
     let zone : is.zone ≡ too.zone = one first is.zone too.zone is.denotes too.denotes in
     let other : is.other ≡ too.other = one second is.other too.other is.other_denotes too.other_denotes in
     one_judgement verdict another (canon too.zone) (canon too.other)
-    (subst (λ w. IsVerdict verdict (canon too.zone) (canon w)) other (subst (λ z. IsVerdict verdict (canon z) (canon is.other)) zone is.judged))
+    (subst (λ w. IsVerdictOnTexts verdict (canon too.zone) (canon w)) other (subst (λ z. IsVerdictOnTexts verdict (canon z) (canon is.other)) zone is.judged))
     too.judged

@@ -30,9 +30,9 @@ pub record DifferFirstAt (n : ℕ) (text other : List ℕ) : Type 0 where
   pub differs : line_at text n ≢ line_at other n
 
 -- the verdict on two texts
-abbrev pub IsVerdict : Verdict → List ℕ → List ℕ → Type 0
-IsVerdict Same text other = text ≡ other
-IsVerdict (Different line) text other = DifferFirstAt line text other
+abbrev pub IsVerdictOnTexts : Verdict → List ℕ → List ℕ → Type 0
+IsVerdictOnTexts Same text other = text ≡ other
+IsVerdictOnTexts (Different line) text other = DifferFirstAt line text other
 
 -- both inputs denote a zone, and this is the verdict on their canonical texts
 pub record Compares (first second : Input) (verdict : Verdict) : Type 0 where
@@ -40,7 +40,7 @@ pub record Compares (first second : Input) (verdict : Verdict) : Type 0 where
   pub denotes : InputDenotes first zone
   pub other : Zone
   pub other_denotes : InputDenotes second other
-  pub judged : IsVerdict verdict (canon zone) (canon other)
+  pub judged : IsVerdictOnTexts verdict (canon zone) (canon other)
 
 -- known octets denote a zone
 abbrev pub IsAccepted : InputForm → Option (List ℕ) → Type 0

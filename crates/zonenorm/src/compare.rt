@@ -1,6 +1,6 @@
 ghost use Rattle.std.specs.Prelude.{◌+◌, ◌≤◌, length, IfOk, IfErr, IfSome};
 ghost use Rattle.zone_print.specs.Canonical.{canon, text_limit};
-ghost use Rattle.zonenorm.specs.Compare.{Compares, IsVerdict, StopsCompare};
+ghost use Rattle.zonenorm.specs.Compare.{Compares, IsVerdictOnTexts, StopsCompare};
 ghost use Rattle.zonenorm.specs.Form.{form_of};
 ghost use Rattle.zonenorm.specs.Input.{input_of};
 ghost use Rattle.zonenorm.specs.Normalise.{ConsumesAtMost};
@@ -66,7 +66,7 @@ pub fn compare<R: Read, S: Read>(
 /// records are, so records are compared.
 fn first_difference(zone: &Zone, other: &Zone) -> Verdict
     requires { length (canon zone.now) ≤ text_limit }
-    ensures { IsVerdict result (canon zone.now) (canon other.now) }
+    ensures { IsVerdictOnTexts result (canon zone.now) (canon other.now) }
 {
     equal_lines_are_equal_records();
     let mut others = other.records();

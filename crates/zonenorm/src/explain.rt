@@ -5,6 +5,7 @@ ghost use Rattle.zonenorm.specs.Run.{Explains, IsFailure, IsStopLine, KeepsUnles
 use crate::engine::accepted_zone;
 use crate::form::Form;
 use crate::line::write_line;
+use crate::status;
 use itoa::Buffer;
 use std::alloc::{AllocError, Global};
 use std::io::{Read, Write};
@@ -37,12 +38,12 @@ pub fn explain<R: Read, W: Write>(
         Ok(zone) => {
             let mut digits = Buffer::new();
             write_line(writer, "accepted, records: ", digits.format(zone.len()))?;
-            Ok(0)
+            Ok(status::SUCCESS)
         }
         Err(Stop::Refused(fault, place)) => {
             let line = refusal_line(alloc, &fault, place)?;
             write_line(writer, "", line.as_str())?;
-            Ok(3)
+            Ok(status::REFUSED)
         }
         Err(stop) => Err(stop),
     }
@@ -66,7 +67,7 @@ pub fn explain_line(alloc: Global, stop: &Stop) -> Result<String, AllocError>
 
 /// Number, name and argument of the fault, its place, and what is wrong.
 fn refusal_line(alloc: Global, fault: &Fault, place: Place) -> Result<String, AllocError> {
-    let Row { number, name, text } = row_of(fault);
+    let FaultRow { number, name, text } = fault_row(fault);
     let mut line = format!(in alloc; "F{number} {name}")?;
     match fault {
         Fault::ErrorCode(code) => write!(line, " {code}")?,
@@ -94,14 +95,14 @@ fn push_owner(alloc: Global, line: &mut String, owner: &Name) -> Result<(), Allo
 }
 
 /// A fault's row in the table of faults.
-struct Row {
+struct FaultRow {
     number: u8,
     name: &'static str,
     text: &'static str,
 }
 
 /// The row of a fault: one match, so that no fault can be without its row.
-fn row_of(fault: &Fault) -> Row {
+fn fault_row(fault: &Fault) -> FaultRow {
     let (number, name, text) = match fault {
         Fault::EmptyLabel => (1, "EmptyLabel", "a label is empty"),
         Fault::LabelTooLong => (2, "LabelTooLong", "a label has more than 63 octets"),
@@ -165,5 +166,5 @@ fn row_of(fault: &Fault) -> Row {
         Fault::ZoneTooLarge => (44, "ZoneTooLarge", "the canonical text is too long"),
         Fault::InputTooLong => (45, "InputTooLong", "the input is too long"),
     };
-    Row { number, name, text }
+    FaultRow { number, name, text }
 }

@@ -15,6 +15,7 @@ mod octets;
 mod opened;
 mod order;
 mod run;
+mod status;
 mod taking;
 
 pub use compare::{Verdict, Which, compare};

@@ -1,4 +1,6 @@
 //! The inputs of an order, opened.
+ghost use Rattle.zonenorm.specs.Machine.Opened.{TakesStandard};
+
 use crate::order::{Order, Source};
 use std::fs::{File, Files};
 use std::io;
@@ -14,6 +16,10 @@ pub(crate) enum Input<S, F> {
 }
 
 impl<S: Read, F: Read> Read for Input<S, F> {
+    ghost use Rattle.zonenorm.specs.Machine.Opened.{remaining_of};
+
+    ghost remaining = { remaining_of S.remaining F.remaining };
+
     fn read(&mut self, buf: &mut [u8]) -> io::Result<usize> {
         match self {
             Input::Standard(input) => input.read(buf),
@@ -28,7 +34,9 @@ pub(crate) fn inputs<R: Files, S: Drop>(
     rt: &R,
     standard: S,
     order: &Order,
-) -> (Input<S, R::File>, Input<S, R::File>) {
+) -> (Input<S, R::File>, Input<S, R::File>)
+    ensures { TakesStandard order.now standard result.0 }
+{
     match order {
         Order::Normalise(_) | Order::Explain(_) => (Input::Standard(standard), Input::Missing),
         Order::Compare(first, second) => (opened(rt, first), opened(rt, second)),

@@ -7,6 +7,7 @@ ghost use Rattle.zonenorm.specs.Order.{Asks, Finds, HasBadOrigin, IsOriginText, 
 
 use crate::command::program;
 use crate::explain::OUT_OF_MEMORY;
+use crate::status;
 use clap::error::ErrorKind;
 use clap::{ArgMatches, Error};
 use std::alloc::{AllocError, Global};
@@ -75,8 +76,8 @@ impl LineFault {
         ensures { result ≡ line_status self.now }
     {
         match self {
-            LineFault::BadOrigin | LineFault::Clap(_) => 2,
-            LineFault::Memory => 4,
+            LineFault::BadOrigin | LineFault::Clap(_) => status::BAD_COMMAND_LINE,
+            LineFault::Memory => status::FAILED,
         }
     }
 }

@@ -8,6 +8,7 @@ use crate::explain::{OUT_OF_MEMORY, explain, explain_line};
 use crate::form::Form;
 use crate::line::write_line;
 use crate::order::{LineFault, Order};
+use crate::status;
 use itoa::Buffer;
 use std::alloc::Global;
 use std::io::{Read, Write};
@@ -37,7 +38,7 @@ pub fn run<R1: Read, R2: Read, W: Write, E: Write>(
     match order {
         Order::Normalise(origin) => {
             match normalise(alloc, Form::with_origin(origin), first, output) {
-                Ok(_) => 0,
+                Ok(_) => status::SUCCESS,
                 Err(stop) => report(alloc, "", &stop, errors),
             }
         }
@@ -98,8 +99,8 @@ fn status_of(verdict: Verdict) -> u8
     ensures { result ≡ verdict_status verdict }
 {
     match verdict {
-        Verdict::Same => 0,
-        Verdict::Different(_) => 1,
+        Verdict::Same => status::SUCCESS,
+        Verdict::Different(_) => status::DIFFERENT,
     }
 }
 
@@ -124,11 +125,11 @@ fn report<E: Write>(alloc: Global, words: &str, stop: &Stop, errors: &mut E) -> 
     let Some(line) = line else {
         // Want of memory is told without taking any.
         let _ = write_line(errors, words, OUT_OF_MEMORY);
-        return 4;
+        return status::FAILED;
     };
     match (write_line(errors, words, line.as_str()), stop) {
-        (Ok(()), Stop::Refused(..)) => 3,
-        _ => 4,
+        (Ok(()), Stop::Refused(..)) => status::REFUSED,
+        _ => status::FAILED,
     }
 }
 
@@ -138,6 +139,6 @@ pub(crate) fn refuse<E: Write>(fault: &LineFault, errors: &mut E) -> u8
 {
     match write_line(errors, "", fault.text()) {
         Ok(()) => fault.status(),
-        Err(_) => 4,
+        Err(_) => status::FAILED,
     }
 }
