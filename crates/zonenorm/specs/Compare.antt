@@ -1,4 +1,5 @@
--- What comparing two inputs answers: that their canonical texts are equal, or the first line at which they differ.
+-- What comparing two inputs answers: that their canonical texts are equal, or the first line at which they differ (this
+-- project's own).
 use Rattle.std.specs.Prelude.{◌≡◌, ◌≢◌, ℕ, zero, suc, ◌<◌, ◌≤◌, ◌==◌, if◌then◌else◌, List, [], ◌∷◌, slice_get, Option, None, IfSome}
 use Rattle.std.specs.Io.KnownBytes.{Keeps}
 use Rattle.std.specs.List.{onto_first}

@@ -1,4 +1,4 @@
--- What normalising an input answers and leaves.
+-- What normalising an input answers and leaves (this project's own).
 use Rattle.std.specs.Prelude.{◌≡◌, ℕ, ◌-◌, ◌^◌, ◌≤◌, List, length, min, Option, ◌⊎◌}
 use Rattle.std.specs.Io.KnownBytes.{Appends, Consumes, Keeps}
 use Rattle.zone_rdata.specs.declared.fault.Stop.{Stop}

@@ -26,7 +26,9 @@ pub enum Verdict {
 /// Which of two inputs.
 #[derive(Clone, Copy, Debug, PartialEq, Eq)]
 pub enum Which {
+    /// The one read first.
     First,
+    /// The one read once the first was accepted.
     Second,
 }
 
