@@ -7,7 +7,7 @@ use Rattle.zone_rdata.specs.Record.{Record}
 use Rattle.zone_rdata.specs.declared.fault.Fault.{Fault}
 use Rattle.zone_rdata.specs.declared.record.Placed.{Placed}
 use Rattle.zone_wire.specs.AnswerFault.{OrderFault, closed, no_soa, other_zone, other_soa, AnswerFault, own, of_order, FirstAnswerFault}
-use Rattle.zone_wire.specs.Answers.{Zone, zone_of, AgreeWith, is_closed, StandsBehind, opens, follows, StandInOrder}
+use Rattle.zone_wire.specs.Answers.{ZoneAsked, zone_of, AgreeWith, is_closed, StandsBehind, opens, follows, StandInOrder}
 use Rattle.zone_wire.specs.Message.{QuestionAt, RecordAt, Sections}
 use Rattle.zone_wire.specs.Stream.{asked_in, placed_in, HasFirstId, AsksIn, AskBehind, IsMessageBehind, IsReadBehind, FaultBehind, of_structure, of_id, of_questions, of_answers, first_id, opening_of, AreAlike}
 use Rattle.zone_wire.specs.Transfer.{StatedMessage, StateEach}
@@ -147,10 +147,10 @@ fault_alike before other octets here fault offset is (of_questions s m id none) 
 fault_alike before other octets here fault offset is (of_answers s placed f o m next) = of_answers s placed f o (message_alike before other is octets s m) (first_fault_alike before other is octets s placed f o next)
 
 -- the zone stays that which is fixed
-zone_same : (name : List (List ℕ)) (class : ℕ) (z : Zone) → name ≡ z.name → class ≡ z.class → (let y : Zone = record { name = name; class = class } in y) ≡ z
-zone_same name class z n c = ap (λ x. let y : Zone = record { name = x; class = class } in y) n ∙ ap (λ x. let y : Zone = record { name = z.name; class = x } in y) c
+zone_same : (name : List (List ℕ)) (class : ℕ) (z : ZoneAsked) → name ≡ z.name → class ≡ z.class → (let y : ZoneAsked = record { name = name; class = class } in y) ≡ z
+zone_same name class z n c = ap (λ x. let y : ZoneAsked = record { name = x; class = class } in y) n ∙ ap (λ x. let y : ZoneAsked = record { name = z.name; class = x } in y) c
 
-zone_stays : (asked more : List QuestionAt) (placed here : List Placed) (z : Zone) → zone_of asked placed ≡ Some z → AllByRecursion (AsksIn (Some z)) more → zone_of (asked ++ more) (placed ++ here) ≡ Some z
+zone_stays : (asked more : List QuestionAt) (placed here : List Placed) (z : ZoneAsked) → zone_of asked placed ≡ Some z → AllByRecursion (AsksIn (Some z)) more → zone_of (asked ++ more) (placed ++ here) ≡ Some z
 zone_stays (q ∷ asked) more placed here z e asks = e
 zone_stays [] [] [] here z e asks = cc
 zone_stays [] [] (p ∷ placed) here z e asks = e
@@ -161,7 +161,7 @@ zone_none [] [] e = (refl, refl)
 zone_none [] (p ∷ placed) e = cc
 zone_none (q ∷ asked) placed e = cc
 
-zone_grows : (asked other more : List QuestionAt) (placed late here : List Placed) (zone : Option Zone) → zone_of asked placed ≡ zone → zone_of other late ≡ zone → AllByRecursion (AsksIn zone) more → zone_of (asked ++ more) (placed ++ here) ≡ zone_of (other ++ more) (late ++ here)
+zone_grows : (asked other more : List QuestionAt) (placed late here : List Placed) (zone : Option ZoneAsked) → zone_of asked placed ≡ zone → zone_of other late ≡ zone → AllByRecursion (AsksIn zone) more → zone_of (asked ++ more) (placed ++ here) ≡ zone_of (other ++ more) (late ++ here)
 zone_grows asked other more placed late here (Some z) e k asks = zone_stays asked more placed here z e asks ∙ sym (zone_stays other more late here z k asks)
 zone_grows asked other more placed late here None e k asks =
     let x = zone_none asked placed e in

@@ -10,7 +10,7 @@ use Rattle.zone_rdata.specs.declared.fault.Fault.TheVariants.{BadClass, MetaType
 use Rattle.zone_rdata.specs.declared.record.Placed.{Placed}
 use Rattle.zone_rdata.proofs.Layouts.{held_data, stringless_short}
 use Rattle.zone_wire.specs.AnswerFault.{OwnFault, of_class, of_kind, unread, of_data, OrderFault, closed, no_soa, other_zone, other_soa}
-use Rattle.zone_wire.specs.Answers.{Zone, zone_of, AgreeWith, StandsBehind, opens, follows}
+use Rattle.zone_wire.specs.Answers.{ZoneAsked, zone_of, AgreeWith, StandsBehind, opens, follows}
 use Rattle.zone_wire.specs.Machine.Answers.{same_name, same_record, is_no_class, record_of, agrees, order_fault}
 use Rattle.zone_wire.specs.Machine.Data.{data_at}
 use Rattle.zone_wire.specs.Message.{u16_at, QuestionAt, RecordAt, IsRecordAt}
@@ -87,18 +87,18 @@ module _ (octets : List ℕ) (each : Bytes octets) (few : length octets ≤ 6553
   pub own_states : (offset : ℕ) (a : RecordAt) (r : Record) → IsRecordAt octets offset a → record_of octets a ≡ Ok r → StatesRecord octets a r
   own_states offset a r at e = record_shown octets a r each at.inside e (record_fits held_data stringless_short octets each few offset a r at e)
 
-pub agrees_by : (zone : Option Zone) (name : List (List ℕ)) (class : ℕ) → agrees zone name class ≡ true → AgreeWith zone name class
+pub agrees_by : (zone : Option ZoneAsked) (name : List (List ℕ)) (class : ℕ) → agrees zone name class ≡ true → AgreeWith zone name class
 agrees_by None name class e = tt
 agrees_by (Some zone) name class e = agree_parts name zone.name class zone.class e
 
-pub agrees_true : (zone : Option Zone) (name : List (List ℕ)) (class : ℕ) → AgreeWith zone name class → agrees zone name class ≡ true
+pub agrees_true : (zone : Option ZoneAsked) (name : List (List ℕ)) (class : ℕ) → AgreeWith zone name class → agrees zone name class ≡ true
 agrees_true None name class is = refl
 agrees_true (Some zone) name class is = and_from (same_name name zone.name) (class == zone.class) (names_same name zone.name is.0) (eq-eqb class zone.class is.1)
 
-pub agrees_false : (zone : Option Zone) (name : List (List ℕ)) (class : ℕ) → (AgreeWith zone name class → ⊥) → agrees zone name class ≡ false
+pub agrees_false : (zone : Option ZoneAsked) (name : List (List ℕ)) (class : ℕ) → (AgreeWith zone name class → ⊥) → agrees zone name class ≡ false
 agrees_false zone name class none = false_from_ne_true (agrees zone name class) (λ t. none (agrees_by zone name class t))
 
-pub disagrees : (zone : Option Zone) (name : List (List ℕ)) (class : ℕ) → agrees zone name class ≡ false → AgreeWith zone name class → ⊥
+pub disagrees : (zone : Option ZoneAsked) (name : List (List ℕ)) (class : ℕ) → agrees zone name class ≡ false → AgreeWith zone name class → ⊥
 disagrees zone name class e is = let yes = agrees_true zone name class is in cc
 
 last_test : (test : Bool) (fault other : Fault) → (if test then None else Some fault) ≡ Some other → (test ≡ false) × (fault ≡ other)

@@ -14,6 +14,7 @@ pub mod FrameLaws
 pub mod Frames
 pub mod GivenAnswers
 pub mod GivenMessages
+pub mod GivenRecords
 pub mod GivenStreams
 pub mod GivenTransfers
 pub mod MessageFaults

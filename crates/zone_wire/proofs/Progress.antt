@@ -15,12 +15,11 @@ use Rattle.zone_rdata.specs.declared.fault.Fault.{Fault}
 use Rattle.zone_rdata.specs.declared.fault.Place.TheVariants.{Message}
 use Rattle.zone_rdata.specs.declared.record.Placed.{Placed}
 use Rattle.zone_wire.specs.AnswerFault.{AnswerFault, FirstAnswerFault}
-use Rattle.zone_wire.specs.Answers.{Zone, zone_of, AgreeWith, questions_of, handed_on, is_closed, StandsBehind, StandInOrder}
+use Rattle.zone_wire.specs.Answers.{ZoneAsked, zone_of, AgreeWith, questions_of, handed_on, is_closed, StandsBehind, StandInOrder}
 use Rattle.zone_wire.specs.Machine.Transferring.{Among, Behind, Gains, Hands, Takes, TakesUpTo, TakesHead, HeadFault, other_id, other_zone, TakesWhole, StopsIn, IfNoMemory, TakesEach, TakesMessageUpTo, TakesMessage, zone_held, zone_with}
 use Rattle.zone_wire.specs.Message.{QuestionAt, RecordAt, Sections, IsMessage}
 use Rattle.zone_wire.specs.MessageFault.{MessageFault}
-use Rattle.zone_wire.specs.Source.{first_id, opening_of}
-use Rattle.zone_wire.specs.Stream.{sections_in, asked_in, placed_in, HasFirstId, AsksIn, AskBehind, of_structure, of_id, of_questions, of_answers}
+use Rattle.zone_wire.specs.Stream.{sections_in, asked_in, placed_in, first_id, opening_of, HasFirstId, AsksIn, AskBehind, of_structure, of_id, of_questions, of_answers}
 use Rattle.zone_wire.specs.Transfer.{StatesRecord, StatedMessage, StateEach}
 use Rattle.zone_wire.specs.View.{RawRecord, raw_at, asked}
 use Rattle.zone_wire.specs.declared.message.Question.{Question}
@@ -250,15 +249,15 @@ takes_up_to octets answers first left before old mid new fault offset p e same t
     }
 
 -- what the ID and the questions of a message leave
-first_id_behind : (before : List StatedMessage) (s : Sections) (id : ℕ) → id ≡ s.id → HasFirstId before s → Some id ≡ first_id (sections_in before ++ s ∷ [])
-first_id_behind [] s id e same = ap Some e
-first_id_behind (first ∷ before) s id e same = ap Some (e ∙ same)
+first_id_behind : (before : List StatedMessage) (p : StatedMessage) → HasFirstId before p.sections → Some p.sections.id ≡ first_id (before ++ p ∷ [])
+first_id_behind [] p same = refl
+first_id_behind (first ∷ before) p same = ap Some same
 
-pub has_first_id : (before : List StatedMessage) (s : Sections) (id : Option ℕ) → id ≡ first_id (sections_in before) → MatchOption id ⊤ (λ first. s.id ≡ first) → HasFirstId before s
+pub has_first_id : (before : List StatedMessage) (s : Sections) (id : Option ℕ) → id ≡ first_id before → MatchOption id ⊤ (λ first. s.id ≡ first) → HasFirstId before s
 has_first_id [] s id e h = tt
 has_first_id (first ∷ before) s id e h = subst (λ (o : Option ℕ). MatchOption o ⊤ (λ n. s.id ≡ n)) e h
 
-pub no_first_id : (before : List StatedMessage) (s : Sections) (id : Option ℕ) → id ≡ first_id (sections_in before) → (MatchOption id ⊤ (λ first. s.id ≡ first) → ⊥) → HasFirstId before s → ⊥
+pub no_first_id : (before : List StatedMessage) (s : Sections) (id : Option ℕ) → id ≡ first_id before → (MatchOption id ⊤ (λ first. s.id ≡ first) → ⊥) → HasFirstId before s → ⊥
 no_first_id [] s id e h has = h (subst (λ (o : Option ℕ). MatchOption o ⊤ (λ n. s.id ≡ n)) (sym e) tt)
 no_first_id (first ∷ before) s id e h has = h (subst (λ (o : Option ℕ). MatchOption o ⊤ (λ n. s.id ≡ n)) (sym e) has)
 
@@ -273,12 +272,12 @@ takes_none before s old new id behind none is same count new_id zone opening clo
       same_id = same;
       asks = subst (AllByRecursion (AsksIn (zone_of (asked_in before) (placed_in before)))) (sym none) tt;
       count = count;
-      id = new_id ∙ first_id_behind before s id is same;
+      id = new_id ∙ ap Some is;
       among = among_nothing before s new none among;
     }
 
 -- the question of a message fixes the zone, or names the one that is fixed
-zone_asked : (questions : List QuestionAt) (placed : List Placed) (q : QuestionAt) → AgreeWith (zone_of questions placed) q.name q.class → (let z : Zone = record { name = q.name; class = q.class } in Some z) ≡ zone_of (questions ++ q ∷ []) placed
+zone_asked : (questions : List QuestionAt) (placed : List Placed) (q : QuestionAt) → AgreeWith (zone_of questions placed) q.name q.class → (let z : ZoneAsked = record { name = q.name; class = q.class } in Some z) ≡ zone_of (questions ++ q ∷ []) placed
 zone_asked [] [] q agree = refl
 zone_asked [] (p ∷ placed) q agree = refl
 zone_asked (first ∷ questions) placed q agree = let name = agree.0 in let class = agree.1 in cc
@@ -292,7 +291,7 @@ takes_one before s old new id q behind one is same kind agree count new_id zone 
       same_id = same;
       asks = subst (AllByRecursion (AsksIn fixed)) (sym one) (record { kind = kind; agrees = agrees_with }, tt);
       count = count;
-      id = new_id ∙ first_id_behind before s id is same;
+      id = new_id ∙ ap Some is;
       among = subst (λ qs. Among (asked_in before ++ qs) (placed_in before) new) (sym one) among;
     }
 
@@ -330,7 +329,7 @@ takes_whole octets before s old mid new behind is head decided takes =
       };
       behind = record {
         count = takes.gains.messages ∙ number ∙ sym (length-append before (p ∷ []));
-        id = takes.gains.id ∙ head.id ∙ ap first_id (sym (sections_behind before p));
+        id = takes.gains.id ∙ head.id ∙ first_id_behind before p head.same_id;
         among = among;
       };
       handed = λ given e. takes.gains.handed given (ap (λ d. given ++ d.placed.items) decided ∙ e) ∙ ap handed_on (sym placed);

@@ -11,7 +11,7 @@ use Rattle.zone_rdata.specs.declared.fault.Fault.TheVariants.{NoClosingSoa}
 use Rattle.zone_rdata.specs.declared.fault.Place.{Place}
 use Rattle.zone_rdata.specs.declared.fault.Place.TheVariants.{Message}
 use Rattle.zone_rdata.specs.declared.record.Placed.{Placed}
-use Rattle.zone_wire.specs.Answers.{Zone, zone_of, questions_of, handed_on, is_closed}
+use Rattle.zone_wire.specs.Answers.{ZoneAsked, zone_of, questions_of, handed_on, is_closed}
 use Rattle.zone_wire.specs.Machine.Answers.{agrees, Answered, answers_of}
 use Rattle.zone_wire.specs.Message.{QuestionAt, Sections, IsMessage}
 use Rattle.zone_wire.specs.Machine.Sections.{sections_of}
@@ -27,28 +27,28 @@ abbrev pub Bytes : List ℕ → Type 0
 Bytes octets = (k : ℕ) → get_or octets k 0 < 256
 
 -- a question for a zone
-record AsksIn (zone : Zone) (q : QuestionAt) : Type 0 where
+record AsksIn (zone : ZoneAsked) (q : QuestionAt) : Type 0 where
   name : q.name ≡ zone.name
   kind : q.kind ≡ 252
   class : q.class ≡ zone.class
 
-abbrev OpensIn : Zone → List Placed → Type 0
+abbrev OpensIn : ZoneAsked → List Placed → Type 0
 OpensIn zone [] = ⊤
 OpensIn zone (opening ∷ placed) = (opening.rr.owner ≡ zone.name) × (opening.rr.class ≡ zone.class)
 
 -- questions and records of one zone
-record OfZone (zone : Zone) (questions : List QuestionAt) (placed : List Placed) : Type 0 where
+record OfZone (zone : ZoneAsked) (questions : List QuestionAt) (placed : List Placed) : Type 0 where
   asked : AllByRecursion (AsksIn zone) questions
   opens : OpensIn zone placed
 
 abbrev OfOneZone : List QuestionAt → List Placed → Type 0
-OfOneZone questions placed = (zone : Zone) × OfZone zone questions placed
+OfOneZone questions placed = (zone : ZoneAsked) × OfZone zone questions placed
 
-asks_in : (zone : Zone) (q : QuestionAt) (name : List (List ℕ)) (class : ℕ) → (q.kind == 252) ≡ true → (q.name ≡ name) × (q.class ≡ class) → name ≡ zone.name → class ≡ zone.class → AsksIn zone q
+asks_in : (zone : ZoneAsked) (q : QuestionAt) (name : List (List ℕ)) (class : ℕ) → (q.kind == 252) ≡ true → (q.name ≡ name) × (q.class ≡ class) → name ≡ zone.name → class ≡ zone.class → AsksIn zone q
 asks_in zone q name class kind same n c = record { name = same.0 ∙ n; kind = eqb-true _ _ kind; class = same.1 ∙ c }
 
 -- a question that agrees with what is fixed
-one_question : (zone : Zone) (questions : List QuestionAt) (placed : List Placed) (q : QuestionAt) → (q.kind == 252) ≡ true → agrees (zone_of questions placed) q.name q.class ≡ true → OfZone zone questions placed → OfOneZone (questions ++ q ∷ []) placed
+one_question : (zone : ZoneAsked) (questions : List QuestionAt) (placed : List Placed) (q : QuestionAt) → (q.kind == 252) ≡ true → agrees (zone_of questions placed) q.name q.class ≡ true → OfZone zone questions placed → OfOneZone (questions ++ q ∷ []) placed
 one_question zone [] [] q kind agree of = (record { name = q.name; class = q.class }, record { asked = (record { name = refl; kind = eqb-true _ _ kind; class = refl }, tt); opens = tt })
 one_question zone [] (opening ∷ placed) q kind agree of = (zone, record { asked = (asks_in zone q opening.rr.owner opening.rr.class kind (agree_parts q.name opening.rr.owner q.class opening.rr.class agree) of.opens.0 of.opens.1, tt); opens = of.opens })
 one_question zone (first ∷ questions) placed q kind agree of = (zone, record { asked = all_append (AsksIn zone) (first ∷ questions) (q ∷ []) of.asked (asks_in zone q first.name first.class kind (agree_parts q.name first.name q.class first.class agree) of.asked.0.name of.asked.0.class, tt); opens = of.opens })
@@ -291,7 +291,7 @@ parts_from id zone number (p ∷ parts) loose ids ask fits =
     let fit = all_front (λ (x : Placed). IsRecord x.rr) p.placed (placed_of_parts parts) fits in
     (record { short = loose.0.short; message = loose.0.message; same_id = ids.0; questions = asks.0; answers = loose.0.answers fit.0 }, parts_from id zone (number + 1) parts loose.1 ids.1 asks.1 fit.1)
 
-asks_for : (zone : Zone) (r : Record) → r.owner ≡ zone.name → r.class ≡ zone.class → (questions : List QuestionAt) → AllByRecursion (AsksIn zone) questions → AllByRecursion (AsksFor r) questions
+asks_for : (zone : ZoneAsked) (r : Record) → r.owner ≡ zone.name → r.class ≡ zone.class → (questions : List QuestionAt) → AllByRecursion (AsksIn zone) questions → AllByRecursion (AsksFor r) questions
 asks_for zone r name class [] ask = tt
 asks_for zone r name class (q ∷ questions) ask = (record { name = ask.0.name ∙ sym name; kind = ask.0.kind; class = ask.0.class ∙ sym class }, asks_for zone r name class questions ask.1)
 

@@ -6,18 +6,18 @@ use Rattle.zone_rdata.specs.declared.record.Placed.{Placed}
 use Rattle.zone_wire.specs.Message.{QuestionAt, Sections}
 
 -- a zone's name and class
-pub record Zone : Type 0 where
+pub record ZoneAsked : Type 0 where
   pub name : List (List ℕ)
   pub class : ℕ
 
 -- what questions and records before fix as the zone: the first question or the first record, since these agree
-abbrev pub zone_of : List QuestionAt → List Placed → Option Zone
+abbrev pub zone_of : List QuestionAt → List Placed → Option ZoneAsked
 zone_of (q ∷ questions) placed = Some (record { name = q.name; class = q.class })
 zone_of [] (opening ∷ placed) = Some (record { name = opening.rr.owner; class = opening.rr.class })
 zone_of [] [] = None
 
 -- a name and a class are those of the zone, if it is fixed
-abbrev pub AgreeWith : Option Zone → List (List ℕ) → ℕ → Type 0
+abbrev pub AgreeWith : Option ZoneAsked → List (List ℕ) → ℕ → Type 0
 AgreeWith zone name class = MatchOption zone ⊤ (λ z. (name ≡ z.name) × (class ≡ z.class))
 
 -- the questions of messages

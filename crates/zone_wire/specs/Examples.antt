@@ -1,4 +1,4 @@
--- Messages and streams on which walks, names, records and faults are computed.
+-- Messages and streams on which walks, names, records and faults are computed: this project's own choice of them.
 use Rattle.std.specs.Prelude.{◌≡◌, ℕ, zero, suc, ◌+◌, ◌/◌, ◌%◌, List, [], ◌∷◌, ◌++◌, length, replicate, Option}
 use Rattle.std.specs.List.{flat_map}
 use Rattle.zone_rdata.specs.Record.{Record}

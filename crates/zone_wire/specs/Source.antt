@@ -1,13 +1,12 @@
 -- A source of the records of a zone transfer that is fed in pieces: what it holds, and what it stands for. This is this
 -- project's own: RFC 5936 speaks of whole transfers.
-use Rattle.std.specs.Prelude.{◌≡◌, ℕ, ◌+◌, ◌<◌, List, [], ◌∷◌, ◌++◌, length, slice_index, Bool, true, false, Option, Some, None}
+use Rattle.std.specs.Prelude.{◌≡◌, ℕ, ◌+◌, ◌<◌, List, [], ◌++◌, length, slice_index, Bool, true, false, Option, None}
 use Rattle.zone_rdata.specs.Record.{Record}
 use Rattle.zone_rdata.specs.Source.{Pending}
 use Rattle.zone_rdata.specs.declared.record.Placed.{Placed}
-use Rattle.zone_wire.specs.Answers.{Zone, zone_of, is_closed}
+use Rattle.zone_wire.specs.Answers.{ZoneAsked, zone_of, is_closed}
 use Rattle.zone_wire.specs.Frames.{IsFramed}
-use Rattle.zone_wire.specs.Message.{Sections}
-use Rattle.zone_wire.specs.Stream.{octets_in, sections_in, asked_in, placed_in, AreRead, StreamReads, Decided}
+use Rattle.zone_wire.specs.Stream.{octets_in, asked_in, placed_in, first_id, opening_of, AreRead, StreamReads, Decided}
 use Rattle.zone_wire.specs.Transfer.{StatedMessage}
 
 -- What a source holds beside what it has still to give: whether the stream has ended, the number of octets fed, and of the
@@ -18,7 +17,7 @@ pub record Held : Type 0 where
   pub fed : ℕ
   pub messages : ℕ
   pub id : Option ℕ
-  pub zone : Option Zone
+  pub zone : Option ZoneAsked
   pub opening : Option Record
   pub closed : Bool
   pub unfinished : List ℕ
@@ -34,15 +33,12 @@ counted more source = record {
   held = record source.held { fed = source.held.fed + more };
 }
 
--- the ID of the first message
-abbrev pub first_id : List Sections → Option ℕ
-first_id [] = None
-first_id (first ∷ messages) = Some first.id
-
--- the first record
-abbrev pub opening_of : List Placed → Option Record
-opening_of [] = None
-opening_of (opening ∷ others) = Some opening.rr
+-- the source gives these records next, and stays as it is else
+pub record Gives (old : SourceState) (placed : List Placed) (new : SourceState) : Type 0 where
+  pub first : old.pending.records ≡ placed ++ new.pending.records
+  pub works : new.pending.failed ≡ old.pending.failed
+  pub ending : new.pending.ending ≡ old.pending.ending
+  pub held : new.held ≡ old.held
 
 -- what the octets fed leave: the octets behind the last whole frame, and what the messages of the whole frames say
 pub record Leave (fed : List ℕ) (held : Held) : Type 0 where
@@ -50,7 +46,7 @@ pub record Leave (fed : List ℕ) (held : Held) : Type 0 where
   pub framed : IsFramed fed (octets_in parts) held.unfinished
   pub read : AreRead [] parts
   pub number : held.messages ≡ length parts
-  pub id : held.id ≡ first_id (sections_in parts)
+  pub id : held.id ≡ first_id parts
   pub zone : held.zone ≡ zone_of (asked_in parts) (placed_in parts)
   pub opening : held.opening ≡ opening_of (placed_in parts)
   pub closed : held.closed ≡ is_closed (placed_in parts)

@@ -9,7 +9,7 @@ use Rattle.zone_rdata.specs.declared.fault.Place.{Place}
 use Rattle.zone_rdata.specs.declared.fault.Place.TheVariants.{Message}
 use Rattle.zone_rdata.specs.declared.record.Placed.{Placed}
 use Rattle.zone_wire.specs.AnswerFault.{FirstAnswerFault}
-use Rattle.zone_wire.specs.Answers.{Zone, zone_of, AgreeWith, questions_of, handed_on, is_closed, StandInOrder}
+use Rattle.zone_wire.specs.Answers.{ZoneAsked, zone_of, AgreeWith, questions_of, handed_on, is_closed, StandInOrder}
 use Rattle.zone_wire.specs.Frames.{IsFramed}
 use Rattle.zone_wire.specs.Message.{QuestionAt, Sections, IsMessage}
 use Rattle.zone_wire.specs.MessageFault.{MessageFault}
@@ -34,7 +34,7 @@ HasFirstId [] s = ⊤
 HasFirstId (first ∷ before) s = s.id ≡ first.sections.id
 
 -- a question for the whole of the zone that is fixed, if one is: of type AXFR, 252 (RFC 5936 2.1.2, 2.2.2)
-pub record AsksIn (zone : Option Zone) (q : QuestionAt) : Type 0 where
+pub record AsksIn (zone : Option ZoneAsked) (q : QuestionAt) : Type 0 where
   pub kind : q.kind ≡ 252
   pub agrees : AgreeWith zone q.name q.class
 

@@ -1,4 +1,4 @@
--- The places of a walk by what stands there.
+-- The places of a walk by what stands there (RFC 1035 3.1, 4.1.4).
 use Rattle.std.specs.Prelude.{◌≡◌, ℕ, List, [], ◌∷◌, ◌||◌, Bool, true, false, ⊤}
 use Rattle.std.specs.List.{count_by}
 use Rattle.zone_wire.specs.Walk.{Standing, at_label, at_pointer, Visit}

@@ -3,6 +3,7 @@ ghost use Rattle.zone_wire.specs.Message.{RecordAt, IsRecordAt};
 
 use crate::name::{Decoded, name_at};
 use crate::number::{u16_at, u32_at};
+use crate::place::RECORD_HEAD_LEN;
 use std::marker::Model;
 use zone_name::Name;
 
@@ -147,8 +148,8 @@ fn record_at<'m>(message: &'m [u8], offset: usize) -> RawRr<'m>
             kind: u16_at(message, end),
             class: u16_at(message, end + 2),
             ttl: u32_at(message, end + 4),
-            start: end + 10,
-            end: end + 10 + u16_at(message, end + 8) as usize,
+            start: end + RECORD_HEAD_LEN,
+            end: end + RECORD_HEAD_LEN + u16_at(message, end + 8) as usize,
         },
         Err(_) => unreachable!(),
     }

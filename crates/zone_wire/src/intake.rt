@@ -1,5 +1,5 @@
 //! Octets of a stream as they come in pieces: the frames that came whole, and the octets behind them (RFC 1035 4.2.2).
-ghost use Rattle.std.specs.Prelude.{◌≡◌, ◌+◌, ◌-◌, ◌<◌, ◌≤◌, ◌^◌, ◌++◌, [], ℕ, List, None, length, take, IfOk, IfSome, MatchOption, OnOk};
+ghost use Rattle.std.specs.Prelude.{◌≡◌, ◌+◌, ◌-◌, ◌<◌, ◌≤◌, ◌^◌, ◌++◌, [], ℕ, List, None, length, take, IfOk, IfSome, IsOk, MatchOption, OnOk};
 ghost use Rattle.zone_rdata.specs.declared.record.Placed.{Placed};
 ghost use Rattle.zone_wire.specs.Machine.Feeding.{Follow, IsCut};
 ghost use Rattle.zone_wire.specs.Message.{u16_at};
@@ -7,6 +7,7 @@ ghost use Rattle.zone_wire.specs.Stream.{StreamEnd, StreamReads};
 ghost use Rattle.zone_wire.specs.Answers.{is_closed};
 ghost use Rattle.zone_wire.specs.Transfer.{frame};
 
+use crate::number::u16_at;
 use crate::transfer::Transfer;
 use std::alloc::{AllocError, Global};
 use zone_rdata::{Fault, Place};
@@ -45,7 +46,7 @@ impl Intake {
         ensures cut { OnOk result (IsCut self.new.unfinished.items) }
         ensures dropped { OnOk result (IfSome self.new.transfer.decided.ending (λ _. self.new.unfinished.items ≡ [])) }
         ensures count { OnOk result (self.new.transfer.messages ≤ self.old.transfer.messages + length piece.now) }
-        ensures decided { OnOk result (IfSome self.old.transfer.decided.ending (λ _. self.new ≡ self.old)) }
+        ensures decided { IfSome self.old.transfer.decided.ending (λ _. IsOk result × (self.new ≡ self.old)) }
         ensures follow { OnOk result ((fed : List ℕ) (given : List Placed)
             → Follow self.old.transfer self.old.unfinished.items fed given
             → Follow self.new.transfer self.new.unfinished.items (fed ++ piece.now) given) }
@@ -160,7 +161,7 @@ fn frame_end(cut: &[u8], more: &[u8]) -> Option<usize>
         ([], [high, low, ..]) => (*high, *low),
         _ => return None,
     };
-    let len = LENGTH_LEN + high as usize * 256 + low as usize;
+    let len = LENGTH_LEN + u16_at(&[high, low], 0) as usize;
     if len - cut.len() > more.len() {
         return None;
     }

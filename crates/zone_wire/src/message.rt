@@ -6,7 +6,7 @@ ghost use Rattle.zone_wire.specs.View.{raw_at, asked};
 use crate::answers::Answers;
 use crate::name::{Decoded, name_at};
 use crate::number::u16_at;
-use crate::place::HEADER_LEN;
+use crate::place::{ANCOUNT, HEADER_LEN, QDCOUNT};
 use crate::structure::answers_start;
 use std::marker::Model;
 use zone_name::Name;
@@ -15,6 +15,7 @@ use zone_rdata::Fault;
 /// What a message asks for (RFC 1035 4.1.2).
 #[derive(Debug, Drop)]
 pub struct Question {
+    /// The name that is asked for.
     pub name: Name,
     /// The number of the type that is asked for.
     pub kind: u16,
@@ -72,7 +73,7 @@ impl<'m> Message<'m> {
         ensures { MatchOption result (self.now.sections.questions ≡ [])
             (λ q. map asked self.now.sections.questions ≡ q ∷ []) }
     {
-        if u16_at(self.octets, 4) == 0 {
+        if u16_at(self.octets, QDCOUNT) == 0 {
             return None;
         }
         match name_at(self.octets, HEADER_LEN) {
@@ -93,7 +94,7 @@ impl<'m> Message<'m> {
         Answers {
             message: self.octets,
             offset: self.answers,
-            left: u16_at(self.octets, 6),
+            left: u16_at(self.octets, ANCOUNT),
         }
     }
 }

@@ -13,6 +13,7 @@ use zone_rdata::Fault;
 /// A name that was read from a message.
 #[derive(Debug, Drop)]
 pub struct Decoded {
+    /// The name's labels, through the pointers.
     pub name: Name,
     /// The offset after the root's octet or after the first pointer.
     pub end: usize,

@@ -4,11 +4,27 @@ ghost use Rattle.zone_wire.specs.Machine.Place.{spot_of, standing_of, ticks_at};
 ghost use Rattle.zone_wire.specs.Walk.{place_of, label_of, pointer_of};
 ghost use Rattle.zone_wire.specs.Machine.Walk.{outset, past_label, past_pointer};
 
+use crate::number::u16_at;
 use crate::ticks::Ticks;
 use zone_rdata::Fault;
 
 /// The octets of a message's header (RFC 1035 4.1.1).
 pub(crate) const HEADER_LEN: usize = 12;
+
+/// Where a header says how many questions there are (RFC 1035 4.1.1).
+pub(crate) const QDCOUNT: usize = 4;
+
+/// Where a header says how many answers there are (RFC 1035 4.1.1).
+pub(crate) const ANCOUNT: usize = 6;
+
+/// Where a header says how many authority records there are (RFC 1035 4.1.1).
+pub(crate) const NSCOUNT: usize = 8;
+
+/// Where a header says how many additional records there are (RFC 1035 4.1.1).
+pub(crate) const ARCOUNT: usize = 10;
+
+/// The octets of a record between its name and its data: its type, its class, its TTL and the data's length (RFC 1035 4.1.3).
+pub(crate) const RECORD_HEAD_LEN: usize = 10;
 
 /// The greatest number of octets of a name: its labels, each with its length, and the root (RFC 1035 2.3.4, 3.1).
 const MAX_NAME_LEN: usize = 255;
@@ -16,8 +32,8 @@ const MAX_NAME_LEN: usize = 255;
 /// The greatest number of pointers through which a name is followed. RFC 1035 states none; this is the project's own choice.
 const MAX_POINTERS: usize = 128;
 
-/// What the two high bits of a pointer's first octet, both set, count in it (RFC 1035 4.1.4).
-const POINTER_BITS: usize = 192;
+/// What the two high bits of a pointer, both set, count in its 16 bits (RFC 1035 4.1.4).
+const POINTER_BITS: u16 = 0xc000;
 
 /// Where the walk along a name stands, and what it met before.
 #[derive(Clone, Copy, Debug)]
@@ -90,8 +106,7 @@ fn pointer_at(message: &[u8], spot: Spot) -> Standing
     if message.len() - spot.offset < 2 {
         return Standing::Bad(Fault::ShortMessage);
     }
-    let high = message[spot.offset] as usize - POINTER_BITS;
-    let target = high * 256 + message[spot.offset + 1] as usize;
+    let target = (u16_at(message, spot.offset) - POINTER_BITS) as usize;
     if target < HEADER_LEN || target >= spot.bound {
         Standing::Bad(Fault::BadPointer)
     } else if spot.pointers >= MAX_POINTERS {

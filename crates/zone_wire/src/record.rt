@@ -54,7 +54,7 @@ impl<'m> RawRr<'m> {
     ///
     /// `BadClass` or `MetaType` where no zone data has the class or the type, `CompressibleType` where the type may hold
     /// compressed names and has no layout, then the first fault of the data: `BadRdata`, or a name's `ShortMessage`,
-    /// `ReservedLabel`, `BadPointer`, `TooManyPointers` or `NameTooLong`; and want of memory.
+    /// `ReservedLabel`, `BadPointer`, `TooManyPointers` or `NameTooLong`; and `Failing::Memory` for want of memory.
     pub fn to_rr(&self, alloc: Global) -> Result<Rr, Failing>
         ensures found { IfOk result (StatesRecord self.now.octets self.now.at) }
         ensures only { (r : Record) → StatesRecord self.now.octets self.now.at r

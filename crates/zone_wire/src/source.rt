@@ -1,5 +1,5 @@
 //! A source of the records of a zone transfer that is fed in pieces.
-ghost use Rattle.std.specs.Prelude.{◌≡◌, ◌+◌, ◌<◌, ◌≤◌, ◌^◌, ◌++◌, ℕ, true, false, [], List, None, length, IfErr, IfOk, IfSome, OnOk, OnErr};
+ghost use Rattle.std.specs.Prelude.{◌≡◌, ◌+◌, ◌<◌, ◌≤◌, ◌^◌, ◌++◌, ℕ, true, false, [], List, None, length, IfErr, IfOk, IfSome, IsOk, OnOk, OnErr};
 ghost use Rattle.zone_wire.specs.Stream.{StreamReads};
 
 use crate::intake::{Intake, cut_len};
@@ -68,7 +68,8 @@ impl TransferSource {
         }
     }
 
-    /// Takes the next piece of the stream, of any length. Once a fault is decided it is counted alone.
+    /// Takes the next piece of the stream, of any length. Once a fault is decided a piece is counted alone, which takes no
+    /// memory.
     ///
     /// # Errors
     ///
@@ -79,8 +80,8 @@ impl TransferSource {
         ensures stands { OnOk result ((fed : List ℕ) (given : List Placed)
             → Stands self.old fed given → Stands self.new (fed ++ piece.now) given) }
         ensures count { OnOk result (self.new.held.fed ≡ self.old.held.fed + length piece.now) }
-        ensures decided { OnOk result (IfSome self.old.pending.ending
-            (λ _. self.new ≡ counted (length piece.now) self.old)) }
+        ensures decided { self.old.pending.failed ≡ false → IfSome self.old.pending.ending
+            (λ _. IsOk result × (self.new ≡ counted (length piece.now) self.old)) }
         ensures works { OnOk result (self.old.pending.failed ≡ false) }
         ensures working { OnOk result (self.new.pending.failed ≡ false) }
         ensures memory { IfErr result (λ stop. stop ≡ Stop.Memory) }

@@ -5,7 +5,9 @@ ghost use Rattle.zone_wire.specs.Machine.Finding.{outcome};
 ghost use Rattle.zone_wire.specs.Machine.Walk.{walk};
 
 use crate::number::u16_at;
-use crate::place::{HEADER_LEN, Spot, Standing, place_at};
+use crate::place::{
+    ANCOUNT, ARCOUNT, HEADER_LEN, NSCOUNT, QDCOUNT, RECORD_HEAD_LEN, Spot, Standing, place_at,
+};
 use crate::ticks::Ticks;
 use zone_rdata::Fault;
 
@@ -20,9 +22,9 @@ pub(crate) fn answers_start(octets: &[u8]) -> Result<usize, (Fault, usize)>
     if let Some(fault) = header_fault(octets) {
         return Err((fault, 0));
     }
-    let answers = questions_end(octets, u16_at(octets, 4), HEADER_LEN)?;
-    let additional = records_end(octets, u16_at(octets, 6), answers)?;
-    let end = records_end(octets, u16_at(octets, 10), additional)?;
+    let answers = questions_end(octets, u16_at(octets, QDCOUNT), HEADER_LEN)?;
+    let additional = records_end(octets, u16_at(octets, ANCOUNT), answers)?;
+    let end = records_end(octets, u16_at(octets, ARCOUNT), additional)?;
     if end != octets.len() {
         return Err((Fault::TrailingOctets, 0));
     }
@@ -44,7 +46,7 @@ fn header_fault(octets: &[u8]) -> Option<Fault>
         Some(Fault::Truncated)
     } else if octets[3] & 0x0f != 0 {
         Some(Fault::ErrorCode(octets[3] & 0x0f))
-    } else if u16_at(octets, 4) > 1 || u16_at(octets, 8) != 0 {
+    } else if u16_at(octets, QDCOUNT) > 1 || u16_at(octets, NSCOUNT) != 0 {
         Some(Fault::BadCounts)
     } else {
         None
@@ -88,10 +90,10 @@ fn record_end(message: &[u8], offset: usize) -> Result<usize, Fault>
     ensures { result ≡ part_end_of (λ r. r.end) (record_at message.now offset) }
 {
     let end = name_end(message, offset)?;
-    if message.len() - end < 10 {
+    if message.len() - end < RECORD_HEAD_LEN {
         return Err(Fault::ShortMessage);
     }
-    let start = end + 10;
+    let start = end + RECORD_HEAD_LEN;
     let size = u16_at(message, end + 8) as usize;
     if message.len() - start < size {
         return Err(Fault::ShortMessage);

@@ -9,7 +9,7 @@ use Rattle.zone_rdata.specs.declared.fault.Fault.{Fault}
 use Rattle.zone_rdata.specs.declared.fault.Fault.TheVariants.{BadClass, MetaType, CompressibleType, AfterClosing, NoOpeningSoa, BadQuestion, SoaMismatch}
 use Rattle.zone_rdata.specs.declared.fault.Place.TheVariants.{Message}
 use Rattle.zone_rdata.specs.declared.record.Placed.{Placed}
-use Rattle.zone_wire.specs.Answers.{Zone, zone_of}
+use Rattle.zone_wire.specs.Answers.{ZoneAsked, zone_of}
 use Rattle.zone_wire.specs.Machine.Data.{data_at}
 use Rattle.zone_wire.specs.Message.{QuestionAt, RecordAt}
 use Rattle.zone_wire.specs.Machine.Sections.{and_then}
@@ -35,7 +35,7 @@ record_of octets a =
     else and_then (data_at octets a) (λ canonical. Ok (record { owner = a.owner; class = a.class; kind = a.kind; ttl = ttl_of a.ttl; octets = canonical }))
 
 -- a name and a class are those of the zone, if it is fixed
-abbrev pub agrees : Option Zone → List (List ℕ) → ℕ → Bool
+abbrev pub agrees : Option ZoneAsked → List (List ℕ) → ℕ → Bool
 agrees None name class = true
 agrees (Some zone) name class = same_name name zone.name && class == zone.class
 

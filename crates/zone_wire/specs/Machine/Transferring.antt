@@ -8,20 +8,19 @@ use Rattle.zone_rdata.specs.declared.fault.Fault.TheVariants.{IdMismatch, BadQue
 use Rattle.zone_rdata.specs.declared.fault.Place.TheVariants.{Message}
 use Rattle.zone_rdata.specs.declared.record.Placed.{Placed}
 use Rattle.zone_wire.specs.AnswerFault.{FirstAnswerFault}
-use Rattle.zone_wire.specs.Answers.{Zone, zone_of, handed_on, is_closed, StandsBehind, StandInOrder}
+use Rattle.zone_wire.specs.Answers.{ZoneAsked, zone_of, handed_on, is_closed, StandsBehind, StandInOrder}
 use Rattle.zone_wire.specs.Message.{QuestionAt, RecordAt, Sections}
-use Rattle.zone_wire.specs.Source.{first_id, opening_of}
-use Rattle.zone_wire.specs.Stream.{sections_in, asked_in, placed_in, HasFirstId, AskBehind, IsReadBehind, FaultBehind}
+use Rattle.zone_wire.specs.Stream.{asked_in, placed_in, first_id, opening_of, HasFirstId, AskBehind, IsReadBehind, FaultBehind}
 use Rattle.zone_wire.specs.Transfer.{StatesRecord, StatedMessage, StateEach}
 use Rattle.zone_wire.specs.declared.transfer.FixedZone.{FixedZone}
 use Rattle.zone_wire.specs.declared.transfer.Transfer.{Transfer}
 
-abbrev pub zone_held : Option FixedZone → Option Zone
+abbrev pub zone_held : Option FixedZone → Option ZoneAsked
 zone_held None = None
 zone_held (Some z) = Some (record { name = z.name; class = z.class })
 
 -- the zone that an opening SOA leaves fixed
-abbrev pub zone_with : Option Zone → Record → Option Zone
+abbrev pub zone_with : Option ZoneAsked → Record → Option ZoneAsked
 zone_with (Some z) opening = Some z
 zone_with None opening = Some (record { name = opening.owner; class = opening.class })
 
@@ -34,7 +33,7 @@ pub record Among (questions : List QuestionAt) (placed : List Placed) (t : Trans
 -- the transfer holds what these messages fix
 pub record Behind (before : List StatedMessage) (t : Transfer) : Type 0 where
   pub count : t.messages ≡ length before
-  pub id : t.id ≡ first_id (sections_in before)
+  pub id : t.id ≡ first_id before
   pub among : Among (asked_in before) (placed_in before) t
 
 -- what is still to be handed on is the rest of these records, whatever was given
@@ -62,14 +61,14 @@ IfNoMemory Is (Ok done) = Is None
 IfNoMemory Is (Err e) = elim e.0 [ failings.Fault fault ↦ Is (Some (fault, e.1)) | failings.Memory ↦ ⊤ ]
 
 -- what answers give: the records of all of them, or those before the first fault
-abbrev pub Gives : ℕ → List ℕ → List QuestionAt → List Placed → List RecordAt → List Placed → Option (Fault × ℕ) → Type 0
-Gives number octets questions placed answers here None = StateEach number octets answers here × StandInOrder questions placed here
-Gives number octets questions placed answers here (Some e) = FirstAnswerFault number octets questions placed answers here e.0 e.1
+abbrev pub AnswersGive : ℕ → List ℕ → List QuestionAt → List Placed → List RecordAt → List Placed → Option (Fault × ℕ) → Type 0
+AnswersGive number octets questions placed answers here None = StateEach number octets answers here × StandInOrder questions placed here
+AnswersGive number octets questions placed answers here (Some e) = FirstAnswerFault number octets questions placed answers here e.0 e.1
 
 -- the records of answers came behind others, up to a fault
 pub record TakesUpTo (octets : List ℕ) (answers : List RecordAt) (questions : List QuestionAt) (placed : List Placed) (old new : Transfer) (fault : Option (Fault × ℕ)) : Type 0 where
   pub here : List Placed
-  pub gives : Gives old.messages octets questions placed answers here fault
+  pub gives : AnswersGive old.messages octets questions placed answers here fault
   pub gains : Gains here questions placed old new
 
 abbrev pub TakesEach : List ℕ → List RecordAt → List QuestionAt → List Placed → Result (Unit {0}) (Failing × ℕ) → Transfer → Transfer → Type 0
@@ -80,7 +79,7 @@ pub record TakesHead (before : List StatedMessage) (s : Sections) (old new : Tra
   pub same_id : HasFirstId before s
   pub asks : AskBehind before s
   pub count : new.messages ≡ old.messages + 1
-  pub id : new.id ≡ first_id (sections_in before ++ s ∷ [])
+  pub id : new.id ≡ Some s.id
   pub among : Among (asked_in before ++ s.questions) (placed_in before) new
 
 -- the fault of a message's ID, or of a question

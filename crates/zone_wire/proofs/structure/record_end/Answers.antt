@@ -9,8 +9,8 @@ returns-in_err-end c = let p = err_from_is_err_and c.from_residual.result c.from
 pub overflow_sub-message : goal.overflow_sub-message
 overflow_sub-message c = name_ends_inside c.args.message.now c.args.offset (λ i. omega (arith, c.type_inv.message i)) c.in_ok-end.end c.in_ok-end.ensures
 
-pub returns-then-message-end-lt10 : goal.returns-then-message-end-lt10
-returns-then-message-end-lt10 c = record_short c.args.message.now c.args.offset c.in_ok-end.end c.in_ok-end.ensures (omega (arith, c.if-message-end-lt10.true))
+pub returns-then-message-end-lt-RECORD_HEAD_LEN : goal.returns-then-message-end-lt-RECORD_HEAD_LEN
+returns-then-message-end-lt-RECORD_HEAD_LEN c = record_short c.args.message.now c.args.offset c.in_ok-end.end c.in_ok-end.ensures (omega (arith, c.if-message-end-lt-RECORD_HEAD_LEN.true))
 
 pub returns-then-message-start : goal.returns-then-message-start
 returns-then-message-start c = record_short c.args.message.now c.args.offset c.in_ok-end.end c.in_ok-end.ensures (omega (arith, c.if-message-start.true, c.u16_at-size.ensures))
@@ -18,4 +18,4 @@ returns-then-message-start c = record_short c.args.message.now c.args.offset c.i
 pub returns : goal.returns
 returns c =
     let inside = name_ends_inside c.args.message.now c.args.offset (λ i. omega (arith, c.type_inv.message i)) c.in_ok-end.end c.in_ok-end.ensures in
-    rw c.u16_at-size.ensures (record_ends c.args.message.now c.args.offset c.in_ok-end.end c.in_ok-end.ensures (omega (arith, c.if-message-start.false, c.if-message-end-lt10.false, c.u16_at-size.ensures, inside)))
+    rw c.u16_at-size.ensures (record_ends c.args.message.now c.args.offset c.in_ok-end.end c.in_ok-end.ensures (omega (arith, c.if-message-start.false, c.if-message-end-lt-RECORD_HEAD_LEN.false, c.u16_at-size.ensures, inside)))

@@ -1,6 +1,6 @@
 use Rattle.std.proofs.Common.{◌≡◌, ◌+◌, Option, Some, true, ap, sym, ◌∙◌, subst, refl}
 use Rattle.std.specs.Prelude.{MatchOption, ⊤}
-use Rattle.zone_wire.specs.Answers.{Zone}
+use Rattle.zone_wire.specs.Answers.{ZoneAsked}
 use Rattle.zone_wire.specs.Machine.Answers.{agrees}
 use Rattle.zone_wire.specs.declared.message.Question.{Question}
 use Rattle.zone_wire.specs.Machine.Transferring.{other_id, other_zone, zone_held}
@@ -38,7 +38,7 @@ returns-clause-taken c = λ before behind.
     elim c.match-question.branch [
       | in-Some+else-question-ne-AXFR+else-not-is_of_zone w ↦
           (let q = asked_one c.args.message.now.sections.questions w.in-Some.question w.in-Some.ensures in
-          let held : Question → Option Zone = λ x. Some (record { name = x.name; class = x.class }) in
+          let held : Question → Option ZoneAsked = λ x. Some (record { name = x.name; class = x.class }) in
           takes_one before c.args.message.now.sections c.args.self.now _ c.id-id.result q.at behind q.one c.id-id.ensures has
           (ap (λ x. x.kind) q.same ∙ w.if-question-ne-AXFR.false)
           (agrees_by (zone_held c.args.self.now.zone) q.at.name q.at.class (ap (λ x. agrees (zone_held c.args.self.now.zone) x.name x.class) q.same ∙ sym w.is_of_zone.ensures ∙ w.if-not-is_of_zone.false))
