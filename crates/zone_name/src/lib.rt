@@ -14,7 +14,7 @@ mod sink;
 mod text;
 
 pub use builder::NameBuilder;
-pub use escape::{NextUnit, escape_at, next_unit};
+pub use escape::{NextUnit, decimal_escape, escape_at, next_unit};
 pub use fault::NameFault;
 pub use labels::Labels;
 pub use lent::NameRef;

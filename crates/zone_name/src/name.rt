@@ -102,6 +102,14 @@ impl Name {
         }
     }
 
+    /// The same name in octets that are lent.
+    pub(crate) fn lend(&self) -> NameRef<'_>
+        ensures value { result ≡ self.now }
+        ensures name { IsName self.now }
+    {
+        NameRef::of_wire(self.octets.as_slice())
+    }
+
     /// The name of these octets, which are copied.
     pub(crate) fn holding(octets: &[u8]) -> Name
         requires { HoldsName octets.now }
