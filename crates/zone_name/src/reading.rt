@@ -81,24 +81,37 @@ fn close(octets: &mut ArrayVec<u8, 255>, label: &[u8]) -> Result<bool, NameFault
     Ok(false)
 }
 
-/// Puts the label at the front of a text in place, and returns what stands behind it: nothing, or a dot and more.
+/// A label that was read at the front of a text.
+#[derive(Drop)]
+struct ReadLabel<'t> {
+    /// There was no room for it, and it was not kept.
+    is_left_out: bool,
+    /// What stands behind it: nothing, or a dot and more.
+    behind: &'t [u8],
+}
+
+/// Puts the label at the front of a text in place.
 fn read_label<'t>(
     octets: &mut ArrayVec<u8, 255>,
     text: &'t [u8],
-) -> Result<(bool, &'t [u8]), NameFault>
+) -> Result<ReadLabel<'t>, NameFault>
     requires some { 0 < length text.now }
     requires holds { HoldsUnfolded octets.old.items }
     ensures holds { HoldsUnfolded octets.new.items }
-    ensures ok { IfOk result (λ read. IsClosable text.now read.1.now (λ label.
-        Closes (unfolded_labels octets.old.items) label read.0 (unfolded_labels octets.new.items))) }
+    ensures ok { IfOk result (λ read. IsClosable text.now read.behind.now (λ label.
+        Closes (unfolded_labels octets.old.items) label read.is_left_out
+        (unfolded_labels octets.new.items))) }
     ensures err { IfErr result (Refuses text.now) }
 {
     let (label, behind) = text.split_at(plain_len(text));
-    if let Some(_) = behind.strip_prefix(b"\\") {
+    if behind.starts_with(b"\\") {
         return read_escaped_label(octets, text);
     }
     let is_left_out = close(octets, label)?;
-    Ok((is_left_out, behind))
+    Ok(ReadLabel {
+        is_left_out,
+        behind,
+    })
 }
 
 /// The same where the label may have escapes: octet by octet.
@@ -107,18 +120,22 @@ fn read_label<'t>(
 fn read_escaped_label<'t>(
     octets: &mut ArrayVec<u8, 255>,
     text: &'t [u8],
-) -> Result<(bool, &'t [u8]), NameFault>
+) -> Result<ReadLabel<'t>, NameFault>
     requires some { 0 < length text.now }
     requires holds { HoldsUnfolded octets.old.items }
     ensures holds { HoldsUnfolded octets.new.items }
-    ensures ok { IfOk result (λ read. IsClosable text.now read.1.now (λ label.
-        Closes (unfolded_labels octets.old.items) label read.0 (unfolded_labels octets.new.items))) }
+    ensures ok { IfOk result (λ read. IsClosable text.now read.behind.now (λ label.
+        Closes (unfolded_labels octets.old.items) label read.is_left_out
+        (unfolded_labels octets.new.items))) }
     ensures err { IfErr result (Refuses text.now) }
 {
     let mut label: ArrayVec<u8, 63> = ArrayVec::new();
     let behind = open_label(&mut label, text)?;
     let is_left_out = close(octets, label.as_slice())?;
-    Ok((is_left_out, behind))
+    Ok(ReadLabel {
+        is_left_out,
+        behind,
+    })
 }
 
 /// Reads the octets of the label at the front of a text, and returns what stands behind it.
@@ -130,7 +147,7 @@ fn open_label<'t>(label: &mut ArrayVec<u8, 63>, text: &'t [u8]) -> Result<&'t [u
 {
     let mut rest = text;
     loop {
-        if let Some(_) = rest.strip_prefix(b".") {
+        if rest.starts_with(b".") {
             return Ok(rest);
         }
         match next_unit(rest) {
@@ -162,8 +179,11 @@ fn read_labels(octets: &mut ArrayVec<u8, 255>, text: &[u8]) -> Result<Spelled, N
     let mut is_too_long = false;
     let mut rest = text;
     while !rest.is_empty() {
-        let (is_left_out, behind) = read_label(octets, rest)?;
-        is_too_long = is_too_long | is_left_out;
+        let ReadLabel {
+            is_left_out,
+            behind,
+        } = read_label(octets, rest)?;
+        is_too_long |= is_left_out;
         let Some((_, after)) = behind.split_first() else {
             return Ok(Spelled {
                 is_too_long,
@@ -195,10 +215,9 @@ fn end_with(octets: &mut ArrayVec<u8, 255>, ending: &[u8]) -> Result<(), NameFau
         sized (unfolded_labels octets.old.items ++ labels_of ending.now) ≡ Err fault) }
 {
     fold(octets);
-    match octets.try_extend_from_slice(ending) {
-        Ok(()) => Ok(()),
-        Err(_) => Err(NameFault::NameTooLong),
-    }
+    octets
+        .try_extend_from_slice(ending)
+        .map_err(|_| NameFault::NameTooLong)
 }
 
 /// Ends the name of the labels, with the origin's behind them where the text is relative.
