@@ -18,5 +18,5 @@ pub use escape::{NextUnit, decimal_escape, escape_at, next_unit};
 pub use fault::NameFault;
 pub use labels::Labels;
 pub use lent::NameRef;
-pub use name::Name;
+pub use name::{MAX_LABEL_LEN, MAX_NAME_LEN, Name};
 pub use sink::{Room, Sink};

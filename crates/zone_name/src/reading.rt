@@ -10,7 +10,7 @@ ghost use Rattle.zone_name.specs.Machine.Seen.{Refuses, RefusesLabel, unfolded_l
 use crate::builder::check_label;
 use crate::escape::{NextUnit, next_unit};
 use crate::fault::NameFault;
-use crate::name::Name;
+use crate::name::{MAX_LABEL_LEN, MAX_NAME_LEN, Name};
 use arrayvec::ArrayVec;
 
 /// How a name's text is read (RFC 1035 5.1).
@@ -65,7 +65,7 @@ fn plain_len(text: &[u8]) -> usize
 }
 
 /// Puts a label behind the others, its letters as they are, and tells whether there was no room for it.
-fn close(octets: &mut ArrayVec<u8, 255>, label: &[u8]) -> Result<bool, NameFault>
+fn close(octets: &mut ArrayVec<u8, MAX_NAME_LEN>, label: &[u8]) -> Result<bool, NameFault>
     requires { HoldsUnfolded octets.old.items }
     ensures holds { HoldsUnfolded octets.new.items }
     ensures ok { IfOk result (λ full. Closes (unfolded_labels octets.old.items) label.now full
@@ -92,7 +92,7 @@ struct ReadLabel<'t> {
 
 /// Puts the label at the front of a text in place.
 fn read_label<'t>(
-    octets: &mut ArrayVec<u8, 255>,
+    octets: &mut ArrayVec<u8, MAX_NAME_LEN>,
     text: &'t [u8],
 ) -> Result<ReadLabel<'t>, NameFault>
     requires some { 0 < length text.now }
@@ -118,7 +118,7 @@ fn read_label<'t>(
 // Not inlined: only such a label needs room of its own.
 #[inline(never)]
 fn read_escaped_label<'t>(
-    octets: &mut ArrayVec<u8, 255>,
+    octets: &mut ArrayVec<u8, MAX_NAME_LEN>,
     text: &'t [u8],
 ) -> Result<ReadLabel<'t>, NameFault>
     requires some { 0 < length text.now }
@@ -129,7 +129,7 @@ fn read_escaped_label<'t>(
         (unfolded_labels octets.new.items))) }
     ensures err { IfErr result (Refuses text.now) }
 {
-    let mut label: ArrayVec<u8, 63> = ArrayVec::new();
+    let mut label: ArrayVec<u8, MAX_LABEL_LEN> = ArrayVec::new();
     let behind = open_label(&mut label, text)?;
     let is_left_out = close(octets, label.as_slice())?;
     Ok(ReadLabel {
@@ -139,7 +139,10 @@ fn read_escaped_label<'t>(
 }
 
 /// Reads the octets of the label at the front of a text, and returns what stands behind it.
-fn open_label<'t>(label: &mut ArrayVec<u8, 63>, text: &'t [u8]) -> Result<&'t [u8], NameFault>
+fn open_label<'t>(
+    label: &mut ArrayVec<u8, MAX_LABEL_LEN>,
+    text: &'t [u8],
+) -> Result<&'t [u8], NameFault>
     requires some { 0 < length text.now }
     requires none { label.old.items ≡ [] }
     ensures ok { IfOk result (λ rest. EndsLabelAt text.now label.new.items rest.now) }
@@ -165,7 +168,7 @@ fn open_label<'t>(label: &mut ArrayVec<u8, 63>, text: &'t [u8]) -> Result<&'t [u
 }
 
 /// Puts the labels of a text that is neither `.` nor `@` in place, their letters as they are (RFC 1035 5.1).
-fn read_labels(octets: &mut ArrayVec<u8, 255>, text: &[u8]) -> Result<Spelled, NameFault>
+fn read_labels(octets: &mut ArrayVec<u8, MAX_NAME_LEN>, text: &[u8]) -> Result<Spelled, NameFault>
     requires { octets.old.items ≡ [] }
     ensures holds { HoldsUnfolded octets.new.items }
     ensures labels { IfOk result (λ spelled. (labels : Labels)
@@ -199,14 +202,14 @@ fn read_labels(octets: &mut ArrayVec<u8, 255>, text: &[u8]) -> Result<Spelled, N
 }
 
 /// Puts the letters in lower case (RFC 4343 3). A label's length is no letter, and stays.
-fn fold(octets: &mut ArrayVec<u8, 255>)
+fn fold(octets: &mut ArrayVec<u8, MAX_NAME_LEN>)
     ensures { octets.new.items ≡ map folded_octet octets.old.items }
 {
     octets.as_mut_slice().make_ascii_lowercase();
 }
 
 /// Puts the labels in lower case, and the octets of a name behind them.
-fn end_with(octets: &mut ArrayVec<u8, 255>, ending: &[u8]) -> Result<(), NameFault>
+fn end_with(octets: &mut ArrayVec<u8, MAX_NAME_LEN>, ending: &[u8]) -> Result<(), NameFault>
     requires holds { HoldsUnfolded octets.old.items }
     requires name { HoldsName ending.now }
     ensures ok { IfOk result (λ _. HoldsName octets.new.items
@@ -222,7 +225,7 @@ fn end_with(octets: &mut ArrayVec<u8, 255>, ending: &[u8]) -> Result<(), NameFau
 
 /// Ends the name of the labels, with the origin's behind them where the text is relative.
 fn finish(
-    octets: &mut ArrayVec<u8, 255>,
+    octets: &mut ArrayVec<u8, MAX_NAME_LEN>,
     spelled: Spelled,
     origin: Option<&Name>,
 ) -> Result<(), NameFault>
@@ -253,7 +256,7 @@ fn finish(
 // Not inlined: the octets are then written where they stay, and not moved.
 #[inline(never)]
 fn read_into(
-    octets: &mut ArrayVec<u8, 255>,
+    octets: &mut ArrayVec<u8, MAX_NAME_LEN>,
     text: &[u8],
     origin: Option<&Name>,
 ) -> Result<(), NameFault>

@@ -4,13 +4,13 @@ ghost use Rattle.std.proofs.lemmas.List.{append-nil};
 ghost use Rattle.zone_name.specs.Machine.Fitting.{TakesWhatFits, fitted_twice};
 ghost use Rattle.zone_name.specs.Text.{is_special, name_text};
 
-use crate::name::Name;
+use crate::name::{MAX_NAME_LEN, Name};
 use crate::sink::Sink;
 use arrayvec::ArrayVec;
 use std::convert::Infallible;
 
 /// No canonical spelling has more octets: four for each octet of the name, and a dot.
-const LONGEST: usize = 1021;
+const LONGEST: usize = 4 * MAX_NAME_LEN + 1;
 
 impl Name {
     /// Appends the canonical spelling, at most 1,021 octets.
