@@ -66,10 +66,10 @@ ahead-bad rest bad = bad_by rest (ahead_in rest) bad (ahead_is rest)
 
 -- the test of a dot at the front
 abbrev pub has_dot : List ℕ → Bool
-has_dot rest = pointwise nat_eq (take 1 rest) (46 ∷ [])
+has_dot rest = pointwise nat_eq (46 ∷ []) (take 1 rest)
 
 unit_dot : (w : Written) (after : List ℕ) → has_dot (text_of w ++ after) ≡ false → IsUnit no_octet w → IsUnit is_dot w
-unit_dot (plain c) after e is = (elim (cases_Bool (is_dot c)) [ inl h ↦ absurd (both_ways (has_dot (c ∷ after)) e ((bytes_decides (c ∷ []) (46 ∷ [])).1 (ap (λ t. t ∷ []) (eqb-true c 46 h)))) | inr h ↦ h ], is.1)
+unit_dot (plain c) after e is = (elim (cases_Bool (is_dot c)) [ inl h ↦ absurd (both_ways (has_dot (c ∷ after)) e ((bytes_decides (46 ∷ []) (c ∷ [])).1 (ap (λ t. t ∷ []) (sym (eqb-true c 46 h))))) | inr h ↦ h ], is.1)
 unit_dot (escaped c) after e is = is
 unit_dot (decimal x y z) after e is = is
 

@@ -104,13 +104,13 @@ plain_more text len each next k h = elim (cases_lt k len) [ inl below ↦ each k
 
 -- what is behind them ends a label where it is no backslash
 abbrev pub begins_with : ℕ → List ℕ → Bool
-begins_with c rest = pointwise nat_eq (take 1 rest) (c ∷ [])
+begins_with c rest = pointwise nat_eq (c ∷ []) (take 1 rest)
 
 plain_end : (rest : List ℕ) → begins_with 92 rest ≡ false → (0 < length rest → IsUnit is_dot (plain (get_or rest 0 0)) → ⊥) → EndsLabel rest
 plain_end [] other stops = inl refl
 plain_end (c ∷ rest) other stops = elim (cases_Bool (is_dot c)) [
   | inl dot ↦ inr (rest, ap (λ t. t ∷ rest) (eqb-true c 46 dot))
-  | inr h ↦ absurd (stops (omega arith) (h, λ e. both_ways (begins_with 92 (c ∷ rest)) other ((bytes_decides (c ∷ []) (92 ∷ [])).1 (ap (λ t. t ∷ []) e))))
+  | inr h ↦ absurd (stops (omega arith) (h, λ e. both_ways (begins_with 92 (c ∷ rest)) other ((bytes_decides (92 ∷ []) (c ∷ [])).1 (ap (λ t. t ∷ []) (sym e)))))
 ]
 
 plain_stop : (text back : List ℕ) (len : ℕ) → begins_with 92 back ≡ false → back ≡ drop len text → (len < length text → IsUnit is_dot (plain (get_or text len 0)) → ⊥) → EndsLabel (drop len text)

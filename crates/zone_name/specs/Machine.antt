@@ -3,3 +3,4 @@ pub mod Units
 pub mod LabelWalk
 pub mod Seen
 pub mod Shown
+pub mod Fitting

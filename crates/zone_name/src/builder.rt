@@ -5,7 +5,7 @@ ghost use Rattle.zone_name.specs.Spelling.{IsLabelFault};
 ghost use Rattle.zone_name.specs.declared.fault.NameFault.TheVariants.{EmptyLabel, LabelTooLong, NameTooLong};
 
 use crate::fault::NameFault;
-use crate::name::Name;
+use crate::name::{MAX_LABEL_LEN, MAX_NAME_LEN, Name};
 use arrayvec::ArrayVec;
 use std::marker::Model;
 
@@ -13,7 +13,7 @@ use std::marker::Model;
 #[derive(Debug, Drop)]
 pub struct NameBuilder {
     /// Each label behind its length, without the root's octet.
-    octets: ArrayVec<u8, 255>,
+    octets: ArrayVec<u8, MAX_NAME_LEN>,
 }
 
 impl Model for NameBuilder {
@@ -80,7 +80,7 @@ pub(crate) fn check_label(label: &[u8]) -> Result<(), NameFault>
 {
     match label.len() {
         0 => Err(NameFault::EmptyLabel),
-        1..=63 => Ok(()),
+        1..=MAX_LABEL_LEN => Ok(()),
         _ => Err(NameFault::LabelTooLong),
     }
 }

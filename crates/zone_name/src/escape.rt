@@ -2,6 +2,7 @@ ghost use Rattle.std.specs.Prelude.{◌≡◌, ◌∷◌, true, IfSome, IfNone, 
 ghost use Rattle.zone_name.specs.Machine.Units.{digits_first, valued};
 ghost use Rattle.zone_name.specs.NextUnit.{IsNextUnit};
 ghost use Rattle.zone_name.specs.Spelling.{BeginsWithEscape, IsBadEscape, is_digit};
+ghost use Rattle.zone_name.specs.Text.{decimal_escape};
 
 /// The written octet at the front of a text (RFC 1035 5.1).
 #[derive(Drop)]
@@ -69,6 +70,18 @@ fn digits_at(first: u8, after: &[u8]) -> Option<(u8, &[u8])>
         }
         _ => None,
     }
+}
+
+/// The escape of an octet: a backslash and three decimal digits (RFC 1035 5.1).
+pub fn decimal_escape(octet: u8) -> [u8; 4]
+    ensures { result ≡ decimal_escape octet }
+{
+    [
+        b'\\',
+        b'0' + octet / 100,
+        b'0' + octet / 10 % 10,
+        b'0' + octet % 10,
+    ]
 }
 
 /// Whether the octet is a digit.

@@ -5,6 +5,7 @@ ghost use Rattle.zone_name.specs.Machine.Shown.{IsShown};
 ghost use Rattle.zone_name.specs.Sink.{TakesSome};
 ghost use Rattle.zone_name.specs.Text.{label_text, name_text, octet_text};
 
+use crate::escape::decimal_escape;
 use crate::labels::Labels;
 use crate::name::Name;
 use crate::sink::Sink;
@@ -156,11 +157,6 @@ fn push_octet<S: Sink>(octet: u8, out: &mut S) -> Result<(), S::Error>
     } else if octet >= b'!' && octet <= b'~' {
         out.push(&[octet])
     } else {
-        out.push(&[
-            b'\\',
-            b'0' + octet / 100,
-            b'0' + octet / 10 % 10,
-            b'0' + octet % 10,
-        ])
+        out.push(&decimal_escape(octet))
     }
 }

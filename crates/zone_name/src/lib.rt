@@ -14,9 +14,9 @@ mod sink;
 mod text;
 
 pub use builder::NameBuilder;
-pub use escape::{NextUnit, escape_at, next_unit};
+pub use escape::{NextUnit, decimal_escape, escape_at, next_unit};
 pub use fault::NameFault;
 pub use labels::Labels;
 pub use lent::NameRef;
-pub use name::Name;
+pub use name::{MAX_LABEL_LEN, MAX_NAME_LEN, Name};
 pub use sink::{Room, Sink};

@@ -10,10 +10,16 @@ use crate::reading::{NameForm, form_of, named};
 use arrayvec::ArrayVec;
 use std::marker::Model;
 
+/// The most octets that a label has (RFC 1035 2.3.4).
+pub const MAX_LABEL_LEN: usize = 63;
+
+/// The most octets that a name has, with the octet that each label's length takes and the root's (RFC 1035 2.3.4).
+pub const MAX_NAME_LEN: usize = 255;
+
 /// A domain name: its uncompressed octets (RFC 1035 3.1) in lower case. Contracts see its labels.
 #[derive(Debug, Drop)]
 pub struct Name {
-    octets: ArrayVec<u8, 255>,
+    octets: ArrayVec<u8, MAX_NAME_LEN>,
 }
 
 impl Model for Name {
@@ -102,6 +108,14 @@ impl Name {
         }
     }
 
+    /// The same name in octets that are lent.
+    pub(crate) fn lend(&self) -> NameRef<'_>
+        ensures value { result ≡ self.now }
+        ensures name { IsName self.now }
+    {
+        NameRef::of_wire(self.octets.as_slice())
+    }
+
     /// The name of these octets, which are copied.
     pub(crate) fn holding(octets: &[u8]) -> Name
         requires { HoldsName octets.now }
@@ -113,7 +127,7 @@ impl Name {
     }
 
     /// The name of these octets.
-    pub(crate) fn of_octets(octets: ArrayVec<u8, 255>) -> Name
+    pub(crate) fn of_octets(octets: ArrayVec<u8, MAX_NAME_LEN>) -> Name
         requires { HoldsName octets.items }
         ensures { result ≡ labels_of octets.items }
     {

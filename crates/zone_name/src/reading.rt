@@ -10,7 +10,7 @@ ghost use Rattle.zone_name.specs.Machine.Seen.{Refuses, RefusesLabel, unfolded_l
 use crate::builder::check_label;
 use crate::escape::{NextUnit, next_unit};
 use crate::fault::NameFault;
-use crate::name::Name;
+use crate::name::{MAX_LABEL_LEN, MAX_NAME_LEN, Name};
 use arrayvec::ArrayVec;
 
 /// How a name's text is read (RFC 1035 5.1).
@@ -65,7 +65,7 @@ fn plain_len(text: &[u8]) -> usize
 }
 
 /// Puts a label behind the others, its letters as they are, and tells whether there was no room for it.
-fn close(octets: &mut ArrayVec<u8, 255>, label: &[u8]) -> Result<bool, NameFault>
+fn close(octets: &mut ArrayVec<u8, MAX_NAME_LEN>, label: &[u8]) -> Result<bool, NameFault>
     requires { HoldsUnfolded octets.old.items }
     ensures holds { HoldsUnfolded octets.new.items }
     ensures ok { IfOk result (λ full. Closes (unfolded_labels octets.old.items) label.now full
@@ -81,48 +81,68 @@ fn close(octets: &mut ArrayVec<u8, 255>, label: &[u8]) -> Result<bool, NameFault
     Ok(false)
 }
 
-/// Puts the label at the front of a text in place, and returns what stands behind it: nothing, or a dot and more.
+/// A label that was read at the front of a text.
+#[derive(Drop)]
+struct ReadLabel<'t> {
+    /// There was no room for it, and it was not kept.
+    is_left_out: bool,
+    /// What stands behind it: nothing, or a dot and more.
+    behind: &'t [u8],
+}
+
+/// Puts the label at the front of a text in place.
 fn read_label<'t>(
-    octets: &mut ArrayVec<u8, 255>,
+    octets: &mut ArrayVec<u8, MAX_NAME_LEN>,
     text: &'t [u8],
-) -> Result<(bool, &'t [u8]), NameFault>
+) -> Result<ReadLabel<'t>, NameFault>
     requires some { 0 < length text.now }
     requires holds { HoldsUnfolded octets.old.items }
     ensures holds { HoldsUnfolded octets.new.items }
-    ensures ok { IfOk result (λ read. IsClosable text.now read.1.now (λ label.
-        Closes (unfolded_labels octets.old.items) label read.0 (unfolded_labels octets.new.items))) }
+    ensures ok { IfOk result (λ read. IsClosable text.now read.behind.now (λ label.
+        Closes (unfolded_labels octets.old.items) label read.is_left_out
+        (unfolded_labels octets.new.items))) }
     ensures err { IfErr result (Refuses text.now) }
 {
     let (label, behind) = text.split_at(plain_len(text));
-    if let Some(_) = behind.strip_prefix(b"\\") {
+    if behind.starts_with(b"\\") {
         return read_escaped_label(octets, text);
     }
     let is_left_out = close(octets, label)?;
-    Ok((is_left_out, behind))
+    Ok(ReadLabel {
+        is_left_out,
+        behind,
+    })
 }
 
 /// The same where the label may have escapes: octet by octet.
 // Not inlined: only such a label needs room of its own.
 #[inline(never)]
 fn read_escaped_label<'t>(
-    octets: &mut ArrayVec<u8, 255>,
+    octets: &mut ArrayVec<u8, MAX_NAME_LEN>,
     text: &'t [u8],
-) -> Result<(bool, &'t [u8]), NameFault>
+) -> Result<ReadLabel<'t>, NameFault>
     requires some { 0 < length text.now }
     requires holds { HoldsUnfolded octets.old.items }
     ensures holds { HoldsUnfolded octets.new.items }
-    ensures ok { IfOk result (λ read. IsClosable text.now read.1.now (λ label.
-        Closes (unfolded_labels octets.old.items) label read.0 (unfolded_labels octets.new.items))) }
+    ensures ok { IfOk result (λ read. IsClosable text.now read.behind.now (λ label.
+        Closes (unfolded_labels octets.old.items) label read.is_left_out
+        (unfolded_labels octets.new.items))) }
     ensures err { IfErr result (Refuses text.now) }
 {
-    let mut label: ArrayVec<u8, 63> = ArrayVec::new();
+    let mut label: ArrayVec<u8, MAX_LABEL_LEN> = ArrayVec::new();
     let behind = open_label(&mut label, text)?;
     let is_left_out = close(octets, label.as_slice())?;
-    Ok((is_left_out, behind))
+    Ok(ReadLabel {
+        is_left_out,
+        behind,
+    })
 }
 
 /// Reads the octets of the label at the front of a text, and returns what stands behind it.
-fn open_label<'t>(label: &mut ArrayVec<u8, 63>, text: &'t [u8]) -> Result<&'t [u8], NameFault>
+fn open_label<'t>(
+    label: &mut ArrayVec<u8, MAX_LABEL_LEN>,
+    text: &'t [u8],
+) -> Result<&'t [u8], NameFault>
     requires some { 0 < length text.now }
     requires none { label.old.items ≡ [] }
     ensures ok { IfOk result (λ rest. EndsLabelAt text.now label.new.items rest.now) }
@@ -130,7 +150,7 @@ fn open_label<'t>(label: &mut ArrayVec<u8, 63>, text: &'t [u8]) -> Result<&'t [u
 {
     let mut rest = text;
     loop {
-        if let Some(_) = rest.strip_prefix(b".") {
+        if rest.starts_with(b".") {
             return Ok(rest);
         }
         match next_unit(rest) {
@@ -148,7 +168,7 @@ fn open_label<'t>(label: &mut ArrayVec<u8, 63>, text: &'t [u8]) -> Result<&'t [u
 }
 
 /// Puts the labels of a text that is neither `.` nor `@` in place, their letters as they are (RFC 1035 5.1).
-fn read_labels(octets: &mut ArrayVec<u8, 255>, text: &[u8]) -> Result<Spelled, NameFault>
+fn read_labels(octets: &mut ArrayVec<u8, MAX_NAME_LEN>, text: &[u8]) -> Result<Spelled, NameFault>
     requires { octets.old.items ≡ [] }
     ensures holds { HoldsUnfolded octets.new.items }
     ensures labels { IfOk result (λ spelled. (labels : Labels)
@@ -162,8 +182,11 @@ fn read_labels(octets: &mut ArrayVec<u8, 255>, text: &[u8]) -> Result<Spelled, N
     let mut is_too_long = false;
     let mut rest = text;
     while !rest.is_empty() {
-        let (is_left_out, behind) = read_label(octets, rest)?;
-        is_too_long = is_too_long | is_left_out;
+        let ReadLabel {
+            is_left_out,
+            behind,
+        } = read_label(octets, rest)?;
+        is_too_long |= is_left_out;
         let Some((_, after)) = behind.split_first() else {
             return Ok(Spelled {
                 is_too_long,
@@ -179,14 +202,14 @@ fn read_labels(octets: &mut ArrayVec<u8, 255>, text: &[u8]) -> Result<Spelled, N
 }
 
 /// Puts the letters in lower case (RFC 4343 3). A label's length is no letter, and stays.
-fn fold(octets: &mut ArrayVec<u8, 255>)
+fn fold(octets: &mut ArrayVec<u8, MAX_NAME_LEN>)
     ensures { octets.new.items ≡ map folded_octet octets.old.items }
 {
     octets.as_mut_slice().make_ascii_lowercase();
 }
 
 /// Puts the labels in lower case, and the octets of a name behind them.
-fn end_with(octets: &mut ArrayVec<u8, 255>, ending: &[u8]) -> Result<(), NameFault>
+fn end_with(octets: &mut ArrayVec<u8, MAX_NAME_LEN>, ending: &[u8]) -> Result<(), NameFault>
     requires holds { HoldsUnfolded octets.old.items }
     requires name { HoldsName ending.now }
     ensures ok { IfOk result (λ _. HoldsName octets.new.items
@@ -195,15 +218,14 @@ fn end_with(octets: &mut ArrayVec<u8, 255>, ending: &[u8]) -> Result<(), NameFau
         sized (unfolded_labels octets.old.items ++ labels_of ending.now) ≡ Err fault) }
 {
     fold(octets);
-    match octets.try_extend_from_slice(ending) {
-        Ok(()) => Ok(()),
-        Err(_) => Err(NameFault::NameTooLong),
-    }
+    octets
+        .try_extend_from_slice(ending)
+        .map_err(|_| NameFault::NameTooLong)
 }
 
 /// Ends the name of the labels, with the origin's behind them where the text is relative.
 fn finish(
-    octets: &mut ArrayVec<u8, 255>,
+    octets: &mut ArrayVec<u8, MAX_NAME_LEN>,
     spelled: Spelled,
     origin: Option<&Name>,
 ) -> Result<(), NameFault>
@@ -234,7 +256,7 @@ fn finish(
 // Not inlined: the octets are then written where they stay, and not moved.
 #[inline(never)]
 fn read_into(
-    octets: &mut ArrayVec<u8, 255>,
+    octets: &mut ArrayVec<u8, MAX_NAME_LEN>,
     text: &[u8],
     origin: Option<&Name>,
 ) -> Result<(), NameFault>

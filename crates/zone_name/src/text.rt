@@ -1,13 +1,16 @@
-ghost use Rattle.std.specs.Prelude.{◌≡◌, ◌+◌, ◌*◌, ◌≤◌, ◌++◌, [], length, OnOk, OnErr};
-ghost use Rattle.arrayvec.specs.ArrayVec.{array_vec_len};
-ghost use Rattle.zone_name.specs.Text.{is_special, label_text, name_text, octet_text};
+ghost use Rattle.std.specs.Prelude.{◌≡◌, ◌++◌, [], OnOk, OnErr};
+ghost use Rattle.std.proofs.Common.{sym};
+ghost use Rattle.std.proofs.lemmas.List.{append-nil};
+ghost use Rattle.zone_name.specs.Machine.Fitting.{TakesWhatFits, fitted_twice};
+ghost use Rattle.zone_name.specs.Text.{is_special, name_text};
 
-use crate::name::Name;
+use crate::name::{MAX_NAME_LEN, Name};
 use crate::sink::Sink;
 use arrayvec::ArrayVec;
+use std::convert::Infallible;
 
 /// No canonical spelling has more octets: four for each octet of the name, and a dot.
-const LONGEST: usize = 1021;
+const LONGEST: usize = 4 * MAX_NAME_LEN + 1;
 
 impl Name {
     /// Appends the canonical spelling, at most 1,021 octets.
@@ -19,54 +22,43 @@ impl Name {
         ensures ok { OnOk result (S.takes out.old (name_text self.now) out.new) }
         ensures err { OnErr result (S.takes out.old [] out.new) }
     {
-        let mut text = ArrayVec::new();
+        let mut text = Spelling {
+            octets: ArrayVec::new(),
+        };
         self.write_text(&mut text);
-        out.push(text.as_slice())
+        out.push(text.octets.as_slice())
     }
 
     /// Writes the canonical spelling into the room for it.
     // Not inlined: the text is then written where it is read, and not moved.
     #[inline(never)]
-    fn write_text(&self, text: &mut ArrayVec<u8, LONGEST>)
-        requires { text.old.items ≡ [] }
-        ensures { text.new.items ≡ name_text self.now }
+    fn write_text(&self, text: &mut Spelling)
+        requires { text.old.octets.items ≡ [] }
+        ensures { text.new.octets.items ≡ name_text self.now }
     {
-        for label in self.labels() {
-            push_label_text(text, label);
-        }
-        if text.is_empty() {
-            text.push(b'.');
-        }
+        let Ok(()) = self.lend().print(text);
     }
 }
 
-/// Appends a label's spelling and the dot behind it.
-fn push_label_text(text: &mut ArrayVec<u8, LONGEST>, label: &[u8])
-    requires { array_vec_len text.old + 4 * length label.now + 1 ≤ LONGEST }
-    ensures { text.new.items ≡ text.old.items ++ label_text label.now }
-{
-    for octet in label {
-        push_octet_text(text, *octet);
-    }
-    text.push(b'.');
+/// Room for a spelling. Octets that don't fit are dropped, and a name's spelling fits.
+#[derive(Drop)]
+struct Spelling {
+    octets: ArrayVec<u8, LONGEST>,
 }
 
-/// Appends an octet's spelling.
-fn push_octet_text(text: &mut ArrayVec<u8, LONGEST>, octet: u8)
-    requires { array_vec_len text.old + 4 ≤ LONGEST }
-    ensures { text.new.items ≡ text.old.items ++ octet_text octet }
-{
-    if is_special_octet(octet) {
-        text.push(b'\\');
-        text.push(octet);
-    } else if octet >= b'!' && octet <= b'~' {
-        text.push(octet);
-    } else {
-        text.push(b'\\');
-        text.push(b'0' + octet / 100);
-        text.push(b'0' + octet / 10 % 10);
-        text.push(b'0' + octet % 10);
+impl Sink for Spelling {
+    ghost takes = { λ a x b. TakesWhatFits 1021 a.octets.items x b.octets.items };
+
+    type Error = Infallible;
+
+    fn push(&mut self, octets: &[u8]) -> Result<(), Infallible> {
+        let _ = self.octets.try_extend_from_slice(octets);
+        Ok(())
     }
+
+    ghost nothing = { λ a _. sym (append-nil a.octets.items) };
+
+    ghost joins = { λ a b c x y. fitted_twice 1021 a.octets.items b.octets.items c.octets.items x y };
 }
 
 /// Whether the octet means something else inside a master file, and takes a backslash (RFC 1035 5.1).

@@ -12,7 +12,7 @@ use crate::narrow_failing::{Cause, NarrowFailing};
 use crate::reading::are_octets;
 use arrayvec::ArrayVec;
 use std::alloc::AllocError;
-use zone_name::{NextUnit, Sink, next_unit};
+use zone_name::{NextUnit, Sink, decimal_escape, next_unit};
 
 /// Appends the string that the item spells, its octets behind their number (RFC 1035 3.3, 5.1). Refused, `out` holds
 /// what it held.
@@ -107,11 +107,6 @@ fn push_unit<S: Sink>(octet: u8, out: &mut S) -> Result<(), S::Error>
     } else if octet >= b' ' && octet <= b'~' {
         out.push(&[octet])
     } else {
-        out.push(&[
-            b'\\',
-            b'0' + octet / 100,
-            b'0' + octet / 10 % 10,
-            b'0' + octet % 10,
-        ])
+        out.push(&decimal_escape(octet))
     }
 }

@@ -1,6 +1,13 @@
-use Rattle.std.proofs.Common.{refl}
-use Rattle.zone_name.proofs.Pushing.{ended_with}
+use Rattle.std.proofs.Common.{◌≡◌, Result, Ok, Err, IfOk, sym}
+use Rattle.std.specs.Result.{IsOk, is_ok}
+use Rattle.zone_name.proofs.Pushing.{ended_with, taken}
 use Rattle.zone_name.proofs.reading.end_with.Goals as goal
 
-pub returns-in-Ok-clause-ok : goal.returns-in-Ok-clause-ok
-returns-in-Ok-clause-ok c = ended_with c.args.octets.now.items c.fold.new.octets.items c.args.ending.now c.try_extend_from_slice.new.self.items c.requires.holds c.requires.name c.fold.ensures c.in-Ok.ensures.ok (c.in-Ok.ensures.variant.0 refl)
+-- an answer whose fault alone was mapped
+mapped : {T E F : Type 0} (answer : Result T F) (result : Result T E) (Out : Type 0) → is_ok answer ≡ is_ok result → (IsOk result → Out) → IfOk answer (λ _. Out)
+mapped (Ok r) result Out e given = given (sym e)
+mapped (Err f) result Out e given = tt
+
+pub returns-clause-ok : goal.returns-clause-ok
+returns-clause-ok c =
+    mapped c.map_err.result c.try_extend_from_slice.result _ c.map_err.ensures.variant (λ is. ended_with c.args.octets.now.items c.fold.new.octets.items c.args.ending.now c.try_extend_from_slice.new.self.items c.requires.holds c.requires.name c.fold.ensures (taken c.try_extend_from_slice.result is c.try_extend_from_slice.ensures.ok) (c.try_extend_from_slice.ensures.variant.0 is))

@@ -2,8 +2,8 @@ use Rattle.std.proofs.Common.{◌+◌, ◌<◌, ◌≤◌, length}
 use Rattle.zone_name.specs.Machine.Seen.{Goes}
 use Rattle.zone_name.proofs.reading.open_label.Given as goal
 
-abbrev pub invariant-loop-octet : goal.invariant-loop-octet
-invariant-loop-octet l = Goes l.text l.label.items l.rest × (0 < length l.label.items + length l.rest) × (length l.rest ≤ length l.text)
+abbrev pub invariant-loop-rest : goal.invariant-loop-rest
+invariant-loop-rest l = Goes l.text l.label.items l.rest × (0 < length l.label.items + length l.rest) × (length l.rest ≤ length l.text)
 
-abbrev pub decreases-loop-octet : goal.decreases-loop-octet
-decreases-loop-octet l = length l.rest
+abbrev pub decreases-loop-rest : goal.decreases-loop-rest
+decreases-loop-rest l = length l.rest

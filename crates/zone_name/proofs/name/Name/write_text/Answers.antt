@@ -1,13 +1,13 @@
-use Rattle.std.proofs.Common.{◌∙◌, sym, subst}
-use Rattle.std.specs.List.{flat_map}
-use Rattle.zone_name.specs.Text.{label_text}
-use Rattle.zone_name.proofs.Printing.{WritesText, WritesText-start, WritesText-more}
+use Rattle.std.proofs.Common.{◌≡◌, ◌∙◌, ℕ, List, [], ◌++◌, length, ap, arith, length-append}
+use Rattle.zone_name.specs.Machine.Fitting.{TakesWhatFits}
+use Rattle.zone_name.specs.Name.{IsName}
+use Rattle.zone_name.specs.Text.{name_text}
+use Rattle.zone_name.proofs.Lengths.{name_text_length}
 use Rattle.zone_name.proofs.name.Name.write_text.Goals as goal
 
-pub loop-label-init : goal.loop-label-init
-loop-label-init c =
-    subst (WritesText c.args.text.now.items (flat_map label_text c.args.self.now)) (sym (c.into_iter-label-iterator.ensures.into_iter_gives ∙ c.labels-label-items.ensures.value)) (WritesText-start c.args.text.now.items c.args.self.now c.requires c.labels-label-items.ensures.name)
+spelling_fits : (text next : List ℕ) (labels : List (List ℕ)) → text ≡ [] → IsName labels → TakesWhatFits 1021 text (name_text labels) next → next ≡ name_text labels
+spelling_fits text next labels none name takes =
+    takes (omega (arith, ap length none, length-append text (name_text labels), name_text_length labels, name.short)) ∙ ap (λ t. t ++ name_text labels) none
 
-pub loop-label-preserved : goal.loop-label-preserved
-loop-label-preserved c =
-    WritesText-more c.loop-label.text.items c.push_label_text.new.text.items _ c.loop-label.label-iterator c.next.new.self c.in-Some.label.now c.in-Some.ensures.steps c.push_label_text.ensures c.loop-label.invariant
+pub returns : goal.returns
+returns c = spelling_fits c.args.text.now.octets.items _ c.args.self.now c.requires c.lend.ensures.name (rw c.lend.ensures.value at c.in-Ok.ensures.ok)
