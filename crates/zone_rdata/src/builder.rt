@@ -71,7 +71,7 @@ impl RdataBuilder {
     /// # Errors
     ///
     /// `BadRdata` where that isn't the next part or the octets are not as many as the field's, `RdataTooLong` where
-    /// the data would have more than 65,535 octets, and want of memory.
+    /// the data would have more than 65,535 octets; and `Memory` where memory is refused.
     pub fn push_octets(&mut self, octets: &[u8]) -> Result<(), Failing>
         ensures ok { OnOk result (Pushes self.old (fixed octets.now) self.new) }
         ensures fault { IfErr result (IfFault (IsPushFault self.old (fixed octets.now))) }
@@ -84,8 +84,8 @@ impl RdataBuilder {
     ///
     /// # Errors
     ///
-    /// `BadRdata` where that isn't the next part, `RdataTooLong` where the data would have more than 65,535 octets,
-    /// and want of memory.
+    /// `BadRdata` where that isn't the next part, `RdataTooLong` where the data would have more than 65,535 octets; and
+    /// `Memory` where memory is refused.
     pub fn push_u16(&mut self, number: u16) -> Result<(), Failing>
         ensures ok { OnOk result (Pushes self.old (u16_value number) self.new) }
         ensures fault { IfErr result (IfFault (IsPushFault self.old (u16_value number))) }
@@ -125,7 +125,7 @@ impl RdataBuilder {
     /// # Errors
     ///
     /// `BadRdata` where that isn't the next part, `StringTooLong` over 255 octets, `RdataTooLong` where the data would
-    /// have more than 65,535 octets, and want of memory.
+    /// have more than 65,535 octets; and `Memory` where memory is refused.
     pub fn push_string(&mut self, octets: &[u8]) -> Result<(), Failing>
         ensures ok { OnOk result (Pushes self.old (string octets.now) self.new) }
         ensures fault { IfErr result (IfFault (IsPushFault self.old (string octets.now))) }

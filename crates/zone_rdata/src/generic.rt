@@ -18,7 +18,7 @@ use std::alloc::Global;
 /// # Errors
 ///
 /// The first of: `BadGeneric` for a length that is missing or no decimal number, `RdataTooLong` for one over 65,535,
-/// and `BadGeneric` for digits that aren't those of so many octets; besides want of memory.
+/// and `BadGeneric` for digits that aren't those of so many octets; and `Memory` where memory is refused.
 pub(crate) fn octets_of_generic(alloc: Global, items: &[Item]) -> Result<Vec<u8>, Failing>
     requires { IsGeneric (map raw items.now) }
     ensures found { IfOk result (λ octets. StatesGeneric (map raw items.now) octets.items) }
