@@ -10,7 +10,6 @@ use crate::class::Class;
 use crate::fault::{Failing, Fault};
 use crate::kind::Kind;
 use crate::layout::layout_of;
-use crate::number::{u16_octets_of, u32_octets_of};
 use crate::rdata::Rdata;
 use crate::reading::are_octets;
 use crate::record::LONGEST_DATA;
@@ -215,8 +214,8 @@ fn append(part: Pushed, out: &mut Vec<u8>) -> Result<(), Failing>
 {
     match part {
         Pushed::Octets(octets) => append_octets(octets, out),
-        Pushed::U16(number) => append_octets(&u16_octets_of(number), out),
-        Pushed::U32(number) => append_octets(&u32_octets_of(number), out),
+        Pushed::U16(number) => append_octets(&number.to_be_bytes(), out),
+        Pushed::U32(number) => append_octets(&number.to_be_bytes(), out),
         Pushed::Name(name) => append_octets(name.wire(), out),
         Pushed::String(octets) => append_string(octets, out),
     }
