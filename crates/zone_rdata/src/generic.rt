@@ -84,8 +84,5 @@ fn push_digits(text: &[u8], octets: &mut Vec<u8>) -> Result<(), Failing>
     let before = octets.len();
     octets.resize(before + text.len() / 2, 0)?;
     let (_, room) = octets.as_mut_slice().split_at_mut(before);
-    match decode_to_slice(text, room) {
-        Ok(()) => Ok(()),
-        Err(_) => Err(Failing::Fault(Fault::BadGeneric)),
-    }
+    decode_to_slice(text, room).map_err(|_| Failing::Fault(Fault::BadGeneric))
 }

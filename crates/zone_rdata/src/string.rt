@@ -93,8 +93,7 @@ pub(crate) fn push_string_text<S: Sink>(octets: &[u8], out: &mut S) -> Result<()
     for octet in octets {
         push_unit(*octet, out)?;
     }
-    out.push(b"\"")?;
-    Ok(())
+    out.push(b"\"")
 }
 
 /// Appends an octet's text between quotes.
