@@ -2,8 +2,9 @@ ghost use Rattle.std.specs.Prelude.{◌≡◌, ◌≢◌, ◌≤◌, length, map
 ghost use Rattle.hex.specs.Hex.{decode_of};
 ghost use Rattle.zone_name.specs.Common.{Octets};
 ghost use Rattle.zone_rdata.specs.Fault.{IfFault, NoValue};
-ghost use Rattle.zone_rdata.specs.Generic.{GenericFault, JoinTo, LengthFault, StatesGeneric, StatesLength};
+ghost use Rattle.zone_rdata.specs.Generic.{GenericFault, JoinTo, StatesGeneric, StatesLength};
 ghost use Rattle.zone_rdata.specs.Machine.Appending.{AppendsDigits};
+ghost use Rattle.zone_rdata.specs.Machine.GenericLength.{LengthFault};
 ghost use Rattle.zone_rdata.specs.Item.{IsGeneric, raw};
 
 use crate::fault::{Failing, Fault};
