@@ -8,8 +8,9 @@ use Rattle.zone_rdata.specs.declared.fault.Fault.TheVariants.{BadGeneric, RdataT
 use Rattle.zone_rdata.specs.declared.item.Item.{Item}
 use Rattle.zone_rdata.specs.Item.{RawItem, bare, quoted, raw, generic_mark, IsGeneric}
 use Rattle.zone_rdata.specs.Number.{IsDecimal}
-use Rattle.zone_rdata.specs.Generic.{StatesLength, JoinTo, StatesGeneric, LengthFault, no_number, beyond, GenericFault, no_length, long_length, bad_digits}
+use Rattle.zone_rdata.specs.Generic.{StatesLength, JoinTo, StatesGeneric, GenericFault, no_length, long_length, bad_digits}
 use Rattle.zone_rdata.specs.Machine.Appending.{AppendsDigits}
+use Rattle.zone_rdata.specs.Machine.GenericLength.{LengthFault, no_number, beyond}
 use Rattle.zone_rdata.proofs.Lists.{from_place}
 
 -- two digits for each octet

@@ -14,7 +14,8 @@ use Rattle.zone_rdata.specs.declared.fault.Fault.{Fault}
 use Rattle.zone_rdata.specs.declared.fault.Fault.TheVariants.{BadGeneric, RdataTooLong}
 use Rattle.zone_rdata.specs.Item.{RawItem, bare, quoted, generic_mark, IsGeneric}
 use Rattle.zone_rdata.specs.Number.{IsDecimal, decimal_value}
-use Rattle.zone_rdata.specs.Generic.{StatesLength, IsGenericForm, JoinTo, StatesGeneric, LengthFault, no_number, beyond, GenericFault, no_length, long_length, bad_digits, digit_items, generic_items}
+use Rattle.zone_rdata.specs.Generic.{StatesLength, IsGenericForm, JoinTo, StatesGeneric, GenericFault, no_length, long_length, bad_digits, digit_items, generic_items}
+use Rattle.zone_rdata.specs.Machine.GenericLength.{LengthFault, no_number, beyond}
 use Rattle.zone_rdata.specs.Strings.{item_text}
 use Rattle.zone_rdata.specs.Text.{generic_text}
 use Rattle.zone_rdata.proofs.Choices.{Choice, each_or_not, true_or_not}

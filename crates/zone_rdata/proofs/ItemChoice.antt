@@ -65,12 +65,12 @@ joined_low (bare text ∷ items) octets h = subst AreLow (sym h.3) (AllByRecursi
 joined_low (quoted text ∷ items) octets h = absurd h
 
 canonical_item : (origin : List (List ℕ)) (row : List Field) (items : List RawItem) (stated : List ℕ) → IsGeneric items → StatesGeneric items stated → Choice (IsUncompressed row stated) → Outcome origin (Some row) items
-canonical_item origin row items stated marked form (inl found) = inl (found.0, in_octets stated marked form found.1)
+canonical_item origin row items stated marked form (inl found) = inl (found.0, in_octets marked (stated, form, found.1))
 canonical_item origin row items stated marked form (inr none) = inr (BadRdata, in_form BadRdata marked (no_value row stated refl form none))
 
 form_by : (origin : List (List ℕ)) (class kind : ℕ) (laid : Option (List Field)) (items : List RawItem) → layout class kind ≡ laid → IsGeneric items → ((octets : List ℕ) × StatesGeneric items octets) ⊎ ((fault : Fault) × GenericFault items fault) → Outcome origin laid items
 form_by origin class kind laid items e marked (inr bad) = inr (bad.0, in_form bad.0 marked (malformed bad.0 bad.1))
-form_by origin class kind None items e marked (inl found) = inl (found.0, in_octets found.0 marked found.1 refl)
+form_by origin class kind None items e marked (inl found) = inl (found.0, in_octets marked (found.0, found.1, refl))
 form_by origin class kind (Some row) items e marked (inl found) = canonical_item origin row items found.0 marked found.1 (canonical_or_not class kind row found.0 e (joined_low found.1.digits found.0 found.1.joined))
 
 -- the first item is the mark or not

@@ -65,10 +65,10 @@ for_once : NamesOnce → (origin : List (List ℕ)) (laid : Option (List Field))
 for_once names origin laid items a b once (in_words row vs e unmarked h is short) (in_words row' ws e' unmarked2 k is' short') =
     let same : row' ≡ row = same_row laid row' row e' e in
     is ∙ ap octets_of (each_once names origin row items vs ws h (subst (λ r. SpellEach origin r items ws) same k)) ∙ sym is'
-for_once names origin laid items a b once (in_words row vs e unmarked h is short) (in_octets stated marked form canonical) = absurd (unmarked marked)
-for_once names origin laid items a b once (in_octets stated marked form canonical) (in_words row vs e unmarked h is short) = absurd (unmarked marked)
-for_once names origin laid items a b once (in_octets stated marked form canonical) (in_octets stated' marked' form' canonical') =
-    once stated a b canonical (subst (λ o. IsCanonicalOf laid o b) (generic-once items stated' stated form' form) canonical')
+for_once names origin laid items a b once (in_words row vs e unmarked h is short) (in_octets marked stated) = absurd (unmarked marked)
+for_once names origin laid items a b once (in_octets marked stated) (in_words row vs e unmarked h is short) = absurd (unmarked marked)
+for_once names origin laid items a b once (in_octets marked h) (in_octets marked' k) =
+    once h.0 a b h.2 (subst (λ o. IsCanonicalOf laid o b) (generic-once items k.0 h.0 k.1 h.1) k.2)
 
 form_never : (laid : Option (List Field)) (items : List RawItem) (stated octets : List ℕ) (fault : Fault) → StatesGeneric items stated → IsCanonicalOf laid stated octets → IsFormFault laid items fault → ⊥
 form_never laid items stated octets _ form canonical (malformed fault bad) = generic-never_both items stated fault form bad
@@ -82,9 +82,9 @@ for_never once names origin laid items octets _ (in_words row vs e unmarked h is
     let same : row' ≡ row = same_row laid row' row e' e in
     words_never once names origin row items vs fault h (subst (λ o. length o ≤ 65535) is short) (subst (λ r. IsWordsFault origin r items fault) same bad)
 for_never once names origin laid items octets _ (in_words row vs e unmarked h is short) (opaque_words e' unmarked2) = let clash : Some row ≡ None = sym e ∙ e' in cc
-for_never once names origin laid items octets _ (in_octets stated marked form canonical) (in_form fault marked' bad) = form_never laid items stated octets fault form canonical bad
-for_never once names origin laid items octets _ (in_octets stated marked form canonical) (faults.in_words row fault e unmarked bad) = unmarked marked
-for_never once names origin laid items octets _ (in_octets stated marked form canonical) (opaque_words e unmarked) = unmarked marked
+for_never once names origin laid items octets _ (in_octets marked h) (in_form fault marked' bad) = form_never laid items h.0 octets fault h.1 h.2 bad
+for_never once names origin laid items octets _ (in_octets marked h) (faults.in_words row fault e unmarked bad) = unmarked marked
+for_never once names origin laid items octets _ (in_octets marked h) (opaque_words e unmarked) = unmarked marked
 
 form_fault_once : (laid : Option (List Field)) (items : List RawItem) (a b : Fault) → IsFormFault laid items a → IsFormFault laid items b → a ≡ b
 form_fault_once laid items _ _ (malformed fault bad) (malformed fault' bad') = generic_fault-once items fault fault' bad bad'

@@ -8,7 +8,7 @@ use Rattle.zone_name.specs.Name.{IsLabel, IsName, folded_octet, folded_label, fo
 use Rattle.zone_name.specs.Spelling.{IsLabelFault}
 use Rattle.zone_name.specs.declared.fault.NameFault.{NameFault}
 use Rattle.zone_name.specs.declared.fault.NameFault.TheVariants.{EmptyLabel, LabelTooLong, NameTooLong, BadEscape, RelativeName}
-use Rattle.zone_rdata.specs.Fields.Name.{BeginsWithSent}
+use Rattle.zone_rdata.specs.Machine.Fronts.{BeginsWithSent}
 
 -- ---- lists one behind another
 -- lists of one length are cut off alike

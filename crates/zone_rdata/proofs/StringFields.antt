@@ -3,9 +3,10 @@ use Rattle.std.proofs.Common.{◌≡◌, ℕ, zero, suc, ◌+◌, ◌<◌, ◌�
 use Rattle.std.specs.List.{flat_map, AllByRecursion}
 use Rattle.std.proofs.lemmas.List.{take_at, drop_at, take_all, drop_all, take-append-drop}
 use Rattle.zone_name.specs.Name.{with_length}
-use Rattle.zone_rdata.specs.Fields.OneString.{BeginsWithString, string_at}
-use Rattle.zone_rdata.specs.Fields.Strings.{HoldsStrings, AreStrings, strings_by, strings_of}
+use Rattle.zone_rdata.specs.Fields.OneString.{string_at}
+use Rattle.zone_rdata.specs.Fields.Strings.{AreStrings, strings_by, strings_of}
 use Rattle.zone_rdata.specs.Strings.{IsString}
+use Rattle.zone_rdata.specs.Machine.Fronts.{BeginsWithString, HoldsStrings}
 use Rattle.zone_rdata.specs.Machine.Printing.{BeginsWithField, after_field}
 use Rattle.zone_rdata.specs.declared.field.Field.{Field}
 use Rattle.zone_rdata.specs.declared.field.Field.TheVariants as fields

@@ -1,4 +1,4 @@
--- Record data that is made part by part.
+-- Record data that is made part by part, which is this project's own choice; what a part can be is RFC 1035 3.3.
 use Rattle.std.specs.Prelude.{◌≡◌, ℕ, zero, ◌<◌, ◌≤◌, List, [], ◌∷◌, ◌++◌, length, slice_get, Bool, false, if◌then◌else◌, ⊤, Option, Some, None}
 use Rattle.std.specs.Option.{option_or}
 use Rattle.zone_rdata.specs.declared.fault.Fault.{Fault}

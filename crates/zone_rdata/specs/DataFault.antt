@@ -1,4 +1,5 @@
--- The first fault of items that state no record data.
+-- The first fault of items that state no record data (RFC 1035 5.1, 3.3; RFC 3597 5). The order of faults is this
+-- project's own choice.
 use Rattle.std.specs.Prelude.{◌≡◌, ℕ, ◌<◌, List, [], ◌∷◌, length, Option, Some, None, ◌⊎◌}
 use Rattle.zone_rdata.specs.declared.fault.Fault.{Fault}
 use Rattle.zone_rdata.specs.declared.fault.Fault.TheVariants.{BadRdata, BadGeneric, RdataTooLong}

@@ -30,11 +30,6 @@ pub record StatesGeneric (items : List RawItem) (octets : List ℕ) : Type 0 whe
   pub short : length octets ≤ 65535
   pub joined : JoinTo digits octets
 
--- why an item states no length of at most 65,535 octets
-pub data LengthFault (item : RawItem) : Fault → Type 0 where
-  no_number : ((n : ℕ) → StatesLength item n → ⊥) → LengthFault item BadGeneric
-  beyond : (n : ℕ) → StatesLength item n → 65535 < n → LengthFault item RdataTooLong
-
 -- The first fault of items that begin with the mark: no length in decimal, a length over 65,535, or digits that
 -- aren't those of so many octets
 pub data GenericFault (items : List RawItem) : Fault → Type 0 where

@@ -6,3 +6,5 @@ pub mod Printing
 pub mod Appending
 pub mod TimeProgress
 pub mod Building
+pub mod Fronts
+pub mod GenericLength

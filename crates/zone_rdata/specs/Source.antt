@@ -1,4 +1,4 @@
--- What a source of records still has to give.
+-- What a source of records still has to give. A list of records, then an end or a refusal, is this project's own choice.
 use Rattle.std.specs.Prelude.{Bool, true, false, List, [], ◌∷◌, Option, Some, None, Result, Ok, Err}
 use Rattle.zone_rdata.specs.declared.fault.Fault.{Fault}
 use Rattle.zone_rdata.specs.declared.fault.Place.{Place}

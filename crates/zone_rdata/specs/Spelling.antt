@@ -26,7 +26,7 @@ StatesInForm laid items octets = (stated : List ℕ) × StatesGeneric items stat
 -- form. Data without a layout has the generic form alone.
 pub data StatesFor (origin : List (List ℕ)) (laid : Option (List Field)) (items : List RawItem) (octets : List ℕ) : Type 0 where
   in_words : (fields : List Field) (values : List FieldValue) → laid ≡ Some fields → (IsGeneric items → ⊥) → SpellEach origin fields items values → octets ≡ octets_of values → length octets ≤ 65535 → StatesFor origin laid items octets
-  in_octets : (stated : List ℕ) → IsGeneric items → StatesGeneric items stated → IsCanonicalOf laid stated octets → StatesFor origin laid items octets
+  in_octets : IsGeneric items → StatesInForm laid items octets → StatesFor origin laid items octets
 
 -- the items state data of a class and type, given by its canonical octets, under an origin
 pub record States (origin : List (List ℕ)) (class kind : ℕ) (items : List RawItem) (octets : List ℕ) : Type 0 where

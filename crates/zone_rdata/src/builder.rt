@@ -10,7 +10,6 @@ use crate::class::Class;
 use crate::fault::{Failing, Fault};
 use crate::kind::Kind;
 use crate::layout::layout_of;
-use crate::number::{u16_octets_of, u32_octets_of};
 use crate::rdata::Rdata;
 use crate::reading::are_octets;
 use crate::record::LONGEST_DATA;
@@ -71,7 +70,7 @@ impl RdataBuilder {
     /// # Errors
     ///
     /// `BadRdata` where that isn't the next part or the octets are not as many as the field's, `RdataTooLong` where
-    /// the data would have more than 65,535 octets, and want of memory.
+    /// the data would have more than 65,535 octets; and `Memory` where memory is refused.
     pub fn push_octets(&mut self, octets: &[u8]) -> Result<(), Failing>
         ensures ok { OnOk result (Pushes self.old (fixed octets.now) self.new) }
         ensures fault { IfErr result (IfFault (IsPushFault self.old (fixed octets.now))) }
@@ -84,8 +83,8 @@ impl RdataBuilder {
     ///
     /// # Errors
     ///
-    /// `BadRdata` where that isn't the next part, `RdataTooLong` where the data would have more than 65,535 octets,
-    /// and want of memory.
+    /// `BadRdata` where that isn't the next part, `RdataTooLong` where the data would have more than 65,535 octets; and
+    /// `Memory` where memory is refused.
     pub fn push_u16(&mut self, number: u16) -> Result<(), Failing>
         ensures ok { OnOk result (Pushes self.old (u16_value number) self.new) }
         ensures fault { IfErr result (IfFault (IsPushFault self.old (u16_value number))) }
@@ -125,7 +124,7 @@ impl RdataBuilder {
     /// # Errors
     ///
     /// `BadRdata` where that isn't the next part, `StringTooLong` over 255 octets, `RdataTooLong` where the data would
-    /// have more than 65,535 octets, and want of memory.
+    /// have more than 65,535 octets; and `Memory` where memory is refused.
     pub fn push_string(&mut self, octets: &[u8]) -> Result<(), Failing>
         ensures ok { OnOk result (Pushes self.old (string octets.now) self.new) }
         ensures fault { IfErr result (IfFault (IsPushFault self.old (string octets.now))) }
@@ -215,8 +214,8 @@ fn append(part: Pushed, out: &mut Vec<u8>) -> Result<(), Failing>
 {
     match part {
         Pushed::Octets(octets) => append_octets(octets, out),
-        Pushed::U16(number) => append_octets(&u16_octets_of(number), out),
-        Pushed::U32(number) => append_octets(&u32_octets_of(number), out),
+        Pushed::U16(number) => append_octets(&number.to_be_bytes(), out),
+        Pushed::U32(number) => append_octets(&number.to_be_bytes(), out),
         Pushed::Name(name) => append_octets(name.wire(), out),
         Pushed::String(octets) => append_string(octets, out),
     }

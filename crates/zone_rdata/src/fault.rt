@@ -7,95 +7,100 @@ use zone_name::{Name, NameFault};
 /// Why an input is refused.
 #[derive(Debug, Drop)]
 pub enum Fault {
-    /// A label of a name has no octets, or the text is empty.
+    /// A label of a name's text has no octets, or the whole text is empty (RFC 1035 2.3.1).
     EmptyLabel,
-    /// A label has more than 63 octets.
+    /// A label has more than 63 octets (RFC 1035 2.3.4).
     LabelTooLong,
-    /// A name has more than 255 octets.
+    /// A name has more than 255 octets, with those of its origin (RFC 1035 2.3.4).
     NameTooLong,
-    /// A backslash begins no escape.
+    /// A backslash stands before a line feed, a carriage return, the end, fewer than three digits or a number over 255
+    /// (RFC 1035 5.1).
     BadEscape,
-    /// A relative name has no origin.
+    /// A name is relative and no origin was handed in (RFC 1035 5.1).
     RelativeName,
-    /// The class is 0, 254, 255 or over 65535.
+    /// The class is 0, NONE 254, ANY 255 or over 65535 (RFC 6895 3.2).
     BadClass,
-    /// The type's word is missing or none.
+    /// The word of the type is missing or quoted, or is no mnemonic that is read and no TYPE with a number up to 65535
+    /// (RFC 3597 5).
     UnknownType,
-    /// The type is 0, 41 or one of 128 to 255.
+    /// The type is 0, OPT 41 or one of 128 to 255 (RFC 6895 3.1).
     MetaType,
-    /// The data doesn't fit its layout.
+    /// The items or octets aren't exactly one value for each field of the type: one is missing, left over, quoted where
+    /// no string stands, or no address (RFC 1035 3.3, 5.1).
     BadRdata,
-    /// The generic form is malformed or missing (RFC 3597 5).
+    /// The generic form is malformed, or missing for a type that is read in no other (RFC 3597 5).
     BadGeneric,
-    /// A character-string has more than 255 octets.
+    /// A character-string has more than 255 octets (RFC 1035 3.3).
     StringTooLong,
-    /// The data has more than 65,535 octets.
+    /// The data has more than 65,535 octets (RFC 1035 3.2.1).
     RdataTooLong,
-    /// A number is malformed or over its field.
+    /// A number or time of the data is malformed, or over 4294967295 in an SOA, over 65535 elsewhere (RFC 1035 3.3).
     BadNumber,
-    /// The input ends in a quoted item.
+    /// The input ends inside a quoted item (RFC 1035 5.1).
     UnclosedQuote,
-    /// A parenthesis closes nothing or isn't closed.
+    /// A `)` closes nothing, or the input ends inside parentheses (RFC 1035 5.1).
     UnbalancedParenthesis,
-    /// `$INCLUDE` isn't read.
+    /// The entry is an `$INCLUDE`, which isn't read (RFC 1035 5.1).
     IncludeDirective,
-    /// The directive is unknown.
+    /// The entry's first word begins with `$` and is none of `$ORIGIN`, `$INCLUDE` and `$TTL` (RFC 1035 5.1; RFC 2308 4).
     UnknownDirective,
-    /// Not exactly one bare item follows a directive.
+    /// What follows `$ORIGIN` (RFC 1035 5.1) or `$TTL` (RFC 2308 4) isn't exactly one item without quotes.
     BadDirective,
-    /// No owner was stated so far, or it is quoted.
+    /// An entry omits its owner and none was stated before, or the owner is quoted (RFC 1035 5.1).
     NoOwner,
-    /// There is no TTL to inherit.
+    /// A record omits its TTL, and neither `$TTL`, an earlier TTL nor an SOA gives one (RFC 1035 5.1; RFC 2308 4).
     NoTtl,
-    /// The TTL is malformed or over 2147483647.
+    /// A TTL is malformed or over 2147483647 seconds (RFC 2181 8).
     BadTtl,
-    /// The stream ends in a length or a message.
+    /// The stream ends inside the two octets of a length or inside the message behind them (RFC 1035 4.2.2).
     ShortFrame,
-    /// A part runs past the message.
+    /// The header, a question or a record runs past the end of the message (RFC 1035 4.1).
     ShortMessage,
-    /// The message is no response to a query.
+    /// The message's QR is 0 or its OPCODE isn't 0 (RFC 1035 4.1.1).
     NotAResponse,
-    /// The message is marked as truncated.
+    /// The message's TC is 1 (RFC 1035 4.1.1).
     Truncated,
-    /// The message carries this error code.
+    /// The message carries this RCODE, which isn't 0 (RFC 1035 4.1.1).
     ErrorCode(u8),
-    /// The section counts don't fit a transfer.
+    /// The message's QDCOUNT is over 1 or its NSCOUNT isn't 0 (RFC 5936 2.2).
     BadCounts,
-    /// The message's ID differs from the first message's.
+    /// The message's ID differs from the first message's (RFC 5936 2.2.1).
     IdMismatch,
-    /// The question doesn't fit the zone.
+    /// A question's type isn't AXFR 252, or its name or class isn't that of the zone's SOA (RFC 5936 2.1.2, 2.2.2).
     BadQuestion,
-    /// A label's top bits are 01 or 10.
+    /// A label's two top bits are 01 or 10 (RFC 1035 4.1.4).
     ReservedLabel,
-    /// A compression pointer has a bad target.
+    /// A compression pointer leads into the header, below octet 12, or not before the labels that it ends: to no prior
+    /// occurrence of a name (RFC 1035 4.1.4).
     BadPointer,
-    /// A name has more than 128 pointers.
+    /// A name has more than 128 compression pointers, a limit of this project's own (RFC 1035 4.1.4 has none).
     TooManyPointers,
-    /// The type's data may hold pointers.
+    /// The type's data may hold compression pointers and isn't read: MD 3, MF 4, MB 7, MG 8, MR 9, MINFO 14, RP 17,
+    /// AFSDB 18, RT 21, SIG 24, PX 26 or NXT 30 (RFC 3597 4).
     CompressibleType,
-    /// Octets follow the last record.
+    /// Octets follow the last record of the message (RFC 1035 4.1).
     TrailingOctets,
-    /// The first answer is no SOA.
+    /// The first answer of the transfer is no SOA (RFC 5936 2.2).
     NoOpeningSoa,
-    /// A later SOA differs from the opening one.
+    /// A later SOA of the transfer differs from the opening one (RFC 5936 2.2).
     SoaMismatch,
-    /// An answer follows the closing SOA.
+    /// An answer follows the closing SOA of the transfer (RFC 5936 2.2).
     AfterClosing,
-    /// The stream ends before the closing SOA.
+    /// The stream ends before the opening SOA comes again (RFC 5936 2.2).
     NoClosingSoa,
-    /// The class differs from the first record's.
+    /// A record's class differs from the first record's (RFC 1035 5.2).
     ClassMismatch,
-    /// An earlier SOA differs in owner or data.
+    /// An SOA differs from an earlier one in owner or data (RFC 1035 5.2).
     MultipleSoa,
-    /// The TTL differs inside a set.
+    /// A TTL differs from that of its record set (RFC 2181 5.2); RRSIG records are one set for each type covered.
     DifferingTtl,
-    /// The zone has no SOA.
+    /// The zone has no SOA (RFC 1035 5.2).
     NoSoa,
-    /// An owner, the least of them, is neither at nor below the apex.
+    /// This owner, the least such one, is neither at nor below the SOA's owner (RFC 1034 3.1, 4.2).
     OutOfZone(Name),
-    /// The canonical text is over the limit.
+    /// The canonical text has more than 1,073,741,824 octets, a limit of this project's own.
     ZoneTooLarge,
-    /// The input is over the limit.
+    /// The input has more than 1,073,741,824 octets, a limit of this project's own.
     InputTooLong,
 }
 

@@ -2,8 +2,9 @@ ghost use Rattle.std.specs.Prelude.{◌≡◌, ◌≢◌, ◌≤◌, length, map
 ghost use Rattle.hex.specs.Hex.{decode_of};
 ghost use Rattle.zone_name.specs.Common.{Octets};
 ghost use Rattle.zone_rdata.specs.Fault.{IfFault, NoValue};
-ghost use Rattle.zone_rdata.specs.Generic.{GenericFault, JoinTo, LengthFault, StatesGeneric, StatesLength};
+ghost use Rattle.zone_rdata.specs.Generic.{GenericFault, JoinTo, StatesGeneric, StatesLength};
 ghost use Rattle.zone_rdata.specs.Machine.Appending.{AppendsDigits};
+ghost use Rattle.zone_rdata.specs.Machine.GenericLength.{LengthFault};
 ghost use Rattle.zone_rdata.specs.Item.{IsGeneric, raw};
 
 use crate::fault::{Failing, Fault};
@@ -18,7 +19,7 @@ use std::alloc::Global;
 /// # Errors
 ///
 /// The first of: `BadGeneric` for a length that is missing or no decimal number, `RdataTooLong` for one over 65,535,
-/// and `BadGeneric` for digits that aren't those of so many octets; besides want of memory.
+/// and `BadGeneric` for digits that aren't those of so many octets; and `Memory` where memory is refused.
 pub(crate) fn octets_of_generic(alloc: Global, items: &[Item]) -> Result<Vec<u8>, Failing>
     requires { IsGeneric (map raw items.now) }
     ensures found { IfOk result (λ octets. StatesGeneric (map raw items.now) octets.items) }
@@ -84,8 +85,5 @@ fn push_digits(text: &[u8], octets: &mut Vec<u8>) -> Result<(), Failing>
     let before = octets.len();
     octets.resize(before + text.len() / 2, 0)?;
     let (_, room) = octets.as_mut_slice().split_at_mut(before);
-    match decode_to_slice(text, room) {
-        Ok(()) => Ok(()),
-        Err(_) => Err(Failing::Fault(Fault::BadGeneric)),
-    }
+    decode_to_slice(text, room).map_err(|_| Failing::Fault(Fault::BadGeneric))
 }

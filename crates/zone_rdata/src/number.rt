@@ -1,11 +1,9 @@
 ghost use Rattle.std.specs.Prelude.{[], ◌≡◌, ◌<◌, ◌≤◌, Some, decimal, IfOk, IfErr, IfSome, IfNone, OnErr, OnOk};
-ghost use Rattle.std.specs.Int.{w16, w32, to_be_bytes};
 ghost use Rattle.zone_name.specs.Common.{NothingIs};
 ghost use Rattle.zone_rdata.specs.Number.{IsCapped, IsDecimal};
 
 use crate::fault::{Failing, Fault};
 use crate::narrow_failing::{Cause, NarrowFailing};
-use byteorder::{BigEndian, ByteOrder};
 use itoa::Buffer;
 use zone_name::Sink;
 
@@ -39,24 +37,6 @@ pub(crate) fn at_most(most: u32, number: Option<u64>) -> Result<u32, NarrowFaili
         Some(number) if number <= u64::from(most) => Ok(number as u32),
         _ => Err(NarrowFailing::of(Cause::BadNumber)),
     }
-}
-
-/// The octets of a number of 16 bits, the highest first.
-pub(crate) fn u16_octets_of(number: u16) -> [u8; 2]
-    ensures { result ≡ to_be_bytes w16 number }
-{
-    let mut octets = [0; 2];
-    BigEndian::write_u16(&mut octets, number);
-    octets
-}
-
-/// The octets of a number of 32 bits, the highest first.
-pub(crate) fn u32_octets_of(number: u32) -> [u8; 4]
-    ensures { result ≡ to_be_bytes w32 number }
-{
-    let mut octets = [0; 4];
-    BigEndian::write_u32(&mut octets, number);
-    octets
 }
 
 /// Appends a number in decimal.

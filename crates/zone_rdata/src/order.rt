@@ -14,8 +14,8 @@ impl PartialEq for Rdata {
     ghost laws = { Prim.search (comparing, rules) };
 
     fn eq(&self, other: &Rdata) -> bool {
-        self.class().number() == other.class().number()
-            && self.kind().number() == other.kind().number()
+        self.class() == other.class()
+            && self.kind() == other.kind()
             && self.octets() == other.octets()
     }
 }
@@ -46,9 +46,8 @@ impl Ord for Rdata {
 
     fn cmp(&self, other: &Rdata) -> Ordering {
         self.class()
-            .number()
-            .cmp(&other.class().number())
-            .then(self.kind().number().cmp(&other.kind().number()))
+            .cmp(&other.class())
+            .then(self.kind().cmp(&other.kind()))
             .then(self.octets().cmp(other.octets()))
     }
 }

@@ -76,8 +76,7 @@ fn push_generic<S: Sink>(octets: &[u8], out: &mut S) -> Result<(), S::Error>
     ensures err { OnErr result (TakesSome S.takes out.old out.new) }
 {
     push_generic_head(octets, out)?;
-    push_hex(octets, out)?;
-    Ok(())
+    push_hex(octets, out)
 }
 
 /// Appends the canonical text of data: its fields, or opaque octets in the generic form.

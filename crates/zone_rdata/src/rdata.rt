@@ -123,8 +123,8 @@ impl Rdata {
     ///
     /// # Errors
     ///
-    /// `RdataTooLong` over 65,535 octets, `BadRdata` where they aren't exactly one value of the layout, and want of
-    /// memory.
+    /// `RdataTooLong` over 65,535 octets, `BadRdata` where they aren't exactly one value of the layout; and `Memory` where
+    /// memory is refused.
     pub fn from_wire(
         alloc: Global,
         class: Class,

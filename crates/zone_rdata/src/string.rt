@@ -19,7 +19,7 @@ use zone_name::{NextUnit, Sink, decimal_escape, next_unit};
 ///
 /// # Errors
 ///
-/// The leftmost `BadEscape` or `StringTooLong`, and want of memory.
+/// The leftmost `BadEscape` or `StringTooLong`; and `Memory` where memory is refused.
 pub(crate) fn push_string(item: Item, out: &mut Vec<u8>) -> Result<(), NarrowFailing>
     ensures found { OnOk result (AppendsString (raw item.entry) out.old.items out.new.items) }
     ensures fault { (fault : Fault) → result ≡ Err (Failing.Fault fault)
@@ -93,8 +93,7 @@ pub(crate) fn push_string_text<S: Sink>(octets: &[u8], out: &mut S) -> Result<()
     for octet in octets {
         push_unit(*octet, out)?;
     }
-    out.push(b"\"")?;
-    Ok(())
+    out.push(b"\"")
 }
 
 /// Appends an octet's text between quotes.

@@ -65,12 +65,10 @@ impl Progress {
         ensures none { IfNone result ((text : Octets) (n : ℕ)
             → Reads text self → IsTime text n → ⊥) }
     {
-        if self.grouped {
-            if self.open { None } else { Some(self.total) }
-        } else if self.open {
-            Some(self.number)
-        } else {
-            None
+        match (self.grouped, self.open) {
+            (true, false) => Some(self.total),
+            (false, true) => Some(self.number),
+            _ => None,
         }
     }
 }

@@ -12,7 +12,7 @@ use std::alloc::Global;
 ///
 /// # Errors
 ///
-/// `BadRdata` where they aren't, and want of memory.
+/// `BadRdata` where they aren't; and `Memory` where memory is refused.
 pub(crate) fn canonical_of(alloc: Global, layout: Layout, octets: &[u8]) -> Result<Vec<u8>, Failing>
     requires { StringsLast (fields_of layout) }
     ensures found { IfOk result (λ canonical.
@@ -35,7 +35,7 @@ pub(crate) fn canonical_of(alloc: Global, layout: Layout, octets: &[u8]) -> Resu
 ///
 /// # Errors
 ///
-/// `BadRdata` where they aren't, and want of memory.
+/// `BadRdata` where they aren't; and `Memory` where memory is refused.
 pub(crate) fn canonical_for(
     alloc: Global,
     layout: Option<Layout>,

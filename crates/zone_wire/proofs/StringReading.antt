@@ -12,7 +12,8 @@ use Rattle.zone_rdata.specs.declared.fault.Fault.TheVariants.{BadRdata}
 use Rattle.zone_rdata.specs.declared.field.Field.TheVariants.{OneString, Strings}
 use Rattle.zone_rdata.specs.Builder.{Built, IsNext}
 use Rattle.zone_rdata.specs.Field.{FieldValue, string, strings, field_octets, octets_of, Suits, Holds}
-use Rattle.zone_rdata.specs.Fields.Strings.{AreStrings, AreWithLengths, strings_of}
+use Rattle.zone_rdata.specs.Fields.Strings.{AreStrings, strings_of}
+use Rattle.zone_rdata.specs.Machine.Fronts.{AreWithLengths}
 use Rattle.zone_rdata.specs.Layout.{layout}
 use Rattle.zone_rdata.specs.Strings.{IsString}
 use Rattle.zone_rdata.proofs.Fields.Strings.{Framed, framed_short}

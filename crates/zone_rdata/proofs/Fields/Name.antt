@@ -10,10 +10,10 @@ use Rattle.zone_rdata.specs.declared.field.Field.TheVariants.{Name}
 use Rattle.zone_rdata.specs.Builder.{FitsString}
 use Rattle.zone_rdata.specs.Fault.{fault_of}
 use Rattle.zone_rdata.specs.Field.{FieldValue, Holds, SpellsField, Suits, field_octets, name}
-use Rattle.zone_rdata.specs.Fields.Name.{BeginsWithSent}
 use Rattle.zone_rdata.specs.Item.{RawItem, bare}
 use Rattle.zone_rdata.specs.Machine.Appending.{AppendsValue, BeginsWithNone, BeginsWithValue}
 use Rattle.zone_rdata.specs.Machine.Building.{IsReal}
+use Rattle.zone_rdata.specs.Machine.Fronts.{BeginsWithSent}
 use Rattle.zone_rdata.proofs.Choices.{Decided, each_or_not}
 use Rattle.zone_rdata.proofs.FieldLaws.{AreLow, FieldLaws, FrontChoice, bare_item, bare_or_fault, found_front, mark_text}
 use Rattle.zone_name.proofs.Octets.{labels_of-wire_append}

@@ -11,10 +11,11 @@ use Rattle.zone_rdata.specs.declared.field.Field.TheVariants.{OneString, Strings
 use Rattle.zone_rdata.specs.Builder.{FitsString}
 use Rattle.zone_rdata.specs.Field.{FieldValue, Holds, SpellsField, Suits, field_octets, string, strings}
 use Rattle.zone_rdata.specs.Fields.OneString.{string_item}
-use Rattle.zone_rdata.specs.Fields.Strings.{AreStrings, AreWithLengths, FirstStringFault, SpellEachString, SpellsStrings, StringsFault, strings_of}
+use Rattle.zone_rdata.specs.Fields.Strings.{AreStrings, FirstStringFault, SpellEachString, SpellsStrings, StringsFault, strings_of}
 use Rattle.zone_rdata.specs.Item.{IsGeneric, RawItem}
 use Rattle.zone_rdata.specs.Machine.Appending.{AppendsPrefix, AppendsValue, BeginsWithNone, BeginsWithValue}
 use Rattle.zone_rdata.specs.Machine.Building.{IsReal}
+use Rattle.zone_rdata.specs.Machine.Fronts.{AreWithLengths}
 use Rattle.zone_rdata.specs.Source.{after}
 use Rattle.zone_rdata.specs.Strings.{IsString, SpellsString, StringFault}
 use Rattle.zone_rdata.proofs.FieldLaws.{AreLow, AreLowItems, FieldChoice, FieldLaws, FrontChoice, appends_plain, found_front, front_of, low_drop}

@@ -1,6 +1,6 @@
 -- A field that is a domain name (RFC 1035 3.3).
-use Rattle.std.specs.Prelude.{◌≡◌, ℕ, List, ◌++◌, Some}
-use Rattle.zone_name.specs.Name.{IsName, folded, wire}
+use Rattle.std.specs.Prelude.{◌≡◌, ℕ, List, Some}
+use Rattle.zone_name.specs.Name.{folded, wire}
 use Rattle.zone_name.specs.Spelling.{FirstFault}
 use Rattle.zone_name.specs.declared.fault.NameFault.{NameFault}
 use Rattle.zone_rdata.specs.declared.fault.Fault.{Fault}
@@ -13,10 +13,3 @@ IsNameFault origin text fault = (f : NameFault) × FirstFault (Some origin) text
 -- a name as it is sent: its labels in any letter case (RFC 4343 3)
 abbrev pub IsSentName : List (List ℕ) → List ℕ → Type 0
 IsSentName labels octets = (sent : List (List ℕ)) × (folded sent ≡ labels) × (octets ≡ wire sent)
-
--- octets that begin with a name, in any letter case
-pub record BeginsWithSent (octets : List ℕ) (labels : List (List ℕ)) (rest : List ℕ) : Type 0 where
-  pub is_name : IsName labels
-  pub sent : List (List ℕ)
-  pub folds : folded sent ≡ labels
-  pub parts : octets ≡ wire sent ++ rest

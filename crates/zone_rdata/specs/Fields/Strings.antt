@@ -1,7 +1,6 @@
 -- Several strings: one or more character-strings, up to the end of the data (RFC 1035 3.3.14).
 use Rattle.std.specs.Prelude.{◌≡◌, ℕ, zero, suc, ◌<◌, List, [], ◌∷◌, length, take, drop, map, ⊤, ◌⊎◌}
-use Rattle.std.specs.List.{flat_map, join_with_byte, AllByRecursion}
-use Rattle.zone_name.specs.Name.{with_length}
+use Rattle.std.specs.List.{join_with_byte, AllByRecursion}
 use Rattle.zone_rdata.specs.declared.fault.Fault.{Fault}
 use Rattle.zone_rdata.specs.declared.fault.Fault.TheVariants.{BadRdata}
 use Rattle.zone_rdata.specs.Item.{RawItem}
@@ -21,15 +20,6 @@ strings_by (suc n) (c ∷ octets) = take c octets ∷ strings_by n (drop c octet
 -- the strings that octets hold: the inverse of joining them
 unfoldable pub strings_of : List ℕ → List (List ℕ)
 strings_of octets = strings_by (length octets) octets
-
--- octets that are strings, each behind its length
-pub record HoldsStrings (octets : List ℕ) : Type 0 where
-  pub each : AllByRecursion IsString (strings_of octets)
-  pub whole : flat_map with_length (strings_of octets) ≡ octets
-
--- octets that are one string or more, each behind its length
-abbrev pub AreWithLengths : List ℕ → Type 0
-AreWithLengths octets = (many : List (List ℕ)) × AreStrings many × (octets ≡ flat_map with_length many)
 
 -- an item for each string, in order, which spells it
 abbrev pub SpellEachString : List RawItem → List (List ℕ) → Type 0

@@ -4,7 +4,6 @@ ghost use Rattle.std.specs.Net.Text as std_text;
 ghost use Rattle.arrayvec.specs.ArrayVec.{array_vec_len};
 ghost use Rattle.zone_rdata.specs.Address.{ipv4_text, ipv6_text, parted_groups};
 
-use crate::number::u16_octets_of;
 use arrayvec::ArrayVec;
 use byteorder::{BigEndian, ByteOrder};
 use hex::encode_to_slice;
@@ -69,7 +68,7 @@ fn push_group(text: &mut ArrayVec<u8, ROOM>, group: u16)
     ensures short { array_vec_len text.new ≤ array_vec_len text.old + 4 }
 {
     let mut digits = [0; 4];
-    let _ = encode_to_slice(u16_octets_of(group), &mut digits);
+    let _ = encode_to_slice(group.to_be_bytes(), &mut digits);
     push_octets(text, &digits[leading_zeros(group)..]);
 }
 

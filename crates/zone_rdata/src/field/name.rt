@@ -2,9 +2,10 @@ ghost use Rattle.std.specs.Prelude.{◌≡◌, ◌<◌, ℕ, List, Some, IfOk, I
 ghost use Rattle.zone_name.specs.Name.{wire};
 ghost use Rattle.zone_name.specs.Spelling.{Spells};
 ghost use Rattle.zone_rdata.specs.Fault.{IfFault};
-ghost use Rattle.zone_rdata.specs.Fields.Name.{IsNameFault, BeginsWithSent};
+ghost use Rattle.zone_rdata.specs.Fields.Name.{IsNameFault};
 ghost use Rattle.zone_rdata.specs.Machine.Appending.{Appends};
 ghost use Rattle.zone_rdata.specs.Machine.Appending.{AppendsValue, BeginsWithNone};
+ghost use Rattle.zone_rdata.specs.Machine.Fronts.{BeginsWithSent};
 
 use super::Field;
 use crate::fault::{Failing, Fault};

@@ -1,8 +1,9 @@
 ghost use Rattle.std.specs.Prelude.{◌≡◌, ◌<◌, ◌≤◌, drop, length, IfOk, IfErr};
 ghost use Rattle.zone_name.specs.Name.{with_length};
 ghost use Rattle.zone_rdata.specs.Fault.{IfFault};
-ghost use Rattle.zone_rdata.specs.Fields.OneString.{BeginsWithString, string_at};
+ghost use Rattle.zone_rdata.specs.Fields.OneString.{string_at};
 ghost use Rattle.zone_rdata.specs.Machine.Appending.{AppendsValue, BeginsWithNone};
+ghost use Rattle.zone_rdata.specs.Machine.Fronts.{BeginsWithString};
 
 use super::Field;
 use super::prefix::push_prefix;

@@ -4,10 +4,11 @@ ghost use Rattle.zone_name.specs.Sink.{TakesSome};
 ghost use Rattle.zone_rdata.specs.Strings.{string_text};
 ghost use Rattle.zone_name.specs.Name.{with_length};
 ghost use Rattle.zone_rdata.specs.Fault.{IfFault};
-ghost use Rattle.zone_rdata.specs.Fields.Strings.{SpellsStrings, StringsFault, AreWithLengths, HoldsStrings, strings_of};
+ghost use Rattle.zone_rdata.specs.Fields.Strings.{SpellsStrings, StringsFault, strings_of};
 ghost use Rattle.zone_rdata.specs.Item.{raw};
 ghost use Rattle.zone_rdata.specs.Machine.Appending.{Appends};
 ghost use Rattle.zone_rdata.specs.Machine.Appending.{AppendsValue, BeginsWithNone};
+ghost use Rattle.zone_rdata.specs.Machine.Fronts.{AreWithLengths, HoldsStrings};
 
 use super::Field;
 use super::prefix::push_prefix;

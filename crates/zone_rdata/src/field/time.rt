@@ -6,7 +6,7 @@ ghost use Rattle.zone_rdata.specs.Machine.Appending.{Appends};
 
 use crate::fault::Fault;
 use crate::narrow_failing::NarrowFailing;
-use crate::number::{at_most, u32_octets_of};
+use crate::number::at_most;
 use crate::time::seconds_of;
 
 /// Appends the number of seconds that a time stands for.
@@ -15,6 +15,6 @@ pub(crate) fn push_time(text: &[u8], octets: &mut Vec<u8>) -> Result<(), NarrowF
     ensures fault { IfErr result (IfFault (NoValue Fault.BadNumber (SpellsTime text.now))) }
 {
     let number = at_most(u32::MAX, seconds_of(text))?;
-    octets.extend_from_slice(&u32_octets_of(number))?;
+    octets.extend_from_slice(&number.to_be_bytes())?;
     Ok(())
 }

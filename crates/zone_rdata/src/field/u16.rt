@@ -6,7 +6,7 @@ ghost use Rattle.zone_rdata.specs.Machine.Appending.{Appends};
 
 use crate::fault::Fault;
 use crate::narrow_failing::NarrowFailing;
-use crate::number::{at_most, decimal_of, u16_octets_of};
+use crate::number::{at_most, decimal_of};
 use byteorder::{BigEndian, ByteOrder};
 
 /// Appends the number that decimal digits stand for.
@@ -15,7 +15,7 @@ pub(crate) fn push_u16(text: &[u8], octets: &mut Vec<u8>) -> Result<(), NarrowFa
     ensures fault { IfErr result (IfFault (NoValue Fault.BadNumber (SpellsU16 text.now))) }
 {
     let number = at_most(u32::from(u16::MAX), decimal_of(text))?;
-    octets.extend_from_slice(&u16_octets_of(number as u16))?;
+    octets.extend_from_slice(&(number as u16).to_be_bytes())?;
     Ok(())
 }
 

@@ -14,5 +14,5 @@ pub returns-clause-found : goal.returns-clause-found
 returns-clause-found c = record {
   value = c.in_ok-number.number;
   stated = (that_number (IsTime c.args.text.now) c.in_ok-number.number 4294967295 4294967296 c.seconds_of.result (omega arith) c.in_ok-number.ensures.found.0 c.in_ok-number.ensures.found.1 c.seconds_of.ensures.found, omega (arith, c.in_ok-number.ensures.found.1));
-  written = c.in_ok-extend_from_slice.ensures.items ∙ ap (λ o. c.args.octets.now.items ++ o) c.u32_octets_of.ensures;
+  written = c.in_ok-extend_from_slice.ensures.items ∙ ap (λ o. c.args.octets.now.items ++ o) c.to_be_bytes.ensures;
 }
