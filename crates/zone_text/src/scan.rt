@@ -100,7 +100,7 @@ fn moves(mode: Mode, octet: u8) -> bool
 fn is_digit(octet: u8) -> bool
     ensures { result ≡ is_digit octet }
 {
-    octet >= b'0' && octet <= b'9'
+    octet.is_ascii_digit()
 }
 
 /// Whether the octet is a digit with which the other two make a number of at most 255.
