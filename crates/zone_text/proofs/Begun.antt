@@ -4,7 +4,7 @@ use Rattle.std.specs.Option.{is_some}
 use Rattle.std.proofs.lemmas.Bool.{eqb-true, eqb-false}
 use Rattle.zone_name.specs.Common.{Labels}
 use Rattle.zone_text.specs.declared.ended.EndedEntries.{EndedEntries}
-use Rattle.zone_text.specs.declared.scan.Spot.{Spot}
+use Rattle.zone_text.specs.declared.scan.ScanState.{ScanState}
 use Rattle.zone_text.specs.declared.scan.Step.TheVariants.{On}
 use Rattle.zone_text.specs.Decided.{Decided, undecided}
 use Rattle.zone_text.specs.Defaults.{AreDefaults}
@@ -32,13 +32,13 @@ none_found None is = refl
 none_found (Some x) is = absurd (let t : ⊥ = cc in t)
 
 -- no octets lead to the beginning of an entry
-pub scans_nothing : (at : Spot) (unfinished : List ℕ) → at ≡ beginning → unfinished ≡ [] → ScansTo beginning unfinished (On at)
+pub scans_nothing : (at : ScanState) (unfinished : List ℕ) → at ≡ beginning → unfinished ≡ [] → ScansTo beginning unfinished (On at)
 unfolding scan_of
 scans_nothing at unfinished begins none = rw (begins, none) refl
 
-pub nothing_taken : (ended : EndedEntries) (at : Spot) (unfinished : List ℕ) → at ≡ beginning → unfinished ≡ [] → 1 ≤ ended.line → IsIntake ended at unfinished
+pub nothing_taken : (ended : EndedEntries) (at : ScanState) (unfinished : List ℕ) → at ≡ beginning → unfinished ≡ [] → 1 ≤ ended.line → IsIntake ended at unfinished
 nothing_taken ended at unfinished begins none line = record {
-  spot = scans_nothing at unfinished begins none;
+  state = scans_nothing at unfinished begins none;
   dropped = λ _ _. none;
   line = line;
 }

@@ -6,7 +6,7 @@ use Rattle.zone_rdata.specs.declared.fault.Place.{Place}
 use Rattle.zone_text.specs.declared.ended.EndedEntries.{EndedEntries}
 use Rattle.zone_text.specs.declared.intake.Intake.{Intake}
 use Rattle.zone_text.specs.declared.scan.Scanned.{Scanned}
-use Rattle.zone_text.specs.declared.scan.Spot.{Spot}
+use Rattle.zone_text.specs.declared.scan.ScanState.{ScanState}
 use Rattle.zone_text.specs.Machine.Feeding.{Follow, IsIntake, ScansTo}
 use Rattle.zone_text.specs.Machine.Scan.{beginning, scan_of}
 use Rattle.zone_text.proofs.Followed.{follow_fault}
@@ -55,15 +55,15 @@ fed_fault old new piece rest found before ending origin fed given f =
     (follow_fault origin new.ended found new.unfinished.items rest (fed ++ before.front) given ending (before.follow origin fed given f))
 
 -- what a scan took of octets it takes whole
-pub takes_part : (at : Spot) (rest part : List ℕ) (found : Scanned) → found ≡ scan_of at rest → part ≡ take found.taken rest → ScansTo at part found.step
+pub takes_part : (at : ScanState) (rest part : List ℕ) (found : Scanned) → found ≡ scan_of at rest → part ≡ take found.taken rest → ScansTo at part found.step
 takes_part at rest part found is cut =
     let same : part ≡ take (scan_of at rest).taken rest = cut ∙ ap (λ (f : Scanned). take f.taken rest) is in
     let len : length part ≡ (scan_of at rest).taken = ap length same ∙ takes_front at rest in
     ap (scan_of at) same ∙ stops_at at rest ∙ ap (λ (n : ℕ). let f : Scanned = record { taken = n; step = (scan_of at rest).step } in f) (sym len) ∙ ap (λ (f : Scanned). let g : Scanned = record { taken = length part; step = f.step } in g) (sym is)
 
 -- each octet of the unfinished entry opened one parenthesis at the most
-pub depth_within : (ended : EndedEntries) (at : Spot) (unfinished : List ℕ) → IsIntake ended at unfinished → at.depth ≤ length unfinished
-depth_within ended at unfinished is = let h = unfinished_depth beginning at unfinished (ap (λ (f : Scanned). f.step) is.spot) in omega (arith, h)
+pub depth_within : (ended : EndedEntries) (at : ScanState) (unfinished : List ℕ) → IsIntake ended at unfinished → at.depth ≤ length unfinished
+depth_within ended at unfinished is = let h = unfinished_depth beginning at unfinished (ap (λ (f : Scanned). f.step) is.state) in omega (arith, h)
 
 -- where a fault was decided nothing changes
 pub fed_settled : (old new : Intake) (piece rest : List ℕ) → HasFed old new piece rest → IfSome old.ended.decided.ending (λ _. (true ≡ true) × (new ≡ old))

@@ -11,7 +11,7 @@ use Rattle.zone_rdata.specs.declared.fault.Place.{Place}
 use Rattle.zone_rdata.specs.declared.fault.Place.TheVariants.{Line}
 use Rattle.zone_rdata.specs.declared.record.Placed.{Placed}
 use Rattle.zone_text.specs.declared.ended.EndedEntries.{EndedEntries}
-use Rattle.zone_text.specs.declared.scan.Spot.{Spot}
+use Rattle.zone_text.specs.declared.scan.ScanState.{ScanState}
 use Rattle.zone_text.specs.declared.scan.Step.{Step}
 use Rattle.zone_text.specs.declared.scan.Step.TheVariants.{On, Ends, LostEscape, ClosesNothing}
 use Rattle.zone_text.specs.Pieces.{Piece, Cuts, text}
@@ -53,14 +53,14 @@ is_read origin entries unfinished fed given none follow =
 
 -- ---- the octets of the unfinished entry and others behind them
 
-pub scans_on : (at : Spot) (unfinished part : List ℕ) (step : Step) → ScansTo beginning unfinished (On at) → ScansTo at part step → ScansTo beginning (unfinished ++ part) step
+pub scans_on : (at : ScanState) (unfinished part : List ℕ) (step : Step) → ScansTo beginning unfinished (On at) → ScansTo at part step → ScansTo beginning (unfinished ++ part) step
 scans_on at unfinished part step before behind =
     goes_on beginning at unfinished part before
     ∙ ap (further (length unfinished)) behind
     ∙ ap (λ n. record { taken = n; step = step }) (sym (length-append unfinished part))
 
 -- the octets lead on
-pub follow_on : (origin : Labels) (entries : EndedEntries) (at : Spot) (unfinished part fed : List ℕ) (given : List Placed) → ScansTo beginning (unfinished ++ part) (On at) → entries.decided.ending ≡ None → Follow origin entries unfinished fed given → Follow origin entries (unfinished ++ part) (fed ++ part) given
+pub follow_on : (origin : Labels) (entries : EndedEntries) (at : ScanState) (unfinished part fed : List ℕ) (given : List Placed) → ScansTo beginning (unfinished ++ part) (On at) → entries.decided.ending ≡ None → Follow origin entries unfinished fed given → Follow origin entries (unfinished ++ part) (fed ++ part) given
 follow_on origin entries at unfinished part fed given scanned none follow =
     let found = is_read origin entries unfinished fed given none follow in
     let ended : List (List Piece) = found.0 in
@@ -181,7 +181,7 @@ end_of_lines origin entries unfinished fed given empty none follow =
     subst (λ e. FileReads origin fed (given ++ entries.decided.placed.items) e) (sym none) (whole_lines origin fed ended (given ++ entries.decided.placed.items) (subst (λ t. IsSplit fed ended t) empty is.parts) is.read)
 
 -- they break
-pub end_of_break : (origin : Labels) (old new : EndedEntries) (at : Spot) (fault : Fault) (unfinished fed : List ℕ) (given : List Placed) → ScansTo beginning unfinished (On at) → end_fault_of at ≡ Some fault → old.decided.ending ≡ None → new.decided.placed.items ≡ old.decided.placed.items → new.decided.ending ≡ Some (fault, Line old.line) → Follow origin old unfinished fed given → Reads origin fed given new
+pub end_of_break : (origin : Labels) (old new : EndedEntries) (at : ScanState) (fault : Fault) (unfinished fed : List ℕ) (given : List Placed) → ScansTo beginning unfinished (On at) → end_fault_of at ≡ Some fault → old.decided.ending ≡ None → new.decided.placed.items ≡ old.decided.placed.items → new.decided.ending ≡ Some (fault, Line old.line) → Follow origin old unfinished fed given → Reads origin fed given new
 end_of_break origin old new at fault unfinished fed given scanned ends none records ending follow =
     let found = is_read origin old unfinished fed given none follow in
     let ended : List (List Piece) = found.0 in
@@ -199,7 +199,7 @@ last_read origin ended old new c more fed given (p ∷ pieces) is cut alone read
     let records : (given ++ old.decided.placed.items) ++ read.others ≡ given ++ new.decided.placed.items = append_assoc given old.decided.placed.items read.others ∙ ap (λ t. given ++ t) (sym read.records) in
     subst (λ t. FileReads origin fed t new.decided.ending) records (last_entry origin fed ended (c ∷ more) p pieces (given ++ old.decided.placed.items) read.others new.decided.ending is.parts cut alone is.read next)
 
-pub end_of_entry : (origin : Labels) (old new : EndedEntries) (at : Spot) (c : ℕ) (more fed : List ℕ) (given : List Placed) → ScansTo beginning (c ∷ more) (On at) → end_fault_of at ≡ None → old.decided.ending ≡ None → ReadsOctets (c ∷ more) old new → Follow origin old (c ∷ more) fed given → Reads origin fed given new
+pub end_of_entry : (origin : Labels) (old new : EndedEntries) (at : ScanState) (c : ℕ) (more fed : List ℕ) (given : List Placed) → ScansTo beginning (c ∷ more) (On at) → end_fault_of at ≡ None → old.decided.ending ≡ None → ReadsOctets (c ∷ more) old new → Follow origin old (c ∷ more) fed given → Reads origin fed given new
 end_of_entry origin old new at c more fed given scanned ends none reads follow =
     let found = is_read origin old (c ∷ more) fed given none follow in
     let ended : List (List Piece) = found.0 in
@@ -208,6 +208,6 @@ end_of_entry origin old new at c more fed given scanned ends none reads follow =
     last_read origin ended old new c more fed given cut.0 is cut.1 cut.2 (reads.reads origin (reverse (numbered 1 ended)) cut.0 is.defaults cut.1)
 
 -- octets of which there is one
-pub end_of_some : (origin : Labels) (old new : EndedEntries) (at : Spot) (unfinished fed : List ℕ) (given : List Placed) → ScansTo beginning unfinished (On at) → (unfinished ≡ [] → ⊥) → end_fault_of at ≡ None → old.decided.ending ≡ None → ReadsOctets unfinished old new → Follow origin old unfinished fed given → Reads origin fed given new
+pub end_of_some : (origin : Labels) (old new : EndedEntries) (at : ScanState) (unfinished fed : List ℕ) (given : List Placed) → ScansTo beginning unfinished (On at) → (unfinished ≡ [] → ⊥) → end_fault_of at ≡ None → old.decided.ending ≡ None → ReadsOctets unfinished old new → Follow origin old unfinished fed given → Reads origin fed given new
 end_of_some origin old new at [] fed given scanned some ends none reads follow = absurd (some refl)
 end_of_some origin old new at (c ∷ more) fed given scanned some ends none reads follow = end_of_entry origin old new at c more fed given scanned ends none reads follow

@@ -15,7 +15,7 @@ use Rattle.zone_text.specs.declared.scan.Escape.TheVariants.{Begun, One, Two}
 use Rattle.zone_text.specs.declared.scan.Mode.{Mode}
 use Rattle.zone_text.specs.declared.scan.Mode.TheVariants.{Open, Quoted, Comment, Escaped, QuotedEscaped}
 use Rattle.zone_text.specs.declared.scan.Scanned.{Scanned}
-use Rattle.zone_text.specs.declared.scan.Spot.{Spot}
+use Rattle.zone_text.specs.declared.scan.ScanState.{ScanState}
 use Rattle.zone_text.specs.declared.scan.Step.{Step}
 use Rattle.zone_text.specs.declared.scan.Step.TheVariants.{On, Ends, LostEscape, ClosesNothing}
 use Rattle.zone_text.specs.Pieces.{Piece, blank, opening, closing, line_feed, comment, bare, quoted, piece_text, is_blank, ends_item, IsPiece}
@@ -399,7 +399,7 @@ none_more (QuotedEscaped escape) depth digits = in_quoted_escape depth (34 ∷ e
 
 -- ---- all octets of a scan
 
-reads_by : (at : Spot) (c : ℕ) (rest : List ℕ) (step : Step) → OneMore at.mode at.depth c step → ((next : Spot) → HoldsDigits next.mode → Reads (scan_of next rest).step next.depth (opened next.mode (take (scan_of next rest).taken rest))) → let found : Scanned = scan_on (λ next. scan_of next rest) step in Reads found.step at.depth (opened at.mode (take found.taken (c ∷ rest)))
+reads_by : (at : ScanState) (c : ℕ) (rest : List ℕ) (step : Step) → OneMore at.mode at.depth c step → ((next : ScanState) → HoldsDigits next.mode → Reads (scan_of next rest).step next.depth (opened next.mode (take (scan_of next rest).taken rest))) → let found : Scanned = scan_on (λ next. scan_of next rest) step in Reads found.step at.depth (opened at.mode (take found.taken (c ∷ rest)))
 reads_by at c rest (On next) one more =
     let n : ℕ = (scan_of next rest).taken in
     let same : suc n ≡ 1 + n = omega arith in
@@ -408,7 +408,7 @@ reads_by at c rest Ends one more = one
 reads_by at c rest LostEscape one more = one
 reads_by at c rest ClosesNothing one more = one
 
-pub reads : (octets : List ℕ) (at : Spot) → HoldsDigits at.mode → Reads (scan_of at octets).step at.depth (opened at.mode (take (scan_of at octets).taken octets))
+pub reads : (octets : List ℕ) (at : ScanState) → HoldsDigits at.mode → Reads (scan_of at octets).step at.depth (opened at.mode (take (scan_of at octets).taken octets))
 unfolding scan_of
 reads [] at digits = none_more at.mode at.depth digits
 reads (c ∷ rest) at digits = reads_by at c rest (step_of at c) (one_more at.mode at.depth c digits) (λ next more. reads rest next more)

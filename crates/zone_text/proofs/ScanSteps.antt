@@ -8,12 +8,12 @@ use Rattle.zone_text.specs.declared.scan.Escape.{Escape}
 use Rattle.zone_text.specs.declared.scan.Mode.{Mode}
 use Rattle.zone_text.specs.declared.scan.Mode.TheVariants.{Open, Quoted, Comment, Escaped, QuotedEscaped}
 use Rattle.zone_text.specs.declared.scan.Scanned.{Scanned}
-use Rattle.zone_text.specs.declared.scan.Spot.{Spot}
+use Rattle.zone_text.specs.declared.scan.ScanState.{ScanState}
 use Rattle.zone_text.specs.declared.scan.Step.{Step}
 use Rattle.zone_text.specs.declared.scan.Step.TheVariants.{On, Ends, LostEscape, ClosesNothing}
 use Rattle.zone_text.specs.Machine.Scan.{on, moves, fed_line, closed, open_step, quoted_step, comment_step, behind_backslash, escape_step, step_in, step_of, further, scan_on, scan_of, open_at, AreQuiet}
 
--- ---- an octet that leaves the spot as it is
+-- ---- an octet that leaves the state as it is
 
 stays_open : (depth c : ℕ) → moves Open c ≡ false → open_step depth c ≡ on Open depth
 stays_open depth c e =
@@ -34,7 +34,7 @@ stays_in Comment depth c e = rw e refl
 stays_in (Escaped escape) depth c e = absurd (both_ways _ e refl)
 stays_in (QuotedEscaped escape) depth c e = absurd (both_ways _ e refl)
 
-pub stays : (at : Spot) (c : ℕ) → moves at.mode c ≡ false → step_of at c ≡ On at
+pub stays : (at : ScanState) (c : ℕ) → moves at.mode c ≡ false → step_of at c ≡ On at
 stays at c e = stays_in at.mode at.depth c e
 
 -- ---- answers joined
@@ -45,17 +45,17 @@ further_on n m found = let e : n + (m + found.taken) ≡ n + m + found.taken = o
 pub further_none : (found : Scanned) → further 0 found ≡ found
 further_none found = let e : 0 + found.taken ≡ found.taken = omega arith in ap (λ t. record { taken = t; step = found.step }) e
 
-at_octet : (at : Spot) (octets : List ℕ) (i : ℕ) → i < length octets → scan_of at (drop i octets) ≡ scan_on (λ next. scan_of next (drop (i + 1) octets)) (step_of at (get_or octets i 0))
+at_octet : (at : ScanState) (octets : List ℕ) (i : ℕ) → i < length octets → scan_of at (drop i octets) ≡ scan_on (λ next. scan_of next (drop (i + 1) octets)) (step_of at (get_or octets i 0))
 unfolding scan_of
 at_octet at octets i in_range =
     ap (scan_of at) (drop-cons octets i 0 in_range)
     ∙ ap (λ n. scan_on (λ next. scan_of next (drop n octets)) (step_of at (get_or octets i 0))) (let e : suc i ≡ i + 1 = omega arith in e)
 
 -- one octet more, and the scan goes on
-pub one_on : (start at next : Spot) (octets : List ℕ) (i : ℕ) → i < length octets → step_of at (get_or octets i 0) ≡ On next → scan_of start octets ≡ further i (scan_of at (drop i octets)) → scan_of start octets ≡ further (i + 1) (scan_of next (drop (i + 1) octets))
+pub one_on : (start at next : ScanState) (octets : List ℕ) (i : ℕ) → i < length octets → step_of at (get_or octets i 0) ≡ On next → scan_of start octets ≡ further i (scan_of at (drop i octets)) → scan_of start octets ≡ further (i + 1) (scan_of next (drop (i + 1) octets))
 one_on start at next octets i in_range e before =
     before
-    ∙ ap (further i) (at_octet at octets i in_range ∙ ap (scan_on (λ spot. scan_of spot (drop (i + 1) octets))) e)
+    ∙ ap (further i) (at_octet at octets i in_range ∙ ap (scan_on (λ s. scan_of s (drop (i + 1) octets))) e)
     ∙ further_on i 1 (scan_of next (drop (i + 1) octets))
 
 -- and the depth grows by one at the most
@@ -103,30 +103,30 @@ rises_in Comment depth c = rises_comment depth c
 rises_in (Escaped escape) depth c = rises_escape (λ e. Escaped e) Open depth (behind_backslash escape c)
 rises_in (QuotedEscaped escape) depth c = rises_escape (λ e. QuotedEscaped e) Quoted depth (behind_backslash escape c)
 
-pub rises : (at next : Spot) (c : ℕ) → step_of at c ≡ On next → next.depth ≤ at.depth + 1
+pub rises : (at next : ScanState) (c : ℕ) → step_of at c ≡ On next → next.depth ≤ at.depth + 1
 rises at next c e = subst (Rises at.depth) e (rises_in at.mode at.depth c)
 
 -- ---- where the scan stops
 
-last_step : (go_on : Spot → Scanned) (step : Step) → ((next : Spot) → step ≡ On next → ⊥) → scan_on go_on step ≡ record { taken = 1; step = step }
+last_step : (go_on : ScanState → Scanned) (step : Step) → ((next : ScanState) → step ≡ On next → ⊥) → scan_on go_on step ≡ record { taken = 1; step = step }
 last_step go_on (On next) last = absurd (last next refl)
 last_step go_on Ends last = refl
 last_step go_on LostEscape last = refl
 last_step go_on ClosesNothing last = refl
 
-pub one_stops : (start at : Spot) (step : Step) (octets : List ℕ) (i : ℕ) → i < length octets → step ≡ step_of at (get_or octets i 0) → ((next : Spot) → step ≡ On next → ⊥) → scan_of start octets ≡ further i (scan_of at (drop i octets)) → record { taken = i + 1; step = step } ≡ scan_of start octets
+pub one_stops : (start at : ScanState) (step : Step) (octets : List ℕ) (i : ℕ) → i < length octets → step ≡ step_of at (get_or octets i 0) → ((next : ScanState) → step ≡ On next → ⊥) → scan_of start octets ≡ further i (scan_of at (drop i octets)) → record { taken = i + 1; step = step } ≡ scan_of start octets
 one_stops start at step octets i in_range e last before =
     sym (
     before
-    ∙ ap (further i) (at_octet at octets i in_range ∙ ap (scan_on (λ spot. scan_of spot (drop (i + 1) octets))) (sym e) ∙ last_step (λ spot. scan_of spot (drop (i + 1) octets)) step last)
+    ∙ ap (further i) (at_octet at octets i in_range ∙ ap (scan_on (λ s. scan_of s (drop (i + 1) octets))) (sym e) ∙ last_step (λ s. scan_of s (drop (i + 1) octets)) step last)
     )
 
-pub all_taken : (start at : Spot) (octets : List ℕ) (i : ℕ) → i ≡ length octets → scan_of start octets ≡ further i (scan_of at (drop i octets)) → record { taken = length octets; step = On at } ≡ scan_of start octets
+pub all_taken : (start at : ScanState) (octets : List ℕ) (i : ℕ) → i ≡ length octets → scan_of start octets ≡ further i (scan_of at (drop i octets)) → record { taken = length octets; step = On at } ≡ scan_of start octets
 unfolding scan_of
 all_taken start at octets i e before =
     sym (before ∙ ap (λ t. further i (scan_of at t)) (ap (λ n. drop n octets) e ∙ drop-length octets) ∙ (let n : i + 0 ≡ length octets = omega arith in ap (λ t. record { taken = t; step = On at }) n))
 
--- ---- octets that leave an open spot as it is
+-- ---- octets that leave an open state as it is
 
 quiet_on : (octets : List ℕ) (i : ℕ) → i < length octets → moves Open (get_or octets i 0) ≡ false → AreQuiet octets i → AreQuiet octets (i + 1)
 quiet_on octets i less still quiet depth =
@@ -145,6 +145,6 @@ four_on octets i first second third fourth is1 is2 is3 is4 none within fits quie
     let q3 = subst (AreQuiet octets) three (quiet_on octets (i + 2) (omega arith) (sym is3 ∙ p2.1) q2) in
     subst (AreQuiet octets) four (quiet_on octets (i + 3) (omega arith) (sym is4 ∙ p3.1) q3)
 
-pub quiet_at : (at : Spot) (octets : List ℕ) (n : ℕ) → at.mode ≡ Open → AreQuiet octets n → scan_of at octets ≡ further n (scan_of at (drop n octets))
+pub quiet_at : (at : ScanState) (octets : List ℕ) (n : ℕ) → at.mode ≡ Open → AreQuiet octets n → scan_of at octets ≡ further n (scan_of at (drop n octets))
 quiet_at at octets n is quiet =
     subst (λ mode. scan_of (record { mode = mode; depth = at.depth }) octets ≡ further n (scan_of (record { mode = mode; depth = at.depth }) (drop n octets))) (sym is) (quiet at.depth)

@@ -6,7 +6,7 @@ use Rattle.std.specs.Prelude.{MatchOption}
 use Rattle.zone_rdata.specs.declared.fault.Fault.{Fault}
 use Rattle.zone_rdata.specs.declared.fault.Fault.TheVariants.{BadEscape, UnbalancedParenthesis}
 use Rattle.zone_text.specs.declared.scan.Scanned.{Scanned}
-use Rattle.zone_text.specs.declared.scan.Spot.{Spot}
+use Rattle.zone_text.specs.declared.scan.ScanState.{ScanState}
 use Rattle.zone_text.specs.declared.scan.Step.{Step}
 use Rattle.zone_text.specs.declared.scan.Step.TheVariants.{On, Ends, LostEscape, ClosesNothing}
 use Rattle.zone_text.specs.Pieces.{Piece, Cuts}
@@ -23,8 +23,8 @@ use Rattle.zone_text.proofs.ScanSteps.{further_on, further_none, rises}
 
 -- ---- where a scan goes on and stops
 
-module _ (at : Spot) (rest b : List ℕ) where
-  go_on_by : (step : Step) → ((next : Spot) → (scan_of next rest).step ≡ On at → scan_of next (rest ++ b) ≡ further (length rest) (scan_of at b)) → (scan_on (λ next. scan_of next rest) step).step ≡ On at → scan_on (λ next. scan_of next (rest ++ b)) step ≡ further (suc (length rest)) (scan_of at b)
+module _ (at : ScanState) (rest b : List ℕ) where
+  go_on_by : (step : Step) → ((next : ScanState) → (scan_of next rest).step ≡ On at → scan_of next (rest ++ b) ≡ further (length rest) (scan_of at b)) → (scan_on (λ next. scan_of next rest) step).step ≡ On at → scan_on (λ next. scan_of next (rest ++ b)) step ≡ further (suc (length rest)) (scan_of at b)
   go_on_by (On next) more e =
       ap (further 1) (more next e)
       ∙ further_on 1 (length rest) (scan_of at b)
@@ -34,69 +34,69 @@ module _ (at : Spot) (rest b : List ℕ) where
   go_on_by ClosesNothing more e = absurd (let t : ⊥ = cc in t)
 
 -- a scan that doesn't stop goes on behind the octets
-pub step_goes_on : (start at : Spot) (a b : List ℕ) → (scan_of start a).step ≡ On at → scan_of start (a ++ b) ≡ further (length a) (scan_of at b)
+pub step_goes_on : (start at : ScanState) (a b : List ℕ) → (scan_of start a).step ≡ On at → scan_of start (a ++ b) ≡ further (length a) (scan_of at b)
 unfolding scan_of
-step_goes_on start at [] b e = let same : start ≡ at = cc in ap (λ spot. scan_of spot b) same ∙ sym (further_none (scan_of at b))
+step_goes_on start at [] b e = let same : start ≡ at = cc in ap (λ s. scan_of s b) same ∙ sym (further_none (scan_of at b))
 step_goes_on start at (c ∷ rest) b e = go_on_by at rest b (step_of start c) (λ next more. step_goes_on next at rest b more) e
 
-pub goes_on : (start at : Spot) (a b : List ℕ) → scan_of start a ≡ record { taken = length a; step = On at } → scan_of start (a ++ b) ≡ further (length a) (scan_of at b)
+pub goes_on : (start at : ScanState) (a b : List ℕ) → scan_of start a ≡ record { taken = length a; step = On at } → scan_of start (a ++ b) ≡ further (length a) (scan_of at b)
 goes_on start at a b e = step_goes_on start at a b (ap (λ (found : Scanned). found.step) e)
 
-front_by : (start : Spot) (c : ℕ) (rest : List ℕ) (step : Step) → step_of start c ≡ step → ((next : Spot) → scan_of next (take (scan_of next rest).taken rest) ≡ scan_of next rest) → scan_of start (take (scan_on (λ next. scan_of next rest) step).taken (c ∷ rest)) ≡ scan_on (λ next. scan_of next rest) step
+front_by : (start : ScanState) (c : ℕ) (rest : List ℕ) (step : Step) → step_of start c ≡ step → ((next : ScanState) → scan_of next (take (scan_of next rest).taken rest) ≡ scan_of next rest) → scan_of start (take (scan_on (λ next. scan_of next rest) step).taken (c ∷ rest)) ≡ scan_on (λ next. scan_of next rest) step
 unfolding scan_of
 front_by start c rest (On next) e more =
     let n : ℕ = (scan_of next rest).taken in
     let same : 1 + n ≡ suc n = omega arith in
     ap (λ m. scan_of start (take m (c ∷ rest))) same
-    ∙ ap (scan_on (λ spot. scan_of spot (take n rest))) e
+    ∙ ap (scan_on (λ s. scan_of s (take n rest))) e
     ∙ ap (further 1) (more next)
-front_by start c rest Ends e more = ap (scan_on (λ spot. scan_of spot [])) e
-front_by start c rest LostEscape e more = ap (scan_on (λ spot. scan_of spot [])) e
-front_by start c rest ClosesNothing e more = ap (scan_on (λ spot. scan_of spot [])) e
+front_by start c rest Ends e more = ap (scan_on (λ s. scan_of s [])) e
+front_by start c rest LostEscape e more = ap (scan_on (λ s. scan_of s [])) e
+front_by start c rest ClosesNothing e more = ap (scan_on (λ s. scan_of s [])) e
 
 -- the octets that it took give the same answer by themselves
-pub stops_at : (start : Spot) (octets : List ℕ) → scan_of start (take (scan_of start octets).taken octets) ≡ scan_of start octets
+pub stops_at : (start : ScanState) (octets : List ℕ) → scan_of start (take (scan_of start octets).taken octets) ≡ scan_of start octets
 unfolding scan_of
 stops_at start [] = refl
 stops_at start (c ∷ rest) = front_by start c rest (step_of start c) refl (λ next. stops_at next rest)
 
-within_by : (rest : List ℕ) (step : Step) → ((next : Spot) → (scan_of next rest).taken ≤ length rest) → (scan_on (λ next. scan_of next rest) step).taken ≤ suc (length rest)
+within_by : (rest : List ℕ) (step : Step) → ((next : ScanState) → (scan_of next rest).taken ≤ length rest) → (scan_on (λ next. scan_of next rest) step).taken ≤ suc (length rest)
 within_by rest (On next) more = omega (arith, more next)
 within_by rest Ends more = omega arith
 within_by rest LostEscape more = omega arith
 within_by rest ClosesNothing more = omega arith
 
-pub taken_within : (start : Spot) (octets : List ℕ) → (scan_of start octets).taken ≤ length octets
+pub taken_within : (start : ScanState) (octets : List ℕ) → (scan_of start octets).taken ≤ length octets
 unfolding scan_of
 taken_within start [] = omega arith
 taken_within start (c ∷ rest) = within_by rest (step_of start c) (λ next. taken_within next rest)
 
 -- of those octets it takes all
-pub takes_front : (start : Spot) (octets : List ℕ) → length (take (scan_of start octets).taken octets) ≡ (scan_of start octets).taken
+pub takes_front : (start : ScanState) (octets : List ℕ) → length (take (scan_of start octets).taken octets) ≡ (scan_of start octets).taken
 takes_front start octets = simp length-take (omega (arith, taken_within start octets))
 
-all_by : (at : Spot) (rest : List ℕ) (step : Step) → ((next : Spot) → (scan_of next rest).step ≡ On at → (scan_of next rest).taken ≡ length rest) → (scan_on (λ next. scan_of next rest) step).step ≡ On at → (scan_on (λ next. scan_of next rest) step).taken ≡ suc (length rest)
+all_by : (at : ScanState) (rest : List ℕ) (step : Step) → ((next : ScanState) → (scan_of next rest).step ≡ On at → (scan_of next rest).taken ≡ length rest) → (scan_on (λ next. scan_of next rest) step).step ≡ On at → (scan_on (λ next. scan_of next rest) step).taken ≡ suc (length rest)
 all_by at rest (On next) more e = omega (arith, more next e)
 all_by at rest Ends more e = absurd (let t : ⊥ = cc in t)
 all_by at rest LostEscape more e = absurd (let t : ⊥ = cc in t)
 all_by at rest ClosesNothing more e = absurd (let t : ⊥ = cc in t)
 
 -- where it goes on it took all octets
-pub takes_all : (start at : Spot) (octets : List ℕ) → (scan_of start octets).step ≡ On at → (scan_of start octets).taken ≡ length octets
+pub takes_all : (start at : ScanState) (octets : List ℕ) → (scan_of start octets).step ≡ On at → (scan_of start octets).taken ≡ length octets
 unfolding scan_of
 takes_all start at [] e = refl
 takes_all start at (c ∷ rest) e = all_by at rest (step_of start c) (λ next more. takes_all next at rest more) e
 
-depth_by : (start at : Spot) (c : ℕ) (rest : List ℕ) (step : Step) → step_of start c ≡ step → ((next : Spot) → (scan_of next rest).step ≡ On at → at.depth ≤ next.depth + length rest) → (scan_on (λ next. scan_of next rest) step).step ≡ On at → at.depth ≤ start.depth + suc (length rest)
+depth_by : (start at : ScanState) (c : ℕ) (rest : List ℕ) (step : Step) → step_of start c ≡ step → ((next : ScanState) → (scan_of next rest).step ≡ On at → at.depth ≤ next.depth + length rest) → (scan_on (λ next. scan_of next rest) step).step ≡ On at → at.depth ≤ start.depth + suc (length rest)
 depth_by start at c rest (On next) same more e = omega (arith, more next e, rises start next c same)
 depth_by start at c rest Ends same more e = absurd (let t : ⊥ = cc in t)
 depth_by start at c rest LostEscape same more e = absurd (let t : ⊥ = cc in t)
 depth_by start at c rest ClosesNothing same more e = absurd (let t : ⊥ = cc in t)
 
 -- each octet opens one parenthesis at the most
-pub unfinished_depth : (start at : Spot) (octets : List ℕ) → (scan_of start octets).step ≡ On at → at.depth ≤ start.depth + length octets
+pub unfinished_depth : (start at : ScanState) (octets : List ℕ) → (scan_of start octets).step ≡ On at → at.depth ≤ start.depth + length octets
 unfolding scan_of
-unfinished_depth start at [] e = let same : start ≡ at = cc in omega (arith, ap (λ (spot : Spot). spot.depth) same)
+unfinished_depth start at [] e = let same : start ≡ at = cc in omega (arith, ap (λ (s : ScanState). s.depth) same)
 unfinished_depth start at (c ∷ rest) e = depth_by start at c rest (step_of start c) refl (λ next more. unfinished_depth next at rest more) e
 
 -- ---- the pieces of octets that a scan took whole
@@ -119,7 +119,7 @@ are_pieces : (octets : List ℕ) (pieces : List Piece) (fault : Option Fault) �
 are_pieces octets pieces None is = inl (cuts octets pieces is)
 are_pieces octets pieces (Some fault) is = inr (fault, breaks octets pieces fault is)
 
-pub stays_open : (octets : List ℕ) (at : Spot) → scan_of beginning octets ≡ record { taken = length octets; step = On at } → (pieces : List Piece) × ArePieces octets pieces × ((cut_from zero pieces).ended ≡ []) × ((fault : Fault) → BreaksForGood octets pieces fault → ⊥)
+pub stays_open : (octets : List ℕ) (at : ScanState) → scan_of beginning octets ≡ record { taken = length octets; step = On at } → (pieces : List Piece) × ArePieces octets pieces × ((cut_from zero pieces).ended ≡ []) × ((fault : Fault) → BreaksForGood octets pieces fault → ⊥)
 stays_open octets at e =
     let read : IsRead (On at) zero octets = read_by octets (On at) e in
     (read.pieces, are_pieces octets read.pieces (end_fault_of at) read.cut, no_ended read.pieces read.entries, ends_not_for_good octets read.pieces read.rest read.whole read.left)
@@ -142,7 +142,7 @@ end_by : (octets : List ℕ) (pieces : List Piece) (fault : Option Fault) → Is
 end_by octets pieces None is none = (pieces, cuts octets pieces is, none)
 end_by octets pieces (Some fault) is none = (pieces, breaks octets pieces fault is, none)
 
-pub at_end : (octets : List ℕ) (at : Spot) → scan_of beginning octets ≡ record { taken = length octets; step = On at } → MatchOption (end_fault_of at) ((pieces : List Piece) × Cuts octets pieces × ((cut_from zero pieces).ended ≡ [])) (λ fault. (pieces : List Piece) × Breaks octets pieces fault × ((cut_from zero pieces).ended ≡ []))
+pub at_end : (octets : List ℕ) (at : ScanState) → scan_of beginning octets ≡ record { taken = length octets; step = On at } → MatchOption (end_fault_of at) ((pieces : List Piece) × Cuts octets pieces × ((cut_from zero pieces).ended ≡ [])) (λ fault. (pieces : List Piece) × Breaks octets pieces fault × ((cut_from zero pieces).ended ≡ []))
 at_end octets at e =
     let read : IsRead (On at) zero octets = read_by octets (On at) e in
     end_by octets read.pieces (end_fault_of at) read.cut (no_ended read.pieces read.entries)
@@ -151,7 +151,7 @@ at_end octets at e =
 
 -- Octets that stopped nothing, and a piece behind them: its front up to where the scan stops joins them, and they are
 -- scanned whole.
-pub joins_kept : (start at : Spot) (kept piece : List ℕ) → scan_of start kept ≡ record { taken = length kept; step = On at } → let front : List ℕ = take (scan_of at piece).taken piece in scan_of start (kept ++ front) ≡ record { taken = length (kept ++ front); step = (scan_of at piece).step }
+pub joins_kept : (start at : ScanState) (kept piece : List ℕ) → scan_of start kept ≡ record { taken = length kept; step = On at } → let front : List ℕ = take (scan_of at piece).taken piece in scan_of start (kept ++ front) ≡ record { taken = length (kept ++ front); step = (scan_of at piece).step }
 joins_kept start at kept piece e =
     let front : List ℕ = take (scan_of at piece).taken piece in
     let all : length kept + (scan_of at piece).taken ≡ length (kept ++ front) = omega (arith, takes_front at piece, length-append kept front) in

@@ -1,4 +1,5 @@
--- What is decided of a file by the octets that were fed so far, whatever octets come behind them.
+-- What is decided of a file by the octets that were fed so far, whatever octets come behind them. This is this
+-- project's own: RFC 1035 5.1 speaks of whole files.
 use Rattle.std.specs.Prelude.{◌≡◌, ℕ, List, [], ◌++◌, Some, None, ◌⊎◌}
 use Rattle.zone_rdata.specs.declared.fault.Fault.{Fault}
 use Rattle.zone_rdata.specs.declared.fault.Place.{Place}

@@ -1,5 +1,5 @@
--- The first fault of an entry that states neither a record nor nothing. The faults of its octets come before these and
--- are those of a text that breaks.
+-- The first fault of an entry that states neither a record nor nothing (RFC 1035 5.1; RFC 2308 4). The faults of its
+-- octets come before these and are those of a text that breaks. The order of faults is this project's own choice.
 use Rattle.std.specs.Prelude.{◌≡◌, ℕ, ◌<◌, List, [], ◌∷◌, Option, Some, None, ◌⊎◌}
 use Rattle.std.specs.List.{AllByRecursion}
 use Rattle.zone_rdata.specs.DataFault.{IsDataFault}

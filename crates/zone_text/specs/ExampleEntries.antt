@@ -1,4 +1,4 @@
--- Files on which the records and faults of entries are computed.
+-- Files on which the records and faults of entries are computed (RFC 1035 5.1).
 use Rattle.std.specs.Prelude.{ℕ, List, [], ◌∷◌, ◌++◌, codes, Some}
 use Rattle.zone_name.specs.Name.{wire}
 use Rattle.zone_rdata.specs.Record.{Record}

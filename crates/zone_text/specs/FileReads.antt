@@ -1,4 +1,5 @@
--- What a master file gives: the records of the entries before the first fault, and that fault with its line.
+-- What a master file gives (RFC 1035 5.1): the records of the entries before the first fault, and that fault with its
+-- line. That a reading ends with the first fault is this project's own choice.
 use Rattle.std.specs.Prelude.{ℕ, List, [], Some, None}
 use Rattle.zone_rdata.specs.declared.fault.Fault.{Fault}
 use Rattle.zone_rdata.specs.declared.fault.Place.TheVariants.{Line}

@@ -1,4 +1,4 @@
--- Entries whose outcome is known, and items of octets.
+-- Entries whose outcome is known (RFC 1035 5.1), and items of octets.
 use Rattle.std.specs.Prelude.{ℕ, ◌<◌, List, [], ◌∷◌, ⊤, ◌⊎◌}
 use Rattle.std.specs.List.{AllByRecursion}
 use Rattle.zone_rdata.specs.Record.{Record}

@@ -9,7 +9,7 @@ ghost use Rattle.zone_text.specs.Pieces.{Cuts, Piece};
 ghost use Rattle.zone_text.specs.Machine.EntryReading.{DecidesEntry, LeavesNoRecord};
 ghost use Rattle.zone_text.specs.Machine.Form.{directive_in, form_in};
 
-use crate::form::{Directive, Form, form_of};
+use crate::form::{Directive, EntryForm, form_of};
 use crate::items::cut_items;
 use crate::record::refuse;
 use std::alloc::{AllocError, Global};
@@ -79,7 +79,7 @@ impl Defaults {
     fn read_form(
         &mut self,
         alloc: Global,
-        form: Form,
+        form: EntryForm,
         place: Place,
         decided: &mut Reading,
     ) -> Result<(), AllocError>
@@ -88,13 +88,13 @@ impl Defaults {
             → OnOk result (DecidesEntry origin before entry place decided.old decided.new self.new) }
     {
         match form {
-            Form::Blank => Ok(()),
-            Form::Directs(directive) => match self.follow(directive) {
+            EntryForm::Blank => Ok(()),
+            EntryForm::Directive(directive) => match self.follow(directive) {
                 Ok(()) => Ok(()),
                 Err(fault) => refuse(Failing::Fault(fault), place, decided),
             },
-            Form::Owned(owner, items) => self.read_owned(alloc, owner, items, place, decided),
-            Form::Unowned(items) => self.read_record(alloc, items, place, decided),
+            EntryForm::Owned(owner, items) => self.read_owned(alloc, owner, items, place, decided),
+            EntryForm::Unowned(items) => self.read_record(alloc, items, place, decided),
         }
     }
 

@@ -23,11 +23,11 @@ pub(crate) enum Directive<'i, 't> {
 
 /// The form of an entry (RFC 1035 5.1).
 #[derive(Drop)]
-pub(crate) enum Form<'i, 't> {
+pub(crate) enum EntryForm<'i, 't> {
     /// No items.
     Blank,
     /// A directive.
-    Directs(Directive<'i, 't>),
+    Directive(Directive<'i, 't>),
     /// A record that states its owner, and the items behind the owner.
     Owned(Item<'t>, &'i [Item<'t>]),
     /// A record that omits its owner.
@@ -60,15 +60,15 @@ fn directive_of<'i, 't>(word: Item<'t>, items: &'i [Item<'t>]) -> Directive<'i, 
 }
 
 /// The form of an entry with these items.
-pub(crate) fn form_of<'i, 't>(entry: &[u8], items: &'i [Item<'t>]) -> Form<'i, 't>
+pub(crate) fn form_of<'i, 't>(entry: &[u8], items: &'i [Item<'t>]) -> EntryForm<'i, 't>
     ensures { form_in result ≡ form_by (first_octet entry.now) (map raw items.now) }
 {
     let [first, behind @ ..] = items else {
-        return Form::Blank;
+        return EntryForm::Blank;
     };
     match entry {
-        [b'$', ..] => Form::Directs(directive_of(*first, behind)),
-        [octet, ..] if is_blank(*octet) => Form::Unowned(items),
-        _ => Form::Owned(*first, behind),
+        [b'$', ..] => EntryForm::Directive(directive_of(*first, behind)),
+        [octet, ..] if is_blank(*octet) => EntryForm::Unowned(items),
+        _ => EntryForm::Owned(*first, behind),
     }
 }

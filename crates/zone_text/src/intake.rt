@@ -4,7 +4,7 @@ ghost use Rattle.zone_text.specs.Machine.Feeding.{Follow, FollowOn, IsIntake, re
 ghost use Rattle.zone_text.specs.Machine.Scan.{beginning};
 
 use crate::ended::EndedEntries;
-use crate::scan::{Spot, Step, end_fault, scan};
+use crate::scan::{ScanState, Step, end_fault, scan};
 use std::alloc::{AllocError, Global};
 use zone_name::Name;
 use zone_rdata::{Fault, Item};
@@ -15,7 +15,7 @@ pub(crate) struct Intake {
     alloc: Global,
     pub(crate) ended: EndedEntries,
     /// Where the octets of the unfinished entry leave its pieces.
-    pub(crate) at: Spot,
+    pub(crate) at: ScanState,
     /// The octets of the unfinished entry. No other input is kept.
     pub(crate) unfinished: Vec<u8>,
 }
@@ -32,7 +32,7 @@ impl Intake {
         Intake {
             alloc,
             ended: EndedEntries::new(alloc, origin),
-            at: Spot::beginning(),
+            at: ScanState::beginning(),
             unfinished: Vec::new(alloc),
         }
     }
@@ -125,7 +125,7 @@ impl Intake {
         ensures ended { self.new.ended ≡ self.old.ended }
     {
         self.unfinished.clear();
-        self.at = Spot::beginning();
+        self.at = ScanState::beginning();
     }
 
     /// Takes the end of the file.

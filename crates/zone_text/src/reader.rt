@@ -15,11 +15,7 @@ pub fn read_file(alloc: Global, origin: &Name, text: &[u8]) -> Result<Reading, A
     ensures { IfOk result (λ reading. FileReads origin.now text.now reading.placed.items reading.ending) }
 {
     let mut source = TextSource::new(alloc, origin);
-    let Ok(()) = source.feed(text) else {
-        return Err(AllocError);
-    };
-    let Ok(()) = source.finish() else {
-        return Err(AllocError);
-    };
+    source.feed(text).map_err(|_| AllocError)?;
+    source.finish().map_err(|_| AllocError)?;
     Ok(source.into_reading())
 }

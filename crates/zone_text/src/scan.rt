@@ -34,7 +34,7 @@ pub(crate) enum Mode {
 
 /// Where the octets read so far leave the pieces.
 #[derive(Clone, Copy, Drop)]
-pub(crate) struct Spot {
+pub(crate) struct ScanState {
     pub(crate) mode: Mode,
     /// The parentheses that are open.
     pub(crate) depth: u64,
@@ -44,7 +44,7 @@ pub(crate) struct Spot {
 #[derive(Clone, Copy, Drop)]
 pub(crate) enum Step {
     /// The entry goes on.
-    On(Spot),
+    On(ScanState),
     /// The octet is a line feed that ends the entry.
     Ends,
     /// A backslash begins no escape.
@@ -71,19 +71,19 @@ enum Behind {
     Lost,
 }
 
-impl Spot {
+impl ScanState {
     /// The beginning of an entry.
-    pub(crate) fn beginning() -> Spot
+    pub(crate) fn beginning() -> ScanState
         ensures { result ≡ beginning }
     {
-        Spot {
+        ScanState {
             mode: Mode::Open,
             depth: 0,
         }
     }
 }
 
-/// Whether the octet may lead elsewhere. Any other leaves the spot as it is.
+/// Whether the octet may lead elsewhere. Any other leaves the state as it is.
 #[inline(always)]
 fn moves(mode: Mode, octet: u8) -> bool
     ensures { result ≡ moves mode octet }
@@ -100,7 +100,7 @@ fn moves(mode: Mode, octet: u8) -> bool
 fn is_digit(octet: u8) -> bool
     ensures { result ≡ is_digit octet }
 {
-    octet >= b'0' && octet <= b'9'
+    octet.is_ascii_digit()
 }
 
 /// Whether the octet is a digit with which the other two make a number of at most 255.
@@ -135,7 +135,7 @@ fn fed_line(depth: u64) -> Step
     if depth == 0 {
         Step::Ends
     } else {
-        Step::On(Spot {
+        Step::On(ScanState {
             mode: Mode::Open,
             depth,
         })
@@ -147,7 +147,7 @@ fn open_step(depth: u64, octet: u8) -> Step
     requires { depth + 1 < 2 ^ 64 }
     ensures { result ≡ open_step depth octet }
 {
-    let on = |mode, depth| Step::On(Spot { mode, depth });
+    let on = |mode, depth| Step::On(ScanState { mode, depth });
     match octet {
         b'\n' => fed_line(depth),
         b'"' => on(Mode::Quoted, depth),
@@ -161,12 +161,12 @@ fn open_step(depth: u64, octet: u8) -> Step
 }
 
 /// What an octet leads to.
-fn take_octet(at: Spot, octet: u8) -> Step
+fn take_octet(at: ScanState, octet: u8) -> Step
     requires { at.depth + 1 < 2 ^ 64 }
     ensures { result ≡ step_of at octet }
 {
     let depth = at.depth;
-    let on = |mode| Step::On(Spot { mode, depth });
+    let on = |mode| Step::On(ScanState { mode, depth });
     match (at.mode, octet) {
         (Mode::Open, _) => open_step(depth, octet),
         (Mode::Quoted, b'"') => on(Mode::Open),
@@ -208,7 +208,7 @@ fn quiet_len(octets: &[u8]) -> usize
 }
 
 /// As `scan`, octet by octet.
-fn scan_each(octets: &[u8], start: Spot) -> Scanned
+fn scan_each(octets: &[u8], start: ScanState) -> Scanned
     requires { start.depth + length octets.now + 1 < 2 ^ 64 }
     ensures found { result ≡ scan_of start octets.now }
     ensures within { result.taken ≤ length octets.now }
@@ -235,8 +235,8 @@ fn scan_each(octets: &[u8], start: Spot) -> Scanned
     }
 }
 
-/// How many octets at the front leave the spot as it is, as far as that is seen at a glance.
-fn quiet_front(octets: &[u8], at: Spot) -> usize
+/// How many octets at the front leave the state as it is, as far as that is seen at a glance.
+fn quiet_front(octets: &[u8], at: ScanState) -> usize
     ensures within { result ≤ length octets.now }
     ensures reaches { scan_of at octets.now ≡ further result (scan_of at (drop result octets.now)) }
 {
@@ -247,7 +247,7 @@ fn quiet_front(octets: &[u8], at: Spot) -> usize
 }
 
 /// Takes octets up to the end of the entry or to what breaks it, and all of them where neither comes.
-pub(crate) fn scan(octets: &[u8], start: Spot) -> Scanned
+pub(crate) fn scan(octets: &[u8], start: ScanState) -> Scanned
     requires { start.depth + length octets.now + 1 < 2 ^ 64 }
     ensures found { result ≡ scan_of start octets.now }
     ensures within { result.taken ≤ length octets.now }
@@ -263,7 +263,7 @@ pub(crate) fn scan(octets: &[u8], start: Spot) -> Scanned
 }
 
 /// The fault with which the input's end meets the open entry. `None`: the entry is whole.
-pub(crate) fn end_fault(at: Spot) -> Option<Fault>
+pub(crate) fn end_fault(at: ScanState) -> Option<Fault>
     ensures { result ≡ end_fault_of at }
 {
     match at.mode {

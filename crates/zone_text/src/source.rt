@@ -32,6 +32,18 @@ impl Model for TextSource {
     ghost invariant = { λ s. IsSource s.failed s.finished s.fed s.intake.ended s.intake.at s.intake.unfinished.items };
 }
 
+/// Gives up what is kept: every later call answers `Memory`.
+#[cold]
+fn fail(intake: &mut Intake, failed: &mut bool) -> Stop
+    ensures memory { result ≡ Stop.Memory }
+    ensures failed { failed.new ≡ true }
+    ensures none { intake.new.unfinished.items ≡ [] }
+{
+    intake.drop_unfinished();
+    *failed = true;
+    Stop::Memory
+}
+
 impl TextSource {
     ghost use Rattle.zone_rdata.specs.declared.record.Placed.{Placed};
     ghost use Rattle.zone_text.specs.Source.{counted, Stands};
@@ -79,11 +91,7 @@ impl TextSource {
                 self.fed += piece.len() as u64;
                 Ok(())
             }
-            Err(_) => {
-                self.intake.drop_unfinished();
-                self.failed = true;
-                Err(Stop::Memory)
-            }
+            Err(_) => Err(fail(&mut self.intake, &mut self.failed)),
         }
     }
 
@@ -112,11 +120,7 @@ impl TextSource {
                 self.finished = true;
                 Ok(())
             }
-            Err(_) => {
-                self.intake.drop_unfinished();
-                self.failed = true;
-                Err(Stop::Memory)
-            }
+            Err(_) => Err(fail(&mut self.intake, &mut self.failed)),
         }
     }
 

@@ -13,7 +13,7 @@ use Rattle.zone_text.specs.Pieces.{Piece, Cuts, text}
 use Rattle.zone_text.specs.Source.{Leave, SourceState}
 use Rattle.zone_text.specs.declared.ended.EndedEntries.{EndedEntries}
 use Rattle.zone_text.specs.declared.intake.Intake.{Intake}
-use Rattle.zone_text.specs.declared.scan.Spot.{Spot}
+use Rattle.zone_text.specs.declared.scan.ScanState.{ScanState}
 use Rattle.zone_text.specs.declared.scan.Step.{Step}
 use Rattle.zone_text.specs.declared.scan.Step.TheVariants.{On}
 
@@ -38,12 +38,12 @@ pub record Follow (origin : Labels) (ended : EndedEntries) (unfinished : List �
   pub leave : ended.decided.ending ≡ None → Leave origin fed ended.defaults ended.line unfinished
 
 -- the scan of octets took all of them, and they lead there
-abbrev pub ScansTo : Spot → List ℕ → Step → Type 0
+abbrev pub ScansTo : ScanState → List ℕ → Step → Type 0
 ScansTo start octets step = scan_of start octets ≡ record { taken = length octets; step = step }
 
--- the octets of the unfinished entry lead to the spot, and are dropped where a fault is decided
-pub record IsIntake (ended : EndedEntries) (at : Spot) (unfinished : List ℕ) : Type 0 where
-  pub spot : ScansTo beginning unfinished (On at)
+-- the octets of the unfinished entry lead to the state, and are dropped where a fault is decided
+pub record IsIntake (ended : EndedEntries) (at : ScanState) (unfinished : List ℕ) : Type 0 where
+  pub state : ScansTo beginning unfinished (On at)
   pub dropped : (found : Fault × Place) → ended.decided.ending ≡ Some found → unfinished ≡ []
   pub line : 1 ≤ ended.line
 
@@ -69,7 +69,7 @@ state_of failed finished fed ended unfinished = record {
 }
 
 -- what a source holds: nothing of the unfinished entry once it has failed or the file has ended, and numbers that fit
-pub record IsSource (failed finished : Bool) (fed : ℕ) (ended : EndedEntries) (at : Spot) (unfinished : List ℕ) : Type 0 where
+pub record IsSource (failed finished : Bool) (fed : ℕ) (ended : EndedEntries) (at : ScanState) (unfinished : List ℕ) : Type 0 where
   pub is : failed ≡ false → IsIntake ended at unfinished
   pub line : failed ≡ false → ended.line + length unfinished ≤ fed + 1
   pub fits : fed + 1 < 2 ^ 64

@@ -2,19 +2,18 @@
 use Rattle.std.specs.Prelude.{map}
 use Rattle.zone_rdata.specs.Item.{raw}
 use Rattle.zone_text.specs.Forms.{EntryForm, no_items, sets_origin, sets_ttl, includes, unknown, owned, unowned}
-use Rattle.zone_text.specs.declared.form.Directive.{Directive}
-use Rattle.zone_text.specs.declared.form.Directive.TheVariants.{Origin, Ttl, Include, Unknown}
-use Rattle.zone_text.specs.declared.form.Form.{Form}
-use Rattle.zone_text.specs.declared.form.Form.TheVariants.{Blank, Directs, Owned, Unowned}
+use Rattle.zone_text.specs.declared.form as code
+use Rattle.zone_text.specs.declared.form.Directive.TheVariants as directives
+use Rattle.zone_text.specs.declared.form.EntryForm.TheVariants as forms
 
-abbrev pub directive_in : Directive → EntryForm
-directive_in (Origin items) = sets_origin (map raw items.now)
-directive_in (Ttl items) = sets_ttl (map raw items.now)
-directive_in Include = includes
-directive_in Unknown = unknown
+abbrev pub directive_in : code.Directive.Directive → EntryForm
+directive_in (directives.Origin items) = sets_origin (map raw items.now)
+directive_in (directives.Ttl items) = sets_ttl (map raw items.now)
+directive_in directives.Include = includes
+directive_in directives.Unknown = unknown
 
-abbrev pub form_in : Form → EntryForm
-form_in Blank = no_items
-form_in (Directs directive) = directive_in directive
-form_in (Owned owner items) = owned (raw owner) (map raw items.now)
-form_in (Unowned items) = unowned (map raw items.now)
+abbrev pub form_in : code.EntryForm.EntryForm → EntryForm
+form_in forms.Blank = no_items
+form_in (forms.Directive directive) = directive_in directive
+form_in (forms.Owned owner items) = owned (raw owner) (map raw items.now)
+form_in (forms.Unowned items) = unowned (map raw items.now)

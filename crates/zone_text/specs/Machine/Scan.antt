@@ -10,7 +10,7 @@ use Rattle.zone_text.specs.declared.scan.Escape.TheVariants.{Begun, One, Two}
 use Rattle.zone_text.specs.declared.scan.Mode.{Mode}
 use Rattle.zone_text.specs.declared.scan.Mode.TheVariants.{Open, Quoted, Comment, Escaped, QuotedEscaped}
 use Rattle.zone_text.specs.declared.scan.Scanned.{Scanned}
-use Rattle.zone_text.specs.declared.scan.Spot.{Spot}
+use Rattle.zone_text.specs.declared.scan.ScanState.{ScanState}
 use Rattle.zone_text.specs.declared.scan.Step.{Step}
 use Rattle.zone_text.specs.declared.scan.Step.TheVariants.{On, Ends, LostEscape, ClosesNothing}
 use Rattle.zone_text.specs.Pieces.{Piece, Cuts}
@@ -18,13 +18,13 @@ use Rattle.zone_text.specs.Entries.{cut_from}
 
 -- ---- one octet
 
-abbrev pub beginning : Spot
+abbrev pub beginning : ScanState
 beginning = record { mode = Open; depth = 0 }
 
 abbrev pub on : Mode → ℕ → Step
 on mode depth = On (record { mode = mode; depth = depth })
 
--- an octet that may lead elsewhere; any other leaves the spot as it is
+-- an octet that may lead elsewhere; any other leaves the state as it is
 abbrev pub moves : Mode → ℕ → Bool
 moves Open c = c == 10 || c == 34 || c == 40 || c == 41 || c == 59 || c == 92
 moves Quoted c = c == 34 || c == 92
@@ -80,7 +80,7 @@ step_in Comment depth c = comment_step depth c
 step_in (Escaped escape) depth c = escape_step (λ e. Escaped e) Open depth (behind_backslash escape c)
 step_in (QuotedEscaped escape) depth c = escape_step (λ e. QuotedEscaped e) Quoted depth (behind_backslash escape c)
 
-abbrev pub step_of : Spot → ℕ → Step
+abbrev pub step_of : ScanState → ℕ → Step
 step_of at c = step_in at.mode at.depth c
 
 -- ---- octets up to the end of the entry
@@ -89,18 +89,18 @@ step_of at c = step_in at.mode at.depth c
 abbrev pub further : ℕ → Scanned → Scanned
 further n found = record { taken = n + found.taken; step = found.step }
 
-abbrev pub scan_on : (Spot → Scanned) → Step → Scanned
+abbrev pub scan_on : (ScanState → Scanned) → Step → Scanned
 scan_on go_on (On at) = further 1 (go_on at)
 scan_on go_on Ends = record { taken = 1; step = Ends }
 scan_on go_on LostEscape = record { taken = 1; step = LostEscape }
 scan_on go_on ClosesNothing = record { taken = 1; step = ClosesNothing }
 
-unfoldable pub scan_of : Spot → List ℕ → Scanned
+unfoldable pub scan_of : ScanState → List ℕ → Scanned
 scan_of at [] = record { taken = 0; step = On at }
 scan_of at (c ∷ rest) = scan_on (λ next. scan_of next rest) (step_of at c)
 
 -- where no quote, comment or escape is open
-abbrev pub open_at : ℕ → Spot
+abbrev pub open_at : ℕ → ScanState
 open_at depth = record { mode = Open; depth = depth }
 
 -- there, the first n octets lead nowhere else
@@ -121,7 +121,7 @@ fault_in (Escaped escape) depth = Some BadEscape
 fault_in (QuotedEscaped escape) depth = Some BadEscape
 
 -- what the input's end makes of the open entry
-abbrev pub end_fault_of : Spot → Option Fault
+abbrev pub end_fault_of : ScanState → Option Fault
 end_fault_of at = fault_in at.mode at.depth
 
 -- ---- one entry
