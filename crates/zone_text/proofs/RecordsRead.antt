@@ -56,10 +56,6 @@ unowned_choice origin before entry d (Some name) items form so_far last e = (
   same_owner origin before entry (unowned items) (Some name) form refl last,
 )
 
--- an entry omits its owner
-pub has_last_owner : (origin : Labels) (before : List Entry) (entry : Entry) (d : Defaults) (items : List RawItem) → form_of entry ≡ unowned items → AreDefaults origin before d → HasOwnerOrNone origin before entry d items
-has_last_owner origin before entry d items form so_far = unowned_choice origin before entry d d.owner items form so_far so_far.owner refl
-
 pub no_owner : (origin : Labels) (before : List Entry) (entry : Entry) (d : Defaults) (items : List RawItem) → HasOwnerOrNone origin before entry d items → d.owner ≡ None → EntryFault origin before entry NoOwner
 no_owner origin before entry d items has e = subst (λ o. MatchOption o (EntryFault origin before entry NoOwner) (λ name. IsRecordEntry origin before entry d name items × IsLastOwner origin (entry ∷ before) name)) e has
 
