@@ -20,10 +20,9 @@ unit_stands (w ∷ units) rest is none =
     let P : List ℕ → Type 0 = NoUnit ends_item in
     let found = first_of_unit ends_item w (written_text units ++ rest) refl is.1.0 in
     let lost = first_of_none ends_item (text_of w ++ (written_text units ++ rest)) refl (subst P (append_assoc (text_of w) (written_text units) rest) none) in
-    some_is_none (w, written_text units ++ rest) (sym found ∙ lost)
-  where
-    some_is_none : (x : Written × List ℕ) → Some x ≡ None → ⊥
-    some_is_none x e = cc
+    let first : Written × List ℕ = (w, written_text units ++ rest) in
+    let some_is_none : Some first ≡ None = sym found ∙ lost in
+    cc
 
 -- a bare item begins with no line feed
 no_line_feed : (units : List Written) (rest : List ℕ) → IsPiece (bare units) → EndsComment (written_text units ++ rest) → ⊥
@@ -129,7 +128,7 @@ ends_at_stop (quoted units) depth rest fault ends stop = tt
 
 -- ---- depths
 
-depth_on : (depth : ℕ) (p : Piece) (pieces : List Piece) → HasRoom depth p → depth_after depth (p ∷ pieces) ≡ depth_after (depth_behind depth p) pieces
+pub depth_on : (depth : ℕ) (p : Piece) (pieces : List Piece) → HasRoom depth p → depth_after depth (p ∷ pieces) ≡ depth_after (depth_behind depth p) pieces
 depth_on depth (blank c) pieces room = refl
 depth_on depth line_feed pieces room = refl
 depth_on depth opening pieces room = refl
@@ -139,14 +138,11 @@ depth_on depth (comment octets) pieces room = refl
 depth_on depth (bare units) pieces room = refl
 depth_on depth (quoted units) pieces room = refl
 
-room_of : (depth at : ℕ) (p : Piece) (pieces : List Piece) → depth_after depth (p ∷ pieces) ≡ Some at → HasRoom depth p
+pub room_of : (depth at : ℕ) (p : Piece) (pieces : List Piece) → depth_after depth (p ∷ pieces) ≡ Some at → HasRoom depth p
 room_of depth at (blank c) pieces e = tt
 room_of depth at line_feed pieces e = tt
 room_of depth at opening pieces e = tt
-room_of zero at closing pieces e = absurd (none_is_some at e)
-  where
-    none_is_some : (n : ℕ) → None ≡ Some n → ⊥
-    none_is_some n h = cc
+room_of zero at closing pieces e = absurd (let none_is_some : None ≡ Some at = e in cc)
 room_of (suc depth) at closing pieces e = omega arith
 room_of depth at (comment octets) pieces e = tt
 room_of depth at (bare units) pieces e = tt
@@ -185,15 +181,22 @@ follow_on p [] rest after stop whole each follow = tt
 follow_on p (q ∷ pieces) rest after stop whole each follow =
     (follows p q (text pieces ++ after) each.0 (subst (Stops p) (whole ∙ append_assoc (piece_text q) (text pieces) after) stop), follow)
 
+-- only the last piece matters
+pub last_same : (p q : Piece) (pieces : List Piece) (after : List ℕ) → MayEndBefore (p ∷ q ∷ pieces) after ≡ MayEndBefore (q ∷ pieces) after
+last_same (blank c) q pieces after = refl
+last_same line_feed q pieces after = refl
+last_same opening q pieces after = refl
+last_same closing q pieces after = refl
+last_same (comment octets) q pieces after = refl
+last_same (bare units) q pieces after = refl
+last_same (quoted units) q pieces after = refl
+
+pub last_in_front : (p q : Piece) (pieces : List Piece) (after : List ℕ) → MayEndBefore (q ∷ pieces) after → MayEndBefore (p ∷ q ∷ pieces) after
+last_in_front p q pieces after last = subst (λ P. P) (sym (last_same p q pieces after)) last
+
 last_on : (p : Piece) (pieces : List Piece) (depth : ℕ) (rest after : List ℕ) (fault : Option Fault) → Stops p rest → rest ≡ text pieces ++ after → Ends depth after fault → MayEndBefore pieces after → MayEndBefore (p ∷ pieces) after
 last_on p [] depth rest after fault stop whole ends last = ends_at_stop p depth after fault ends (subst (Stops p) whole stop)
-last_on (blank c) (q ∷ pieces) depth rest after fault stop whole ends last = last
-last_on line_feed (q ∷ pieces) depth rest after fault stop whole ends last = last
-last_on opening (q ∷ pieces) depth rest after fault stop whole ends last = last
-last_on closing (q ∷ pieces) depth rest after fault stop whole ends last = last
-last_on (comment octets) (q ∷ pieces) depth rest after fault stop whole ends last = last
-last_on (bare units) (q ∷ pieces) depth rest after fault stop whole ends last = last
-last_on (quoted units) (q ∷ pieces) depth rest after fault stop whole ends last = last
+last_on p (q ∷ pieces) depth rest after fault stop whole ends last = last_in_front p q pieces after last
 
 pub one_piece_more : (depth : ℕ) (octets rest : List ℕ) (p : Piece) (pieces : List Piece) (fault : Option Fault) → Takes depth octets p rest → IsCut (depth_behind depth p) rest pieces fault → IsCut depth octets (p ∷ pieces) fault
 one_piece_more depth octets rest p pieces fault front more = record {
@@ -244,22 +247,15 @@ follow_behind p (q ∷ pieces) follow = follow.1
 
 pub last_behind : (p : Piece) (pieces : List Piece) (after : List ℕ) → MayEndBefore (p ∷ pieces) after → MayEndBefore pieces after
 last_behind p [] after last = tt
-last_behind (blank c) (q ∷ pieces) after last = last
-last_behind line_feed (q ∷ pieces) after last = last
-last_behind opening (q ∷ pieces) after last = last
-last_behind closing (q ∷ pieces) after last = last
-last_behind (comment octets) (q ∷ pieces) after last = last
-last_behind (bare units) (q ∷ pieces) after last = last
-last_behind (quoted units) (q ∷ pieces) after last = last
-
-some_inj : (a b : ℕ) → Some a ≡ Some b → a ≡ b
-some_inj a b e = cc
+last_behind p (q ∷ pieces) after last = subst (λ P. P) (last_same p q pieces after) last
 
 cut_only : (pieces : List Piece) (n depth : ℕ) (octets : List ℕ) (fault : Option Fault) → length octets < n → IsCut depth octets pieces fault → cut_by n depth octets ≡ record { pieces = pieces; broken = fault }
 unfolding cut_by
 cut_only pieces zero depth octets fault enough is = absurd (omega arith)
 cut_only [] (suc n) depth octets fault enough is =
-    let at_depth : Ends depth is.rest fault = subst (λ d. Ends d is.rest fault) (sym (some_inj depth is.at is.parentheses)) is.ends in
+    let some : Some is.at ≡ Some depth = sym is.parentheses in
+    let same : is.at ≡ depth = cc in
+    let at_depth : Ends depth is.rest fault = subst (λ d. Ends d is.rest fault) same is.ends in
     ap (cut_on (cut_by n) depth) (front_stops depth octets fault (subst (λ t. Ends depth t fault) (sym is.whole) at_depth))
 cut_only (p ∷ pieces) (suc n) depth octets fault enough is =
     let rest : List ℕ = text pieces ++ is.rest in
@@ -301,13 +297,7 @@ last_of_whole (closing ∷ []) = tt
 last_of_whole (comment octets ∷ []) = refl
 last_of_whole (bare units ∷ []) = tt
 last_of_whole (quoted units ∷ []) = tt
-last_of_whole (blank c ∷ q ∷ pieces) = last_of_whole (q ∷ pieces)
-last_of_whole (line_feed ∷ q ∷ pieces) = last_of_whole (q ∷ pieces)
-last_of_whole (opening ∷ q ∷ pieces) = last_of_whole (q ∷ pieces)
-last_of_whole (closing ∷ q ∷ pieces) = last_of_whole (q ∷ pieces)
-last_of_whole (comment octets ∷ q ∷ pieces) = last_of_whole (q ∷ pieces)
-last_of_whole (bare units ∷ q ∷ pieces) = last_of_whole (q ∷ pieces)
-last_of_whole (quoted units ∷ q ∷ pieces) = last_of_whole (q ∷ pieces)
+last_of_whole (p ∷ q ∷ pieces) = last_in_front p q pieces [] (last_of_whole (q ∷ pieces))
 
 pub is_cut : (octets : List ℕ) (pieces : List Piece) → Cuts octets pieces → IsCut zero octets pieces None
 is_cut octets pieces cut = record {
@@ -375,17 +365,14 @@ one_cut octets pieces other cut another = ap (λ (found : Cutting). found.pieces
 pub one_break : (octets : List ℕ) (pieces other : List Piece) (fault another : Fault) → Breaks octets pieces fault → Breaks octets other another → (pieces ≡ other) × (fault ≡ another)
 one_break octets pieces other fault another broken as_well =
     let same = sym (reads_broken octets pieces fault broken) ∙ reads_broken octets other another as_well in
-    (ap (λ (found : Cutting). found.pieces) same, some_fault fault another (ap (λ (found : Cutting). found.broken) same))
-  where
-    some_fault : (f g : Fault) → Some f ≡ Some g → f ≡ g
-    some_fault f g e = cc
+    let faults : Some fault ≡ Some another = ap (λ (found : Cutting). found.broken) same in
+    let one : fault ≡ another = cc in
+    (ap (λ (found : Cutting). found.pieces) same, one)
 
 pub cut_not_broken : (octets : List ℕ) (pieces other : List Piece) (fault : Fault) → Cuts octets pieces → Breaks octets other fault → ⊥
 cut_not_broken octets pieces other fault cut broken =
-    none_is_some fault (ap (λ (found : Cutting). found.broken) (sym (reads_cut octets pieces cut) ∙ reads_broken octets other fault broken))
-  where
-    none_is_some : (f : Fault) → None ≡ Some f → ⊥
-    none_is_some f e = cc
+    let none_is_some : None ≡ Some fault = ap (λ (found : Cutting). found.broken) (sym (reads_cut octets pieces cut) ∙ reads_broken octets other fault broken) in
+    cc
 
 pub cut_or_broken : (octets : List ℕ) → ((pieces : List Piece) × Cuts octets pieces) ⊎ ((pieces : List Piece) × (fault : Fault) × Breaks octets pieces fault)
 cut_or_broken octets = by (cutting octets).pieces (cutting octets).broken (cutting_is octets)

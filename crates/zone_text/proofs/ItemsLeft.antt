@@ -190,9 +190,6 @@ pub record IsLeft (rest : List ℕ) (raws : List RawItem) (pieces : List Piece) 
 abbrev pub LeavesItems : List ℕ → List ℕ → List RawItem → Type 0
 LeavesItems entry rest raws = (pieces : List Piece) → Cuts entry pieces → IsLeft rest raws pieces
 
-pub all_left : (entry : List ℕ) → LeavesItems entry entry []
-all_left entry pieces cuts = record { more = pieces; whole = cuts.whole; each = cuts.each; follow = cuts.follow; items = refl }
-
 left_by : (octets left : List ℕ) (raws item : List RawItem) (pieces more : List Piece) → 0 < length octets → FrontIs octets item left → octets ≡ text more → AllByRecursion IsPiece more → AllFollow more → raws ++ flat_map item_of more ≡ flat_map item_of pieces → IsLeft left (raws ++ item) pieces
 left_by octets left raws item pieces [] some front whole each follow items = absurd (let none : length octets ≡ 0 = ap length whole in omega arith)
 left_by octets left raws item pieces (p ∷ more) some front whole each follow items =

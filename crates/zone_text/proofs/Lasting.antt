@@ -1,32 +1,20 @@
 -- What is settled of a text by its front.
-use Rattle.std.proofs.Common.{◌≡◌, ℕ, zero, suc, ◌≤◌, true, false, List, [], ◌∷◌, ◌++◌, length, Option, Some, None, refl, sym, ap, ◌∙◌, subst, arith, append_assoc, ◌⊎◌, inl, inr}
-use Rattle.std.specs.List.{AllByRecursion}
+use Rattle.std.proofs.Common.{◌≡◌, ℕ, zero, ◌≤◌, false, List, [], ◌∷◌, ◌++◌, length, Option, Some, None, refl, sym, ap, ◌∙◌, subst, arith, append_assoc, ◌⊎◌, inl, inr}
 use Rattle.std.proofs.lemmas.Bool.{both_ways}
 use Rattle.std.proofs.lemmas.List.{append-nil}
 use Rattle.std.proofs.lemmas.List.Concat.{flat_map-append}
 use Rattle.zone_name.specs.Spelling.{Written, plain, escaped, decimal, text_of, octet_of, IsEscape, IsBadEscape, is_digit, written_text}
 use Rattle.zone_rdata.specs.declared.fault.Fault.{Fault}
 use Rattle.zone_rdata.specs.declared.fault.Fault.TheVariants.{BadEscape, UnbalancedParenthesis}
+use Rattle.zone_name.proofs.Pushing.{AllByRecursion-append, AllByRecursion-front, AllByRecursion-back}
 use Rattle.zone_text.specs.Pieces.{Piece, blank, opening, closing, line_feed, comment, bare, quoted, piece_text, text, IsPiece, AllFollow, depth_after, Cuts}
 use Rattle.zone_text.specs.Breaks.{IsBroken, closes_nothing, no_escape, no_quoted_escape, no_quote, not_closed, MayEndBefore, Breaks}
 use Rattle.zone_text.specs.Lasting.{EndInLineFeed, IsLostEscape, at_line_end, one_digit, two_digits, too_great, StaysBroken, closing_stays, escape_stays, quoted_escape_stays, BreaksForGood}
-use Rattle.zone_text.specs.Machine.Cutting.{stops}
+use Rattle.zone_text.specs.Machine.Cutting.{stops, depth_behind}
 use Rattle.zone_text.proofs.Fronts.{front_stops}
-use Rattle.zone_text.proofs.Cuttings.{IsCut, is_cut, cuts, is_broken, breaks, last_behind, follow_behind}
+use Rattle.zone_text.proofs.Cuttings.{IsCut, is_cut, cuts, is_broken, breaks, last_behind, last_in_front, follow_behind, depth_on, room_of}
 
 -- ---- pieces behind pieces
-
-each_append : (pieces more : List Piece) → AllByRecursion IsPiece pieces → AllByRecursion IsPiece more → AllByRecursion IsPiece (pieces ++ more)
-each_append [] more each others = others
-each_append (p ∷ pieces) more each others = (each.0, each_append pieces more each.1 others)
-
-each_front : (pieces more : List Piece) → AllByRecursion IsPiece (pieces ++ more) → AllByRecursion IsPiece pieces
-each_front [] more each = tt
-each_front (p ∷ pieces) more each = (each.0, each_front pieces more each.1)
-
-each_back : (pieces more : List Piece) → AllByRecursion IsPiece (pieces ++ more) → AllByRecursion IsPiece more
-each_back [] more each = each
-each_back (p ∷ pieces) more each = each_back pieces more each.1
 
 line_feed_then : (more : List Piece) → AllFollow more → AllFollow (line_feed ∷ more)
 line_feed_then [] follow = tt
@@ -41,15 +29,18 @@ ends_behind (comment octets) q pieces ends = ends
 ends_behind (bare units) q pieces ends = ends
 ends_behind (quoted units) q pieces ends = ends
 
+the_line_feed : (p : Piece) → EndInLineFeed (p ∷ []) → p ≡ line_feed
+the_line_feed line_feed ends = refl
+the_line_feed (blank c) ends = absurd ends
+the_line_feed opening ends = absurd ends
+the_line_feed closing ends = absurd ends
+the_line_feed (comment octets) ends = absurd ends
+the_line_feed (bare units) ends = absurd ends
+the_line_feed (quoted units) ends = absurd ends
+
 follow_append : (pieces more : List Piece) → AllFollow pieces → EndInLineFeed pieces → AllFollow more → AllFollow (pieces ++ more)
 follow_append [] more follow ends others = others
-follow_append (line_feed ∷ []) more follow ends others = line_feed_then more others
-follow_append (blank c ∷ []) more follow ends others = absurd ends
-follow_append (opening ∷ []) more follow ends others = absurd ends
-follow_append (closing ∷ []) more follow ends others = absurd ends
-follow_append (comment octets ∷ []) more follow ends others = absurd ends
-follow_append (bare units ∷ []) more follow ends others = absurd ends
-follow_append (quoted units ∷ []) more follow ends others = absurd ends
+follow_append (p ∷ []) more follow ends others = subst (λ q. AllFollow (q ∷ more)) (sym (the_line_feed p ends)) (line_feed_then more others)
 follow_append (p ∷ q ∷ pieces) more follow ends others = (follow.0, follow_append (q ∷ pieces) more follow.1 (ends_behind p q pieces ends) others)
 
 follow_front : (pieces more : List Piece) → AllFollow (pieces ++ more) → AllFollow pieces
@@ -65,43 +56,20 @@ last_back : (pieces more : List Piece) (rest : List ℕ) → MayEndBefore (piece
 last_back [] more rest last = last
 last_back (p ∷ pieces) more rest last = last_back pieces more rest (last_behind p (pieces ++ more) rest last)
 
-last_in_front : (p q : Piece) (pieces : List Piece) (rest : List ℕ) → MayEndBefore (q ∷ pieces) rest → MayEndBefore (p ∷ q ∷ pieces) rest
-last_in_front (blank c) q pieces rest last = last
-last_in_front line_feed q pieces rest last = last
-last_in_front opening q pieces rest last = last
-last_in_front closing q pieces rest last = last
-last_in_front (comment octets) q pieces rest last = last
-last_in_front (bare units) q pieces rest last = last
-last_in_front (quoted units) q pieces rest last = last
-
 last_line_feed : (more : List Piece) (rest : List ℕ) → MayEndBefore more rest → MayEndBefore (line_feed ∷ more) rest
 last_line_feed [] rest last = tt
 last_line_feed (q ∷ more) rest last = last
 
 last_append : (pieces more : List Piece) (rest : List ℕ) → EndInLineFeed pieces → MayEndBefore more rest → MayEndBefore (pieces ++ more) rest
 last_append [] more rest ends last = last
-last_append (line_feed ∷ []) more rest ends last = last_line_feed more rest last
-last_append (blank c ∷ []) more rest ends last = absurd ends
-last_append (opening ∷ []) more rest ends last = absurd ends
-last_append (closing ∷ []) more rest ends last = absurd ends
-last_append (comment octets ∷ []) more rest ends last = absurd ends
-last_append (bare units ∷ []) more rest ends last = absurd ends
-last_append (quoted units ∷ []) more rest ends last = absurd ends
+last_append (p ∷ []) more rest ends last = subst (λ q. MayEndBefore (q ∷ more) rest) (sym (the_line_feed p ends)) (last_line_feed more rest last)
 last_append (p ∷ q ∷ pieces) more rest ends last = last_in_front p q (pieces ++ more) rest (last_append (q ∷ pieces) more rest (ends_behind p q pieces ends) last)
 
-no_depth : (n : ℕ) → None ≡ Some n → ⊥
-no_depth n e = cc
-
-pub depth_append : (depth at : ℕ) (pieces more : List Piece) → depth_after depth pieces ≡ Some at → depth_after depth (pieces ++ more) ≡ depth_after at more
+depth_append : (depth at : ℕ) (pieces more : List Piece) → depth_after depth pieces ≡ Some at → depth_after depth (pieces ++ more) ≡ depth_after at more
 depth_append depth at [] more e = let same : depth ≡ at = cc in ap (λ d. depth_after d more) same
-depth_append depth at (blank c ∷ pieces) more e = depth_append depth at pieces more e
-depth_append depth at (line_feed ∷ pieces) more e = depth_append depth at pieces more e
-depth_append depth at (opening ∷ pieces) more e = depth_append (suc depth) at pieces more e
-depth_append zero at (closing ∷ pieces) more e = absurd (no_depth at e)
-depth_append (suc depth) at (closing ∷ pieces) more e = depth_append depth at pieces more e
-depth_append depth at (comment octets ∷ pieces) more e = depth_append depth at pieces more e
-depth_append depth at (bare units ∷ pieces) more e = depth_append depth at pieces more e
-depth_append depth at (quoted units ∷ pieces) more e = depth_append depth at pieces more e
+depth_append depth at (p ∷ pieces) more e =
+    let room = room_of depth at p pieces e in
+    depth_on depth p (pieces ++ more) room ∙ depth_append (depth_behind depth p) at pieces more (sym (depth_on depth p pieces room) ∙ e)
 
 -- ---- what stands behind a line feed outside parentheses is cut by itself
 
@@ -110,7 +78,7 @@ both_cut front rest pieces more fault cut ends others = record {
   rest = others.rest;
   at = others.at;
   whole = ap (λ t. t ++ rest) cut.whole ∙ ap (λ t. text pieces ++ t) others.whole ∙ sym (append_assoc (text pieces) (text more) others.rest) ∙ ap (λ t. t ++ others.rest) (sym (flat_map-append piece_text pieces more));
-  each = each_append pieces more cut.each others.each;
+  each = AllByRecursion-append IsPiece pieces more cut.each others.each;
   follow = follow_append pieces more cut.follow ends others.follow;
   last = last_append pieces more others.rest ends others.last;
   parentheses = depth_append zero zero pieces more cut.balanced ∙ others.parentheses;
@@ -136,7 +104,7 @@ parted octets pieces more fault balanced is = record {
   whole = is.whole ∙ ap (λ t. t ++ is.rest) (flat_map-append piece_text pieces more) ∙ append_assoc (text pieces) (text more) is.rest;
   front = record {
     whole = refl;
-    each = each_front pieces more is.each;
+    each = AllByRecursion-front IsPiece pieces more is.each;
     follow = follow_front pieces more is.follow;
     balanced = balanced;
   };
@@ -144,7 +112,7 @@ parted octets pieces more fault balanced is = record {
     rest = is.rest;
     at = is.at;
     whole = refl;
-    each = each_back pieces more is.each;
+    each = AllByRecursion-back IsPiece pieces more is.each;
     follow = follow_back pieces more is.follow;
     last = last_back pieces more is.rest is.last;
     parentheses = sym (depth_append zero zero pieces more balanced) ∙ is.parentheses;
@@ -164,9 +132,6 @@ break_parted octets pieces more fault balanced broken =
 
 -- ---- a break that stays
 
-digit_and_none : (x : ℕ) → is_digit x ≡ true → is_digit x ≡ false → ⊥
-digit_and_none x one none = both_ways (is_digit x) none one
-
 line_end_is_no_digit : (c : ℕ) → (c ≡ 10) ⊎ (c ≡ 13) → is_digit c ≡ false
 line_end_is_no_digit c (inl e) = rw e refl
 line_end_is_no_digit c (inr e) = rw e refl
@@ -181,30 +146,30 @@ begins_none rest more after (escaped d) (at_line_end c others e is) written h =
 begins_none rest more after (decimal x y z) (at_line_end c others e is) written h =
     let r : rest ++ more ≡ 92 ∷ c ∷ (others ++ more) = ap (λ t. t ++ more) e in
     let same : c ≡ x = cc in
-    digit_and_none c (ap is_digit same ∙ written.0) (line_end_is_no_digit c is)
+    both_ways (is_digit c) (line_end_is_no_digit c is) (ap is_digit same ∙ written.0)
 begins_none rest more after (plain d) (one_digit x c others e is is_not) written h = absurd written
 begins_none rest more after (escaped d) (one_digit x c others e is is_not) written h =
     let r : rest ++ more ≡ 92 ∷ x ∷ c ∷ (others ++ more) = ap (λ t. t ++ more) e in
     let same : x ≡ d = cc in
-    digit_and_none x is (ap is_digit same ∙ written.0)
+    both_ways (is_digit x) (ap is_digit same ∙ written.0) is
 begins_none rest more after (decimal u v w) (one_digit x c others e is is_not) written h =
     let r : rest ++ more ≡ 92 ∷ x ∷ c ∷ (others ++ more) = ap (λ t. t ++ more) e in
     let same : c ≡ v = cc in
-    digit_and_none c (ap is_digit same ∙ written.1) is_not
+    both_ways (is_digit c) is_not (ap is_digit same ∙ written.1)
 begins_none rest more after (plain d) (two_digits x y c others e is is_one is_not) written h = absurd written
 begins_none rest more after (escaped d) (two_digits x y c others e is is_one is_not) written h =
     let r : rest ++ more ≡ 92 ∷ x ∷ y ∷ c ∷ (others ++ more) = ap (λ t. t ++ more) e in
     let same : x ≡ d = cc in
-    digit_and_none x is (ap is_digit same ∙ written.0)
+    both_ways (is_digit x) (ap is_digit same ∙ written.0) is
 begins_none rest more after (decimal u v w) (two_digits x y c others e is is_one is_not) written h =
     let r : rest ++ more ≡ 92 ∷ x ∷ y ∷ c ∷ (others ++ more) = ap (λ t. t ++ more) e in
     let same : c ≡ w = cc in
-    digit_and_none c (ap is_digit same ∙ written.2) is_not
+    both_ways (is_digit c) is_not (ap is_digit same ∙ written.2)
 begins_none rest more after (plain d) (too_great x y z others e is is_one is_too great) written h = absurd written
 begins_none rest more after (escaped d) (too_great x y z others e is is_one is_too great) written h =
     let r : rest ++ more ≡ 92 ∷ x ∷ y ∷ z ∷ (others ++ more) = ap (λ t. t ++ more) e in
     let same : x ≡ d = cc in
-    digit_and_none x is (ap is_digit same ∙ written.0)
+    both_ways (is_digit x) (ap is_digit same ∙ written.0) is
 begins_none rest more after (decimal u v w) (too_great x y z others e is is_one is_too great) written h =
     let r : rest ++ more ≡ 92 ∷ x ∷ y ∷ z ∷ (others ++ more) = ap (λ t. t ++ more) e in
     let one : u ≡ x = cc in

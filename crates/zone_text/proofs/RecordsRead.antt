@@ -11,14 +11,14 @@ use Rattle.zone_rdata.specs.declared.fault.Fault.{Fault}
 use Rattle.zone_rdata.specs.declared.fault.Fault.TheVariants.{NoOwner, NoTtl, BadTtl}
 use Rattle.zone_text.specs.Defaults.{AreDefaults, IsOneOrNone, IsTtlOrNone}
 use Rattle.zone_text.specs.Entries.{Entry}
-use Rattle.zone_text.specs.EntryFault.{EntryFault, of_owner, of_rdata, of_ttl, none, long}
-use Rattle.zone_text.specs.Forms.{owned, unowned, form_of, parts_in}
+use Rattle.zone_text.specs.EntryFault.{EntryFault, of_rdata, of_ttl, none, long}
+use Rattle.zone_text.specs.Forms.{owned, form_of, parts_in}
 use Rattle.zone_text.specs.Inherited.{IsLastOwner, IsOwner, owner_in, owner_text, ttl_text}
 use Rattle.zone_text.specs.Machine.EntryReading.{HasOwnerOrNone, IsReadTo, IsRecordEntry, with_owner}
 use Rattle.zone_text.specs.Machine.Lower.{Lower}
 use Rattle.zone_text.specs.Records.{Head, HasHead, HasTtl, IsLastMinimum, StatesData, StatesRecord}
 use Rattle.zone_text.specs.declared.defaults.Defaults.{Defaults}
-use Rattle.zone_text.proofs.Inheriting.{has_no_ttl, has_ttl, next_minimum, record_leaves, same_owner, ttl_stated}
+use Rattle.zone_text.proofs.Inheriting.{has_no_ttl, has_ttl, next_minimum, record_leaves, ttl_stated}
 
 -- ---- the owner
 
@@ -43,22 +43,6 @@ has_stated_owner origin before entry d name owner items form so_far owns = (
   owned_entry origin before entry (with_owner (Some name) d) d.owner name owner items form so_far owns,
   owner_stated origin before entry name owner items form owns,
 )
-
-unowned_choice : (origin : Labels) (before : List Entry) (entry : Entry) (d : Defaults) (owner : Option Labels) (items : List RawItem) → form_of entry ≡ unowned items → AreDefaults origin before d → IsOneOrNone (IsLastOwner origin before) owner → d.owner ≡ owner → HasOwnerOrNone origin before entry (with_owner owner d) items
-unowned_choice origin before entry d None items form so_far last e = of_owner (rw form (refl, last))
-unowned_choice origin before entry d (Some name) items form so_far last e = (
-  record {
-    held = d.owner;
-    defaults = so_far;
-    owner = subst (λ f. IsOwner origin before f name) (sym form) last;
-    parts = ap parts_in form;
-  },
-  same_owner origin before entry (unowned items) (Some name) form refl last,
-)
-
--- an entry omits its owner
-pub has_last_owner : (origin : Labels) (before : List Entry) (entry : Entry) (d : Defaults) (items : List RawItem) → form_of entry ≡ unowned items → AreDefaults origin before d → HasOwnerOrNone origin before entry d items
-has_last_owner origin before entry d items form so_far = unowned_choice origin before entry d d.owner items form so_far so_far.owner refl
 
 pub no_owner : (origin : Labels) (before : List Entry) (entry : Entry) (d : Defaults) (items : List RawItem) → HasOwnerOrNone origin before entry d items → d.owner ≡ None → EntryFault origin before entry NoOwner
 no_owner origin before entry d items has e = subst (λ o. MatchOption o (EntryFault origin before entry NoOwner) (λ name. IsRecordEntry origin before entry d name items × IsLastOwner origin (entry ∷ before) name)) e has

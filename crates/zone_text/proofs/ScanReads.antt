@@ -25,6 +25,7 @@ use Rattle.zone_text.specs.Machine.Scan.{on, fed_line, closed, open_step, quoted
 use Rattle.zone_text.specs.Machine.Scan as machine
 use Rattle.zone_text.proofs.Escapes.{malformed_is_bad}
 use Rattle.zone_text.proofs.Fronts.{Takes}
+use Rattle.zone_text.proofs.Lasting.{begins_backslash}
 
 -- ---- pieces and what is open behind them
 
@@ -88,13 +89,7 @@ escape_begins (On at) octets open_escape = cut_begins open_escape.1
     cut_begins (behind_backslash e) = ([], e)
     cut_begins (behind_digit x e dx) = (x ∷ [], e)
     cut_begins (behind_two_digits x y e dx dy) = (x ∷ y ∷ [], e)
-escape_begins LostEscape octets lost = lost_begins lost
-  where
-    lost_begins : IsLostEscape octets → (more : List ℕ) × (octets ≡ 92 ∷ more)
-    lost_begins (at_line_end c more e end) = (c ∷ more, e)
-    lost_begins (one_digit x c more e dx nc) = (x ∷ c ∷ more, e)
-    lost_begins (two_digits x y c more e dx dy nc) = (x ∷ y ∷ c ∷ more, e)
-    lost_begins (too_great x y z more e dx dy dz great) = (x ∷ y ∷ z ∷ more, e)
+escape_begins LostEscape octets lost = begins_backslash octets lost
 escape_begins Ends octets open_escape = absurd open_escape
 escape_begins ClosesNothing octets open_escape = absurd open_escape
 

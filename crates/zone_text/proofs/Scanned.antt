@@ -1,5 +1,5 @@
 -- What a scan says of the octets that it took: where it goes on and stops, and the pieces that they are.
-use Rattle.std.proofs.Common.{◌≡◌, ℕ, zero, suc, ◌+◌, ◌≤◌, List, [], ◌∷◌, ◌++◌, length, take, Option, Some, None, refl, sym, ap, ◌∙◌, subst, arith, length-append, inl, inr}
+use Rattle.std.proofs.Common.{◌≡◌, ℕ, zero, suc, ◌+◌, ◌≤◌, List, [], ◌∷◌, ◌++◌, length, take, Option, Some, None, refl, sym, ap, ◌∙◌, subst, arith, inl, inr}
 use Rattle.std.proofs.Math.Seq.{take-length}
 use Rattle.std.proofs.lemmas.List.{length-take}
 use Rattle.std.specs.Prelude.{MatchOption}
@@ -146,15 +146,3 @@ pub at_end : (octets : List ℕ) (at : ScanState) → scan_of beginning octets �
 at_end octets at e =
     let read : IsRead (On at) zero octets = read_by octets (On at) e in
     end_by octets read.pieces (end_fault_of at) read.cut (no_ended read.pieces read.entries)
-
--- ---- octets kept from before
-
--- Octets that stopped nothing, and a piece behind them: its front up to where the scan stops joins them, and they are
--- scanned whole.
-pub joins_kept : (start at : ScanState) (kept piece : List ℕ) → scan_of start kept ≡ record { taken = length kept; step = On at } → let front : List ℕ = take (scan_of at piece).taken piece in scan_of start (kept ++ front) ≡ record { taken = length (kept ++ front); step = (scan_of at piece).step }
-joins_kept start at kept piece e =
-    let front : List ℕ = take (scan_of at piece).taken piece in
-    let all : length kept + (scan_of at piece).taken ≡ length (kept ++ front) = omega (arith, takes_front at piece, length-append kept front) in
-    goes_on start at kept front e
-    ∙ ap (further (length kept)) (stops_at at piece)
-    ∙ ap (λ t. record { taken = t; step = (scan_of at piece).step }) all

@@ -112,9 +112,6 @@ pub record ReadsWords (items : List RawItem) (values : Words) (rest : List RawIt
   pub have : HaveValues words values
   pub parts : parts_behind [] items ≡ parts_behind words rest
 
-pub none_read : (items : List RawItem) (v : Words) → v.ttl ≡ None → v.class ≡ None → ReadsWords items v items
-none_read items v no_ttl no_class = record { words = []; have = record { each = tt; ttl = no_ttl; class = no_class }; parts = refl }
-
 parts_are : (parts : Parts) (words : List Word) (v : Words) (rest : List RawItem) → HaveValues words v → parts ≡ record { words = words; rest = rest } → ArePartsOf parts v rest
 parts_are parts words v rest have e = rw e (record { words = have; rest = refl })
 

@@ -139,7 +139,7 @@ fn split_piece(text: &[u8]) -> Option<(Option<Item<'_>>, &[u8])>
 ///
 /// # Errors
 ///
-/// Want of memory. `items` holds nothing that is used again.
+/// `AllocError`. `items` holds nothing that is used again.
 pub(crate) fn cut_items<'t>(entry: &'t [u8], items: &mut Vec<Item<'t>>) -> Result<(), AllocError>
     ensures { (pieces : List Piece) → Cuts entry.now pieces
         → OnOk result (map raw items.new.items ≡ flat_map item_of pieces) }

@@ -10,7 +10,7 @@ use zone_rdata::Reading;
 ///
 /// # Errors
 ///
-/// Want of memory.
+/// `AllocError`.
 pub fn read_file(alloc: Global, origin: &Name, text: &[u8]) -> Result<Reading, AllocError>
     ensures { IfOk result (λ reading. FileReads origin.now text.now reading.placed.items reading.ending) }
 {

@@ -39,7 +39,7 @@ pub(crate) struct Contents {
     rdata: Rdata,
 }
 
-/// Decides the fault of the entry at a place, and passes want of memory on.
+/// Decides the fault of the entry at a place, and passes `Memory` on as `AllocError`.
 #[cold]
 #[inline(never)]
 pub(crate) fn refuse(
@@ -98,7 +98,7 @@ impl Defaults {
     ///
     /// # Errors
     ///
-    /// The first fault behind the owner but `BadTtl` of a TTL that is inherited, and want of memory.
+    /// The first fault behind the owner but `BadTtl` of a TTL that is inherited, and `Memory`.
     fn contents_of(&self, alloc: Global, items: &[Item]) -> Result<Contents, Failing>
         ensures found { (origin : Labels) (before : List Entry) (entry : Entry) (owner : Labels)
             → IsRecordEntry origin before entry self.now owner (map raw items.now)

@@ -1,6 +1,5 @@
 //! Where the octets of a master file leave its pieces, octet by octet (RFC 1035 5.1).
 ghost use Rattle.std.specs.Prelude.{◌≡◌, ◌+◌, ◌<◌, ◌≤◌, ◌^◌, drop, length, not};
-ghost use Rattle.zone_name.specs.Spelling.{is_digit};
 ghost use Rattle.zone_text.specs.Machine.Scan.{AreQuiet, behind_backslash, beginning, closed, end_fault_of, ends_number, escape_step, fed_line, further, moves, open_step, scan_of, step_of, unclosed};
 
 use crate::table::moves_open;
@@ -96,13 +95,6 @@ fn moves(mode: Mode, octet: u8) -> bool
     }
 }
 
-/// Whether the octet is a digit.
-fn is_digit(octet: u8) -> bool
-    ensures { result ≡ is_digit octet }
-{
-    octet.is_ascii_digit()
-}
-
 /// Whether the octet is a digit with which the other two make a number of at most 255.
 fn ends_number(first: u8, second: u8, octet: u8) -> bool
     ensures { result ≡ ends_number first second octet }
@@ -110,7 +102,7 @@ fn ends_number(first: u8, second: u8, octet: u8) -> bool
     let value = 100 * u16::from(first.saturating_sub(b'0'))
         + 10 * u16::from(second.saturating_sub(b'0'))
         + u16::from(octet.saturating_sub(b'0'));
-    is_digit(octet) && value <= 255
+    octet.is_ascii_digit() && value <= 255
 }
 
 /// What an octet leads to behind a backslash.
@@ -118,10 +110,10 @@ fn behind_backslash(escape: Escape, octet: u8) -> Behind
     ensures { result ≡ behind_backslash escape octet }
 {
     match escape {
-        Escape::Begun if is_digit(octet) => Behind::Inside(Escape::One(octet)),
+        Escape::Begun if octet.is_ascii_digit() => Behind::Inside(Escape::One(octet)),
         Escape::Begun if octet == b'\n' || octet == b'\r' => Behind::Lost,
         Escape::Begun => Behind::Whole,
-        Escape::One(first) if is_digit(octet) => Behind::Inside(Escape::Two(first, octet)),
+        Escape::One(first) if octet.is_ascii_digit() => Behind::Inside(Escape::Two(first, octet)),
         Escape::One(_) => Behind::Lost,
         Escape::Two(first, second) if ends_number(first, second, octet) => Behind::Whole,
         Escape::Two(_, _) => Behind::Lost,

@@ -67,7 +67,7 @@ impl TextSource {
     ///
     /// # Errors
     ///
-    /// Want of memory. The source has failed then, or had failed before.
+    /// `Memory`. The source has failed then, or had failed before.
     pub fn feed(&mut self, piece: &[u8]) -> Result<(), Stop>
         requires going { self.old.held.finished ≡ false }
         requires fits { self.old.held.fed + length piece.now + 1 < 2 ^ 64 }
@@ -99,7 +99,7 @@ impl TextSource {
     ///
     /// # Errors
     ///
-    /// Want of memory. The source has failed then, or had failed before.
+    /// `Memory`. The source has failed then, or had failed before.
     pub fn finish(&mut self) -> Result<(), Stop>
         requires going { self.old.held.finished ≡ false }
         ensures stands { OnOk result ((origin : Labels) (fed : List ℕ) (given : List Placed)
