@@ -194,12 +194,11 @@ pub fn read_transfer(alloc: Global, stream: &[u8]) -> Result<Reading, AllocError
     ensures { IfOk result (λ reading. StreamReads stream.now reading.placed.items reading.ending) }
 {
     let mut source = TransferSource::new(alloc);
-    match source.feed(stream) {
-        Ok(()) => {}
-        Err(_) => return Err(AllocError),
-    }
-    match source.finish() {
-        Ok(()) => Ok(source.into_reading()),
-        Err(_) => Err(AllocError),
-    }
+    let Ok(()) = source.feed(stream) else {
+        return Err(AllocError);
+    };
+    let Ok(()) = source.finish() else {
+        return Err(AllocError);
+    };
+    Ok(source.into_reading())
 }

@@ -113,10 +113,7 @@ fn questions_end(message: &[u8], count: u16, offset: usize) -> Result<usize, (Fa
     if count == 0 {
         return Ok(offset);
     }
-    match question_end(message, offset) {
-        Ok(end) => Ok(end),
-        Err(fault) => Err((fault, offset)),
-    }
+    question_end(message, offset).map_err(|fault| (fault, offset))
 }
 
 /// The offset after so many records.

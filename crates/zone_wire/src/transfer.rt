@@ -182,10 +182,7 @@ impl Transfer {
         let rr = answer.to_rr(self.alloc)?;
         match self.order_fault(&rr) {
             Some(fault) => Err(Failing::Fault(fault)),
-            None => match self.take_record(rr, answer) {
-                Ok(()) => Ok(()),
-                Err(_) => Err(Failing::Memory),
-            },
+            None => Ok(self.take_record(rr, answer)?),
         }
     }
 
@@ -220,10 +217,8 @@ impl Transfer {
         ensures ending { self.new.decided.ending ≡ self.old.decided.ending }
     {
         let place = Place::Message(self.messages, offset);
-        match self.decided.placed.push_back(Placed { rr, place }) {
-            Ok(()) => Ok(()),
-            Err(_) => Err(AllocError),
-        }
+        self.decided.placed.push_back(Placed { rr, place })?;
+        Ok(())
     }
 
     /// Takes the opening SOA, which fixes the zone if no question does.

@@ -1,7 +1,7 @@
 use Rattle.std.proofs.Common.{[]}
 use Rattle.zone_wire.proofs.source.read_transfer.Goals as goal
 
-pub returns-in-Ok-finish : goal.returns-in-Ok-finish
-returns-in-Ok-finish c =
+pub returns : goal.returns
+returns c =
     let stands = c.in-Ok-finish.ensures.stands c.args.stream.now [] (c.in-Ok.ensures.stands [] [] c.new-source.ensures.stands) in
     rw (c.into_reading.ensures.placed, c.into_reading.ensures.ending) (stands.read c.in-Ok-finish.ensures.finished)

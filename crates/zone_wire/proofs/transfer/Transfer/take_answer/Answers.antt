@@ -6,10 +6,10 @@ use Rattle.zone_wire.proofs.transfer.Transfer.take_answer.Goals as goal
 pub returns-in-Some-clause-fault : goal.returns-in-Some-clause-fault
 returns-in-Some-clause-fault c = λ questions placed among. of_order c.in_ok-rr.rr c.in_ok-rr.ensures.found (order_faults questions placed c.in_ok-rr.rr c.in-Some.fault (sym (c.in-Some.ensures questions placed among)))
 
-pub returns-in-Ok-clause-taken : goal.returns-in-Ok-clause-taken
-returns-in-Ok-clause-taken c = λ questions placed among. record {
+pub returns-in_ok-take_record-in-None-clause-taken : goal.returns-in_ok-take_record-in-None-clause-taken
+returns-in_ok-take_record-in-None-clause-taken c = λ questions placed among. record {
   rr = c.in_ok-rr.rr;
   states = c.in_ok-rr.ensures.found;
   stands = order_stands questions placed c.in_ok-rr.rr (sym (c.in-None.ensures questions placed among));
-  gains = c.in-Ok.ensures.gains questions placed among;
+  gains = c.in_ok-take_record-in-None.ensures.gains questions placed among;
 }
