@@ -56,6 +56,7 @@ impl<'a> NameRef<'a> {
     pub fn wire(&self) -> &'a [u8]
         ensures octets { result.now ≡ wire self.now }
         ensures name { IsName self.now }
+        ensures back { labels_of result.now ≡ self.now }
     {
         self.octets
     }

@@ -5,6 +5,7 @@ ghost use Rattle.std.specs.Cmp.Rules.{comparing};
 ghost use Rattle.std.specs.Cmp.Lexicographic.{lists_ties, pointwise, slice_cmp, texts_ties};
 ghost use Rattle.std.specs.Ordering.{nat_cmp, on, as_partial_cmp};
 
+use crate::lent::NameRef;
 use crate::name::Name;
 use std::cmp::Ordering;
 
@@ -14,6 +15,16 @@ impl PartialEq for Name {
     ghost laws = { Prim.search (comparing, rules) };
 
     fn eq(&self, other: &Name) -> bool {
+        self.lend() == other.lend()
+    }
+}
+
+impl<'a> PartialEq for NameRef<'a> {
+    ghost eq = { on reverse (pointwise (pointwise nat_eq)) };
+
+    ghost laws = { Prim.search (comparing, rules) };
+
+    fn eq(&self, other: &NameRef<'a>) -> bool {
         self.wire() == other.wire()
     }
 }

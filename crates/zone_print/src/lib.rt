@@ -3,7 +3,7 @@
 
 pub mod laws;
 mod line;
-mod piece;
+mod line_buffer;
 mod print;
 mod write;
 

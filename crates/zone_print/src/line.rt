@@ -36,8 +36,7 @@ pub(crate) fn push_data<S: Sink>(out: &mut S, rr: &RrRef) -> Result<(), S::Error
     ensures { OnOk result (S.takes out.old (data_text (data_of (record_of rr.now)) ++ 10 ∷ []) out.new) }
 {
     rr.rdata.print(out)?;
-    out.push(b"\n")?;
-    Ok(())
+    out.push(b"\n")
 }
 
 /// Appends the record's line.
@@ -45,7 +44,7 @@ pub(crate) fn push_data<S: Sink>(out: &mut S, rr: &RrRef) -> Result<(), S::Error
 /// # Errors
 ///
 /// `out` refuses octets. A front of the line may have been appended.
-pub fn push_line<S: Sink>(out: &mut S, rr: &RrRef) -> Result<(), S::Error>
+pub(crate) fn push_line<S: Sink>(out: &mut S, rr: &RrRef) -> Result<(), S::Error>
     ensures { OnOk result (S.takes out.old (line (record_of rr.now)) out.new) }
 {
     rr.owner.print(out)?;
@@ -58,7 +57,7 @@ pub fn push_line<S: Sink>(out: &mut S, rr: &RrRef) -> Result<(), S::Error>
 /// # Errors
 ///
 /// `out` refuses octets. A front of the text may have been appended.
-pub fn push_lines<S: Sink>(out: &mut S, zone: &Zone) -> Result<(), S::Error>
+pub(crate) fn push_lines<S: Sink>(out: &mut S, zone: &Zone) -> Result<(), S::Error>
     ensures { OnOk result (S.takes out.old (canon zone.now) out.new) }
 {
     for rr in zone.records() {

@@ -6,7 +6,7 @@ ghost use Rattle.zone_print.specs.Writing.{AppendsPrefix, StopsPush, StopsWrite}
 
 use crate::laws::a_text_is_at_most_four_times_its_messages;
 use crate::line::push_lines;
-use crate::piece::Piece;
+use crate::line_buffer::LineBuffer;
 use crate::write::{OctetWriter, Text, write_octets};
 use std::alloc::Global;
 use std::io::Write;
@@ -131,13 +131,13 @@ fn write_lines<W: OctetWriter>(alloc: Global, zone: &Zone, writer: &mut W) -> Re
     ensures stopped { IfErr result (IsOfWriting (W.Failed writer.new)) }
     ensures front { OnErr result (AppendsPrefix (W.contents writer.old) (W.contents writer.new) (canon zone.now)) }
 {
-    let mut piece = Piece::new(alloc);
+    let mut buffer = LineBuffer::new(alloc);
     for rr in zone.records() {
-        piece.push_record(rr)?;
-        if piece.len() >= PIECE_LEN {
-            write_octets(writer, piece.as_slice())?;
-            piece.clear();
+        buffer.push_record(rr)?;
+        if buffer.len() >= PIECE_LEN {
+            write_octets(writer, buffer.as_slice())?;
+            buffer.clear();
         }
     }
-    write_octets(writer, piece.as_slice())
+    write_octets(writer, buffer.as_slice())
 }

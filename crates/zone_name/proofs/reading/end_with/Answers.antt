@@ -4,10 +4,14 @@ use Rattle.zone_name.proofs.Pushing.{ended_with, taken}
 use Rattle.zone_name.proofs.reading.end_with.Goals as goal
 
 -- an answer whose fault alone was mapped
-mapped : {T E F : Type 0} (answer : Result T F) (result : Result T E) (Out : Type 0) → is_ok answer ≡ is_ok result → (IsOk result → Out) → IfOk answer (λ _. Out)
+mapped : {T E F : Type 0} (answer : Result T F) (result : Result T E) (Out : Type 0)
+    → is_ok answer ≡ is_ok result → (IsOk result → Out) → IfOk answer (λ _. Out)
 mapped (Ok r) result Out e given = given (sym e)
 mapped (Err f) result Out e given = tt
 
 pub returns-clause-ok : goal.returns-clause-ok
 returns-clause-ok c =
-    mapped c.map_err.result c.try_extend_from_slice.result _ c.map_err.ensures.variant (λ is. ended_with c.args.octets.now.items c.fold.new.octets.items c.args.ending.now c.try_extend_from_slice.new.self.items c.requires.holds c.requires.name c.fold.ensures (taken c.try_extend_from_slice.result is c.try_extend_from_slice.ensures.ok) (c.try_extend_from_slice.ensures.variant.0 is))
+    let extended = c.try_extend_from_slice in
+    mapped c.map_err.result extended.result _ c.map_err.ensures.variant (λ is.
+        ended_with c.args.octets.now.items c.fold.new.octets.items c.args.ending.now extended.new.self.items
+        c.requires.holds c.requires.name c.fold.ensures (taken extended.result is extended.ensures.ok) (extended.ensures.variant.0 is))

@@ -1,8 +1,8 @@
--- The piece and the lines to come are what the writer still has to take.
+-- The lines in the buffer and those to come are what the writer still has to take.
 use Rattle.std.proofs.Common.{◌++◌}
 use Rattle.zone_print.specs.Canonical.{canon, lines}
 use Rattle.zone_print.proofs.Front.{Left}
 use Rattle.zone_print.proofs.print.write_lines.Given as goal
 
 abbrev pub invariant-loop-rr : goal.invariant-loop-rr
-invariant-loop-rr g l = Left (g.W.OctetWriter.contents l.initial.writer) (g.W.OctetWriter.contents l.writer) (canon l.zone) (l.piece ++ lines l.rr-iterator)
+invariant-loop-rr g l = Left (g.W.OctetWriter.contents l.initial.writer) (g.W.OctetWriter.contents l.writer) (canon l.zone) (l.buffer ++ lines l.rr-iterator)

@@ -2,7 +2,7 @@
 use Rattle.std.proofs.Common.{ap, ◌∙◌, ◌++◌}
 use Rattle.zone_set.specs.View.{record_of}
 use Rattle.zone_print.proofs.Lines.{line_pushed}
-use Rattle.zone_print.proofs.piece.Piece.push_record.Goals as goal
+use Rattle.zone_print.proofs.line_buffer.LineBuffer.push_record.Goals as goal
 
 pub returns : goal.returns
 returns c =

@@ -7,12 +7,11 @@ ghost use Rattle.zone_set.specs.View.{record_of};
 use crate::line::{push_data, push_middle};
 use std::alloc::{AllocError, Global};
 use std::marker::Model;
-use zone_name::NameRef;
 use zone_set::RrRef;
 
 /// Lines that are gathered. What a line has in common with the one before it is copied.
 #[derive(Drop)]
-pub(crate) struct Piece<'z> {
+pub(crate) struct LineBuffer<'z> {
     octets: Vec<u8>,
     /// The last record; `None` where `owner` and `middle` are those of no record.
     last: Option<RrRef<'z>>,
@@ -22,7 +21,7 @@ pub(crate) struct Piece<'z> {
     middle: Vec<u8>,
 }
 
-impl<'z> Model for Piece<'z> {
+impl<'z> Model for LineBuffer<'z> {
     ghost use Rattle.std.specs.Prelude.{◌≡◌, List, ℕ, IfSome};
     ghost use Rattle.zone_name.specs.Text.{name_text};
     ghost use Rattle.zone_print.specs.Machine.Middle.{line_middle};
@@ -30,18 +29,18 @@ impl<'z> Model for Piece<'z> {
 
     ghost Value = { List ℕ };
 
-    ghost view = { λ p. p.octets.items };
+    ghost view = { λ b. b.octets.items };
 
-    ghost invariant = { λ p. IfSome p.last (λ r.
-        (p.owner.items ≡ name_text r.owner) × (p.middle.items ≡ line_middle (record_of r))) };
+    ghost invariant = { λ b. IfSome b.last (λ r.
+        (b.owner.items ≡ name_text r.owner) × (b.middle.items ≡ line_middle (record_of r))) };
 }
 
-impl<'z> Piece<'z> {
+impl<'z> LineBuffer<'z> {
     /// No line.
-    pub(crate) fn new(alloc: Global) -> Piece<'z>
+    pub(crate) fn new(alloc: Global) -> LineBuffer<'z>
         ensures { result ≡ [] }
     {
-        Piece {
+        LineBuffer {
             octets: Vec::new(alloc),
             last: None,
             owner: Vec::new(alloc),
@@ -95,7 +94,7 @@ fn hold_owner(text: &mut Vec<u8>, last: &Option<RrRef>, rr: &RrRef) -> Result<()
     ensures { OnOk result (text.new.items ≡ name_text rr.now.owner) }
 {
     if let Some(last) = last {
-        if is_one_name(&last.owner, &rr.owner) {
+        if last.owner == rr.owner {
             return Ok(());
         }
     }
@@ -115,13 +114,6 @@ fn hold_middle(text: &mut Vec<u8>, last: &Option<RrRef>, rr: &RrRef) -> Result<(
     }
     text.clear();
     push_middle(text, rr)
-}
-
-/// Whether the labels are equal.
-fn is_one_name(name: &NameRef, other: &NameRef) -> bool
-    ensures { IsTrue result → name.now ≡ other.now }
-{
-    name.wire() == other.wire()
 }
 
 /// Whether type, TTL and class are equal.

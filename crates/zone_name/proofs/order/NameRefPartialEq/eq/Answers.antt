@@ -1,7 +1,7 @@
 use Rattle.std.proofs.Common.{ap, sym, ◌∙◌}
 use Rattle.zone_name.specs.Name.{labels_of}
 use Rattle.zone_name.proofs.Comparing.{eq-from_octets}
-use Rattle.zone_name.proofs.order.NamePartialEq.eq.Goals as goal
+use Rattle.zone_name.proofs.order.NameRefPartialEq.eq.Goals as goal
 
 pub returns : goal.returns
 returns c = eq-from_octets _ _ _ _ _ c.eq.ensures c.wire.ensures.octets c.wire-2.ensures.octets
