@@ -137,10 +137,6 @@ ends_none text n p groups closed reads time =
     let no_more : reads.digits ≡ [] = no_digits reads.digits (λ some. cc (sym closed ∙ reads.opened.1 some)) in
     nothing text n (reads.parts ∙ ap (λ gs. flat_map group_text gs ++ reads.digits) none ∙ no_more) time
 
-pub none_any : (o : Option ℕ) (P : Type 0) → P → IfNone o P
-none_any None P p = p
-none_any (Some n) P p = tt
-
 -- an octet at which no time goes on
 pub time_stops : (text : List ℕ) (i d : ℕ) (p : Progress) → i < length text → Reads (take i text) p → ((front rest : List ℕ) (n : ℕ) → Reads front p → IsTime (front ++ get_or text i d ∷ rest) n → ⊥) → (m : ℕ) → IsTime text m → ⊥
 time_stops text i d p lt reads stopped m time =
