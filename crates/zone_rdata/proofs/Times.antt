@@ -1,6 +1,5 @@
 -- Times read octet by octet, and that a text has one reading.
-use Rattle.std.proofs.Common.{◌≡◌, ℕ, ◌+◌, ◌*◌, ◌<◌, ◌≤◌, min, true, false, List, [], ◌∷◌, ◌++◌, length, Option, Some, None, refl, sym, ap, ◌∙◌, subst, arith, append_assoc, length-append, inl, inr, IsTrue, zero-add, take, drop, get_or}
-use Rattle.std.specs.Prelude.{IfNone}
+use Rattle.std.proofs.Common.{◌≡◌, ℕ, ◌+◌, ◌*◌, ◌<◌, ◌≤◌, min, true, false, List, [], ◌∷◌, ◌++◌, length, Some, refl, sym, ap, ◌∙◌, subst, arith, append_assoc, length-append, inl, inr, IsTrue, zero-add, take, drop, get_or}
 use Rattle.std.specs.List.{AllByRecursion, flat_map, sum_by}
 use Rattle.std.proofs.lemmas.List.{append-nil, take-append-drop, drop_more, take_all}
 use Rattle.std.proofs.lemmas.List.Concat.{flat_map-append}
@@ -136,10 +135,6 @@ ends_none text n p groups closed reads time =
     let none : reads.groups ≡ [] = no_groups reads.groups (λ some. cc (sym groups ∙ reads.grouped.1 some)) in
     let no_more : reads.digits ≡ [] = no_digits reads.digits (λ some. cc (sym closed ∙ reads.opened.1 some)) in
     nothing text n (reads.parts ∙ ap (λ gs. flat_map group_text gs ++ reads.digits) none ∙ no_more) time
-
-pub none_any : (o : Option ℕ) (P : Type 0) → P → IfNone o P
-none_any None P p = p
-none_any (Some n) P p = tt
 
 -- an octet at which no time goes on
 pub time_stops : (text : List ℕ) (i d : ℕ) (p : Progress) → i < length text → Reads (take i text) p → ((front rest : List ℕ) (n : ℕ) → Reads front p → IsTime (front ++ get_or text i d ∷ rest) n → ⊥) → (m : ℕ) → IsTime text m → ⊥

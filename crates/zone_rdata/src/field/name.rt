@@ -53,9 +53,7 @@ fn name_at(octets: &[u8]) -> Option<(Name, &[u8])>
     let mut labels = NameBuilder::new();
     let mut rest = octets;
     loop {
-        let Some((first, behind)) = rest.split_first() else {
-            return None;
-        };
+        let (first, behind) = rest.split_first()?;
         let count = usize::from(*first);
         if count == 0 {
             return Some((labels.finish(), behind));
