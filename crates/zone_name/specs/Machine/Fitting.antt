@@ -12,7 +12,7 @@ pub fitted_twice : (room : ℕ) (a b c x y : List ℕ) → TakesWhatFits room a 
     → TakesWhatFits room a (x ++ y) c
 fitted_twice room a b c x y first second fits =
     let whole : length a + (length x + length y) ≤ room =
-        omega (arith, fits, length-append a (x ++ y), length-append x y) in
+    omega (arith, fits, length-append a (x ++ y), length-append x y) in
     let both = length-append (a ++ x) y in
     let front : b ≡ a ++ x = first (omega (arith, whole, length-append a x)) in
     appended_twice a b c x y front (second (rw front (omega (arith, whole, both, length-append a x))))

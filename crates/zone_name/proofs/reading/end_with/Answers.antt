@@ -13,5 +13,5 @@ pub returns-clause-ok : goal.returns-clause-ok
 returns-clause-ok c =
     let extended = c.try_extend_from_slice in
     mapped c.map_err.result extended.result _ c.map_err.ensures.variant (λ is.
-        ended_with c.args.octets.now.items c.fold.new.octets.items c.args.ending.now extended.new.self.items
-        c.requires.holds c.requires.name c.fold.ensures (taken extended.result is extended.ensures.ok) (extended.ensures.variant.0 is))
+    ended_with c.args.octets.now.items c.fold.new.octets.items c.args.ending.now extended.new.self.items
+    c.requires.holds c.requires.name c.fold.ensures (taken extended.result is extended.ensures.ok) (extended.ensures.variant.0 is))
