@@ -6,6 +6,7 @@ ghost use Rattle.zone_wire.specs.Machine.Walk.{outset, past_label, past_pointer}
 
 use crate::number::u16_at;
 use crate::ticks::Ticks;
+use zone_name::MAX_NAME_LEN;
 use zone_rdata::Fault;
 
 /// The octets of a message's header (RFC 1035 4.1.1).
@@ -25,9 +26,6 @@ pub(crate) const ARCOUNT: usize = 10;
 
 /// The octets of a record between its name and its data: its type, its class, its TTL and the data's length (RFC 1035 4.1.3).
 pub(crate) const RECORD_HEAD_LEN: usize = 10;
-
-/// The greatest number of octets of a name: its labels, each with its length, and the root (RFC 1035 2.3.4, 3.1).
-const MAX_NAME_LEN: usize = 255;
 
 /// The greatest number of pointers through which a name is followed. RFC 1035 states none; this is the project's own choice.
 const MAX_POINTERS: usize = 128;
