@@ -27,5 +27,5 @@ fn has_same_numbers(rr: &RrRef, other: &RrRef) -> bool
 fn is_same_name(name: &NameRef, other: &NameRef) -> bool
     ensures { IsTrue result ↔ (name.now ≡ other.now) }
 {
-    name.wire() == other.wire()
+    name == other
 }
