@@ -45,6 +45,13 @@ pub this_line_on_ok : {X Y : Type 0} (r : Result X Y) (words digits line : List 
 this_line_on_ok (Ok x) words digits line old new is h = this_line words digits line old new is h
 this_line_on_ok (Err y) words digits line old new is h = tt
 
+-- nor do words and digits of which a part was written make more than a part of it
+pub part_of_line : (words digits line : List ℕ) (old new : Option (List ℕ)) → words ++ digits ≡ line → AppendsPart old new (words ++ (digits ++ 10 ∷ [])) → AppendsPart old new (line ++ 10 ∷ [])
+part_of_line words digits line old new is part = part_as old new (words ++ (digits ++ 10 ∷ [])) (line ++ 10 ∷ []) (sym (append_assoc words digits (10 ∷ [])) ∙ ap (λ (l : List ℕ). l ++ 10 ∷ []) is) part
+
+pub part_of_line_on_err : {X Y : Type 0} (r : Result X Y) (words digits line : List ℕ) (old new : Option (List ℕ)) → words ++ digits ≡ line → OnErr r (AppendsPart old new (words ++ (digits ++ 10 ∷ []))) → OnErr r (AppendsPart old new (line ++ 10 ∷ []))
+part_of_line_on_err r words digits line old new is h = on_err r _ _ (part_of_line words digits line old new is) h
+
 -- the text of a fault was not written whole
 pub not_told : (fault : LineFault) (old new : Option (List ℕ)) (text : List ℕ) → text ≡ line_text fault → AppendsPart old new (text ++ 10 ∷ []) → TellsFault fault old new 4
 not_told fault old new text is part = inr (refl, subst (λ (t : List ℕ). AppendsPart old new (t ++ 10 ∷ [])) is part)

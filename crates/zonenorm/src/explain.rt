@@ -1,6 +1,6 @@
-ghost use Rattle.std.specs.Prelude.{[], IfErr, IfOk, OnOk, string_bytes};
+ghost use Rattle.std.specs.Prelude.{[], IfErr, IfOk, OnErr, OnOk, string_bytes};
 ghost use Rattle.zonenorm.specs.Form.{form_of};
-ghost use Rattle.zonenorm.specs.Run.{Explains, IsFailure, IsStopLine, KeepsUnlessWrite, ReadsFew};
+ghost use Rattle.zonenorm.specs.Run.{Explains, IsExplanation, IsFailure, IsStopLine, KeepsUnlessWrite, ReadsFew, TellsPart};
 
 use crate::engine::accepted_zone;
 use crate::form::Form;
@@ -20,7 +20,7 @@ pub(crate) const OUT_OF_MEMORY: &str = "out of memory";
 ///
 /// # Errors
 ///
-/// `Read` and `Memory`, which write nothing, and `Write`.
+/// `Read` and `Memory`, which write nothing, and `Write`, where a part of the line was written, but not all of it.
 pub fn explain<R: Read, W: Write>(
     alloc: Global,
     form: Form<'_>,
@@ -32,6 +32,8 @@ pub fn explain<R: Read, W: Write>(
     ensures failed { IfErr result IsFailure }
     ensures kept { IfErr result (λ stop.
         KeepsUnlessWrite stop (W.contents writer.old) (W.contents writer.new)) }
+    ensures part { OnErr result (TellsPart (IsExplanation (form_of form.entry) (R.remaining reader.old))
+        (W.contents writer.old) (W.contents writer.new)) }
     ensures few { ReadsFew (R.remaining reader.old) (R.remaining reader.new) }
 {
     match accepted_zone(alloc, form, reader) {

@@ -1,6 +1,6 @@
-ghost use Rattle.std.specs.Prelude.{◌≡◌, [], OnOk};
+ghost use Rattle.std.specs.Prelude.{◌≡◌, ◌++◌, ◌∷◌, [], OnErr, OnOk};
 ghost use Rattle.zonenorm.specs.Machine.Telling.{which_words, TellsFault, TellsStop, TellsVerdict};
-ghost use Rattle.zonenorm.specs.Run.{devices, verdict_line, verdict_status, AppendsThisLine, ReadsFew, ReadsSecond, Runs};
+ghost use Rattle.zonenorm.specs.Run.{devices, verdict_line, verdict_status, AppendsPart, AppendsThisLine, ReadsFew, ReadsSecond, Runs};
 
 use crate::compare::{Verdict, Which, compare};
 use crate::engine::normalise;
@@ -18,7 +18,8 @@ use zone_rdata::Stop;
 /// and a comparison reads the second once the first was accepted. It answers the exit status: 0 where the canonical text
 /// was written, the zone was accepted or both are the same; 1 where two zones differ; 3 where an input is refused; 4 where
 /// reading, writing or memory failed. Of 3 and 4 a line on the error writer tells why, of a comparison behind the name of
-/// the input; `explain` tells of 3 on the writer. Where that can't be told the status is 4. No writer is flushed.
+/// the input; `explain` tells of 3 on the writer. Where that can't be told the status is 4. With 4 the writer got nothing, or
+/// a front of the text or line that the order writes. No writer is flushed.
 #[tactic(auto, using(crate::proofs::Running::normalised, crate::proofs::Running::normalise_stopped, crate::proofs::Running::explained, crate::proofs::Running::explain_stopped, crate::proofs::Running::compared, crate::proofs::Running::compare_stopped))]
 pub fn run<R1: Read, R2: Read, W: Write, E: Write>(
     alloc: Global,
@@ -81,9 +82,11 @@ fn tell_verdict<W: Write, E: Write>(
 ///
 /// # Errors
 ///
-/// `Write`.
+/// `Write`. A front of the line was written, but not all of it.
 fn write_verdict<W: Write>(verdict: Verdict, output: &mut W) -> Result<(), Stop>
-    ensures { OnOk result (AppendsThisLine (verdict_line verdict) (W.contents output.old) (W.contents output.new)) }
+    ensures written { OnOk result (AppendsThisLine (verdict_line verdict) (W.contents output.old) (W.contents output.new)) }
+    ensures part { OnErr result (AppendsPart (W.contents output.old) (W.contents output.new)
+        (verdict_line verdict ++ 10 ∷ [])) }
 {
     match verdict {
         Verdict::Same => write_line(output, "", "same"),
