@@ -12,7 +12,8 @@ use Rattle.zone_text.specs.FileReads.{FileReads}
 use Rattle.zone_set.specs.Refusal.{AllAccepted, IsFirstRefused}
 use Rattle.zone_wire.specs.Stream.{StreamReads}
 use Rattle.zone_wire.specs.Stream as stream_decides
-use Rattle.zonenorm.specs.Input.{InputForm, as_file, as_transfer, input_of, Decides, IsForm}
+use Rattle.zonenorm.specs.Input.{InputForm, as_file, as_transfer, input_of}
+use Rattle.zonenorm.specs.Machine.Input.{Decides, IsForm}
 use Rattle.zonenorm.specs.Machine.Taking.{RefusesFront, by_record, by_ending, RefusesRead}
 use Rattle.zonenorm.specs.Refusal.{RefusesReading, refused, unread}
 use Rattle.zonenorm.proofs.Inputs.{octet_at}

@@ -15,7 +15,8 @@ use Rattle.zone_rdata.specs.declared.fault.Stop.TheVariants.{Refused, Read, Writ
 use Rattle.zone_rdata.specs.declared.record.Placed.{Placed}
 use Rattle.zone_set.specs.Builder.{StopsTaking, failure, memory, refused, ending, StopsFinish, no_soa, outside}
 use Rattle.zone_set.specs.Zone.{Zone}
-use Rattle.zonenorm.specs.Input.{InputForm, as_file, as_transfer, input_of, octets_of, IsForm, IsInput}
+use Rattle.zonenorm.specs.Input.{InputForm, as_file, as_transfer, input_of, octets_of, IsInput}
+use Rattle.zonenorm.specs.Machine.Input.{IsForm}
 use Rattle.zonenorm.specs.Machine.Taking.{IsTaken, all_taken, Begins, ReadsZone, ReadsZoneWithin, RefusesRead}
 use Rattle.zonenorm.specs.Machine.Stops.{TellsRead}
 use Rattle.zonenorm.specs.Normalise.{IsOfBytes, IsOfReading}

@@ -15,7 +15,8 @@ use Rattle.zone_rdata.specs.declared.record.Placed.{Placed}
 use Rattle.zone_set.specs.Builder.{AddsEach, IsRefusedFor, leaves, TakesAll, StopsTaking, failure, memory, refused as refused_record, ending as ending_fault, StopsFinish, no_soa, outside}
 use Rattle.zone_set.specs.Refusal.{IsFirstRefused, records_of}
 use Rattle.zone_set.specs.Zone.{Zone, IsZone}
-use Rattle.zonenorm.specs.Input.{InputForm, input_of, Decides, Reads, IsForm}
+use Rattle.zonenorm.specs.Input.{InputForm, input_of, Reads}
+use Rattle.zonenorm.specs.Machine.Input.{Decides, IsForm}
 use Rattle.zonenorm.specs.Machine.Taking.{IsTaken, all_taken, front_refuses, nothing_pending, RefusesFront, by_record, by_ending, ReadsZone, RefusesRead}
 use Rattle.zonenorm.specs.Refusal.{RefusesReading, refused, unread, unfinished, IfRefused}
 use Rattle.zonenorm.proofs.Accepted.{IsRefusedFor-same, StopsFinish-same, taken_accepted}

@@ -1,6 +1,6 @@
 -- The inputs that state records: a master file with its origin (RFC 1035 5), or the octets of a zone transfer as they
 -- came over TCP (RFC 5936 2.2), each message behind its length (RFC 1035 4.2.2).
-use Rattle.std.specs.Prelude.{ℕ, ◌<◌, List, Option, ⊤}
+use Rattle.std.specs.Prelude.{ℕ, ◌<◌, List, Option}
 use Rattle.std.specs.List.{AllByRecursion}
 use Rattle.zone_name.specs.Name.{IsName}
 use Rattle.zone_rdata.specs.declared.fault.Fault.{Fault}
@@ -8,9 +8,7 @@ use Rattle.zone_rdata.specs.declared.fault.Place.{Place}
 use Rattle.zone_rdata.specs.declared.record.Placed.{Placed}
 use Rattle.zone_text.specs.File.{FileStates}
 use Rattle.zone_text.specs.FileReads.{FileReads}
-use Rattle.zone_text.specs.Decided as file_decides
 use Rattle.zone_wire.specs.Stream.{StreamReads}
-use Rattle.zone_wire.specs.Stream as stream_decides
 use Rattle.zone_wire.specs.Transfer.{StreamStates}
 use Rattle.zone_set.specs.Zone.{Zone}
 use Rattle.zone_print.specs.Denotes.{DenotesBy}
@@ -38,11 +36,6 @@ abbrev pub IsInput : Input → Type 0
 IsInput (file origin octets) = IsName origin × AllByRecursion (λ c. c < 256) octets
 IsInput (transfer octets) = AllByRecursion (λ c. c < 256) octets
 
--- the origin of a master file is a name
-abbrev pub IsForm : InputForm → Type 0
-IsForm (as_file origin) = IsName origin
-IsForm as_transfer = ⊤
-
 -- the records that an input states, in order and with their places
 abbrev pub States : Input → List Placed → Type 0
 States (file origin octets) placed = FileStates origin octets placed
@@ -52,11 +45,6 @@ States (transfer octets) placed = StreamStates octets placed
 abbrev pub Reads : Input → List Placed → Option (Fault × Place) → Type 0
 Reads (file origin octets) placed ending = FileReads origin octets placed ending
 Reads (transfer octets) placed ending = StreamReads octets placed ending
-
--- what is decided of an input by the octets so far, whatever octets come behind them
-abbrev pub Decides : Input → List Placed → Option (Fault × Place) → Type 0
-Decides (file origin octets) placed ending = file_decides.Decided origin octets placed ending
-Decides (transfer octets) placed ending = stream_decides.Decided octets placed ending
 
 -- the zone that an input denotes
 abbrev pub InputDenotes : Input → Zone → Type 0

@@ -88,13 +88,6 @@ KeepsUnlessWrite Read old new = Keeps old new
 KeepsUnlessWrite Write old new = Unit {0}
 KeepsUnlessWrite Memory old new = Keeps old new
 
--- the exit status of a run that stopped: 3 where the input is refused, else 4
-abbrev pub status_of : Stop → ℕ
-status_of (Refused fault place) = 3
-status_of Read = 4
-status_of Write = 4
-status_of Memory = 4
-
 -- the exit status of a comparison
 abbrev pub verdict_status : Verdict → ℕ
 verdict_status Same = 0

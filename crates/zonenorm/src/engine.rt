@@ -1,7 +1,8 @@
 ghost use Rattle.std.specs.Prelude.{◌+◌, ◌≤◌, length, IfOk, IfErr, IfSome};
 ghost use Rattle.zone_print.specs.Canonical.{canon, text_limit};
 ghost use Rattle.zonenorm.specs.Form.{form_of};
-ghost use Rattle.zonenorm.specs.Input.{input_of, InputDenotes, IsForm};
+ghost use Rattle.zonenorm.specs.Input.{input_of, InputDenotes};
+ghost use Rattle.zonenorm.specs.Machine.Input.{IsForm};
 ghost use Rattle.zonenorm.specs.Machine.Stops.{TellsRead};
 ghost use Rattle.zonenorm.specs.Machine.Taking.{ReadsZoneWithin};
 ghost use Rattle.zonenorm.specs.Normalise.{ConsumesAtMost, IsOfBytes, IsOfReading, Normalises, NormalisesTo, WritesNothing, WritesPrefix};

@@ -4,7 +4,8 @@ ghost use Rattle.zone_rdata.specs.Source.{Pending};
 ghost use Rattle.zone_rdata.specs.declared.fault.Stop.TheVariants.{Memory};
 ghost use Rattle.zone_rdata.specs.declared.record.Placed.{Placed};
 ghost use Rattle.zone_set.specs.Builder.{leaves};
-ghost use Rattle.zonenorm.specs.Input.{InputForm, input_of, Decides, Reads};
+ghost use Rattle.zonenorm.specs.Input.{InputForm, input_of, Reads};
+ghost use Rattle.zonenorm.specs.Machine.Input.{Decides};
 
 use zone_rdata::{RrSource, Stop};
 use zone_text::TextSource;

@@ -2,7 +2,8 @@ ghost use Rattle.std.specs.Prelude.{◌≡◌, ◌+◌, ◌^◌, ◌<◌, ◌≤
 ghost use Rattle.std.specs.List.{AllByRecursion};
 ghost use Rattle.zone_name.specs.Common.{Octets};
 ghost use Rattle.zone_rdata.specs.declared.fault.Stop.TheVariants.{Memory};
-ghost use Rattle.zonenorm.specs.Input.{InputForm, input_of, IsForm};
+ghost use Rattle.zonenorm.specs.Input.{InputForm, input_of};
+ghost use Rattle.zonenorm.specs.Machine.Input.{IsForm};
 ghost use Rattle.zonenorm.specs.Machine.Taking.{IsTakenOf, ReadsZone, RefusesRead};
 ghost use Rattle.zonenorm.specs.Normalise.{IsOfBytes};
 ghost use Rattle.zonenorm.specs.Refusal.{IfRefused};

@@ -11,7 +11,8 @@ use Rattle.zone_wire.specs.Stream.{StreamReads}
 use Rattle.zone_wire.specs.Stream as streams
 use Rattle.zone_text.specs.Decided.{Decided}
 use Rattle.zone_text.specs.FileReads.{FileReads}
-use Rattle.zonenorm.specs.Input.{InputForm, as_file, as_transfer, input_of, Decides, Reads}
+use Rattle.zonenorm.specs.Input.{InputForm, as_file, as_transfer, input_of, Reads}
+use Rattle.zonenorm.specs.Machine.Input.{Decides}
 
 -- it stands for a master file under the origin with which it was made
 abbrev pub FileStands : InputForm → Pending → text.Held → Octets → List Placed → Type 0

@@ -11,7 +11,8 @@ use Rattle.zone_rdata.specs.declared.record.Placed.{Placed}
 use Rattle.zone_set.specs.Builder.{AddsEach}
 use Rattle.zone_set.specs.Refusal.{AllAccepted, IsFirstRefused, records_of}
 use Rattle.zone_set.specs.Zone.{Zone, IsZone, SameRecords}
-use Rattle.zonenorm.specs.Input.{InputForm, Input, input_of, octets_of, Decides, IsForm, Reads}
+use Rattle.zonenorm.specs.Input.{InputForm, Input, input_of, octets_of, Reads}
+use Rattle.zonenorm.specs.Machine.Input.{Decides, IsForm}
 use Rattle.zonenorm.specs.Refusal.{IfRefused, IsRefusalWithin, RefusesReading}
 
 -- what refuses an input whatever comes behind what is decided of it: a record, or the fault behind all of them

@@ -2,8 +2,9 @@
 use Rattle.std.specs.Prelude.{◌≡◌, ℕ, List, [], ◌∷◌, ◌++◌, codes, Option, ◌⊎◌}
 use Rattle.std.specs.Io.KnownBytes.{Appends, Keeps}
 use Rattle.zone_rdata.specs.declared.fault.Stop.{Stop}
+use Rattle.zone_rdata.specs.declared.fault.Stop.TheVariants.{Refused, Read, Write, Memory}
 use Rattle.zonenorm.specs.Order.{line_status, line_text}
-use Rattle.zonenorm.specs.Run.{AppendsLine, AppendsPart, AppendsThisLine, status_of, verdict_line, verdict_status}
+use Rattle.zonenorm.specs.Run.{AppendsLine, AppendsPart, AppendsThisLine, verdict_line, verdict_status}
 use Rattle.zonenorm.specs.declared.compare.Verdict.{Verdict}
 use Rattle.zonenorm.specs.declared.compare.Which.{Which}
 use Rattle.zonenorm.specs.declared.compare.Which.TheVariants.{First, Second}
@@ -13,6 +14,13 @@ use Rattle.zonenorm.specs.declared.order.LineFault.{LineFault}
 abbrev pub which_words : Which → List ℕ
 which_words First = codes "first: "
 which_words Second = codes "second: "
+
+-- the exit status of a run that stopped: 3 where the input is refused, else 4
+abbrev pub status_of : Stop → ℕ
+status_of (Refused fault place) = 3
+status_of Read = 4
+status_of Write = 4
+status_of Memory = 4
 
 -- why a run stopped was told behind these words, with its status, or the answer is 4
 abbrev pub TellsStop : List ℕ → Stop → Option (List ℕ) → Option (List ℕ) → ℕ → Type 0
