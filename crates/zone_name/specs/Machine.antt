@@ -3,4 +3,5 @@ pub mod Units
 pub mod LabelWalk
 pub mod Seen
 pub mod Shown
+pub mod Joined
 pub mod Fitting

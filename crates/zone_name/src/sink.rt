@@ -1,7 +1,7 @@
 ghost use Rattle.std.specs.Prelude.{◌≡◌, ◌-◌, ◌++◌, ℕ, List, [], length, OnOk, OnErr};
 ghost use Rattle.std.proofs.Common.{rules, sym};
 ghost use Rattle.std.proofs.lemmas.List.{append-nil};
-ghost use Rattle.zone_name.specs.Sink.{appended_twice, counted_twice};
+ghost use Rattle.zone_name.specs.Machine.Joined.{appended_twice, counted_twice};
 
 use std::alloc::AllocError;
 use std::convert::Infallible;

@@ -1,7 +1,7 @@
 -- What bounded room takes, and the lemma behind its law.
 use Rattle.std.specs.Prelude.{◌≡◌, ◌+◌, ◌≤◌, ℕ, List, ◌++◌, length}
 use Rattle.std.proofs.Common.{arith, length-append}
-use Rattle.zone_name.specs.Sink.{appended_twice}
+use Rattle.zone_name.specs.Machine.Joined.{appended_twice}
 
 -- octets are put behind those that the room holds, where they fit
 abbrev pub TakesWhatFits : ℕ → List ℕ → List ℕ → List ℕ → Type 0
