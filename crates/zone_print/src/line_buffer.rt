@@ -1,4 +1,4 @@
-ghost use Rattle.std.specs.Prelude.{◌≡◌, [], ◌++◌, length, IfSome, IsTrue, OnOk};
+ghost use Rattle.std.specs.Prelude.{◌≡◌, [], ◌++◌, length, IfSome, OnOk};
 ghost use Rattle.zone_name.specs.Text.{name_text};
 ghost use Rattle.zone_print.specs.Canonical.{line};
 ghost use Rattle.zone_print.specs.Machine.Middle.{line_middle};
@@ -108,17 +108,10 @@ fn hold_middle(text: &mut Vec<u8>, last: &Option<RrRef>, rr: &RrRef) -> Result<(
     ensures { OnOk result (text.new.items ≡ line_middle (record_of rr.now)) }
 {
     if let Some(last) = last {
-        if has_same_numbers(last, rr) {
+        if last.kind == rr.kind && last.ttl == rr.ttl && last.class == rr.class {
             return Ok(());
         }
     }
     text.clear();
     push_middle(text, rr)
-}
-
-/// Whether type, TTL and class are equal.
-fn has_same_numbers(rr: &RrRef, other: &RrRef) -> bool
-    ensures { IsTrue result → line_middle (record_of rr.now) ≡ line_middle (record_of other.now) }
-{
-    rr.kind == other.kind && rr.ttl == other.ttl && rr.class == other.class
 }

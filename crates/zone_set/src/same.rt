@@ -9,18 +9,12 @@ impl<'z> RrRef<'z> {
     pub fn is_same(&self, other: &RrRef) -> bool
         ensures { IsTrue result ↔ (record_of self.now ≡ record_of other.now) }
     {
-        has_same_numbers(self, other)
+        self.kind == other.kind
+            && self.ttl == other.ttl
+            && self.class == other.class
             && self.rdata.octets() == other.rdata.octets()
             && is_same_name(&self.owner, &other.owner)
     }
-}
-
-/// Whether type, TTL and class are equal.
-fn has_same_numbers(rr: &RrRef, other: &RrRef) -> bool
-    ensures { IsTrue result ↔
-        (rr.now.kind ≡ other.now.kind) × (rr.now.ttl ≡ other.now.ttl) × (rr.now.class ≡ other.now.class) }
-{
-    rr.kind == other.kind && rr.ttl == other.ttl && rr.class == other.class
 }
 
 /// Whether the labels are equal.
