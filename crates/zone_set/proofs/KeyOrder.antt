@@ -32,7 +32,7 @@ exact_sets a b h =
     let e_covered : a.covered ≡ b.covered = exact_bytes _ _ kind.1 in
     λ i. record { owner = e_owner i; kind = e_kind i; covered = e_covered i }
 
-pub Decides-owner : (x y : List (List ℕ)) → Decides (on reverse (pointwise (pointwise nat_eq)) x y) (x ≡ y)
-Decides-owner x y =
+pub decides_owner : (x y : List (List ℕ)) → Decides (on reverse (pointwise (pointwise nat_eq)) x y) (x ≡ y)
+decides_owner x y =
     let decides = pointwise_decides bytes_decides (reverse x) (reverse y) in
     (λ h. sym (reverse-reverse x) ∙ ap reverse (decides.0 h) ∙ reverse-reverse y, λ e. decides.1 (ap reverse e))

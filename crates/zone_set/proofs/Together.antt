@@ -6,7 +6,7 @@ use Rattle.std.specs.List.{AllByRecursion}
 use Rattle.zone_rdata.specs.Record.{Record, data_of}
 use Rattle.zone_set.specs.Order.{canonical_cmp, Ascends}
 use Rattle.std.specs.Ordering.{ordering_then}
-use Rattle.zone_set.proofs.KeyOrder.{Decides-owner}
+use Rattle.zone_set.proofs.KeyOrder.{decides_owner}
 use Rattle.zone_set.specs.Builder.{AreTwoSoas, OtherSoa, Accepts}
 use Rattle.zone_set.specs.Machine.Key.{RecordSet, set_for}
 use Rattle.zone_set.specs.Zone.{Has, InOneSet, AreCompatible}
@@ -45,7 +45,7 @@ pub stable_octets : (a b : List ℕ) → ((a ≢ b) → ⊥) → a ≡ b
 stable_octets a b twice = stable _ (bytes_decides a b) twice
 
 pub stable_owner : (a b : List (List ℕ)) → ((a ≢ b) → ⊥) → a ≡ b
-stable_owner a b twice = stable _ (Decides-owner a b) twice
+stable_owner a b twice = stable _ (decides_owner a b) twice
 
 -- the set of a record
 abbrev pub set_at : Record → RecordSet
