@@ -17,8 +17,8 @@ use zone_set::Zone;
 /// How long an input and a canonical text may be, in octets.
 pub const TEXT_LIMIT: u64 = 1_073_741_824;
 
-/// How many octets are gathered before they are written.
-const PIECE_LEN: usize = 65_536;
+/// How many octets of lines are gathered before they are written.
+const WRITE_LEN: usize = 65_536;
 
 /// The length of the canonical text in octets, or one more than [`TEXT_LIMIT`] where it is longer. Takes no memory.
 pub fn canon_len(zone: &Zone) -> u64
@@ -52,8 +52,8 @@ pub fn push_zone(alloc: Global, zone: &Zone) -> Result<Vec<u8>, Stop>
 /// # Errors
 ///
 /// `ZoneTooLarge` at the input as a whole where the text has more than [`TEXT_LIMIT`] octets, before the first octet;
-/// `Write` where the writer answered an error or took nothing of a nonempty piece; `Memory`. After the last two a
-/// front of the text was written.
+/// `Write` where the writer answered an error or took no octet; `Memory`. After the last two a front of the text was
+/// written.
 pub fn write_zone<W: Write>(alloc: Global, zone: &Zone, writer: &mut W) -> Result<(), Stop>
     ensures text { OnOk result (Appends (W.contents writer.old) (W.contents writer.new) (canon zone.now)) }
     ensures short { OnOk result (length (canon zone.now) ≤ text_limit) }
@@ -121,7 +121,7 @@ pub(crate) fn write_within<W: OctetWriter>(
     write_lines(alloc, zone, writer)
 }
 
-/// Writes the line of each record, in pieces of some 64 KiB.
+/// Writes the line of each record, some 64 KiB at a time.
 ///
 /// # Errors
 ///
@@ -134,7 +134,7 @@ fn write_lines<W: OctetWriter>(alloc: Global, zone: &Zone, writer: &mut W) -> Re
     let mut buffer = LineBuffer::new(alloc);
     for rr in zone.records() {
         buffer.push_record(rr)?;
-        if buffer.len() >= PIECE_LEN {
+        if buffer.len() >= WRITE_LEN {
             write_octets(writer, buffer.as_slice())?;
             buffer.clear();
         }

@@ -18,8 +18,8 @@ returns-in_err-write_octets-clause-front g c =
     let moved = line_moves c.loop-rr.buffer c.as_slice.result.now _ _ _ c.in-Some.ensures.steps (c.as_slice.ensures.value ∙ c.in_ok-push_record.ensures) in
     rw p.1 (front_more _ _ _ _ _ _ _ c.loop-rr.invariant moved c.in_err-write_octets.ensures.front)
 
-pub loop-rr-preserved-then-len-ge-PIECE_LEN : goal.loop-rr-preserved-then-len-ge-PIECE_LEN
-loop-rr-preserved-then-len-ge-PIECE_LEN g c =
+pub loop-rr-preserved-then-len-ge-WRITE_LEN : goal.loop-rr-preserved-then-len-ge-WRITE_LEN
+loop-rr-preserved-then-len-ge-WRITE_LEN g c =
     let moved = line_moves c.loop-rr.buffer c.as_slice.result.now _ _ _ c.in-Some.ensures.steps (c.as_slice.ensures.value ∙ c.in_ok-push_record.ensures) in
     rw c.clear.ensures.items (left_less _ _ _ _ _ _ _ c.loop-rr.invariant moved c.in_ok-write_octets.ensures.written)
 
