@@ -56,77 +56,82 @@ some_insert (f ∷ es) k w e = by (set_cmp k f.0) e
     by Equal is = cc
     by Greater is = cc
 
--- a record whose set, TTL, type and octets are these
-module _ (class : Option ℕ) (es : Entries) (r : Record) (k : RecordSet) (ttl : ℕ) (held : HoldsSets class es) (ordered : IsStrictlySortedBy set_cmp (keys_of es)) (is_k : k ≡ set_at r) (is_ttl : ttl ≡ r.ttl) (same : IsOtherClass class r.class → ⊥) (one_soa : OtherSoa (all_records (class_or_none class) es) r → ⊥) where
-  pub refused_ttl : IsSetRefusal (lookup (is_at (set_cmp k)) es) ttl refusal.OtherTtl → IsRefusedFor (all_records (class_or_none class) es) r DifferingTtl
-  refused_ttl (d, found, other) =
-      let one = holds_one (class_or_none class) es k d held.kept found in
-      by_ttl (one_class class es r held same) one_soa (one.one, one.held, set_from_key one.one r (one.set ∙ is_k), λ e. other (sym one.ttl ∙ e ∙ sym is_ttl))
+-- a record that nothing speaks against but the TTL of its set
+pub record IsOffered (class : Option ℕ) (es : Entries) (r : Record) : Type 0 where
+  pub held : HoldsSets class es
+  pub ordered : IsStrictlySortedBy set_cmp (keys_of es)
+  pub same : IsOtherClass class r.class → ⊥
+  pub one_soa : OtherSoa (all_records (class_or_none class) es) r → ⊥
+  pub whole : IsRecord r
 
-  pub refused_put : (e : Refusal) → IsSetRefusal (lookup (is_at (set_cmp k)) es) ttl e → IsRefusal (all_records (class_or_none class) es) r e
+-- what its set holds already
+abbrev found : Entries → Record → Option SetData
+found es r = lookup (is_at (set_cmp (set_at r))) es
+
+module _ {class : Option ℕ} {es : Entries} {r : Record} (o : IsOffered class es r) where
+  refused_ttl : IsSetRefusal (found es r) r.ttl refusal.OtherTtl → IsRefusedFor (all_records (class_or_none class) es) r DifferingTtl
+  refused_ttl (d, is, other) =
+      let one = holds_one (class_or_none class) es (set_at r) d o.held.kept is in
+      by_ttl (one_class class es r o.held o.same) o.one_soa (one.one, one.held, set_from_key one.one r one.set, λ e. other (sym one.ttl ∙ e))
+
+  pub refused_put : (e : Refusal) → IsSetRefusal (found es r) r.ttl e → IsRefusal (all_records (class_or_none class) es) r e
   refused_put refusal.OtherClass why = absurd why
   refused_put refusal.OtherSoa why = absurd why
   refused_put refusal.OtherTtl why = refused_ttl why
   refused_put refusal.Memory why = tt
 
-  module _ (agrees : IfSome (lookup (is_at (set_cmp k)) es) (λ d. d.ttl ≡ ttl)) where
-    agrees_here : IfSome (lookup (is_at (set_cmp (set_at r))) es) (λ d. d.ttl ≡ r.ttl)
-    agrees_here = subst (λ n. IfSome (lookup (is_at (set_cmp (set_at r))) es) (λ d. d.ttl ≡ n)) is_ttl (subst (λ (q : RecordSet). IfSome (lookup (is_at (set_cmp q)) es) (λ d. d.ttl ≡ ttl)) is_k agrees)
-
+  module _ (agrees : IfSome (found es r) (λ d. d.ttl ≡ r.ttl)) where
     pub accepted : Accepts (all_records (class_or_none class) es) r
     accepted = record {
-      one_class = one_class class es r held same;
-      one_soa = one_soa;
+      one_class = one_class class es r o.held o.same;
+      one_soa = o.one_soa;
       one_ttl = λ (s, has, one, other).
-          let stands : StandsAt (lookup (is_at (set_cmp (set_at r))) es) s.ttl =
-          subst (λ (q : RecordSet). StandsAt (lookup (is_at (set_cmp q)) es) s.ttl) (key_from_set s r one) (stands_at (class_or_none class) es s held.kept ordered has) in
-          other (stands.ttl ∙ subst (λ (o : Option SetData). IfSome o (λ d. d.ttl ≡ r.ttl)) stands.is agrees_here);
+          let stands : StandsAt (found es r) s.ttl =
+          subst (λ (q : RecordSet). StandsAt (lookup (is_at (set_cmp q)) es) s.ttl) (key_from_set s r one) (stands_at (class_or_none class) es s o.held.kept o.ordered has) in
+          other (stands.ttl ∙ subst (λ (d : Option SetData). IfSome d (λ d. d.ttl ≡ r.ttl)) stands.is agrees);
     }
 
-    grows : (o : Option SetData) → lookup (is_at (set_cmp (set_at r))) es ≡ o → IfSome o (λ d. d.ttl ≡ r.ttl) → Grows r.class (set_at r) r o (with_datum o r.ttl r.kind r.octets)
+    value : SetData
+    value = with_datum (found es r) r.ttl r.kind r.octets
+
+    grows : (d : Option SetData) → found es r ≡ d → IfSome d (λ d. d.ttl ≡ r.ttl) → Grows r.class (set_at r) r d (with_datum d r.ttl r.kind r.octets)
     grows None is agree = grows_first r
-    grows (Some d) is agree = grows_more r d (kept_at es (set_at r) d held.kept is) agree
+    grows (Some d) is agree = grows_more r d (kept_at es (set_at r) d o.held.kept is) agree
 
-    module _ (new : Entries) (kind : ℕ) (octets : List ℕ) (is_kind : kind ≡ r.kind) (is_octets : octets ≡ r.octets) (is : new ≡ insert_entry set_cmp es k (with_datum (lookup (is_at (set_cmp k)) es) ttl kind octets)) (new_ordered : IsStrictlySortedBy set_cmp (keys_of new)) (whole : IsRecord r) where
-      value : SetData
-      value = with_datum (lookup (is_at (set_cmp (set_at r))) es) r.ttl r.kind r.octets
+    grown : Grows r.class (set_at r) r (found es r) value
+    unfolding value
+    grown = grows (found es r) refl agrees
 
-      grown : Grows r.class (set_at r) r (lookup (is_at (set_cmp (set_at r))) es) value
-      unfolding value
-      grown = grows (lookup (is_at (set_cmp (set_at r))) es) refl agrees_here
-
+    module _ {new : Entries} (is : new ≡ insert_entry set_cmp es (set_at r) (with_datum (found es r) r.ttl r.kind r.octets)) (new_ordered : IsStrictlySortedBy set_cmp (keys_of new)) where
       shape : new ≡ insert_entry set_cmp es (set_at r) value
       unfolding value
-      shape = is ∙ (λ i. insert_entry set_cmp es (is_k i) (with_datum (lookup (is_at (set_cmp (is_k i))) es) (is_ttl i) (is_kind i) (is_octets i)))
+      shape = is
 
       kept : AllByRecursion IsKept new
-      kept = subst (AllByRecursion IsKept) (sym shape) (kept_with r.class (set_at r) r value es grown.kept held.kept)
+      kept = subst (AllByRecursion IsKept) (sym shape) (kept_with r.class (set_at r) r value es grown.kept o.held.kept)
 
       with_one : (s : Record) → Has (all_records r.class new) s ↔ ((s ≡ r) ⊎ Has (all_records (class_or_none class) es) s)
       with_one s =
-          subst (λ (old : List Record). Has (all_records r.class new) s ↔ ((s ≡ r) ⊎ Has old s)) (sym (same_records class es r held same))
-          (subst (λ (fs : Entries). Has (all_records r.class fs) s ↔ ((s ≡ r) ⊎ Has (all_records r.class es) s)) (sym shape) (has_with r.class (set_at r) r value es ordered grown s))
+          subst (λ (old : List Record). Has (all_records r.class new) s ↔ ((s ≡ r) ⊎ Has old s)) (sym (same_records class es r o.held o.same))
+          (subst (λ (fs : Entries). Has (all_records r.class fs) s ↔ ((s ≡ r) ⊎ Has (all_records r.class es) s)) (sym shape) (has_with r.class (set_at r) r value es o.ordered grown s))
 
       pub Adds-with : Adds (all_records (class_or_none class) es) r (all_records r.class new)
       Adds-with = record { ascend = all_ascend r.class new kept new_ordered; same = with_one }
 
-      pub HoldsSets-with : HoldsSets (Some r.class) new
+      HoldsSets-with : HoldsSets (Some r.class) new
       HoldsSets-with = record {
         kept = kept;
-        compatible = AreCompatible-with (all_records (class_or_none class) es) (all_records r.class new) r held.compatible accepted whole (λ s. (with_one s).0) (all_ascend r.class new kept new_ordered);
+        compatible = AreCompatible-with (all_records (class_or_none class) es) (all_records r.class new) r o.held.compatible accepted o.whole (λ s. (with_one s).0) (all_ascend r.class new kept new_ordered);
         none = λ e. cc;
         some = λ e. some_insert es (set_at r) value (sym shape ∙ e);
       }
 
-      is_new_here : (is_new : Bool) → (is_new ≡ true ↔ IsNew (lookup (is_at (set_cmp k)) es) octets) → (is_new ≡ true ↔ IsNew (lookup (is_at (set_cmp (set_at r))) es) r.octets)
-      is_new_here is_new told = subst (λ os. is_new ≡ true ↔ IsNew (lookup (is_at (set_cmp (set_at r))) es) os) is_octets (subst (λ (q : RecordSet). is_new ≡ true ↔ IsNew (lookup (is_at (set_cmp q)) es) octets) is_k told)
-
-      pub KeepsSets-with : (before after : ℕ) (is_new : Bool) → before ≡ min (message_octets (all_records (class_or_none class) es)) (2 ^ 64 - 1) → (is_new ≡ true ↔ IsNew (lookup (is_at (set_cmp k)) es) octets) → after ≡ min (before + (if is_new then message_len r else 0)) (2 ^ 64 - 1) → KeepsSets (Some r.class) new after
+      pub KeepsSets-with : (before after : ℕ) (is_new : Bool) → before ≡ min (message_octets (all_records (class_or_none class) es)) (2 ^ 64 - 1) → (is_new ≡ true ↔ IsNew (found es r) r.octets) → after ≡ min (before + (if is_new then message_len r else 0)) (2 ^ 64 - 1) → KeepsSets (Some r.class) new after
       unfolding value
       KeepsSets-with before after is_new is told is_after =
-          let had : message_octets (all_records (class_or_none class) es) ≡ message_octets (all_records r.class es) = ap message_octets (same_records class es r held same) in
+          let had : message_octets (all_records (class_or_none class) es) ≡ message_octets (all_records r.class es) = ap message_octets (same_records class es r o.held o.same) in
           let now : message_octets (all_records r.class new) ≡ message_octets (all_records r.class es) + (if is_new then message_len r else 0) =
-          ap (λ (fs : Entries). message_octets (all_records r.class fs)) shape ∙ octets_with r.class es r ordered is_new (is_new_here is_new told) in
+          ap (λ (fs : Entries). message_octets (all_records r.class fs)) shape ∙ octets_with r.class es r o.ordered is_new told in
           record { sets = HoldsSets-with; octets = octets_counted (message_octets (all_records r.class es)) (message_octets (all_records r.class new)) (if is_new then message_len r else 0) before after (is ∙ ap (λ n. min n (2 ^ 64 - 1)) had) now is_after }
 
 -- the stop for a record that is handed back

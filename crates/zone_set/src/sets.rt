@@ -130,7 +130,7 @@ impl Sets {
         let (owner, ttl, rdata) = (rr.owner(), rr.ttl(), rr.rdata());
         owner.known();
         rdata.known();
-        if is_other_class(self.class, rdata.class()) {
+        if is_other_class(self.class, rr.class()) {
             return Err(Refusal::OtherClass);
         }
         if self.has_other_soa(rr) {
@@ -138,8 +138,8 @@ impl Sets {
         }
         let key = SetKey::new(alloc, owner, rdata)?;
         let datum = Datum::copy_of(alloc, rdata.octets())?;
-        let is_new = put(&mut self.by_key, alloc, key, ttl, rdata.kind(), datum)?;
-        self.class = Some(rdata.class());
+        let is_new = put(&mut self.by_key, alloc, key, ttl, rr.kind(), datum)?;
+        self.class = Some(rr.class());
         self.octets = octets_with(self.octets, rr, is_new);
         Ok(())
     }
