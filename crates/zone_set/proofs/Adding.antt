@@ -91,7 +91,7 @@ module _ {class : Option ℕ} {es : Entries} {r : Record} (o : IsOffered class e
           other (stands.ttl ∙ subst (λ (d : Option SetData). IfSome d (λ d. d.ttl ≡ r.ttl)) stands.is agrees);
     }
 
-    value : SetData
+    abbrev value : SetData
     value = with_datum (found es r) r.ttl r.kind r.octets
 
     grows : (d : Option SetData) → found es r ≡ d → IfSome d (λ d. d.ttl ≡ r.ttl) → Grows r.class (set_at r) r d (with_datum d r.ttl r.kind r.octets)
@@ -99,14 +99,9 @@ module _ {class : Option ℕ} {es : Entries} {r : Record} (o : IsOffered class e
     grows (Some d) is agree = grows_more r d (kept_at es (set_at r) d o.held.kept is) agree
 
     grown : Grows r.class (set_at r) r (found es r) value
-    unfolding value
     grown = grows (found es r) refl agrees
 
-    module _ {new : Entries} (is : new ≡ insert_entry set_cmp es (set_at r) (with_datum (found es r) r.ttl r.kind r.octets)) (new_ordered : IsStrictlySortedBy set_cmp (keys_of new)) where
-      shape : new ≡ insert_entry set_cmp es (set_at r) value
-      unfolding value
-      shape = is
-
+    module _ {new : Entries} (shape : new ≡ insert_entry set_cmp es (set_at r) value) (new_ordered : IsStrictlySortedBy set_cmp (keys_of new)) where
       kept : AllByRecursion IsKept new
       kept = subst (AllByRecursion IsKept) (sym shape) (kept_with r.class (set_at r) r value es grown.kept o.held.kept)
 
@@ -127,7 +122,6 @@ module _ {class : Option ℕ} {es : Entries} {r : Record} (o : IsOffered class e
       }
 
       pub KeepsSets-with : (before after : ℕ) (is_new : Bool) → before ≡ min (message_octets (all_records (class_or_none class) es)) (2 ^ 64 - 1) → (is_new ≡ true ↔ IsNew (found es r) r.octets) → after ≡ min (before + (if is_new then message_len r else 0)) (2 ^ 64 - 1) → KeepsSets (Some r.class) new after
-      unfolding value
       KeepsSets-with before after is_new is told is_after =
           let had : message_octets (all_records (class_or_none class) es) ≡ message_octets (all_records r.class es) = ap message_octets (same_records class es r o.held o.same) in
           let now : message_octets (all_records r.class new) ≡ message_octets (all_records r.class es) + (if is_new then message_len r else 0) =
