@@ -1,44 +1,38 @@
 -- What a field's items spell is appended.
-use Rattle.std.proofs.Common.{List, None, Option, Result, Some, [], ap, append_assoc, arith, drop, get_or, inl, inr, length, map, min, refl, subst, sym, ℕ, ◌++◌, ◌+◌, ◌<◌, ◌∙◌, ◌∷◌, ◌≡◌, ◌≤◌}
-use Rattle.std.specs.List.{flat_map}
-use Rattle.std.specs.Prelude.{IfNone, IfSome, OnOk}
+use Rattle.std.proofs.Common.{List, None, Option, Some, [], ap, append_assoc, arith, drop, get_or, inl, inr, length, map, min, subst, sym, ℕ, ◌++◌, ◌+◌, ◌<◌, ◌∙◌, ◌∷◌, ◌≡◌, ◌≤◌}
+use Rattle.std.specs.List.{flat_map, slice_get}
+use Rattle.std.specs.Prelude.{IfNone, IfSome}
 use Rattle.std.proofs.lemmas.List.{append-nil, drop_all}
-use Rattle.std.proofs.lemmas.Result.{on_ok_weaker}
 use Rattle.zone_name.specs.Name.{with_length}
-use Rattle.zone_rdata.specs.declared.fault.Failing.{Failing}
 use Rattle.zone_rdata.specs.declared.fault.Fault.{Fault}
 use Rattle.zone_rdata.specs.declared.field.Field.{Field}
 use Rattle.zone_rdata.specs.declared.item.Item.{Item}
-use Rattle.zone_rdata.specs.Field.{FieldValue, field_octets, SpellsField, string, strings}
+use Rattle.zone_rdata.specs.Field.{FieldValue, SpellsField, field_octets, items_behind, own_items, strings}
 use Rattle.zone_rdata.specs.Fields.Strings.{FirstStringFault, SpellEachString, SpellsStrings, StringsFault}
-use Rattle.zone_rdata.specs.Item.{RawItem, bare, raw}
-use Rattle.zone_rdata.specs.Machine.Appending.{Appends, AppendsField, AppendsFirst, AppendsString}
-use Rattle.zone_rdata.specs.Strings.{StringFault}
+use Rattle.zone_rdata.specs.Item.{RawItem, raw}
+use Rattle.zone_rdata.specs.Machine.Appending.{Appends, AppendsFirst}
+use Rattle.zone_rdata.specs.Strings.{SpellsString, StringFault}
 use Rattle.zone_rdata.specs.declared.field.Field.TheVariants as fields
 use Rattle.zone_rdata.proofs.Lists.{from_place}
 
--- ---- one item
-
--- what is stated of the text of a bare item is spelled by it
-pub on_bare : {X : Type 0} {Stated : X → Type 0} {octets : X → List ℕ} (value : X → FieldValue) (origin : List (List ℕ)) (field f : Field) (item : RawItem) (text old new : List ℕ) (r : Result (Unit {0}) Failing) → item ≡ bare text → field ≡ f → ((x : X) → Stated x → SpellsField origin f (bare text ∷ []) (value x)) → ((x : X) → octets x ≡ field_octets (value x)) → OnOk r (Appends Stated octets old new) → OnOk r (AppendsField origin field (item ∷ []) old new)
-on_bare value origin field f item text old new r is which spells own done =
-    on_ok_weaker r (λ h. subst (λ i. AppendsField origin field (i ∷ []) old new) (sym is) (subst (λ g. AppendsField origin g (bare text ∷ []) old new) (sym which) (record { value = value h.value; stated = spells h.value h.stated; written = h.written ∙ ap (λ t. old ++ t) (own h.value) }))) done
-
-pub on_string : (origin : List (List ℕ)) (field : Field) (item : RawItem) (old new : List ℕ) (r : Result (Unit {0}) Failing) → field ≡ fields.OneString → OnOk r (AppendsString item old new) → OnOk r (AppendsField origin field (item ∷ []) old new)
-on_string origin field item old new r which done =
-    on_ok_weaker r (λ h. subst (λ f. AppendsField origin f (item ∷ []) old new) (sym which) (record { value = string h.octets; stated = h.spelt; written = h.written })) done
-
-pub strings_appended : (origin : List (List ℕ)) (field : Field) (items : List RawItem) (old new : List ℕ) → field ≡ fields.Strings → Appends (SpellsStrings items) (flat_map with_length) old new → AppendsField origin field items old new
-strings_appended origin field items old new which h =
-    subst (λ f. AppendsField origin f items old new) (sym which) (record { value = strings h.value; stated = h.stated; written = h.written })
-
 -- ---- the items of the field at their front
+
+-- what is stated of the first item is spelled by it
+pub first_appended : {X : Type 0} {Stated : X → Type 0} {octets : X → List ℕ} (value : X → FieldValue) (origin : List (List ℕ)) (field f : Field) (first : Item) (items : List Item) (old new : List ℕ) → field ≡ f → Some first ≡ slice_get items 0 → ((rest : List RawItem) → items_behind f (raw first ∷ rest) ≡ rest) → ((x : X) (rest : List RawItem) → Stated x → SpellsField origin f (own_items f (raw first ∷ rest)) (value x)) → ((x : X) → octets x ≡ field_octets (value x)) → Appends Stated octets old new → AppendsFirst origin field (map raw items) (map raw (drop 1 items)) old new
+first_appended value origin field f first [] old new which is behind spells own done = absurd cc
+first_appended value origin field f first (item ∷ items) old new which is behind spells own done =
+    let same : first ≡ item = cc in
+    subst (λ g. AppendsFirst origin g (raw item ∷ map raw items) (map raw items) old new) (sym which) (subst (λ i. AppendsFirst origin f (raw i ∷ map raw items) (map raw items) old new) same (record {
+      appends = record { value = value done.value; stated = spells done.value (map raw items) done.stated; written = done.written ∙ ap (λ t. old ++ t) (own done.value) };
+      behind = sym (behind (map raw items));
+    }))
+
+-- strings are all that is left
 pub all_appended : (origin : List (List ℕ)) (field : Field) (items : List Item) (old new : List ℕ) → field ≡ fields.Strings → Appends (SpellsStrings (map raw items)) (flat_map with_length) old new → AppendsFirst origin field (map raw items) (map raw (drop (length items) items)) old new
-all_appended origin fields.Strings items old new which h = record {
-  appends = strings_appended origin fields.Strings (map raw items) old new refl h;
+all_appended origin field items old new which h = subst (λ f. AppendsFirst origin f (map raw items) (map raw (drop (length items) items)) old new) (sym which) (record {
+  appends = record { value = strings h.value; stated = h.stated; written = h.written };
   behind = ap (map raw) (drop_all (length items) items (omega arith));
-}
-all_appended origin field items old new which h = absurd cc
+})
 
 -- ---- strings, item by item
 
@@ -47,13 +41,13 @@ pub record HaveSpelt (items left : List RawItem) (old now : List ℕ) : Type 0 w
   pub leads : (many : List (List ℕ)) → SpellEachString left many → Appends (SpellEachString items) (flat_map with_length) old (now ++ flat_map with_length many)
   pub fault : (fault : Fault) → FirstStringFault left fault → FirstStringFault items fault
 
-pub spelt_more : (all items : List Item) (i : ℕ) (item d : Item) (old now new : List ℕ) → i < length items → item ≡ get_or items i d → HaveSpelt (map raw all) (map raw (drop i items)) old now → AppendsString (raw item) now new → HaveSpelt (map raw all) (map raw (drop (i + 1) items)) old new
+pub spelt_more : (all items : List Item) (i : ℕ) (item d : Item) (old now new : List ℕ) → i < length items → item ≡ get_or items i d → HaveSpelt (map raw all) (map raw (drop i items)) old now → Appends (SpellsString (raw item)) with_length now new → HaveSpelt (map raw all) (map raw (drop (i + 1) items)) old new
 spelt_more all items i item d old now new lt is read h =
     let left = map raw (drop (i + 1) items) in
     let here : HaveSpelt (map raw all) (raw item ∷ left) old now = subst (λ x. HaveSpelt (map raw all) x old now) (ap (map raw) (from_place items i item d lt is)) read in
     record {
-      leads = λ many each. subst (Appends (SpellEachString (map raw all)) (flat_map with_length) old) (sym (ap (λ o. o ++ flat_map with_length many) h.written ∙ append_assoc now (with_length h.octets) (flat_map with_length many))) (here.leads (h.octets ∷ many) (h.spelt, each));
-      fault = λ fault bad. here.fault fault (inr (h.octets, h.spelt, bad));
+      leads = λ many each. subst (Appends (SpellEachString (map raw all)) (flat_map with_length) old) (sym (ap (λ o. o ++ flat_map with_length many) h.written ∙ append_assoc now (with_length h.value) (flat_map with_length many))) (here.leads (h.value ∷ many) (h.stated, each));
+      fault = λ fault bad. here.fault fault (inr (h.value, h.stated, bad));
     }
 
 -- there is an item

@@ -1,4 +1,4 @@
-ghost use Rattle.std.specs.Prelude.{◌≡◌, ◌↔◌, ◌≤◌, ◌∷◌, [], Some, drop, length, map, IsTrue, IfOk, IfErr, OnOk, OnErr};
+ghost use Rattle.std.specs.Prelude.{◌≡◌, ◌↔◌, ◌≤◌, Some, drop, length, map, IsTrue, IfOk, IfErr, OnOk, OnErr};
 ghost use Rattle.zone_rdata.specs.Field.{Suits, is_strings, IsFieldFault, field_at, own_items, field_text};
 ghost use Rattle.zone_rdata.specs.Machine.Pushed.{value_of};
 ghost use Rattle.zone_rdata.specs.Fault.{IfFault};
@@ -6,7 +6,7 @@ ghost use Rattle.zone_name.specs.Sink.{TakesSome};
 ghost use Rattle.zone_rdata.specs.Item.{raw};
 ghost use Rattle.zone_rdata.specs.Layout.{IsSized};
 ghost use Rattle.zone_rdata.specs.Minimum.{number_in};
-ghost use Rattle.zone_rdata.specs.Machine.Appending.{AppendsField, AppendsFirst};
+ghost use Rattle.zone_rdata.specs.Machine.Appending.{AppendsFirst};
 ghost use Rattle.zone_rdata.specs.Machine.Printing.{BeginsWithField, after_field};
 ghost use Rattle.zone_rdata.specs.Machine.Appending.{AppendsValue, BeginsWithNone};
 
@@ -62,25 +62,6 @@ impl Field {
         matches!(self, Field::Strings)
     }
 
-    /// Appends the octets of the value that an item by itself spells for the field.
-    fn push_item(self, item: Item, origin: &Name, octets: &mut Vec<u8>) -> Result<(), NarrowFailing>
-        ensures found { OnOk result
-            (AppendsField origin.now self (raw item.entry ∷ []) octets.old.items octets.new.items) }
-        ensures fault { IfErr result
-            (IfFault (IsFieldFault origin.now self (raw item.entry ∷ []))) }
-    {
-        match (self, item) {
-            (Field::OneString, _) => push_string(item, octets),
-            (Field::Strings, _) => push_strings(&[item], octets),
-            (_, Item::Quoted(_)) => Err(NarrowFailing::of(Cause::BadRdata)),
-            (Field::Name, Item::Bare(text)) => push_name(text, origin, octets),
-            (Field::Serial, Item::Bare(text)) => push_serial(text, octets),
-            (Field::Time, Item::Bare(text)) => push_time(text, octets),
-            (Field::U16, Item::Bare(text)) => push_u16(text, octets),
-            (Field::Octets(count), Item::Bare(text)) => push_address(count, text, octets),
-        }
-    }
-
     /// Appends the octets of the value that the field's items spell, and gives how many items these are.
     pub(crate) fn push_items(
         self,
@@ -94,14 +75,19 @@ impl Field {
         ensures fault { IfErr result
             (IfFault (IsFieldFault origin.now self (own_items self (map raw items.now)))) }
     {
-        if self == Field::Strings {
-            push_strings(items, octets)?;
-            return Ok(items.len());
+        match (self, items.first()) {
+            (Field::Strings, _) => {
+                push_strings(items, octets)?;
+                return Ok(items.len());
+            }
+            (Field::OneString, Some(item)) => push_string(*item, octets)?,
+            (_, None | Some(Item::Quoted(_))) => return Err(NarrowFailing::of(Cause::BadRdata)),
+            (Field::Name, Some(Item::Bare(text))) => push_name(text, origin, octets)?,
+            (Field::Serial, Some(Item::Bare(text))) => push_serial(text, octets)?,
+            (Field::Time, Some(Item::Bare(text))) => push_time(text, octets)?,
+            (Field::U16, Some(Item::Bare(text))) => push_u16(text, octets)?,
+            (Field::Octets(count), Some(Item::Bare(text))) => push_address(count, text, octets)?,
         }
-        let Some(item) = items.first() else {
-            return Err(NarrowFailing::of(Cause::BadRdata));
-        };
-        self.push_item(*item, origin, octets)?;
         Ok(1)
     }
 

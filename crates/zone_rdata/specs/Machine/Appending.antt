@@ -6,8 +6,6 @@ use Rattle.zone_rdata.specs.Item.{RawItem}
 use Rattle.zone_rdata.specs.Spelling.{SpellEach}
 use Rattle.zone_rdata.specs.declared.field.Field.TheVariants.{Strings}
 use Rattle.hex.specs.Hex.{decode_of}
-use Rattle.zone_name.specs.Name.{with_length}
-use Rattle.zone_rdata.specs.Strings.{SpellsString}
 
 -- the octets of a value that is stated are appended
 pub record Appends {V : Type 0} (Stated : V → Type 0) (octets : V → List ℕ) (old new : List ℕ) : Type 0 where
@@ -59,9 +57,3 @@ pub record AppendsDigits (text old new : List ℕ) : Type 0 where
   pub octets : List ℕ
   pub stands : decode_of text ≡ Ok octets
   pub written : new ≡ old ++ octets
-
--- the string's octets are appended behind their number (RFC 1035 3.3)
-pub record AppendsString (item : RawItem) (old new : List ℕ) : Type 0 where
-  pub octets : List ℕ
-  pub spelt : SpellsString item octets
-  pub written : new ≡ old ++ with_length octets

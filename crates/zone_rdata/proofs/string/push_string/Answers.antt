@@ -11,7 +11,7 @@ returns-in_err-octets-clause-fault c =
 
 pub returns-clause-found : goal.returns-clause-found
 returns-clause-found c = record {
-  octets = c.in_ok-octets.octets.items;
-  spelt = c.in_ok-octets.ensures.found;
+  value = c.in_ok-octets.octets.items;
+  stated = c.in_ok-octets.ensures.found;
   written = c.in_ok-push_with_length.ensures.ok ∙ ap (λ o. c.args.out.now.items ++ with_length o) c.as_slice.ensures.value;
 }
