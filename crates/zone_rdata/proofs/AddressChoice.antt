@@ -11,9 +11,10 @@ use Rattle.zone_rdata.specs.Number.{IsDecimal}
 use Rattle.zone_rdata.proofs.AddressFields.{no_ipv4, no_ipv6}
 use Rattle.zone_rdata.proofs.AddressGaps.{IsFirstGap, found_at_gap, refused_at_gap, refused_without_gap}
 use Rattle.zone_rdata.proofs.AddressParts.{AreSomeParts, no_parts, only_part, parts_cut, parts_unique, text_some}
-use Rattle.zone_rdata.proofs.Addresses.{lacks_push, last_refused, number_refused, numbers_more, numbers_none, numbers_one, rest_refused}
+use Rattle.zone_rdata.proofs.Addresses.{last_refused, number_refused, numbers_more, numbers_none, numbers_one, rest_refused}
 use Rattle.zone_rdata.proofs.Choices.{Choice, below_or_not, choice_as}
 use Rattle.zone_rdata.proofs.GenericLaws.{decimal_or_not}
+use Rattle.zone_name.proofs.Pushing.{AllByRecursion-append}
 
 -- ---- cutting
 abbrev Cuts : ℕ → List ℕ → Type 0
@@ -112,7 +113,7 @@ colon_by ends group rest lacks (inl found) (inl others) =
 
 octet_next : (ends : Bool) (group rest : List ℕ) (c : ℕ) → Lacks 58 group → (c ≡ 58) ⊎ (c ≢ 58) → (Lacks 58 (group ++ c ∷ []) → Choice (AreSomeParts ends ((group ++ c ∷ []) ++ rest))) → Choice (AreSomeParts ends rest) → Choice (AreSomeParts ends (group ++ c ∷ rest))
 octet_next ends group rest c lacks (inl same) goes others = subst (λ d. Choice (AreSomeParts ends (group ++ d ∷ rest))) (sym same) (colon_by ends group rest lacks (group_or_not group) others)
-octet_next ends group rest c lacks (inr other) goes others = subst (λ t. Choice (AreSomeParts ends t)) (append_assoc group (c ∷ []) rest) (goes (lacks_push 58 group c lacks other))
+octet_next ends group rest c lacks (inr other) goes others = subst (λ t. Choice (AreSomeParts ends t)) (append_assoc group (c ∷ []) rest) (goes (AllByRecursion-append _ group (c ∷ []) lacks (other, tt)))
 
 some_or_not : (ends : Bool) (text group : List ℕ) → Lacks 58 group → Choice (AreSomeParts ends (group ++ text))
 some_or_not ends [] group lacks = subst (λ t. Choice (AreSomeParts ends t)) (sym (append-nil group)) (end_by ends group lacks (last_or_not ends group))

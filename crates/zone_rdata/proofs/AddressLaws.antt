@@ -1,11 +1,11 @@
 -- What is printed for an address is read back, and is of the form that RFC 5952 recommends.
-use Rattle.std.proofs.Common.{◌≡◌, ℕ, zero, suc, ◌+◌, ◌-◌, ◌*◌, ◌/◌, ◌%◌, ◌^◌, ◌<◌, ◌≤◌, Bool, true, false, inl, inr, List, [], ◌∷◌, ◌++◌, length, get_or, take, drop, map, replicate, decimal, refl, sym, ap, ◌∙◌, subst, arith, append_assoc, length-append, le-leb, lt-ltb, le-ltb, rules}
+use Rattle.std.proofs.Common.{◌≡◌, ℕ, zero, suc, ◌+◌, ◌-◌, ◌*◌, ◌/◌, ◌%◌, ◌^◌, ◌<◌, ◌≤◌, Bool, true, false, inl, inr, List, [], ◌∷◌, ◌++◌, length, take, drop, map, replicate, decimal, refl, sym, ap, ◌∙◌, subst, arith, append_assoc, length-append, le-leb, lt-ltb, le-ltb, rules}
 use Rattle.std.specs.Prelude.{fold, slice_index}
 use Rattle.std.specs.Char.{digit_char}
 use Rattle.std.specs.List.{AllByRecursion, join_with_byte}
 use Rattle.std.specs.Net.Addr.{segments_of}
 use Rattle.std.specs.Net.Text.{hex, longest_zero_run, hex_groups_text}
-use Rattle.std.proofs.NetLemmas.Texts.{AllSegments, IsZeroRun-longest_zero_run, longest_zero_run_first}
+use Rattle.std.proofs.NetLemmas.Texts.{IsZeroRun-longest_zero_run, longest_zero_run_first}
 use Rattle.std.proofs.NetLemmas.Alphabet.{IsDigitOrDot, IsHexOrColon, All-ipv4_text, All-hex_groups_text}
 use Rattle.std.proofs.lemmas.Bool.{cases_lt, lt-leb}
 use Rattle.std.proofs.lemmas.Fmt.{decimal_nonempty, digits_decimal, digits_value-decimal}
@@ -18,6 +18,8 @@ use Rattle.zone_name.specs.Spelling.{is_digit}
 use Rattle.zone_rdata.specs.Number.{decimal_value}
 use Rattle.zone_rdata.specs.Address.{IsOctetNumber, IsIpv4Address, AddressPart, IsGroup, AreParts, parts_text, parts_octets, ArePartsOf, IsIpv6Address, eight, fewer, ipv4_text, ipv6_text, parted_groups, shortened_groups, IsZeroRun, IsShortenedRun, IsAddressOctet}
 use Rattle.zone_rdata.proofs.AddressTexts.{four_digits, four_encoded}
+use Rattle.zone_rdata.proofs.Lists.{each_below}
+use Rattle.zone_name.proofs.Pushing.{AllByRecursion-front, AllByRecursion-back}
 
 -- ---- four octets
 
@@ -116,16 +118,6 @@ pairs groups = parts_octets (map part groups)
 groups_printed : (ends : Bool) (groups : List ℕ) → AllGroups groups → ArePartsOf ends (parted_groups groups) (pairs groups)
 groups_printed ends groups each = record { parts = map part groups; each = parts_printed ends groups each; parted = groups_parted groups; value = refl }
 
-groups_take : (n : ℕ) (groups : List ℕ) → AllGroups groups → AllGroups (take n groups)
-groups_take zero groups each = tt
-groups_take (suc n) [] each = tt
-groups_take (suc n) (g ∷ groups) each = (each.0, groups_take n groups each.1)
-
-groups_drop : (n : ℕ) (groups : List ℕ) → AllGroups groups → AllGroups (drop n groups)
-groups_drop zero groups each = each
-groups_drop (suc n) [] each = tt
-groups_drop (suc n) (g ∷ groups) each = groups_drop n groups each.1
-
 pairs-append : (xs ys : List ℕ) → pairs (xs ++ ys) ≡ pairs xs ++ pairs ys
 pairs-append [] ys = refl
 pairs-append (x ∷ xs) ys = ap (λ o. x / 256 ∷ x % 256 ∷ o) (pairs-append xs ys)
@@ -169,6 +161,7 @@ around_printed : (groups octets : List ℕ) (start len : ℕ) → length groups 
 around_printed groups octets start len count each value run long =
     let front = take start groups in
     let back = drop (start + len) groups in
+    let split : AllGroups (front ++ drop start groups) = subst AllGroups (sym (take-append-drop start groups)) each in
     let front_len : length front ≡ start = length-take-le start groups (omega (arith, run.0)) in
     let back_len = length-drop (start + len) groups in
     let middle : drop start groups ≡ replicate len 0 ++ back = sym (take-append-drop len (drop start groups)) ∙ ap (λ t. t ++ drop len (drop start groups)) run.1 ∙ ap (λ t. replicate len 0 ++ t) (drop-drop len start groups) in
@@ -178,8 +171,8 @@ around_printed groups octets start len count each value run long =
     fewer (parted_groups front) (parted_groups back) (append_assoc (parted_groups front) (58 ∷ 58 ∷ []) (parted_groups back)) (record {
       before = pairs front;
       after = pairs back;
-      front_parts = groups_printed false front (groups_take start groups each);
-      back_parts = groups_printed true back (groups_drop (start + len) groups each);
+      front_parts = groups_printed false front (AllByRecursion-front (λ n. n < 2 ^ 16) front (drop start groups) split);
+      back_parts = groups_printed true back (AllByRecursion-back (λ n. n < 2 ^ 16) (take (start + len) groups) back (subst AllGroups (sym (take-append-drop (start + len) groups)) each));
       room = omega (arith, length-pairs front, length-pairs back, front_len, back_len, run.0);
       value = sym value ∙ ap pairs whole ∙ pairs-append front (replicate len 0 ++ back) ∙ ap (λ o. pairs front ++ o) zeros;
     })
@@ -243,16 +236,6 @@ run_unique groups start len other_start other_len x y =
 
 -- ---- the octets of texts
 
-bytes_at : (octets : List ℕ) → AllByRecursion (λ c. c < 256) octets → (k : ℕ) → get_or octets k 0 < 2 ^ 8
-bytes_at [] each k = omega arith
-bytes_at (c ∷ octets) each zero = each.0
-bytes_at (c ∷ octets) each (suc k) = bytes_at octets each.1 k
-
-groups_at : (groups : List ℕ) → AllGroups groups → AllSegments groups
-groups_at [] each k = omega arith
-groups_at (g ∷ groups) each zero = each.0
-groups_at (g ∷ groups) each (suc k) = groups_at groups each.1 k
-
 digit_or_dot : (c : ℕ) → IsDigitOrDot c → IsAddressOctet c
 digit_or_dot c (inl range) = inl (range.0, range.1)
 digit_or_dot c (inr dot) = inr (inr (inl dot))
@@ -265,11 +248,11 @@ hex_or_colon c (inl range) = elim (cases_lt c 58) [
 hex_or_colon c (inr range) = inr (inl (range.0, range.1))
 
 pub ipv4_plain : (octets : List ℕ) → length octets ≡ 4 → AllByRecursion (λ c. c < 256) octets → AllByRecursion IsAddressOctet (ipv4_text octets)
-ipv4_plain octets len each = recursion_from_All IsAddressOctet (ipv4_text octets) (All-weaker IsDigitOrDot IsAddressOctet digit_or_dot (ipv4_text octets) (All-ipv4_text octets (bytes_at octets each)))
+ipv4_plain octets len each = recursion_from_All IsAddressOctet (ipv4_text octets) (All-weaker IsDigitOrDot IsAddressOctet digit_or_dot (ipv4_text octets) (All-ipv4_text octets (each_below (2 ^ 8) octets (omega arith) each)))
 
 pub ipv6_plain : (octets : List ℕ) → length octets ≡ 16 → AllByRecursion (λ c. c < 256) octets → AllByRecursion IsAddressOctet (ipv6_text octets)
 unfolding hex_groups_text
-ipv6_plain octets len each = recursion_from_All IsAddressOctet (ipv6_text octets) (All-weaker IsHexOrColon IsAddressOctet hex_or_colon (ipv6_text octets) (All-hex_groups_text (segments_of octets) (groups_at (segments_of octets) (segments_each octets each))))
+ipv6_plain octets len each = recursion_from_All IsAddressOctet (ipv6_text octets) (All-weaker IsHexOrColon IsAddressOctet hex_or_colon (ipv6_text octets) (All-hex_groups_text (segments_of octets) (each_below (2 ^ 16) (segments_of octets) (omega arith) (segments_each octets each))))
 
 -- ---- no text of an address is empty
 

@@ -5,13 +5,10 @@ use Rattle.std.proofs.lemmas.List.{length-replicate}
 use Rattle.hex.proofs.HexLemmas.{decode_of-ok, decode_sized-ok, decode_sized-twice}
 use Rattle.zone_rdata.specs.Address.{IsOctetNumber, IsIpv4Address, AddressPart, IsGroup, IsLastPart, AreParts, parts_octets, ArePartsOf, IsIpv6Address, eight, fewer}
 use Rattle.zone_rdata.proofs.Lists.{bytes_each}
+use Rattle.zone_name.proofs.Pushing.{AllByRecursion-append}
 
 abbrev AreBytes : List ℕ → Type 0
 AreBytes octets = AllByRecursion (λ c. c < 256) octets
-
-bytes_append : (xs ys : List ℕ) → AreBytes xs → AreBytes ys → AreBytes (xs ++ ys)
-bytes_append [] ys x y = y
-bytes_append (c ∷ xs) ys x y = (x.0, bytes_append xs ys x.1 y)
 
 zeros_bytes : (n : ℕ) → AreBytes (replicate n 0)
 zeros_bytes zero = tt
@@ -44,8 +41,8 @@ last_bytes ends p (inr are) = ipv4_bytes p.text p.octets are.1
 
 parts_bytes : (ends : Bool) (parts : List AddressPart) → AreParts ends parts → AreBytes (parts_octets parts)
 parts_bytes ends [] each = tt
-parts_bytes ends (p ∷ []) each = bytes_append p.octets [] (last_bytes ends p each) tt
-parts_bytes ends (p ∷ q ∷ parts) each = bytes_append p.octets (parts_octets (q ∷ parts)) (group_bytes p each.0) (parts_bytes ends (q ∷ parts) each.1)
+parts_bytes ends (p ∷ []) each = AllByRecursion-append (λ c. c < 256) p.octets [] (last_bytes ends p each) tt
+parts_bytes ends (p ∷ q ∷ parts) each = AllByRecursion-append (λ c. c < 256) p.octets (parts_octets (q ∷ parts)) (group_bytes p each.0) (parts_bytes ends (q ∷ parts) each.1)
 
 parted_bytes : (ends : Bool) (text octets : List ℕ) → ArePartsOf ends text octets → AreBytes octets
 parted_bytes ends text octets are = subst AreBytes (sym are.value) (parts_bytes ends are.parts are.each)
@@ -60,4 +57,4 @@ pub ipv6_bytes : (text octets : List ℕ) → IsIpv6Address text octets → AreB
 ipv6_bytes text octets (eight are len) = parted_bytes true text octets are
 ipv6_bytes text octets (fewer front back parted around) =
     let zeros : List ℕ = replicate (16 - length around.before - length around.after) 0 in
-    subst AreBytes (sym around.value) (bytes_append around.before (zeros ++ around.after) (parted_bytes false front around.before around.front_parts) (bytes_append zeros around.after (zeros_bytes (16 - length around.before - length around.after)) (parted_bytes true back around.after around.back_parts)))
+    subst AreBytes (sym around.value) (AllByRecursion-append (λ c. c < 256) around.before (zeros ++ around.after) (parted_bytes false front around.before around.front_parts) (AllByRecursion-append (λ c. c < 256) zeros around.after (zeros_bytes (16 - length around.before - length around.after)) (parted_bytes true back around.after around.back_parts)))

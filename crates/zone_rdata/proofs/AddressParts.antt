@@ -7,6 +7,7 @@ use Rattle.std.proofs.lemmas.List.Concat.{flat_map-append}
 use Rattle.zone_rdata.specs.Address.{IsIpv4Address, AddressPart, IsGroup, IsLastPart, AreParts, parts_text, parts_octets, ArePartsOf}
 use Rattle.zone_rdata.specs.Machine.AddressReading.{Lacks, IsCut}
 use Rattle.zone_rdata.proofs.Addresses.{cut_same, not_cut, group_lacks, group_same, last_lacks, last_same}
+use Rattle.zone_name.proofs.Pushing.{AllByRecursion-append}
 
 some_numbers : (text : List ℕ) (numbers : List (List ℕ)) → length numbers ≡ 4 → text ≡ join_with_byte 46 numbers → 0 < length text
 some_numbers text [] counted parted = absurd (omega arith)
@@ -90,10 +91,6 @@ unfolding behind
 behind_push [] p rest = refl
 behind_push (q ∷ parts) p rest = ap (λ t. q.text ++ 58 ∷ t) (behind_push parts p rest)
 
-groups_push : (parts : List AddressPart) (p : AddressPart) → AllByRecursion IsGroup parts → IsGroup p → AllByRecursion IsGroup (parts ++ p ∷ [])
-groups_push [] p each is = (is, tt)
-groups_push (q ∷ parts) p each is = (each.0, groups_push parts p each.1 is)
-
 parts_end : (ends : Bool) (parts : List AddressPart) (p : AddressPart) → AllByRecursion IsGroup parts → IsLastPart ends p → AreParts ends (parts ++ p ∷ [])
 parts_end ends [] p each is = is
 parts_end ends (q ∷ []) p each is = (each.0, is)
@@ -131,7 +128,7 @@ parts_more ends text rest group after octets added cut is reads =
     let p : AddressPart = record { text = group; octets = added } in
     record {
       front = reads.front ++ p ∷ [];
-      groups = groups_push reads.front p reads.groups is;
+      groups = AllByRecursion-append IsGroup reads.front (p ∷ []) reads.groups (is, tt);
       parted = reads.parted ∙ ap (behind reads.front) cut.parted ∙ sym (behind_push reads.front p after);
       value = ap (λ o. o ++ added) reads.value ∙ sym (octets_push reads.front p);
       only = λ others are.

@@ -1,6 +1,6 @@
 -- Addresses in text, cut at dots and colons.
 use Rattle.std.proofs.Common.{◌≡◌, ◌≢◌, ℕ, zero, suc, ◌-◌, ◌<◌, Bool, true, false, inl, inr, List, [], ◌∷◌, ◌++◌, length, replicate, refl, sym, ap, ◌∙◌, subst, arith, Result, Ok}
-use Rattle.std.specs.List.{AllByRecursion, AllZip, All, join_with_byte}
+use Rattle.std.specs.List.{AllZip, All, join_with_byte}
 use Rattle.std.proofs.lemmas.List.{drop_at}
 use Rattle.std.proofs.lemmas.List.Elements.{All-drop, recursion_from_All}
 use Rattle.hex.specs.Hex.{decode_sized, is_hex_digit}
@@ -8,16 +8,10 @@ use Rattle.hex.proofs.HexLemmas.{IsOk-decode_sized}
 use Rattle.zone_name.specs.Spelling.{is_digit}
 use Rattle.zone_rdata.specs.Address.{IsOctetNumber, AreNumbers, IsIpv4Address, AddressPart, IsGroup, IsLastPart}
 use Rattle.zone_rdata.specs.Machine.AddressReading.{Lacks, IsCut}
+use Rattle.zone_name.proofs.Pushing.{AllByRecursion-append}
+use Rattle.zone_rdata.proofs.Lists.{each_weaker}
 
 -- ---- cutting
-
-pub lacks_push : (c : ℕ) (text : List ℕ) (d : ℕ) → Lacks c text → d ≢ c → Lacks c (text ++ d ∷ [])
-lacks_push c [] d h other = (other, tt)
-lacks_push c (x ∷ text) d h other = (h.0, lacks_push c text d h.1 other)
-
-lacks_append : (c : ℕ) (text more : List ℕ) → Lacks c text → Lacks c more → Lacks c (text ++ more)
-lacks_append c [] more h k = k
-lacks_append c (x ∷ text) more h k = (h.0, lacks_append c text more h.1 k)
 
 -- a text that lacks the octet isn't cut at it
 lacks_cut : (c : ℕ) (front back : List ℕ) → Lacks c (front ++ c ∷ back) → ⊥
@@ -48,12 +42,8 @@ join_more c text (next ∷ texts) some = refl
 digit_other : (c d : ℕ) → is_digit c ≡ false → is_digit d ≡ true → d ≢ c
 digit_other c d miss hit e = cc (sym hit ∙ ap is_digit e ∙ miss)
 
-digits_lack : (c : ℕ) (text : List ℕ) → is_digit c ≡ false → AllByRecursion (λ c. is_digit c ≡ true) text → Lacks c text
-digits_lack c [] miss each = tt
-digits_lack c (d ∷ text) miss each = (digit_other c d miss each.0, digits_lack c text miss each.1)
-
 pub number_lacks : (c : ℕ) (text : List ℕ) (n : ℕ) → is_digit c ≡ false → IsOctetNumber text n → Lacks c text
-number_lacks c text n miss is = digits_lack c text miss is.number.digits
+number_lacks c text n miss is = each_weaker (λ d. d ≢ c) (λ d hit. digit_other c d miss hit) text is.number.digits
 
 pub number_same : (text : List ℕ) (n m : ℕ) → IsOctetNumber text n → IsOctetNumber text m → n ≡ m
 number_same text n m a b = a.number.value ∙ sym b.number.value
@@ -168,23 +158,19 @@ join_lacks : (c : ℕ) (numbers : List (List ℕ)) (octets : List ℕ) → is_di
 join_lacks c [] octets miss other each = tt
 join_lacks c (a ∷ numbers) [] miss other each = absurd each
 join_lacks c (a ∷ []) (n ∷ octets) miss other each = number_lacks c a n miss each.0
-join_lacks c (a ∷ b ∷ numbers) (n ∷ octets) miss other each = lacks_append c a (46 ∷ join_with_byte 46 (b ∷ numbers)) (number_lacks c a n miss each.0) (other, join_lacks c (b ∷ numbers) octets miss other each.1)
+join_lacks c (a ∷ b ∷ numbers) (n ∷ octets) miss other each = AllByRecursion-append (λ d. d ≢ c) a (46 ∷ join_with_byte 46 (b ∷ numbers)) (number_lacks c a n miss each.0) (other, join_lacks c (b ∷ numbers) octets miss other each.1)
 
 numbers_lack : (count c : ℕ) (text octets : List ℕ) → is_digit c ≡ false → 46 ≢ c → AreNumbers count text octets → Lacks c text
 numbers_lack count c text octets miss other are = subst (Lacks c) (sym are.parted) (join_lacks c are.numbers octets miss other are.each)
 
 -- ---- groups
 
-hex_lacks : (c : ℕ) (text : List ℕ) → is_hex_digit c ≡ false → AllByRecursion (λ c. is_hex_digit c ≡ true) text → Lacks c text
-hex_lacks c [] miss each = tt
-hex_lacks c (d ∷ text) miss each = (λ e. cc (sym each.0 ∙ ap is_hex_digit e ∙ miss), hex_lacks c text miss each.1)
-
 pub group_lacks : (c : ℕ) (p : AddressPart) → is_hex_digit c ≡ false → IsGroup p → Lacks c p.text
 group_lacks c p miss is =
     let zeros : List ℕ = replicate (4 - length p.text) 48 in
     let passes = ((IsOk-decode_sized (zeros ++ p.text) 2).0 (rw is.value refl)).1 in
     let here : All (λ c. is_hex_digit c ≡ true) p.text = subst (All (λ c. is_hex_digit c ≡ true)) (drop_at zeros p.text (length zeros) refl) (All-drop (λ c. is_hex_digit c ≡ true) (length zeros) (zeros ++ p.text) passes) in
-    hex_lacks c p.text miss (recursion_from_All (λ c. is_hex_digit c ≡ true) p.text here)
+    each_weaker (λ d. d ≢ c) (λ d hit e. cc (sym hit ∙ ap is_hex_digit e ∙ miss)) p.text (recursion_from_All (λ c. is_hex_digit c ≡ true) p.text here)
 
 ok_same : {E : Type 0} (a b : List ℕ) (r : Result (List ℕ) E) → r ≡ Ok a → r ≡ Ok b → a ≡ b
 ok_same a b r x y = cc

@@ -13,7 +13,3 @@ pub record ReadsDigits (cap : ℕ) (text : List ℕ) (n : ℕ) : Type 0 where
 pub value_push : (digits : List ℕ) (c start : ℕ) → fold (λ n d. n * 10 + (d - 48)) start (digits ++ c ∷ []) ≡ fold (λ n d. n * 10 + (d - 48)) start digits * 10 + (c - 48)
 value_push [] c start = refl
 value_push (d ∷ digits) c start = value_push digits c (start * 10 + (d - 48))
-
-pub digits_push : (digits : List ℕ) (c : ℕ) → AllByRecursion (λ c. is_digit c ≡ true) digits → is_digit c ≡ true → AllByRecursion (λ c. is_digit c ≡ true) (digits ++ c ∷ [])
-digits_push [] c each h = (h, tt)
-digits_push (d ∷ digits) c each h = (each.0, digits_push digits c each.1 h)

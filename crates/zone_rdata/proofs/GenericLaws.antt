@@ -1,12 +1,12 @@
 -- The laws of the generic form.
-use Rattle.std.proofs.Common.{◌≡◌, ℕ, zero, suc, ◌+◌, ◌/◌, ◌%◌, ◌<◌, ◌≤◌, ◌^◌, true, List, [], ◌∷◌, ◌++◌, length, map, Result, Ok, Err, ◌⊎◌, inl, inr, refl, sym, ap, ◌∙◌, subst, arith, length-append}
+use Rattle.std.proofs.Common.{◌≡◌, ℕ, ◌+◌, ◌/◌, ◌%◌, ◌<◌, ◌≤◌, ◌^◌, true, List, [], ◌∷◌, ◌++◌, length, map, Result, Ok, Err, ◌⊎◌, inl, inr, refl, sym, ap, ◌∙◌, subst, arith, length-append}
 use Rattle.std.specs.Prelude.{decimal}
 use Rattle.std.specs.List.{AllByRecursion, join_with_byte}
 use Rattle.std.proofs.lemmas.Bool.{cases_lt, cases_eq}
 use Rattle.std.proofs.lemmas.Bool.Decides.{nat_tests}
 use Rattle.std.proofs.lemmas.Fmt.{decimal_digit, decimal_by_steps}
 use Rattle.std.proofs.lemmas.List.{append-nil}
-use Rattle.hex.specs.Hex.{decode_of, IsBytes}
+use Rattle.hex.specs.Hex.{decode_of}
 use Rattle.hex.specs.declared.error.FromHexError.{FromHexError}
 use Rattle.hex.proofs.HexLemmas.{decode_of-encode_lower}
 use Rattle.zone_name.specs.Spelling.{is_digit}
@@ -19,8 +19,10 @@ use Rattle.zone_rdata.specs.Machine.GenericLength.{LengthFault, no_number, beyon
 use Rattle.zone_rdata.specs.Strings.{item_text}
 use Rattle.zone_rdata.specs.Text.{generic_text}
 use Rattle.zone_rdata.proofs.Choices.{Choice, each_or_not, true_or_not}
-use Rattle.zone_rdata.proofs.Decimal.{value_push, digits_push}
+use Rattle.zone_rdata.proofs.Decimal.{value_push}
 use Rattle.zone_rdata.proofs.GenericForm.{JoinTo-once, StatesLength-once, form_faults, form_missing, form_states}
+use Rattle.zone_name.proofs.Pushing.{AllByRecursion-append}
+use Rattle.zone_rdata.proofs.Lists.{each_below}
 
 -- two forms of the same items
 forms_digits : (items : List RawItem) (m n : ℕ) (a b : List RawItem) → IsGenericForm items m a → IsGenericForm items n b → a ≡ b
@@ -111,21 +113,16 @@ one_digit n h = record { some = omega arith; digits = (digit_test n h, tt); valu
 more_digits : (n : ℕ) (digits : List ℕ) → 10 ≤ n → IsDecimal digits (n / 10) → IsDecimal (digits ++ (48 + n % 10) ∷ []) n
 more_digits n digits h is = record {
   some = omega (arith, is.some, length-append digits ((48 + n % 10) ∷ []));
-  digits = digits_push digits (48 + n % 10) is.digits (digit_test (n % 10) (omega arith));
+  digits = AllByRecursion-append _ digits ((48 + n % 10) ∷ []) is.digits (digit_test (n % 10) (omega arith), tt);
   value = omega (arith, is.value, value_push digits (48 + n % 10) 0);
 }
 
 pub decimal-is : (n : ℕ) → n < 2 ^ 64 → IsDecimal (decimal n) n
 decimal-is n h = decimal_by_steps (λ n text. IsDecimal text n) one_digit more_digits n h
 
-bytes_of : (octets : List ℕ) → AllByRecursion (λ c. c < 256) octets → IsBytes octets
-bytes_of [] each i = omega arith
-bytes_of (c ∷ octets) each zero = each.0
-bytes_of (c ∷ octets) each (suc i) = bytes_of octets each.1 i
-
 printed_joins : (octets : List ℕ) → AllByRecursion (λ c. c < 256) octets → JoinTo (digit_items octets) octets
 printed_joins [] each = refl
-printed_joins (c ∷ octets) each = (c ∷ octets, [], decode_of-encode_lower (c ∷ octets) (bytes_of (c ∷ octets) each), sym (append-nil (c ∷ octets)), refl)
+printed_joins (c ∷ octets) each = (c ∷ octets, [], decode_of-encode_lower (c ∷ octets) (each_below 256 (c ∷ octets) (omega arith) each), sym (append-nil (c ∷ octets)), refl)
 
 pub printed-stated : (octets : List ℕ) → AllByRecursion (λ c. c < 256) octets → length octets ≤ 65535 → StatesGeneric (generic_items octets) octets
 printed-stated octets each short = record {

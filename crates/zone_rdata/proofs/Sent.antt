@@ -9,6 +9,7 @@ use Rattle.zone_name.specs.Spelling.{IsLabelFault}
 use Rattle.zone_name.specs.declared.fault.NameFault.{NameFault}
 use Rattle.zone_name.specs.declared.fault.NameFault.TheVariants.{EmptyLabel, LabelTooLong, NameTooLong, BadEscape, RelativeName}
 use Rattle.zone_rdata.specs.Machine.Fronts.{BeginsWithSent}
+use Rattle.zone_name.proofs.Pushing.{AllByRecursion-append, AllByRecursion-back}
 
 -- ---- lists one behind another
 -- lists of one length are cut off alike
@@ -70,17 +71,13 @@ pub record HasCut (octets : List ℕ) (labels : List (List ℕ)) (rest : List �
 pub cut_none : (octets : List ℕ) (labels : List (List ℕ)) → labels ≡ [] → HasCut octets labels octets
 cut_none octets labels e = record { sent = []; folds = sym e; some = tt; parts = refl }
 
-some_push : (sent : List (List ℕ)) (label : List ℕ) → AreSome sent → 0 < length label → AreSome (sent ++ label ∷ [])
-some_push [] label some h = (h, tt)
-some_push (l ∷ sent) label some h = (some.0, some_push sent label some.1 h)
-
 pub cut_more : (octets rest : List ℕ) (labels new : List (List ℕ)) (c : ℕ) (behind label after : List ℕ) → HasCut octets labels rest → rest ≡ c ∷ behind → 0 < c → c ≤ length behind → label ≡ take c behind → after ≡ drop c behind → new ≡ labels ++ folded_label label ∷ [] → HasCut octets new after
 cut_more octets rest labels new c behind label after cut e some fits front back grown =
     let count : length label ≡ c = omega (arith, length-take c behind, ap length front) in
     record {
       sent = cut.sent ++ label ∷ [];
       folds = map-append folded_label cut.sent (label ∷ []) ∙ ap (λ t. t ++ folded_label label ∷ []) cut.folds ∙ sym grown;
-      some = some_push cut.sent label cut.some (omega arith);
+      some = AllByRecursion-append (λ l. 0 < length l) cut.sent (label ∷ []) cut.some (omega arith, tt);
       parts = cut.parts ∙ ap (λ t. flat_map with_length cut.sent ++ t) (e ∙ frame_at c behind fits ∙ ap (λ l. with_length l ++ drop c behind) (sym front) ∙ ap (λ t. with_length label ++ t) (sym back)) ∙ frames_push cut.sent label after;
     }
 
@@ -119,19 +116,15 @@ record Fits (labels : List (List ℕ)) (label : List ℕ) : Type 0 where
   short : length label ≤ 63
   room : length (wire (labels ++ label ∷ [])) ≤ 255
 
-each_label : (before : List (List ℕ)) (label : List ℕ) (others : List (List ℕ)) → AllByRecursion IsLabel (before ++ label ∷ others) → IsLabel label
-each_label [] label others each = each.0
-each_label (l ∷ before) label others each = each_label before label others each.1
-
 fits_by : (before : List (List ℕ)) (label : List ℕ) (others : List (List ℕ)) → IsName (folded (before ++ label ∷ others)) → Fits (folded before) label
 fits_by before label others name =
     let whole : folded (before ++ label ∷ others) ≡ folded before ++ folded_label label ∷ folded others = map-append folded_label before (label ∷ others) in
-    let each = each_label (folded before) (folded_label label) (folded others) (subst (AllByRecursion IsLabel) whole name.each) in
+    let each = AllByRecursion-back IsLabel (folded before) (folded_label label ∷ folded others) (subst (AllByRecursion IsLabel) whole name.each) in
     let count = length-map label folded_octet in
     let frames = flat_map-append with_length (folded before) (folded_label label ∷ folded others) in
     let mine = flat_map-append with_length (folded before) (label ∷ []) in
     record {
-      short = omega (arith, each.short, count);
+      short = omega (arith, each.0.short, count);
       room = omega (arith, name.short, ap (λ t. length (wire t)) whole, length-append (flat_map with_length (folded before ++ folded_label label ∷ folded others)) (0 ∷ []), ap length frames, length-append (flat_map with_length (folded before)) (flat_map with_length (folded_label label ∷ folded others)), length-append (with_length (folded_label label)) (flat_map with_length (folded others)), count, length-append (flat_map with_length (folded before ++ label ∷ [])) (0 ∷ []), ap length mine, length-append (flat_map with_length (folded before)) (flat_map with_length (label ∷ [])), length-append (with_length label) []);
     }
 
@@ -163,15 +156,11 @@ name_by [] rest tail some e = (refl, (cc))
 name_by ([] ∷ more) rest tail some e = absurd (omega (arith, some.0))
 name_by ((c ∷ l) ∷ more) rest tail some e = absurd (let bad : 0 ≡ suc (length l) = cc in omega arith)
 
-pub some_behind : (before more : List (List ℕ)) → AreSome (before ++ more) → AreSome more
-some_behind [] more some = some
-some_behind (l ∷ before) more some = some_behind before more some.1
-
 pub sent_once : (octets rest tail : List ℕ) (a b : List (List ℕ)) → BeginsWithSent octets a rest → BeginsWithSent octets b tail → (a ≡ b) × (rest ≡ tail)
 sent_once octets rest tail a b x y =
     let open_x : octets ≡ flat_map with_length x.sent ++ 0 ∷ rest = x.parts ∙ append_assoc (flat_map with_length x.sent) (0 ∷ []) rest in
     let some_x = folded_some x.sent (subst (AllByRecursion IsLabel) (sym x.folds) x.is_name.each) in
     let some_y = folded_some y.sent (subst (AllByRecursion IsLabel) (sym y.folds) y.is_name.each) in
     let next = labels_first x.sent y.sent (0 ∷ rest) tail some_x (sym open_x ∙ y.parts) in
-    let same = name_by next.0 rest tail (some_behind x.sent next.0 (subst AreSome next.1 some_y)) next.2 in
+    let same = name_by next.0 rest tail (AllByRecursion-back (λ l. 0 < length l) x.sent next.0 (subst AreSome next.1 some_y)) next.2 in
     (sym x.folds ∙ ap folded (sym (next.1 ∙ ap (λ t. x.sent ++ t) same.0 ∙ append-nil x.sent)) ∙ y.folds, same.1)

@@ -1,7 +1,6 @@
 -- Texts and items that stand in a master file as they are printed.
-use Rattle.std.proofs.Common.{◌≡◌, ℕ, zero, suc, ◌/◌, ◌%◌, ◌^◌, ◌<◌, ◌&&◌, nat_lt, Bool, true, List, [], ◌∷◌, length, decimal, inl, inr, refl, arith}
+use Rattle.std.proofs.Common.{◌≡◌, ℕ, ◌/◌, ◌%◌, ◌^◌, ◌<◌, ◌&&◌, nat_lt, Bool, true, List, [], ◌∷◌, length, decimal, inl, inr, refl, arith}
 use Rattle.std.specs.List.{AllByRecursion, list_all}
-use Rattle.std.specs.Prelude.{slice_index}
 use Rattle.std.proofs.lemmas.Bool.{and_parts}
 use Rattle.std.proofs.lemmas.Bool.Decides.{nat_tests}
 use Rattle.hex.specs.Hex.{lower_digits, encode_with, encode_lower}
@@ -11,6 +10,8 @@ use Rattle.zone_rdata.specs.Address.{IsAddressOctet}
 use Rattle.zone_rdata.specs.Item.{RawItem, bare, quoted}
 use Rattle.zone_rdata.specs.Strings.{StandsInQuotes}
 use Rattle.zone_rdata.proofs.GenericLaws.{decimal-is}
+use Rattle.zone_rdata.proofs.Lists.{each_weaker}
+use Rattle.std.proofs.lemmas.List.Elements.{All-from_recursion}
 
 -- an item that stands as it is printed: bare, or between its quotes in one line
 abbrev pub Stands : RawItem → Type 0
@@ -20,10 +21,6 @@ Stands (quoted text) = StandsInQuotes text
 -- octets that stand by themselves outside quotes
 abbrev AreBare : List ℕ → Type 0
 AreBare text = AllByRecursion (λ c. is_bare c ≡ true) text
-
-each_bare : (P : ℕ → Type 0) → ((c : ℕ) → P c → is_bare c ≡ true) → (text : List ℕ) → AllByRecursion P text → AreBare text
-each_bare P is [] each = tt
-each_bare P is (c ∷ text) each = (is c each.0, each_bare P is text each.1)
 
 -- ---- literals
 
@@ -54,20 +51,15 @@ digit_bare c digit = grind (arith, nat_tests)
 pub bare_decimal : (n : ℕ) → n < 2 ^ 64 → StandsBare (decimal n)
 bare_decimal n short =
     let is = decimal-is n short in
-    bare_octets (decimal n) is.some (each_bare (λ c. is_digit c ≡ true) digit_bare (decimal n) is.digits)
-
-digit_at : (digits : List ℕ) (i : ℕ) → AreBare digits → i < length digits → is_bare (slice_index digits i) ≡ true
-digit_at [] i each low = absurd (omega arith)
-digit_at (c ∷ digits) zero each low = each.0
-digit_at (c ∷ digits) (suc i) each low = digit_at digits i each.1 (omega arith)
+    bare_octets (decimal n) is.some (each_weaker (λ c. is_bare c ≡ true) digit_bare (decimal n) is.digits)
 
 hex_bare : (octets : List ℕ) → AllByRecursion (λ c. c < 256) octets → AreBare (encode_lower octets)
 unfolding encode_with
 hex_bare [] low = tt
 hex_bare (c ∷ octets) low =
     let fits : c < 256 = low.0 in
-    let digits = tested_each lower_digits refl in
-    (digit_at lower_digits (c / 16) digits (omega arith), (digit_at lower_digits (c % 16) digits (omega arith), hex_bare octets low.1))
+    let digits = All-from_recursion (λ c. is_bare c ≡ true) lower_digits (tested_each lower_digits refl) in
+    (digits (c / 16) 0 (omega arith), (digits (c % 16) 0 (omega arith), hex_bare octets low.1))
 
 pub bare_hex : (c : ℕ) (octets : List ℕ) → AllByRecursion (λ c. c < 256) (c ∷ octets) → StandsBare (encode_lower (c ∷ octets))
 unfolding encode_with
@@ -82,4 +74,4 @@ address_bare c (inr (inr (inl dot))) = grind (arith, nat_tests)
 address_bare c (inr (inr (inr colon))) = grind (arith, nat_tests)
 
 pub bare_address : (text : List ℕ) → 0 < length text → AllByRecursion IsAddressOctet text → StandsBare text
-bare_address text some each = bare_octets text some (each_bare IsAddressOctet address_bare text each)
+bare_address text some each = bare_octets text some (each_weaker (λ c. is_bare c ≡ true) address_bare text each)

@@ -7,9 +7,10 @@ use Rattle.zone_name.specs.Spelling.{Written, plain, escaped, decimal, text_of, 
 use Rattle.zone_rdata.specs.declared.fault.Fault.{Fault}
 use Rattle.zone_rdata.specs.Item.{RawItem, quoted}
 use Rattle.zone_rdata.specs.Strings.{IsString, SpellsString, StringFault, StandsInQuotes, is_quote, inside_text, is_shown, unit_text}
-use Rattle.zone_rdata.proofs.StringSteps.{AllByRecursion-append}
+use Rattle.zone_name.proofs.Pushing.{AllByRecursion-append}
 use Rattle.zone_name.proofs.Lawful.{written_by, printed_text, value_by, decimal_escapes}
 use Rattle.zone_rdata.proofs.Strings.{string_reads, fault_reads}
+use Rattle.zone_rdata.proofs.Lists.{each_weaker}
 pub use Rattle.zone_rdata.proofs.Strings.{string-or_fault}
 
 pub string-once : (item : RawItem) (a b : List ℕ) → SpellsString item a → SpellsString item b → a ≡ b
@@ -96,14 +97,10 @@ unit_of_quoted (plain c) is = (refl, is.1)
 unit_of_quoted (escaped c) is = is
 unit_of_quoted (decimal x y z) is = is
 
-units_of_quoted : (units : List Written) → AllByRecursion (IsUnit is_quote) units → AllByRecursion (IsUnit no_octet) units
-units_of_quoted [] each = tt
-units_of_quoted (w ∷ units) each = (unit_of_quoted w each.0, units_of_quoted units each.1)
-
 pub printed-spells : (octets : List ℕ) → IsString octets → SpellsString (quoted (inside_text octets)) octets
 printed-spells octets is = record {
   units = printed_units octets;
-  each = units_of_quoted (printed_units octets) (quoted_units octets is.each);
+  each = each_weaker (IsUnit no_octet) unit_of_quoted (printed_units octets) (quoted_units octets is.each);
   text = units_text octets;
   value = units_octets octets;
   string = is;

@@ -5,7 +5,7 @@ use Rattle.std.proofs.lemmas.List.{append-nil}
 use Rattle.zone_name.specs.Spelling.{is_digit}
 use Rattle.zone_rdata.specs.Number.{Group, IsTimeGroup, group_text, group_seconds, unit_seconds, IsDecimal, IsTime, plain, grouped}
 use Rattle.zone_rdata.proofs.Choices.{Choice, Decided}
-use Rattle.zone_rdata.proofs.Decimal.{digits_push}
+use Rattle.zone_name.proofs.Pushing.{AllByRecursion-append}
 use Rattle.zone_rdata.proofs.GenericLaws.{decimal_or_not}
 use Rattle.zone_rdata.proofs.Times.{AreDigits, run_split, no_run, run_nil, unit_no_digit}
 
@@ -68,7 +68,7 @@ letter_by [] rest c all no_digit choice = inr (λ h. absurd (let first = first_g
 letter_by (d ∷ digits) rest c all no_digit choice = unit_by (d ∷ digits) rest c (unit_seconds c) all (omega arith) no_digit refl choice
 
 octet_by : (digits rest : List ℕ) (c : ℕ) (b : Bool) → AreDigits digits → is_digit c ≡ b → (AreDigits (digits ++ c ∷ []) → Decided (AreGroups ((digits ++ c ∷ []) ++ rest))) → Decided (AreGroups rest) → Decided (AreGroups (digits ++ c ∷ rest))
-octet_by digits rest c true all e goes choice = subst (λ t. Decided (AreGroups t)) (append_assoc digits (c ∷ []) rest) (goes (digits_push digits c all e))
+octet_by digits rest c true all e goes choice = subst (λ t. Decided (AreGroups t)) (append_assoc digits (c ∷ []) rest) (goes (AllByRecursion-append _ digits (c ∷ []) all (e, tt)))
 octet_by digits rest c false all e goes choice = letter_by digits rest c all e choice
 
 groups_or_not : (text digits : List ℕ) → AreDigits digits → Decided (AreGroups (digits ++ text))

@@ -11,6 +11,7 @@ use Rattle.zone_name.specs.Spelling.{is_digit}
 use Rattle.zone_rdata.specs.declared.time.Progress.{Progress}
 use Rattle.zone_rdata.specs.Number.{Group, IsTimeGroup, group_text, group_seconds, decimal_value, unit_seconds, IsTime, plain, grouped}
 use Rattle.zone_rdata.specs.Machine.TimeProgress.{Reads}
+use Rattle.zone_name.proofs.Pushing.{AllByRecursion-append}
 
 abbrev pub AreDigits : List ℕ → Type 0
 AreDigits text = AllByRecursion (λ c. is_digit c ≡ true) text
@@ -40,10 +41,6 @@ unit_no_digit c u e = grind (arith, nat_tests)
 pub run_nil : (a : List ℕ) (c : ℕ) (r : List ℕ) → a ++ c ∷ r ≡ [] → ⊥
 run_nil [] c r e = cc
 run_nil (a ∷ as_) c r e = cc
-
-each_push : (groups : List Group) (g : Group) → AllByRecursion IsTimeGroup groups → IsTimeGroup g → AllByRecursion IsTimeGroup (groups ++ g ∷ [])
-each_push [] g each h = (h, tt)
-each_push (x ∷ groups) g each h = (each.0, each_push groups g each.1 h)
 
 -- groups and digits: what a text may be cut into
 groups_run : (groups other : List Group) (a : List ℕ) (c : ℕ) (r : List ℕ) → AllByRecursion IsTimeGroup groups → AllByRecursion IsTimeGroup other → AreDigits a → is_digit c ≡ false → (0 < length a → (u : ℕ) → unit_seconds c ≡ Some u → ⊥) → flat_map group_text groups ++ (a ++ c ∷ r) ≡ flat_map group_text other → ⊥
@@ -93,7 +90,7 @@ more_groups text c unit p next lasts some opens total groups number closed reads
       groups = reads.groups ++ g ∷ [];
       digits = [];
       parts = ap (λ t. t ++ c ∷ []) reads.parts ∙ append_assoc (flat_map group_text reads.groups) reads.digits (c ∷ []) ∙ sym (append-nil (flat_map group_text (reads.groups ++ g ∷ [])) ∙ flat_map-append group_text reads.groups (g ∷ []) ∙ ap (λ t. flat_map group_text reads.groups ++ t) (append-nil (group_text g)));
-      each = each_push reads.groups g reads.each (record { some = reads.opened.0 opens; each = reads.last; lasts = lasts });
+      each = AllByRecursion-append IsTimeGroup reads.groups (g ∷ []) reads.each (record { some = reads.opened.0 opens; each = reads.last; lasts = lasts }, tt);
       last = tt;
       total = total ∙ rw (reads.total, reads.number) (capped_sum 4294967296 (sum_by group_seconds reads.groups) (decimal_value reads.digits) unit some ∙ ap (min 4294967296) (sym (sums ∙ ap (λ t. sum_by group_seconds reads.groups + t) (zero-add (decimal_value reads.digits * unit)))));
       number = number;

@@ -5,7 +5,7 @@ use Rattle.std.proofs.lemmas.Bool.{cases_eq, cases_lt}
 use Rattle.std.proofs.lemmas.List.{append-nil, length-drop}
 use Rattle.zone_name.specs.Name.{IsFoldedOctet, IsLabel, IsName, folded, folded_label, folded_octet, wire, with_length}
 use Rattle.zone_name.specs.Text.{label_text, name_text, octet_text}
-use Rattle.zone_name.proofs.Pushing.{AllByRecursion-append}
+use Rattle.zone_name.proofs.Pushing.{AllByRecursion-append, AllByRecursion-back}
 use Rattle.zone_rdata.specs.declared.field.Field.TheVariants.{Name}
 use Rattle.zone_rdata.specs.Builder.{FitsString}
 use Rattle.zone_rdata.specs.Fault.{fault_of}
@@ -17,9 +17,10 @@ use Rattle.zone_rdata.specs.Machine.Fronts.{BeginsWithSent}
 use Rattle.zone_rdata.proofs.Choices.{Decided, each_or_not}
 use Rattle.zone_rdata.proofs.FieldLaws.{AreLow, FieldLaws, FrontChoice, bare_item, bare_or_fault, found_front, mark_text}
 use Rattle.zone_name.proofs.Octets.{labels_of-wire_append}
-use Rattle.zone_rdata.proofs.Sent.{AreSome, HasCut, cut_more, cut_name, cut_none, folded_some, goes_on, name_by, no_first, no_room, sent_once, some_behind}
+use Rattle.zone_rdata.proofs.Sent.{AreSome, HasCut, cut_more, cut_name, cut_none, folded_some, goes_on, name_by, no_first, no_room, sent_once}
 use Rattle.zone_name.proofs.Bare.{bare_name}
 use Rattle.zone_name.proofs.Lengths.{name_text_length}
+use Rattle.zone_rdata.proofs.Lists.{each_weaker}
 
 only : (v : FieldValue) → Holds Name v → (labels : List (List ℕ)) × (v ≡ name labels)
 only (name labels) h = (labels, refl)
@@ -34,13 +35,9 @@ part (name labels) s fits real = (real, omega (arith, length-append (flat_map wi
 part v s fits real = absurd s
 
 -- ---- its octets
-low_octets : (label : List ℕ) → AllByRecursion IsFoldedOctet label → AreLow label
-low_octets [] each = tt
-low_octets (c ∷ label) each = (each.0.octet, low_octets label each.1)
-
 low_labels : (labels : List (List ℕ)) → AllByRecursion IsLabel labels → AreLow (flat_map with_length labels)
 low_labels [] each = tt
-low_labels (label ∷ labels) each = AllByRecursion-append (λ c. c < 256) (with_length label) (flat_map with_length labels) (omega (arith, each.0.short), low_octets label each.0.each) (low_labels labels each.1)
+low_labels (label ∷ labels) each = AllByRecursion-append (λ c. c < 256) (with_length label) (flat_map with_length labels) (omega (arith, each.0.short), each_weaker (λ c. c < 256) (λ c is. is.octet) label each.0.each) (low_labels labels each.1)
 
 low : (labels : List (List ℕ)) → IsName labels → AreLow (wire labels)
 low labels h = AllByRecursion-append (λ c. c < 256) (flat_map with_length labels) (0 ∷ []) (low_labels labels h.each) (omega arith, tt)
@@ -107,7 +104,7 @@ ended_labels : (octets rest behind tail : List ℕ) (labels own : List (List ℕ
 ended_labels octets rest behind tail labels own c cut e nothing b =
     let next = goes_on octets rest tail labels own cut b in
     let some = folded_some b.sent (subst (AllByRecursion IsLabel) (sym b.folds) b.is_name.each) in
-    let same = name_by next.0 behind tail (some_behind cut.sent next.0 (subst AreSome next.1 some)) (sym (e ∙ ap (λ n. n ∷ behind) nothing) ∙ next.2) in
+    let same = name_by next.0 behind tail (AllByRecursion-back (λ l. 0 < length l) cut.sent next.0 (subst AreSome next.1 some)) (sym (e ∙ ap (λ n. n ∷ behind) nothing) ∙ next.2) in
     let same_labels : own ≡ labels = sym b.folds ∙ ap folded (next.1 ∙ ap (λ t. cut.sent ++ t) same.0 ∙ append-nil cut.sent) ∙ cut.folds in
     subst IsName same_labels b.is_name
 
