@@ -7,7 +7,6 @@ ghost use Rattle.zone_wire.specs.Stream.{StreamEnd, StreamReads};
 ghost use Rattle.zone_wire.specs.Answers.{is_closed};
 ghost use Rattle.zone_wire.specs.Transfer.{frame};
 
-use crate::number::u16_at;
 use crate::transfer::Transfer;
 use std::alloc::{AllocError, Global};
 use zone_rdata::{Fault, Place};
@@ -161,7 +160,7 @@ fn frame_end(cut: &[u8], more: &[u8]) -> Option<usize>
         ([], [high, low, ..]) => (*high, *low),
         _ => return None,
     };
-    let len = LENGTH_LEN + u16_at(&[high, low], 0) as usize;
+    let len = LENGTH_LEN + u16::from_be_bytes([high, low]) as usize;
     if len - cut.len() > more.len() {
         return None;
     }
