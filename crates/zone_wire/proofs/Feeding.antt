@@ -290,9 +290,9 @@ follow_stands failed finished count t unfinished fed given works going counted f
       closed = g.behind.among.closed;
     }
 
-pub finished_stands : (failed : Bool) (count : ℕ) (t : Transfer) (unfinished fed : List ℕ) (given : List Placed) → failed ≡ false → Bytes fed → count ≡ length fed → StreamReads fed (given ++ t.decided.placed.items) t.decided.ending → Stands (source_of failed true count t unfinished) fed given
-finished_stands failed count t unfinished fed given works octets counted reads = record {
-  works = works;
+pub finished_stands : (count : ℕ) (t : Transfer) (unfinished fed : List ℕ) (given : List Placed) → Bytes fed → count ≡ length fed → StreamReads fed (given ++ t.decided.placed.items) t.decided.ending → Stands (source_of false true count t unfinished) fed given
+finished_stands count t unfinished fed given octets counted reads = record {
+  works = refl;
   octets = octets;
   count = counted;
   decided = λ e. let no : ⊥ = cc in absurd no;

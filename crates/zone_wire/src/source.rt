@@ -16,12 +16,22 @@ pub struct TransferSource {
     intake: Intake,
     /// The octets of all pieces that were taken.
     fed: u64,
-    finished: bool,
-    failed: bool,
+    status: Status,
+}
+
+/// How far a source is with its stream.
+#[derive(Drop)]
+enum Status {
+    /// Further pieces may come.
+    Open,
+    /// The end of the stream was taken.
+    Finished,
+    /// Memory was refused.
+    OutOfMemory,
 }
 
 impl Model for TransferSource {
-    ghost use Rattle.zone_wire.specs.Machine.Feeding.{IsSource};
+    ghost use Rattle.zone_wire.specs.Machine.Feeding.{IsSource, is_failed, is_finished};
     ghost use Rattle.zone_wire.specs.Machine.Transferring.{zone_held};
     ghost use Rattle.zone_wire.specs.Source.{SourceState};
 
@@ -29,12 +39,12 @@ impl Model for TransferSource {
 
     ghost view = { λ s. record {
       pending = record {
-        failed = s.failed;
+        failed = is_failed s.status;
         records = s.intake.transfer.decided.placed.items;
         ending = s.intake.transfer.decided.ending;
       };
       held = record {
-        finished = s.finished;
+        finished = is_finished s.status;
         fed = s.fed;
         messages = s.intake.transfer.messages;
         id = s.intake.transfer.id;
@@ -45,7 +55,7 @@ impl Model for TransferSource {
       };
     } };
 
-    ghost invariant = { λ s. IsSource s.failed s.finished s.fed s.intake.transfer s.intake.unfinished.items };
+    ghost invariant = { λ s. IsSource s.status s.fed s.intake.transfer s.intake.unfinished.items };
 }
 
 impl TransferSource {
@@ -63,8 +73,7 @@ impl TransferSource {
         TransferSource {
             intake: Intake::new(alloc),
             fed: 0,
-            finished: false,
-            failed: false,
+            status: Status::Open,
         }
     }
 
@@ -89,7 +98,7 @@ impl TransferSource {
         ensures uncounted { OnErr result (self.new.held.fed ≡ self.old.held.fed) }
         ensures goes_on { self.new.held.finished ≡ false }
     {
-        if self.failed {
+        if let Status::OutOfMemory = self.status {
             return Err(Stop::Memory);
         }
         match self.intake.feed(piece) {
@@ -99,7 +108,7 @@ impl TransferSource {
             }
             Err(_) => {
                 self.intake.drop_unfinished();
-                self.failed = true;
+                self.status = Status::OutOfMemory;
                 Err(Stop::Memory)
             }
         }
@@ -122,11 +131,11 @@ impl TransferSource {
         ensures goes_on { OnErr result (self.new.held.finished ≡ false) }
         ensures count { self.new.held.fed ≡ self.old.held.fed }
     {
-        if self.failed {
+        if let Status::OutOfMemory = self.status {
             return Err(Stop::Memory);
         }
         self.intake.finish();
-        self.finished = true;
+        self.status = Status::Finished;
         Ok(())
     }
 
@@ -134,7 +143,7 @@ impl TransferSource {
     pub fn is_finished(&self) -> bool
         ensures { result ≡ self.now.held.finished }
     {
-        self.finished
+        matches!(self.status, Status::Finished)
     }
 
     /// The number of octets of the stream that the source keeps, at most 65,536: those behind the last whole frame, and none
@@ -177,7 +186,7 @@ impl RrSource for TransferSource {
     ghost pending = { λ s. s.pending };
 
     fn next(&mut self) -> Result<Option<Placed>, Stop> {
-        if self.failed {
+        if let Status::OutOfMemory = self.status {
             return Err(Stop::Memory);
         }
         self.intake.transfer.decided.next()

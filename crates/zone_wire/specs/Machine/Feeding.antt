@@ -7,6 +7,8 @@ use Rattle.zone_wire.specs.Machine.Transferring.{Behind}
 use Rattle.zone_wire.specs.Message.{u16_at}
 use Rattle.zone_wire.specs.Stream.{octets_in, placed_in, AreRead, Decided}
 use Rattle.zone_wire.specs.Transfer.{StatedMessage}
+use Rattle.zone_wire.specs.declared.source.Status.{Status}
+use Rattle.zone_wire.specs.declared.source.Status.TheVariants.{Open, Finished, OutOfMemory}
 use Rattle.zone_wire.specs.declared.transfer.Transfer.{Transfer}
 
 -- octets that end inside a frame
@@ -26,12 +28,22 @@ pub record Follow (t : Transfer) (unfinished : List ℕ) (fed : List ℕ) (given
   pub octets : (i : ℕ) → slice_index fed i < 256
   pub state : MatchOption t.decided.ending (Going t unfinished fed given) (λ e. Decided fed (given ++ t.decided.placed.items) (Some e))
 
+abbrev pub is_failed : Status → Bool
+is_failed Open = false
+is_failed Finished = false
+is_failed OutOfMemory = true
+
+abbrev pub is_finished : Status → Bool
+is_finished Open = false
+is_finished Finished = true
+is_finished OutOfMemory = false
+
 -- what a source holds: octets of the unfinished frame alone, none of them behind a fault, behind the end or once it has
 -- failed, and numbers that fit
-pub record IsSource (failed finished : Bool) (fed : ℕ) (t : Transfer) (unfinished : List ℕ) : Type 0 where
+pub record IsSource (status : Status) (fed : ℕ) (t : Transfer) (unfinished : List ℕ) : Type 0 where
   pub cut : IsCut unfinished
-  pub messages : failed ≡ false → t.messages ≤ fed
+  pub messages : is_failed status ≡ false → t.messages ≤ fed
   pub fits : fed + 1 < 2 ^ 64
   pub dropped : IfSome t.decided.ending (λ _. unfinished ≡ [])
-  pub none_failed : failed ≡ true → unfinished ≡ []
-  pub none_finished : finished ≡ true → unfinished ≡ []
+  pub none_failed : is_failed status ≡ true → unfinished ≡ []
+  pub none_finished : is_finished status ≡ true → unfinished ≡ []
