@@ -1,12 +1,14 @@
 -- What a source stands for.
-use Rattle.std.proofs.Common.{◌≡◌, ℕ, ◌+◌, List, [], ◌∷◌, ◌++◌, length, take, Bool, true, false, Option, Some, None, Result, Ok, Err, IfSome, refl, sym, ap, ◌∙◌, subst, arith, append_assoc, length-append}
+use Rattle.std.proofs.Common.{◌≡◌, ℕ, ◌+◌, List, [], ◌∷◌, ◌++◌, length, take, true, false, Option, Some, None, Result, Ok, Err, IfSome, refl, sym, ap, ◌∙◌, subst, arith, append_assoc, length-append}
 use Rattle.std.proofs.lemmas.Bool.{both_ways}
 use Rattle.std.proofs.lemmas.List.{append-nil}
 use Rattle.zone_name.specs.Common.{Labels}
 use Rattle.zone_rdata.specs.declared.record.Placed.{Placed}
 use Rattle.zone_text.specs.declared.ended.EndedEntries.{EndedEntries}
 use Rattle.zone_text.specs.declared.intake.Intake.{Intake}
-use Rattle.zone_text.specs.Machine.Feeding.{Follow, state_of}
+use Rattle.zone_text.specs.Machine.Feeding.{Follow, is_finished, state_of}
+use Rattle.zone_text.specs.declared.source.Status.{Status}
+use Rattle.zone_text.specs.declared.source.Status.TheVariants.{Open, Finished}
 use Rattle.zone_text.specs.Source.{counted, Gives, Held, Leave, SourceState, Stands}
 use Rattle.zone_text.specs.Decided.{Decided}
 use Rattle.zone_text.specs.FileReads.{FileReads}
@@ -17,7 +19,7 @@ use Rattle.zone_rdata.specs.declared.source.Reading.{Reading}
 use Rattle.zone_text.proofs.Followed.{Reads}
 use Rattle.zone_text.proofs.PartTaken.{FollowsOn}
 
-pub stands_begun : (origin : Labels) (ended : EndedEntries) (unfinished : List ℕ) → Follow origin ended unfinished [] [] → Stands origin (state_of false false 0 ended unfinished) [] []
+pub stands_begun : (origin : Labels) (ended : EndedEntries) (unfinished : List ℕ) → Follow origin ended unfinished [] [] → Stands origin (state_of Open 0 ended unfinished) [] []
 stands_begun origin ended unfinished follow = record {
   works = refl;
   count = refl;
@@ -26,41 +28,41 @@ stands_begun origin ended unfinished follow = record {
   read = λ e. absurd (let t : ⊥ = cc in t);
 }
 
-follow_of : (origin : Labels) (failed finished : Bool) (n : ℕ) (ended : EndedEntries) (unfinished fed : List ℕ) (given : List Placed) → finished ≡ false → Stands origin (state_of failed finished n ended unfinished) fed given → Follow origin ended unfinished fed given
-follow_of origin failed finished n ended unfinished fed given going stands = record {
+follow_of : (origin : Labels) (status : Status) (n : ℕ) (ended : EndedEntries) (unfinished fed : List ℕ) (given : List Placed) → is_finished status ≡ false → Stands origin (state_of status n ended unfinished) fed given → Follow origin ended unfinished fed given
+follow_of origin status n ended unfinished fed given going stands = record {
   decided = stands.decided going;
   leave = stands.leave going;
 }
 
 -- a piece more
-pub stands_more : (origin : Labels) (failed finished : Bool) (n more : ℕ) (old new : EndedEntries) (unfinished left part fed : List ℕ) (given : List Placed) → finished ≡ false → more ≡ n + length part → FollowsOn old unfinished new left part → Stands origin (state_of failed finished n old unfinished) fed given → Stands origin (state_of failed finished more new left) (fed ++ part) given
-stands_more origin failed finished n more old new unfinished left part fed given going count on stands =
-    let follow : Follow origin new left (fed ++ part) given = on origin fed given (follow_of origin failed finished n old unfinished fed given going stands) in
+pub stands_more : (origin : Labels) (status : Status) (n more : ℕ) (old new : EndedEntries) (unfinished left part fed : List ℕ) (given : List Placed) → is_finished status ≡ false → more ≡ n + length part → FollowsOn old unfinished new left part → Stands origin (state_of status n old unfinished) fed given → Stands origin (state_of status more new left) (fed ++ part) given
+stands_more origin status n more old new unfinished left part fed given going count on stands =
+    let follow : Follow origin new left (fed ++ part) given = on origin fed given (follow_of origin status n old unfinished fed given going stands) in
     record {
       works = stands.works;
       count = omega (arith, count, stands.count, length-append fed part);
       decided = λ _. follow.decided;
       leave = λ _. follow.leave;
-      read = λ ended. absurd (both_ways finished going ended);
+      read = λ ended. absurd (both_ways (is_finished status) going ended);
     }
 
 -- the end of the file
-pub stands_finished : (origin : Labels) (failed finished : Bool) (n : ℕ) (old new : EndedEntries) (unfinished left fed : List ℕ) (given : List Placed) → finished ≡ false → ((above : Labels) (octets : List ℕ) (before : List Placed) → Follow above old unfinished octets before → Reads above octets before new) → Stands origin (state_of failed finished n old unfinished) fed given → Stands origin (state_of failed true n new left) fed given
-stands_finished origin failed finished n old new unfinished left fed given going reads stands = record {
-  works = stands.works;
+pub stands_finished : (origin : Labels) (status : Status) (n : ℕ) (old new : EndedEntries) (unfinished left fed : List ℕ) (given : List Placed) → is_finished status ≡ false → ((above : Labels) (octets : List ℕ) (before : List Placed) → Follow above old unfinished octets before → Reads above octets before new) → Stands origin (state_of status n old unfinished) fed given → Stands origin (state_of Finished n new left) fed given
+stands_finished origin status n old new unfinished left fed given going reads stands = record {
+  works = refl;
   count = stands.count;
   decided = λ e. absurd (let t : ⊥ = cc in t);
   leave = λ e. absurd (let t : ⊥ = cc in t);
-  read = λ _. reads origin fed given (follow_of origin failed finished n old unfinished fed given going stands);
+  read = λ _. reads origin fed given (follow_of origin status n old unfinished fed given going stands);
 }
 
 -- once a fault is decided pieces are counted alone
-pub counts_alone : (failed finished : Bool) (n more k : ℕ) (old new : Intake) → more ≡ n + k → IfSome old.ended.decided.ending (λ _. (true ≡ true) × (new ≡ old)) → IfSome old.ended.decided.ending (λ _. (true ≡ true) × (state_of failed finished more new.ended new.unfinished.items ≡ counted k (state_of failed finished n old.ended old.unfinished.items)))
-counts_alone failed finished n more k old new count settled = by old.ended.decided.ending settled
+pub counts_alone : (status : Status) (n more k : ℕ) (old new : Intake) → more ≡ n + k → IfSome old.ended.decided.ending (λ _. (true ≡ true) × (new ≡ old)) → IfSome old.ended.decided.ending (λ _. (true ≡ true) × (state_of status more new.ended new.unfinished.items ≡ counted k (state_of status n old.ended old.unfinished.items)))
+counts_alone status n more k old new count settled = by old.ended.decided.ending settled
   where
-    by : {A : Type 0} (ending : Option A) → IfSome ending (λ _. (true ≡ true) × (new ≡ old)) → IfSome ending (λ _. (true ≡ true) × (state_of failed finished more new.ended new.unfinished.items ≡ counted k (state_of failed finished n old.ended old.unfinished.items)))
+    by : {A : Type 0} (ending : Option A) → IfSome ending (λ _. (true ≡ true) × (new ≡ old)) → IfSome ending (λ _. (true ≡ true) × (state_of status more new.ended new.unfinished.items ≡ counted k (state_of status n old.ended old.unfinished.items)))
     by None same = tt
-    by (Some found) same = (refl, ap (λ (s : Intake). state_of failed finished more s.ended s.unfinished.items) same.1 ∙ ap (λ m. state_of failed finished m old.ended old.unfinished.items) count)
+    by (Some found) same = (refl, ap (λ (s : Intake). state_of status more s.ended s.unfinished.items) same.1 ∙ ap (λ m. state_of status m old.ended old.unfinished.items) count)
 
 -- ---- records that are given
 

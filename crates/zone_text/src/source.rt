@@ -1,6 +1,7 @@
 //! A source of the records of a master file that is fed in pieces.
 ghost use Rattle.std.specs.Prelude.{◌≡◌, ◌+◌, ◌<◌, ◌^◌, ◌++◌, ℕ, true, false, [], List, length, IfErr, IfSome, IsOk, OnOk, OnErr};
 ghost use Rattle.zone_name.specs.Common.{Labels};
+ghost use Rattle.zone_text.specs.declared.source.Status.TheVariants.{OutOfMemory};
 
 use crate::intake::Intake;
 use std::alloc::Global;
@@ -17,8 +18,18 @@ pub struct TextSource {
     intake: Intake,
     /// The octets of all pieces that were taken.
     fed: u64,
-    finished: bool,
-    failed: bool,
+    status: Status,
+}
+
+/// How far a source is with its file.
+#[derive(Drop)]
+enum Status {
+    /// Further pieces may come.
+    Open,
+    /// The end of the file was taken.
+    Finished,
+    /// Memory was refused.
+    OutOfMemory,
 }
 
 impl Model for TextSource {
@@ -27,20 +38,20 @@ impl Model for TextSource {
 
     ghost Value = { SourceState };
 
-    ghost view = { λ s. state_of s.failed s.finished s.fed s.intake.ended s.intake.unfinished.items };
+    ghost view = { λ s. state_of s.status s.fed s.intake.ended s.intake.unfinished.items };
 
-    ghost invariant = { λ s. IsSource s.failed s.finished s.fed s.intake.ended s.intake.at s.intake.unfinished.items };
+    ghost invariant = { λ s. IsSource s.status s.fed s.intake.ended s.intake.at s.intake.unfinished.items };
 }
 
 /// Gives up what is kept: every later call answers `Memory`.
 #[cold]
-fn fail(intake: &mut Intake, failed: &mut bool) -> Stop
+fn fail(intake: &mut Intake, status: &mut Status) -> Stop
     ensures memory { result ≡ Stop.Memory }
-    ensures failed { failed.new ≡ true }
+    ensures failed { status.new ≡ OutOfMemory }
     ensures none { intake.new.unfinished.items ≡ [] }
 {
     intake.drop_unfinished();
-    *failed = true;
+    *status = Status::OutOfMemory;
     Stop::Memory
 }
 
@@ -57,8 +68,7 @@ impl TextSource {
         TextSource {
             intake: Intake::new(alloc, origin),
             fed: 0,
-            finished: false,
-            failed: false,
+            status: Status::Open,
         }
     }
 
@@ -83,7 +93,7 @@ impl TextSource {
         ensures uncounted { OnErr result (self.new.held.fed ≡ self.old.held.fed) }
         ensures goes_on { self.new.held.finished ≡ false }
     {
-        if self.failed {
+        if let Status::OutOfMemory = self.status {
             return Err(Stop::Memory);
         }
         match self.intake.feed(piece) {
@@ -91,7 +101,7 @@ impl TextSource {
                 self.fed += piece.len() as u64;
                 Ok(())
             }
-            Err(_) => Err(fail(&mut self.intake, &mut self.failed)),
+            Err(_) => Err(fail(&mut self.intake, &mut self.status)),
         }
     }
 
@@ -112,15 +122,15 @@ impl TextSource {
         ensures goes_on { OnErr result (self.new.held.finished ≡ false) }
         ensures count { self.new.held.fed ≡ self.old.held.fed }
     {
-        if self.failed {
+        if let Status::OutOfMemory = self.status {
             return Err(Stop::Memory);
         }
         match self.intake.finish() {
             Ok(()) => {
-                self.finished = true;
+                self.status = Status::Finished;
                 Ok(())
             }
-            Err(_) => Err(fail(&mut self.intake, &mut self.failed)),
+            Err(_) => Err(fail(&mut self.intake, &mut self.status)),
         }
     }
 
@@ -128,7 +138,7 @@ impl TextSource {
     pub fn is_finished(&self) -> bool
         ensures { result ≡ self.now.held.finished }
     {
-        self.finished
+        matches!(self.status, Status::Finished)
     }
 
     /// The number of octets of the file that the source keeps: those behind the last line feed that ended an entry, and
@@ -168,7 +178,7 @@ impl RrSource for TextSource {
     ghost pending = { λ s. s.pending };
 
     fn next(&mut self) -> Result<Option<Placed>, Stop> {
-        if self.failed {
+        if let Status::OutOfMemory = self.status {
             return Err(Stop::Memory);
         }
         self.intake.ended.decided.next()

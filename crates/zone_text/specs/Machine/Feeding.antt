@@ -15,6 +15,8 @@ use Rattle.zone_text.specs.declared.ended.EndedEntries.{EndedEntries}
 use Rattle.zone_text.specs.declared.intake.Intake.{Intake}
 use Rattle.zone_text.specs.declared.scan.ScanState.{ScanState}
 use Rattle.zone_text.specs.declared.scan.Step.{Step}
+use Rattle.zone_text.specs.declared.source.Status.{Status}
+use Rattle.zone_text.specs.declared.source.Status.TheVariants.{Open, Finished, OutOfMemory}
 use Rattle.zone_text.specs.declared.scan.Step.TheVariants.{On}
 
 -- An entry was read behind others: the record that it states came behind theirs, or its fault is the last word. If it is
@@ -61,17 +63,27 @@ abbrev pub ReadsAll : Intake → Intake → Type 0
 ReadsAll old new =
     (origin : Labels) (fed : List ℕ) (given : List Placed) → Follow origin old.ended old.unfinished.items fed given → FileReads origin fed (given ++ new.ended.decided.placed.items) new.ended.decided.ending
 
+abbrev pub is_failed : Status → Bool
+is_failed Open = false
+is_failed Finished = false
+is_failed OutOfMemory = true
+
+abbrev pub is_finished : Status → Bool
+is_finished Open = false
+is_finished Finished = true
+is_finished OutOfMemory = false
+
 -- a source as contracts see it
-abbrev pub state_of : Bool → Bool → ℕ → EndedEntries → List ℕ → SourceState
-state_of failed finished fed ended unfinished = record {
-  pending = record { failed = failed; records = ended.decided.placed.items; ending = ended.decided.ending };
-  held = record { finished = finished; fed = fed; defaults = ended.defaults; line = ended.line; unfinished = unfinished };
+abbrev pub state_of : Status → ℕ → EndedEntries → List ℕ → SourceState
+state_of status fed ended unfinished = record {
+  pending = record { failed = is_failed status; records = ended.decided.placed.items; ending = ended.decided.ending };
+  held = record { finished = is_finished status; fed = fed; defaults = ended.defaults; line = ended.line; unfinished = unfinished };
 }
 
 -- what a source holds: nothing of the unfinished entry once it has failed or the file has ended, and numbers that fit
-pub record IsSource (failed finished : Bool) (fed : ℕ) (ended : EndedEntries) (at : ScanState) (unfinished : List ℕ) : Type 0 where
-  pub is : failed ≡ false → IsIntake ended at unfinished
-  pub line : failed ≡ false → ended.line + length unfinished ≤ fed + 1
+pub record IsSource (status : Status) (fed : ℕ) (ended : EndedEntries) (at : ScanState) (unfinished : List ℕ) : Type 0 where
+  pub is : is_failed status ≡ false → IsIntake ended at unfinished
+  pub line : is_failed status ≡ false → ended.line + length unfinished ≤ fed + 1
   pub fits : fed + 1 < 2 ^ 64
-  pub none_failed : failed ≡ true → unfinished ≡ []
-  pub none_finished : finished ≡ true → unfinished ≡ []
+  pub none_failed : is_failed status ≡ true → unfinished ≡ []
+  pub none_finished : is_finished status ≡ true → unfinished ≡ []

@@ -5,7 +5,7 @@ use Rattle.zone_text.specs.Source.{SourceState, Stands}
 
 pub returns-in-Ok-clause-stands : goal.returns-in-Ok-clause-stands
 returns-in-Ok-clause-stands c origin fed given stands =
-    stands_finished origin c.self.inside.failed c.self.inside.finished c.self.inside.fed c.self.inside.intake.ended c.finish.new.self.ended c.self.inside.intake.unfinished.items c.finish.new.self.unfinished.items fed given
+    stands_finished origin c.self.inside.status c.self.inside.fed c.self.inside.intake.ended c.finish.new.self.ended c.self.inside.intake.unfinished.items c.finish.new.self.unfinished.items fed given
     (subst (λ (s : SourceState). s.held.finished ≡ false) (sym c.self.view_is) c.requires.going)
     c.in-Ok.ensures.reads
     (subst (λ (s : SourceState). Stands origin s fed given) (sym c.self.view_is) stands)
