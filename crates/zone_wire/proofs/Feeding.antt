@@ -1,5 +1,5 @@
 -- What is decided of a stream by one frame more, by octets that end inside a frame, and by the stream's end.
-use Rattle.std.proofs.Common.{◌≡◌, ℕ, zero, suc, ◌+◌, ◌-◌, ◌*◌, ◌/◌, ◌%◌, ◌<◌, ◌≤◌, List, [], ◌∷◌, ◌++◌, length, refl, ap, sym, ◌∙◌, subst, Bool, true, false, arith, append_assoc, length-append, lit<}
+use Rattle.std.proofs.Common.{◌≡◌, ℕ, zero, suc, ◌+◌, ◌-◌, ◌*◌, ◌/◌, ◌%◌, ◌<◌, ◌≤◌, List, [], ◌∷◌, ◌++◌, length, refl, ap, sym, ◌∙◌, subst, false, arith, append_assoc, length-append, lit<}
 use Rattle.std.specs.Prelude.{get_or, take, drop, Option, Some, None, IfSome, MatchOption}
 use Rattle.std.specs.List.{flat_map}
 use Rattle.std.proofs.lemmas.List.{append-nil, length-map, length-take-le, length-drop, take-append-drop}
@@ -10,13 +10,15 @@ use Rattle.zone_rdata.specs.declared.fault.Place.TheVariants.{Message}
 use Rattle.zone_rdata.specs.declared.record.Placed.{Placed}
 use Rattle.zone_wire.specs.Answers.{handed_on, is_closed}
 use Rattle.zone_wire.specs.Frames.{IsFramed}
-use Rattle.zone_wire.specs.Machine.Feeding.{IsCut, Going, Follow}
+use Rattle.zone_wire.specs.Machine.Feeding.{IsCut, Going, Follow, is_failed, is_finished}
 use Rattle.zone_wire.specs.Machine.Transferring.{zone_held, Behind, ReadsNext, TakesWhole, StopsIn}
 use Rattle.zone_wire.specs.Message.{u16_at}
 use Rattle.zone_wire.specs.Source.{SourceState, Leave, Stands}
 use Rattle.zone_wire.specs.Stream.{octets_in, placed_in, IsReadBehind, AreRead, Decided, StreamReads, StreamEnd}
 use Rattle.zone_wire.specs.Transfer.{StatedMessage, frame}
 use Rattle.zone_wire.specs.declared.intake.Intake.{Intake}
+use Rattle.zone_wire.specs.declared.source.Status.{Status}
+use Rattle.zone_wire.specs.declared.source.Status.TheVariants.{Finished}
 use Rattle.zone_wire.specs.declared.transfer.Transfer.{Transfer}
 use Rattle.zone_wire.proofs.Accepting.{all_append}
 use Rattle.zone_wire.proofs.Streams.{one_decision, fault_stays, fault_is_read, some_decision, some_reading}
@@ -231,10 +233,10 @@ empty_of [] e = refl
 empty_of (x ∷ xs) e = absurd (omega (arith, e))
 
 -- a source as it holds this
-abbrev pub source_of : Bool → Bool → ℕ → Transfer → List ℕ → SourceState
-source_of failed finished count t unfinished = record {
-  pending = record { failed = failed; records = t.decided.placed.items; ending = t.decided.ending };
-  held = record { finished = finished; fed = count; messages = t.messages; id = t.id; zone = zone_held t.zone; opening = t.opening; closed = t.closed; unfinished = unfinished };
+abbrev pub source_of : Status → ℕ → Transfer → List ℕ → SourceState
+source_of status count t unfinished = record {
+  pending = record { failed = is_failed status; records = t.decided.placed.items; ending = t.decided.ending };
+  held = record { finished = is_finished status; fed = count; messages = t.messages; id = t.id; zone = zone_held t.zone; opening = t.opening; closed = t.closed; unfinished = unfinished };
 }
 
 decided_by : (fed unfinished : List ℕ) (parts : List StatedMessage) → IsFramed fed (octets_in parts) unfinished → AreRead [] parts → Decided fed (handed_on (placed_in parts)) None
@@ -248,8 +250,8 @@ decided_by fed unfinished parts framed read = record {
 }
 
 -- what a source stands for before the end of its stream
-pub stands_follow : (failed finished : Bool) (count : ℕ) (t : Transfer) (unfinished fed : List ℕ) (given : List Placed) → finished ≡ false → Stands (source_of failed finished count t unfinished) fed given → Follow t unfinished fed given
-stands_follow failed finished count t unfinished fed given going stands = record { octets = stands.octets; state = by t.decided.ending refl }
+pub stands_follow : (status : Status) (count : ℕ) (t : Transfer) (unfinished fed : List ℕ) (given : List Placed) → is_finished status ≡ false → Stands (source_of status count t unfinished) fed given → Follow t unfinished fed given
+stands_follow status count t unfinished fed given going stands = record { octets = stands.octets; state = by t.decided.ending refl }
   where
     by : (ending : Option (Fault × Place)) → t.decided.ending ≡ ending → MatchOption ending (Going t unfinished fed given) (λ e. Decided fed (given ++ t.decided.placed.items) (Some e))
     by None e =
@@ -264,8 +266,8 @@ stands_follow failed finished count t unfinished fed given going stands = record
         }
     by (Some f) e = subst (λ o. Decided fed (given ++ t.decided.placed.items) o) e (stands.decided going)
 
-pub follow_stands : (failed finished : Bool) (count : ℕ) (t : Transfer) (unfinished fed : List ℕ) (given : List Placed) → failed ≡ false → finished ≡ false → count ≡ length fed → Follow t unfinished fed given → Stands (source_of failed finished count t unfinished) fed given
-follow_stands failed finished count t unfinished fed given works going counted follow = record {
+pub follow_stands : (status : Status) (count : ℕ) (t : Transfer) (unfinished fed : List ℕ) (given : List Placed) → is_failed status ≡ false → is_finished status ≡ false → count ≡ length fed → Follow t unfinished fed given → Stands (source_of status count t unfinished) fed given
+follow_stands status count t unfinished fed given works going counted follow = record {
   works = works;
   octets = follow.octets;
   count = counted;
@@ -278,7 +280,7 @@ follow_stands failed finished count t unfinished fed given works going counted f
     by None g = subst (λ ps. Decided fed ps None) (sym g.handed) (decided_by fed unfinished g.parts g.framed g.read)
     by (Some f) state = state
 
-    leaves : Going t unfinished fed given → Leave fed (source_of failed finished count t unfinished).held
+    leaves : Going t unfinished fed given → Leave fed (source_of status count t unfinished).held
     leaves g = record {
       parts = g.parts;
       framed = g.framed;
@@ -290,7 +292,7 @@ follow_stands failed finished count t unfinished fed given works going counted f
       closed = g.behind.among.closed;
     }
 
-pub finished_stands : (count : ℕ) (t : Transfer) (unfinished fed : List ℕ) (given : List Placed) → Bytes fed → count ≡ length fed → StreamReads fed (given ++ t.decided.placed.items) t.decided.ending → Stands (source_of false true count t unfinished) fed given
+pub finished_stands : (count : ℕ) (t : Transfer) (unfinished fed : List ℕ) (given : List Placed) → Bytes fed → count ≡ length fed → StreamReads fed (given ++ t.decided.placed.items) t.decided.ending → Stands (source_of Finished count t unfinished) fed given
 finished_stands count t unfinished fed given octets counted reads = record {
   works = refl;
   octets = octets;

@@ -1,5 +1,4 @@
 use Rattle.std.proofs.Common.{◌++◌, ap, sym, ◌∙◌, subst, arith, length-append}
-use Rattle.zone_wire.specs.Machine.Feeding.{is_failed, is_finished}
 use Rattle.zone_wire.specs.Source.{Stands}
 use Rattle.zone_wire.proofs.Feeding.{stands_follow, follow_stands}
 use Rattle.zone_wire.proofs.source.TransferSource.feed.Goals as goal
@@ -9,5 +8,5 @@ returns-in-Ok-clause-stands c = λ fed given stands.
     let s = c.self.inside in
     let old = subst (λ x. Stands x fed given) (sym c.self.view_is) stands in
     let going = ap (λ x. x.held.finished) c.self.view_is ∙ c.requires.going in
-    let follow = stands_follow (is_failed s.status) (is_finished s.status) s.fed s.intake.transfer s.intake.unfinished.items fed given going old in
-    follow_stands (is_failed s.status) (is_finished s.status) _ c.feed.new.self.transfer c.feed.new.self.unfinished.items (fed ++ c.args.piece.now) given old.works going (omega (arith, old.count, length-append fed c.args.piece.now)) (c.in-Ok.ensures.follow fed given follow)
+    let follow = stands_follow s.status s.fed s.intake.transfer s.intake.unfinished.items fed given going old in
+    follow_stands s.status _ c.feed.new.self.transfer c.feed.new.self.unfinished.items (fed ++ c.args.piece.now) given old.works going (omega (arith, old.count, length-append fed c.args.piece.now)) (c.in-Ok.ensures.follow fed given follow)

@@ -1,5 +1,4 @@
 use Rattle.std.proofs.Common.{ap, sym, ◌∙◌, subst}
-use Rattle.zone_wire.specs.Machine.Feeding.{is_failed, is_finished}
 use Rattle.zone_wire.specs.Source.{Stands}
 use Rattle.zone_wire.proofs.Feeding.{stands_follow, finished_stands}
 use Rattle.zone_wire.proofs.source.TransferSource.finish.Goals as goal
@@ -9,5 +8,5 @@ returns-clause-stands c = λ fed given stands.
     let s = c.self.inside in
     let old = subst (λ x. Stands x fed given) (sym c.self.view_is) stands in
     let going = ap (λ x. x.held.finished) c.self.view_is ∙ c.requires.going in
-    let follow = stands_follow (is_failed s.status) (is_finished s.status) s.fed s.intake.transfer s.intake.unfinished.items fed given going old in
+    let follow = stands_follow s.status s.fed s.intake.transfer s.intake.unfinished.items fed given going old in
     finished_stands s.fed c.finish.new.self.transfer c.finish.new.self.unfinished.items fed given old.octets old.count (c.finish.ensures.reads fed given follow)
