@@ -1,6 +1,7 @@
-ghost use Rattle.std.specs.Prelude.{◌≡◌, ◌<◌, ◌≤◌, ℕ, length, IfOk, IfErr, IsOk, MatchResult, List};
+ghost use Rattle.std.specs.Prelude.{◌≡◌, ◌<◌, ◌≤◌, ℕ, [], length, IfOk, IfErr, IfSome, IsOk, MatchResult, List};
+ghost use Rattle.std.specs.Option.{is_some};
 ghost use Rattle.zone_wire.specs.Name.{Found, IsNameAt, found_by};
-ghost use Rattle.zone_wire.specs.Machine.Finding.{Says, outcome};
+ghost use Rattle.zone_wire.specs.Machine.Finding.{Says, Tells, outcome};
 ghost use Rattle.zone_wire.specs.Machine.Walk.{walk};
 ghost use Rattle.zone_wire.specs.Walk.{Visit};
 ghost use Rattle.zone_wire.specs.WholeWalk.{IsWalk, NameFault};
@@ -43,27 +44,50 @@ pub fn name_at(message: &[u8], offset: usize) -> Result<Decoded, (Fault, u16)>
 fn walked(message: &[u8], offset: usize) -> Result<Decoded, (Fault, u16)>
     ensures { Says result (outcome message.now (walk message.now offset)) }
 {
+    let mut labels = Some(NameBuilder::new());
+    let (end, steps) = walk_to_root(message, offset, &mut labels)?;
+    match labels {
+        Some(labels) => Ok(Decoded {
+            name: labels.finish(),
+            end,
+            steps,
+        }),
+        None => unreachable!(),
+    }
+}
+
+/// Walks along the name at an offset, and gives the offset after it and the steps of the walk. The labels go into a builder
+/// where there is one.
+///
+/// # Errors
+///
+/// As `name_at`.
+pub(crate) fn walk_to_root(
+    message: &[u8],
+    offset: usize,
+    labels: &mut Option<NameBuilder>,
+) -> Result<(usize, u16), (Fault, u16)>
+    requires { IfSome labels.old (λ l. l ≡ []) }
+    ensures walk { Tells result labels.new (outcome message.now (walk message.now offset)) }
+    ensures kept { is_some labels.new ≡ is_some labels.old }
+{
     let mut ticks = Ticks::new();
-    let mut labels = NameBuilder::new();
     let mut end = None;
     let mut spot = Spot::outset(offset);
     'places: loop {
         match place_at(message, spot, &mut ticks) {
             Standing::Outside => return Err((Fault::ShortMessage, ticks.count())),
             Standing::Bad(fault) => return Err((fault, ticks.count())),
-            Standing::Root => {
-                return Ok(Decoded {
-                    name: labels.finish(),
-                    end: end.unwrap_or(spot.offset + 1),
-                    steps: ticks.count(),
-                });
-            }
+            Standing::Root => return Ok((end.unwrap_or(spot.offset + 1), ticks.count())),
             Standing::Label(size) => {
-                let start = spot.offset + 1;
-                match labels.push_label(&message[start..start + size]) {
-                    Ok(()) => spot = spot.past_label(size),
-                    Err(_) => unreachable!(),
+                if let Some(labels) = labels {
+                    let start = spot.offset + 1;
+                    match labels.push_label(&message[start..start + size]) {
+                        Ok(()) => {}
+                        Err(_) => unreachable!(),
+                    }
                 }
+                spot = spot.past_label(size);
             }
             Standing::Pointer(target) => {
                 end = Some(end.unwrap_or(spot.offset + 2));

@@ -4,11 +4,9 @@ ghost use Rattle.zone_wire.specs.Machine.Sections.{header_fault, question_at, re
 ghost use Rattle.zone_wire.specs.Machine.Finding.{outcome};
 ghost use Rattle.zone_wire.specs.Machine.Walk.{walk};
 
+use crate::name::walk_to_root;
 use crate::number::u16_at;
-use crate::place::{
-    ANCOUNT, ARCOUNT, HEADER_LEN, NSCOUNT, QDCOUNT, RECORD_HEAD_LEN, Spot, Standing, place_at,
-};
-use crate::ticks::Ticks;
+use crate::place::{ANCOUNT, ARCOUNT, HEADER_LEN, NSCOUNT, QDCOUNT, RECORD_HEAD_LEN};
 use zone_rdata::Fault;
 
 /// The offset at which the answers of a message begin.
@@ -57,20 +55,9 @@ fn header_fault(octets: &[u8]) -> Option<Fault>
 fn name_end(message: &[u8], offset: usize) -> Result<usize, Fault>
     ensures { result ≡ name_end_of (outcome message.now (walk message.now offset)) }
 {
-    let mut ticks = Ticks::new();
-    let mut end = None;
-    let mut spot = Spot::outset(offset);
-    'places: loop {
-        match place_at(message, spot, &mut ticks) {
-            Standing::Outside => return Err(Fault::ShortMessage),
-            Standing::Bad(fault) => return Err(fault),
-            Standing::Root => return Ok(end.unwrap_or(spot.offset + 1)),
-            Standing::Label(size) => spot = spot.past_label(size),
-            Standing::Pointer(target) => {
-                end = Some(end.unwrap_or(spot.offset + 2));
-                spot = spot.past_pointer(target);
-            }
-        }
+    match walk_to_root(message, offset, &mut None) {
+        Ok((end, _)) => Ok(end),
+        Err((fault, _)) => Err(fault),
     }
 }
 
