@@ -1,10 +1,6 @@
 use Rattle.zone_rdata.proofs.Failings.{IfErr-fault, if_fault_passed}
-use Rattle.std.proofs.lemmas.Result.{IfOk-weaker}
-use Rattle.zone_rdata.proofs.Forms.{in_form_found, in_form_fault, words_found, words_fault, opaque_fault}
+use Rattle.zone_rdata.proofs.Forms.{in_form_fault, words_found, words_fault, opaque_fault}
 use Rattle.zone_rdata.proofs.rdata.octets_for.Goals as goal
-
-pub returns-then-is_generic-clause-found : goal.returns-then-is_generic-clause-found
-returns-then-is_generic-clause-found c = IfOk-weaker c.octets_in_form.result _ _ (λ octets h. in_form_found _ _ _ _ _ c.if-is_generic.true c.is_generic.ensures h) c.octets_in_form.ensures.found
 
 pub returns-then-is_generic-clause-fault : goal.returns-then-is_generic-clause-fault
 returns-then-is_generic-clause-fault c = IfErr-fault c.octets_in_form.result _ _ (λ fault h. in_form_fault _ _ _ _ _ c.if-is_generic.true c.is_generic.ensures h) c.octets_in_form.ensures.fault

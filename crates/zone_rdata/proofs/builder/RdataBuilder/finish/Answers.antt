@@ -11,6 +11,3 @@ of_octets-requires c = parts_data c.self.inside.class c.self.inside.kind c.self.
 
 pub returns-clause-whole : goal.returns-clause-whole
 returns-clause-whole c = (finish_made c.self.inside.class c.self.inside.kind c.self.inside.count c.self.inside.octets.items _ _ c.self.view_is c.self.invariant (omega arith) c.of_octets.ensures).0
-
-pub returns-clause-ok : goal.returns-clause-ok
-returns-clause-ok c = (finish_made c.self.inside.class c.self.inside.kind c.self.inside.count c.self.inside.octets.items _ _ c.self.view_is c.self.invariant (omega arith) c.of_octets.ensures).1

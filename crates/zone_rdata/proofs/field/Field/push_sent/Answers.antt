@@ -6,7 +6,7 @@ use Rattle.zone_rdata.specs.Field.{u32_value, u16_value, fixed}
 use Rattle.zone_rdata.specs.Machine.Appending.{BeginsWithNone}
 use Rattle.zone_rdata.proofs.Failings.{IfErr-fault}
 use Rattle.zone_rdata.proofs.Lists.{bytes_each}
-use Rattle.zone_rdata.proofs.FieldLaws.{SizedField, appends_sized, none_sized}
+use Rattle.zone_rdata.proofs.FieldLaws.{SizedField, appends_sized}
 use Rattle.zone_rdata.proofs.Fields.Address as address
 use Rattle.zone_rdata.proofs.Fields.Serial as serial
 use Rattle.zone_rdata.proofs.Fields.Time as time
@@ -31,25 +31,13 @@ pub returns-in-Serial-clause-found : goal.returns-in-Serial-clause-found
 returns-in-Serial-clause-found c =
     IfOk-weaker c.push_prefix.result _ _ (λ rest grows. appends_sized c.args.self 4 (number_of_32 c.args.self c.in-Serial.is) c.args.octets.now rest.now c.args.canonical.now.items _ (bytes_each c.args.octets.now (λ i. omega (arith, c.type_inv.octets i))) grows) c.push_prefix.ensures.found
 
-pub returns-in-Serial-clause-fault : goal.returns-in-Serial-clause-fault
-returns-in-Serial-clause-fault c =
-    IfErr-fault c.push_prefix.result _ _ (λ fault bad. (bad.0, none_sized c.args.self 4 (number_of_32 c.args.self c.in-Serial.is) c.args.octets.now bad.1)) c.push_prefix.ensures.fault
-
 pub returns-in-U16-clause-found : goal.returns-in-U16-clause-found
 returns-in-U16-clause-found c =
     IfOk-weaker c.push_prefix-in-U16.result _ _ (λ rest grows. appends_sized c.args.self 2 (number_of_16 c.args.self c.in-U16.is) c.args.octets.now rest.now c.args.canonical.now.items _ (bytes_each c.args.octets.now (λ i. omega (arith, c.type_inv.octets i))) grows) c.push_prefix-in-U16.ensures.found
 
-pub returns-in-U16-clause-fault : goal.returns-in-U16-clause-fault
-returns-in-U16-clause-fault c =
-    IfErr-fault c.push_prefix-in-U16.result _ _ (λ fault bad. (bad.0, none_sized c.args.self 2 (number_of_16 c.args.self c.in-U16.is) c.args.octets.now bad.1)) c.push_prefix-in-U16.ensures.fault
-
 pub returns-in-Octets-clause-found : goal.returns-in-Octets-clause-found
 returns-in-Octets-clause-found c =
     IfOk-weaker c.push_prefix-in-Octets.result _ _ (λ rest grows. appends_sized c.args.self c.in-Octets.count (octets_of_address c.args.self c.in-Octets.count c.in-Octets.is) c.args.octets.now rest.now c.args.canonical.now.items _ (bytes_each c.args.octets.now (λ i. omega (arith, c.type_inv.octets i))) grows) c.push_prefix-in-Octets.ensures.found
-
-pub returns-in-Octets-clause-fault : goal.returns-in-Octets-clause-fault
-returns-in-Octets-clause-fault c =
-    IfErr-fault c.push_prefix-in-Octets.result _ _ (λ fault bad. (bad.0, none_sized c.args.self c.in-Octets.count (octets_of_address c.args.self c.in-Octets.count c.in-Octets.is) c.args.octets.now bad.1)) c.push_prefix-in-Octets.ensures.fault
 
 pub returns-in-OneString-clause-fault : goal.returns-in-OneString-clause-fault
 returns-in-OneString-clause-fault c =

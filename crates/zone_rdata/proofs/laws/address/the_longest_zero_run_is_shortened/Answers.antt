@@ -1,4 +1,4 @@
-use Rattle.zone_rdata.proofs.AddressLaws.{run_shortened, none_shortened, run_exists, run_unique}
+use Rattle.zone_rdata.proofs.AddressLaws.{run_shortened, none_shortened, run_exists}
 use Rattle.zone_rdata.proofs.laws.address.the_longest_zero_run_is_shortened.Goals as goal
 
 pub returns-clause-run : goal.returns-clause-run
@@ -9,6 +9,3 @@ returns-clause-none c = none_shortened
 
 pub returns-clause-exists : goal.returns-clause-exists
 returns-clause-exists c = run_exists
-
-pub returns-clause-one : goal.returns-clause-one
-returns-clause-one c = run_unique

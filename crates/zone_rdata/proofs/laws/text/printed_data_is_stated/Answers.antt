@@ -1,9 +1,5 @@
-use Rattle.std.proofs.Common.{refl}
 use Rattle.zone_rdata.proofs.TextItems.{data_stated}
 use Rattle.zone_rdata.proofs.laws.text.printed_data_is_stated.Goals as goal
-
-pub returns-clause-written : goal.returns-clause-written
-returns-clause-written c = λ d is. refl
 
 pub returns-clause-stated : goal.returns-clause-stated
 returns-clause-stated c = data_stated c.printed_names_are_spelled.ensures

@@ -1,7 +1,6 @@
 use Rattle.std.proofs.Common.{subst}
 use Rattle.zone_name.specs.Common.{AreOctets}
 use Rattle.zone_rdata.proofs.StatedOctets.{stated_data, states_for, first_for}
-use Rattle.zone_rdata.proofs.Wire.{table_last}
 use Rattle.zone_rdata.proofs.Forms.{only_memory}
 use Rattle.zone_rdata.proofs.rdata.Rdata.from_items.Goals as goal
 
@@ -11,12 +10,6 @@ invariant_of-result c = record {
   kind = c.layout_of.ensures.kind;
   octets = stated_data _ _ _ _ _ _ c.layout_of.ensures.fields c.in_ok-octets.ensures.found (subst AreOctets c.deref.ensures.value c.are_octets.ensures);
 }
-
-pub returns-clause-found : goal.returns-clause-found
-returns-clause-found c = states_for _ _ _ _ _ _ c.layout_of.ensures.fields c.in_ok-octets.ensures.found
-
-pub octets_for-requires : goal.octets_for-requires
-octets_for-requires c = table_last c.args.class c.args.kind _ c.layout_of.ensures.fields
 
 pub returns-clause-only : goal.returns-clause-only
 returns-clause-only c = λ octets stated. (c.data_is_unique.ensures _ _ _ _ _ _ (states_for _ _ _ _ _ _ c.layout_of.ensures.fields c.in_ok-octets.ensures.found) stated, tt)

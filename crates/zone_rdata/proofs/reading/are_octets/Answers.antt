@@ -1,6 +1,0 @@
-use Rattle.std.proofs.Common.{arith}
-use Rattle.zone_rdata.proofs.Lists.{bytes_each}
-use Rattle.zone_rdata.proofs.reading.are_octets.Goals as goal
-
-pub returns : goal.returns
-returns c = bytes_each c.args.octets.now (λ i. omega (arith, c.type_inv.octets i))
