@@ -228,12 +228,6 @@ none_shortened octets none =
 pub run_exists : (groups : List ℕ) (start len : ℕ) → IsZeroRun groups start len → 2 ≤ len → (first longest : ℕ) × IsShortenedRun groups first longest
 run_exists groups start len run two = ((longest_zero_run groups).0, (longest_zero_run groups).1, longest_is groups (omega (arith, (longest_zero_run_first groups start len run).0)))
 
-pub run_unique : (groups : List ℕ) (start len other_start other_len : ℕ) → IsShortenedRun groups start len → IsShortenedRun groups other_start other_len → (start ≡ other_start) × (len ≡ other_len)
-run_unique groups start len other_start other_len x y =
-    let a = run_is groups start len x in
-    let b = run_is groups other_start other_len y in
-    (sym a.0 ∙ b.0, sym a.1 ∙ b.1)
-
 -- ---- the octets of texts
 
 digit_or_dot : (c : ℕ) → IsDigitOrDot c → IsAddressOctet c

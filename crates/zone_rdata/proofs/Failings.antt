@@ -6,16 +6,6 @@ use Rattle.zone_rdata.specs.declared.fault.Fault.{Fault}
 use Rattle.zone_rdata.specs.declared.fault.Failing.{Failing}
 use Rattle.zone_rdata.specs.declared.fault.Failing.TheVariants as failings
 use Rattle.zone_rdata.specs.Fault.{IfFault}
-use Rattle.zone_rdata.specs.Machine.NarrowFailing.{IsFaultOf}
-
-same_fault : {T : Type 0} (r : Result T Failing) (e : Failing) (a b : Fault) → r ≡ Err e → e ≡ failings.Fault a → r ≡ Err (failings.Fault b) → a ≡ b
-same_fault r e a b is was h = cc
-
--- what holds of the fault of a callee holds of the fault that is answered
-pub fault_passed : {T : Type 0} (r : Result T Failing) (found : Fault) (P : Fault → Type 0) → IsErrAnd r (λ e. e ≡ failings.Fault found) → P found → (fault : Fault) → r ≡ Err (failings.Fault fault) → P fault
-fault_passed r found P is holds fault h =
-    let p = err_from_is_err_and r is in
-    subst P (same_fault r p.0 found fault p.1 p.2 h) holds
 
 pub IfFault-weaker : (P Q : Fault → Type 0) (e : Failing) → ((fault : Fault) → P fault → Q fault) → IfFault P e → IfFault Q e
 IfFault-weaker P Q (failings.Fault fault) goes h = goes fault h
@@ -46,8 +36,3 @@ each_fault_passed r failings.Memory P Q is goes h = if_fault_passed r failings.M
 -- the answer of a `?` on a failing that is such a fault
 pub same_fault_answered : {T : Type 0} (r : Result T Failing) (e : Failing) (own : Fault) (P : Fault → Type 0) → IsErrAnd r (λ y. y ≡ e) → e ≡ failings.Fault own → P own → IfErr r (IfFault P)
 same_fault_answered r e own P is same holds = if_fault_passed r e P P is (λ fault h. h) (subst (IfFault P) (sym same) holds)
-
--- likewise where the failing is a fault
-pub own_fault_passed : {T : Type 0} (r : Result T Failing) (e : Failing) (P : Fault → Type 0) → IsErrAnd r (λ y. y ≡ e) → IsFaultOf P e → (fault : Fault) → r ≡ Err (failings.Fault fault) → P fault
-own_fault_passed r (failings.Fault own) P is holds = fault_passed r own P is holds
-own_fault_passed r failings.Memory P is never = absurd never

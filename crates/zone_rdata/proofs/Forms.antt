@@ -14,7 +14,7 @@ use Rattle.zone_rdata.specs.Generic.{StatesGeneric}
 use Rattle.zone_rdata.specs.Item.{RawItem, IsGeneric}
 use Rattle.zone_rdata.specs.Layout.{fields_of}
 use Rattle.zone_rdata.specs.Machine.Appending.{AreSpelt}
-use Rattle.zone_rdata.specs.Spelling.{StatesFor, StatesInForm, in_words, in_octets}
+use Rattle.zone_rdata.specs.Spelling.{StatesFor, in_words}
 use Rattle.zone_rdata.specs.Uncompressed.{IsUncompressed}
 use Rattle.zone_rdata.proofs.Failings.{IfErr-fault}
 
@@ -23,10 +23,6 @@ pub form_value : {T : Type 0} (laid : Option Layout) (own : Layout) (items : Lis
 form_value laid own items stated octets r e form is h =
     let laid_is : option_map fields_of laid ≡ Some (fields_of own) = ap (option_map fields_of) e in
     IfErr-fault r _ _ (λ fault bad. subst (IsFormFault (option_map fields_of laid) items) (sym bad.0) (no_value (fields_of own) stated laid_is form (λ canonical u. bad.1 canonical (subst (λ o. IsUncompressed (fields_of own) o canonical) (sym is) u)))) h
-
--- octets in the generic form
-pub in_form_found : (origin : List (List ℕ)) (laid : Option (List Field)) (items : List RawItem) (b : Bool) (octets : List ℕ) → b ≡ true → (IsTrue b ↔ IsGeneric items) → StatesInForm laid items octets → StatesFor origin laid items octets
-in_form_found origin laid items b octets marked test h = in_octets (test.0 marked) h
 
 pub in_form_fault : (origin : List (List ℕ)) (laid : Option (List Field)) (items : List RawItem) (b : Bool) (fault : Fault) → b ≡ true → (IsTrue b ↔ IsGeneric items) → IsFormFault laid items fault → IsFaultFor origin laid items fault
 in_form_fault origin laid items b fault marked test h = in_form fault (test.0 marked) h

@@ -6,17 +6,12 @@ use Rattle.zone_rdata.specs.declared.fault.Fault.{Fault}
 use Rattle.zone_rdata.specs.declared.fault.Fault.TheVariants.{BadRdata}
 use Rattle.zone_rdata.specs.declared.field.Field.{Field}
 use Rattle.zone_rdata.specs.declared.layout.Layout.{Layout}
-use Rattle.zone_rdata.specs.Layout.{IsData, IsSized, StringsLast, fields_of, layout}
+use Rattle.zone_rdata.specs.Layout.{IsData, IsSized, fields_of, layout}
 use Rattle.zone_rdata.specs.Spelling.{IsCanonicalOf}
-use Rattle.zone_rdata.specs.Wire.{IsWireData, IsWireFault, no_value}
+use Rattle.zone_rdata.specs.Wire.{IsWireFault, no_value}
 use Rattle.zone_rdata.proofs.Layouts.{AreFor, canonical_laid, canonical_length}
 use Rattle.zone_rdata.proofs.Tables.{table_row}
 use Rattle.zone_rdata.proofs.Taken.{canonical_same}
-
--- in a layout of the table strings stand last
-pub table_last : (class kind : ℕ) (laid : Option Layout) → option_map fields_of laid ≡ layout class kind → IfSome laid (λ l. StringsLast (fields_of l))
-table_last class kind None e = tt
-table_last class kind (Some l) e = (table_row class kind (fields_of l) (sym e)).last
 
 -- in a layout of the table octets of a fixed number are an address
 pub table_sized : (class kind : ℕ) (laid : Option Layout) → option_map fields_of laid ≡ layout class kind → IfSome laid (λ l. AllByRecursion IsSized (fields_of l))
@@ -30,16 +25,9 @@ canonical_data class kind laid octets canonical e is short each = record {
   value = subst (λ l. AreFor l canonical) e (canonical_laid class kind laid octets canonical e is);
 }
 
-pub canonical_is : (class kind : ℕ) (laid : Option (List Field)) (octets canonical : List ℕ) → laid ≡ layout class kind → IsCanonicalOf laid octets canonical → IsCanonicalOf (layout class kind) octets canonical
-canonical_is class kind laid octets canonical e is = subst (λ l. IsCanonicalOf l octets canonical) e is
-
 pub canonical_only : (class kind : ℕ) (laid : Option (List Field)) (octets a b : List ℕ) → laid ≡ layout class kind → IsCanonicalOf laid octets a → IsCanonicalOf (layout class kind) octets b → a ≡ b
 canonical_only class kind laid octets a b e x y = canonical_same class kind laid octets a b e x (subst (λ l. IsCanonicalOf l octets b) (sym e) y)
 
 pub wire_fault : (class kind : ℕ) (laid : Option (List Field)) (octets : List ℕ) (fault : Fault) → laid ≡ layout class kind → length octets ≤ 65535 → (fault ≡ BadRdata) × ((canonical : List ℕ) → IsCanonicalOf laid octets canonical → ⊥) → IsWireFault (layout class kind) octets fault
 wire_fault class kind laid octets fault e short bad =
     subst (IsWireFault (layout class kind) octets) (sym bad.0) (no_value short (λ canonical is. bad.1 canonical (subst (λ l. IsCanonicalOf l octets canonical) (sym e) is)))
-
--- octets that stand for data aren't refused
-pub wire_data_taken : (class kind : ℕ) (laid : Option (List Field)) (octets canonical : List ℕ) (fault : Fault) → laid ≡ layout class kind → IsWireData (layout class kind) octets canonical → (fault ≡ BadRdata) × ((canonical : List ℕ) → IsCanonicalOf laid octets canonical → ⊥) → ⊥
-wire_data_taken class kind laid octets canonical fault e is bad = bad.1 canonical (subst (λ l. IsCanonicalOf l octets canonical) (sym e) is.stands)
