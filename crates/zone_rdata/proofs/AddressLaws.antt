@@ -2,7 +2,7 @@
 use Rattle.std.proofs.Common.{◌≡◌, ℕ, zero, suc, ◌+◌, ◌-◌, ◌*◌, ◌/◌, ◌%◌, ◌^◌, ◌<◌, ◌≤◌, Bool, true, false, inl, inr, List, [], ◌∷◌, ◌++◌, length, take, drop, map, replicate, decimal, refl, sym, ap, ◌∙◌, subst, arith, append_assoc, length-append, le-leb, lt-ltb, le-ltb, rules}
 use Rattle.std.specs.Prelude.{fold, slice_index}
 use Rattle.std.specs.Char.{digit_char}
-use Rattle.std.specs.List.{AllByRecursion, join_with_byte}
+use Rattle.std.specs.List.{AllByRecursion}
 use Rattle.std.specs.Net.Addr.{segments_of}
 use Rattle.std.specs.Net.Text.{hex, longest_zero_run, hex_groups_text}
 use Rattle.std.proofs.NetLemmas.Texts.{IsZeroRun-longest_zero_run, longest_zero_run_first}
@@ -20,6 +20,7 @@ use Rattle.zone_rdata.specs.Address.{IsOctetNumber, IsIpv4Address, AddressPart, 
 use Rattle.zone_rdata.proofs.AddressTexts.{four_digits, four_encoded}
 use Rattle.zone_rdata.proofs.Lists.{each_below}
 use Rattle.zone_name.proofs.Pushing.{AllByRecursion-front, AllByRecursion-back}
+use Rattle.zone_rdata.proofs.AddressParts.{parts_some}
 
 -- ---- four octets
 
@@ -250,20 +251,10 @@ ipv6_plain octets len each = recursion_from_All IsAddressOctet (ipv6_text octets
 
 -- ---- no text of an address is empty
 
-joined_some : (c : ℕ) (texts : List (List ℕ)) → 2 ≤ length texts → 0 < length (join_with_byte c texts)
-joined_some c [] two = absurd (omega arith)
-joined_some c (text ∷ []) two = absurd (omega arith)
-joined_some c (text ∷ next ∷ texts) two = omega (arith, length-append text (c ∷ join_with_byte c (next ∷ texts)))
-
-pub ipv4_some : (text octets : List ℕ) → IsIpv4Address text octets → 0 < length text
-ipv4_some text octets is = omega (arith, ap length is.parted, joined_some 46 is.numbers (omega (arith, is.counted)))
-
-parts_some : (parts : List AddressPart) → AreParts true parts → 0 < length (parts_octets parts) → 0 < length (parts_text parts)
-parts_some [] each some = absurd (omega arith)
-parts_some (p ∷ []) (inl group) some = group.some
-parts_some (p ∷ []) (inr numbers) some = ipv4_some p.text p.octets numbers.1
-parts_some (p ∷ q ∷ parts) each some = joined_some 58 (map (λ (r : AddressPart). r.text) (p ∷ q ∷ parts)) (omega arith)
+text_left : (parts : List AddressPart) → AreParts true parts → 0 < length (parts_octets parts) → 0 < length (parts_text parts)
+text_left [] each some = absurd (omega arith)
+text_left (p ∷ parts) each some = parts_some true p parts each
 
 pub ipv6_some : (text octets : List ℕ) → IsIpv6Address text octets → 0 < length text
-ipv6_some text octets (eight are size) = omega (arith, ap length are.parted, parts_some are.parts are.each (omega (arith, ap length are.value)))
+ipv6_some text octets (eight are size) = omega (arith, ap length are.parted, text_left are.parts are.each (omega (arith, ap length are.value)))
 ipv6_some text octets (fewer front back e around) = omega (arith, ap length e, length-append front (58 ∷ 58 ∷ back))

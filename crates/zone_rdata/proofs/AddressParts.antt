@@ -14,11 +14,14 @@ some_numbers text [] counted parted = absurd (omega arith)
 some_numbers text (a ∷ []) counted parted = absurd (omega arith)
 some_numbers text (a ∷ b ∷ numbers) counted parted = omega (arith, ap length parted, length-append a (46 ∷ join_with_byte 46 (b ∷ numbers)))
 
+pub ipv4_some : (text octets : List ℕ) → IsIpv4Address text octets → 0 < length text
+ipv4_some text octets is = some_numbers text is.numbers is.counted is.parted
+
 last_some : (ends : Bool) (p : AddressPart) → IsLastPart ends p → 0 < length p.text
 last_some ends p (inl is) = is.some
-last_some ends p (inr are) = some_numbers p.text are.1.numbers are.1.counted are.1.parted
+last_some ends p (inr are) = ipv4_some p.text p.octets are.1
 
-parts_some : (ends : Bool) (p : AddressPart) (parts : List AddressPart) → AreParts ends (p ∷ parts) → 0 < length (parts_text (p ∷ parts))
+pub parts_some : (ends : Bool) (p : AddressPart) (parts : List AddressPart) → AreParts ends (p ∷ parts) → 0 < length (parts_text (p ∷ parts))
 parts_some ends p [] is = last_some ends p is
 parts_some ends p (q ∷ parts) are = omega (arith, are.0.some, length-append p.text (58 ∷ parts_text (q ∷ parts)))
 

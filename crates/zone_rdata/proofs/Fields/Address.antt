@@ -14,12 +14,13 @@ use Rattle.zone_rdata.specs.Machine.Building.{IsReal}
 use Rattle.zone_rdata.proofs.AddressChoice.{address_or_not}
 use Rattle.zone_rdata.proofs.AddressFields.{address_fixed}
 use Rattle.zone_rdata.proofs.AddressGaps.{groups_unique}
-use Rattle.zone_rdata.proofs.AddressLaws.{ipv4_plain, ipv4_printed, ipv4_some, ipv6_plain, ipv6_printed, ipv6_some}
+use Rattle.zone_rdata.proofs.AddressLaws.{ipv4_plain, ipv4_printed, ipv6_plain, ipv6_printed, ipv6_some}
 use Rattle.zone_rdata.proofs.Addresses.{numbers_unique}
 use Rattle.zone_rdata.proofs.FieldLaws.{FieldLaws, SizedField, bare_item, bare_or_fault, mark, mark_text, sized_front, value_or_fault}
 use Rattle.zone_name.proofs.Bare.{StandsBare}
 use Rattle.zone_rdata.proofs.Standing.{bare_address}
 use Rattle.zone_rdata.proofs.FieldLengths.{ipv4_length, ipv6_length}
+use Rattle.zone_rdata.proofs.AddressParts.{ipv4_some}
 
 only : (n : ℕ) (v : FieldValue) → Holds (Octets n) v → (octets : List ℕ) × (v ≡ fixed octets)
 only n (fixed octets) h = (octets, refl)
