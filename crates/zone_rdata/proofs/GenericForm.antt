@@ -9,7 +9,7 @@ use Rattle.zone_rdata.specs.declared.item.Item.{Item}
 use Rattle.zone_rdata.specs.Item.{RawItem, bare, quoted, raw, generic_mark, IsGeneric}
 use Rattle.zone_rdata.specs.Number.{IsDecimal}
 use Rattle.zone_rdata.specs.Generic.{StatesLength, JoinTo, StatesGeneric, GenericFault, no_length, long_length, bad_digits}
-use Rattle.zone_rdata.specs.Machine.Appending.{AppendsDigits}
+use Rattle.zone_rdata.specs.Machine.Appending.{Appends}
 use Rattle.zone_rdata.specs.Machine.GenericLength.{LengthFault, no_number, beyond}
 use Rattle.zone_rdata.proofs.Lists.{from_place}
 
@@ -42,10 +42,10 @@ joined_step items rest text octets front new joined e grown = record {
       (j.1, j.4, b.2 ∙ ap (λ t. octets ++ t) (j.3 ∙ ap (λ t. t ++ j.1) fronts) ∙ sym (append_assoc octets front j.1) ∙ ap (λ t. t ++ j.1) (sym grown));
 }
 
-pub joined_more : (items : List Item) (i : ℕ) (item d : Item) (text octets new : List ℕ) → i < length items → item ≡ get_or items i d → raw item ≡ bare text → HaveJoined (map raw items) (map raw (drop i items)) octets → AppendsDigits text octets new → HaveJoined (map raw items) (map raw (drop (i + 1) items)) new
+pub joined_more : (items : List Item) (i : ℕ) (item d : Item) (text octets new : List ℕ) → i < length items → item ≡ get_or items i d → raw item ≡ bare text → HaveJoined (map raw items) (map raw (drop i items)) octets → Appends (λ front. decode_of text ≡ Ok front) (λ front. front) octets new → HaveJoined (map raw items) (map raw (drop (i + 1) items)) new
 joined_more items i item d text octets new lt found is joined grows =
     let here : map raw (drop i items) ≡ bare text ∷ map raw (drop (i + 1) items) = ap (map raw) (from_place items i item d lt found) ∙ ap (λ x. x ∷ map raw (drop (i + 1) items)) is in
-    joined_step (map raw items) (map raw (drop (i + 1) items)) text octets grows.octets new (subst (λ r. HaveJoined (map raw items) r octets) here joined) grows.stands grows.written
+    joined_step (map raw items) (map raw (drop (i + 1) items)) text octets grows.value new (subst (λ r. HaveJoined (map raw items) r octets) here joined) grows.stated grows.written
 
 next_front : (items : List Item) (i : ℕ) (item d : Item) (text octets : List ℕ) → i < length items → item ≡ get_or items i d → raw item ≡ bare text → HaveJoined (map raw items) (map raw (drop i items)) octets → (whole : List ℕ) → JoinTo (map raw items) whole → (front : List ℕ) × (rest : List ℕ) × (decode_of text ≡ Ok front) × (whole ≡ octets ++ (front ++ rest))
 next_front items i item d text octets lt found is joined whole h =

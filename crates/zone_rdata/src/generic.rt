@@ -3,7 +3,7 @@ ghost use Rattle.hex.specs.Hex.{decode_of};
 ghost use Rattle.zone_name.specs.Common.{Octets};
 ghost use Rattle.zone_rdata.specs.Fault.{IfFault, NoValue};
 ghost use Rattle.zone_rdata.specs.Generic.{GenericFault, JoinTo, StatesGeneric, StatesLength};
-ghost use Rattle.zone_rdata.specs.Machine.Appending.{AppendsDigits};
+ghost use Rattle.zone_rdata.specs.Machine.Appending.{Appends};
 ghost use Rattle.zone_rdata.specs.Machine.GenericLength.{LengthFault};
 ghost use Rattle.zone_rdata.specs.Item.{IsGeneric, raw};
 
@@ -78,7 +78,8 @@ fn octets_of_digits(alloc: Global, items: &[Item], len: usize) -> Result<Vec<u8>
 fn push_digits(text: &[u8], octets: &mut Vec<u8>) -> Result<(), Failing>
     requires few { length octets.old.items ≤ LONGEST_DATA }
     requires fits { length text.now ≤ 131071 }
-    ensures found { OnOk result (AppendsDigits text.now octets.old.items octets.new.items) }
+    ensures found { OnOk result (Appends (λ front. decode_of text.now ≡ Ok front)
+        (λ front. front) octets.old.items octets.new.items) }
     ensures fault { IfErr result (IfFault (NoValue Fault.BadGeneric
         (λ front. decode_of text.now ≡ Ok front))) }
 {

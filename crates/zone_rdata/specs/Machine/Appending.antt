@@ -1,11 +1,10 @@
 -- Octets that grow while the items of record data are read.
-use Rattle.std.specs.Prelude.{◌≡◌, ℕ, List, ◌++◌, ◌≤◌, [], length, take, drop, Ok}
+use Rattle.std.specs.Prelude.{◌≡◌, ℕ, List, ◌++◌, ◌≤◌, [], length, take, drop}
 use Rattle.zone_rdata.specs.declared.field.Field.{Field}
 use Rattle.zone_rdata.specs.Field.{FieldValue, field_octets, octets_of, SpellsField, own_items, items_behind, Holds, IsSent}
 use Rattle.zone_rdata.specs.Item.{RawItem}
 use Rattle.zone_rdata.specs.Spelling.{SpellEach}
 use Rattle.zone_rdata.specs.declared.field.Field.TheVariants.{Strings}
-use Rattle.hex.specs.Hex.{decode_of}
 
 -- the octets of a value that is stated are appended
 pub record Appends {V : Type 0} (Stated : V → Type 0) (octets : V → List ℕ) (old new : List ℕ) : Type 0 where
@@ -51,9 +50,3 @@ pub record AppendsPrefix (count : ℕ) (octets rest old new : List ℕ) : Type 0
   pub fits : count ≤ length octets
   pub behind : rest ≡ drop count octets
   pub written : new ≡ old ++ take count octets
-
--- the octets that an item's digits stand for are appended
-pub record AppendsDigits (text old new : List ℕ) : Type 0 where
-  pub octets : List ℕ
-  pub stands : decode_of text ≡ Ok octets
-  pub written : new ≡ old ++ octets

@@ -18,8 +18,8 @@ pub loop-item-preserved : goal.loop-item-preserved
 loop-item-preserved c =
     let grows = c.in_ok-push_digits.ensures.found in (
       joined_more c.args.items.now c.loop-item.item-index _ _ c.in-Bare.text.now c.loop-item.octets.items _ c.loop-item-test.true refl (ap raw c.in-Bare.is) c.loop-item.invariant.0 grows,
-      let count = half_length c.in-Bare.text.now grows.octets grows.stands in
-          omega (arith, c.len.ensures, c.if-text-len.false, ap length grows.written, length-append c.loop-item.octets.items grows.octets, count, c.loop-item.invariant.1),
+      let count = half_length c.in-Bare.text.now grows.value grows.stated in
+          omega (arith, c.len.ensures, c.if-text-len.false, ap length grows.written, length-append c.loop-item.octets.items grows.value, count, c.loop-item.invariant.1),
     )
 
 pub returns-clause-found : goal.returns-clause-found
