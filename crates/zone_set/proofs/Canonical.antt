@@ -8,6 +8,7 @@ use Rattle.std.specs.List.{AllByRecursion}
 use Rattle.std.specs.List.Sorted.{IsStrictlySortedBy}
 use Rattle.std.specs.Map.{keys_of}
 use Rattle.std.specs.Ordering.{ordering_then}
+use Rattle.zone_name.proofs.Pushing.{AllByRecursion-append}
 use Rattle.zone_name.specs.Order.{name_cmp}
 use Rattle.zone_rdata.specs.Record.{Record}
 use Rattle.zone_set.proofs.Entries.{Has-append, key_holds, of_set}
@@ -74,14 +75,10 @@ entry_ascends : (class : ℕ) (k : RecordSet) (d : SetData) (xs : List (List ℕ
 entry_ascends class k d [] ascending = tt
 entry_ascends class k d (x ∷ xs) ascending = (data_after class k d x xs (sorted_head (slice_cmp nat_cmp) x xs ascending), entry_ascends class k d xs (sorted_tail (slice_cmp nat_cmp) x xs ascending))
 
-each_append : (P : Record → Type 0) (xs ys : List Record) → AllByRecursion P xs → AllByRecursion P ys → AllByRecursion P (xs ++ ys)
-each_append P [] ys p q = q
-each_append P (x ∷ xs) ys p q = (p.0, each_append P xs ys p.1 q)
-
 Ascends-append : (xs ys : List Record) → Ascends xs → Ascends ys → ((r s : Record) → Has xs r → Has ys s → canonical_cmp r s ≡ Less) → Ascends (xs ++ ys)
 Ascends-append [] ys p q before = q
 Ascends-append (x ∷ xs) ys p q before = (
-  each_append (λ s. canonical_cmp x s ≡ Less) xs ys p.0 (each_from_Has (λ s. canonical_cmp x s ≡ Less) ys (λ s has. before x s (inl refl) has)),
+  AllByRecursion-append (λ s. canonical_cmp x s ≡ Less) xs ys p.0 (each_from_Has (λ s. canonical_cmp x s ≡ Less) ys (λ s has. before x s (inl refl) has)),
   Ascends-append xs ys p.1 q (λ r s has_r has_s. before r s (inr has_r) has_s),
 )
 

@@ -7,7 +7,7 @@ use Rattle.zone_rdata.specs.declared.fault.Place.{Place}
 use Rattle.zone_rdata.specs.declared.fault.Stop.{Stop}
 use Rattle.zone_rdata.specs.declared.fault.Stop.TheVariants.{Refused, Memory}
 use Rattle.zone_rdata.specs.declared.record.Placed.{Placed}
-use Rattle.zone_set.specs.Builder.{Accepts, Adds, AddsEach, StopsAdd, leaves, TakesAll, StopsTaking, fault, failure, memory, refused as by_fault, ending as by_ending}
+use Rattle.zone_set.specs.Builder.{Accepts, Adds, AddsEach, StopsAdd, leaves, StopsTaking, fault, failure, memory, refused as by_fault, ending as by_ending}
 
 -- one more at the end
 pub AddsEach-push : (old mid : List Record) (taken : List Placed) (p : Placed) (new : List Record) → AddsEach old taken mid → Accepts mid p.rr → Adds mid p.rr new → AddsEach old (taken ++ p ∷ []) new
@@ -29,13 +29,6 @@ first_parts true records ending p is = cc
 first_parts false [] None p is = cc
 first_parts false [] (Some e) p is = cc
 first_parts false (q ∷ records) ending p is = let same : q ≡ p = cc in (refl, ap (λ (x : Placed). x ∷ records) same)
-
--- an answer without a record: none was left, and no fault
-none_parts : (failed : Bool) (records : List Placed) (ending : Option (Fault × Place)) → answer_of (record { failed = failed; records = records; ending = ending }) ≡ Ok None → (failed ≡ false) × (records ≡ []) × (ending ≡ None)
-none_parts true records ending is = cc
-none_parts false [] None is = (refl, refl, refl)
-none_parts false [] (Some e) is = cc
-none_parts false (q ∷ records) ending is = cc
 
 -- an answer with a fault: the source failed, or the fault at its end
 pub data Stopped (pending : Pending) : Stop → Type 0 where
@@ -82,19 +75,6 @@ module _ (old : List Record) (start : Pending) (now : List Record) (left : Pendi
 
   whole : left.records ≡ [] → start.records ≡ had.taken
   whole none = had.parts ∙ ap (λ rs. had.taken ++ rs) none ∙ append-nil had.taken
-
-  emptied : left.records ≡ [] → left ≡ leaves start []
-  emptied none = had.rest ∙ ap (leaves start) none
-
-  pub TakesAll-at_end : answer_of left ≡ Ok None → TakesAll old start now left
-  TakesAll-at_end answer =
-      let last = none_parts left.failed left.records left.ending answer in
-      record {
-        works = sym failed ∙ last.0;
-        whole = sym same_end ∙ last.2;
-        taken = subst (λ rs. AddsEach old rs now) (sym (whole last.1)) had.each;
-        emptied = emptied last.1;
-      }
 
   pub StopsTaking-at_end : (stop : Stop) (next : Pending) → answer_of left ≡ Err stop → next ≡ after left → StopsTaking old start now next stop
   StopsTaking-at_end stop next answer is = by stop (stop_parts left.failed left.records left.ending stop answer)
