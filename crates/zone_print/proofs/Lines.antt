@@ -1,5 +1,5 @@
 -- What a line is made of, and the lines to come.
-use Rattle.std.proofs.Common.{◌≡◌, ℕ, List, [], ◌∷◌, ◌++◌, decimal, ap, ap₂, sym, ◌∙◌, append_assoc}
+use Rattle.std.proofs.Common.{◌≡◌, ℕ, List, [], ◌∷◌, ◌++◌, decimal, ap, sym, ◌∙◌, append_assoc}
 use Rattle.zone_name.specs.Text.{name_text}
 use Rattle.zone_rdata.specs.Record.{Record, data_of}
 use Rattle.zone_rdata.specs.Text.{data_text}
@@ -13,50 +13,32 @@ pub same_text : (class class' kind kind' : ℕ) (octets : List ℕ) → class �
 same_text class class' kind kind' octets e f =
     ap (λ n. data_text (record { class = n; kind = kind; octets = octets })) e ∙ ap (λ n. data_text (record { class = class'; kind = n; octets = octets })) f
 
+regroup : (a b c d e f : List ℕ) → a ++ b ++ c ++ d ++ e ++ f ≡ a ++ (b ++ (c ++ (d ++ (e ++ f))))
+regroup a b c d e f = simp append_assoc
+
 -- the spaces and the line feed, each in front of what stands behind it
 pub line_parts : (owner ttl class kind rdata : List ℕ) → owner ++ 32 ∷ ttl ++ 32 ∷ class ++ 32 ∷ kind ++ 32 ∷ rdata ++ 10 ∷ [] ≡ owner ++ (32 ∷ (ttl ++ (32 ∷ (class ++ (32 ∷ (kind ++ (32 ∷ (rdata ++ 10 ∷ []))))))))
-line_parts owner ttl class kind rdata =
-    append_assoc (owner ++ 32 ∷ ttl ++ 32 ∷ class ++ 32 ∷ kind) (32 ∷ rdata) (10 ∷ [])
-    ∙ append_assoc (owner ++ 32 ∷ ttl ++ 32 ∷ class) (32 ∷ kind) (32 ∷ (rdata ++ 10 ∷ []))
-    ∙ append_assoc (owner ++ 32 ∷ ttl) (32 ∷ class) (32 ∷ (kind ++ (32 ∷ (rdata ++ 10 ∷ []))))
-    ∙ append_assoc owner (32 ∷ ttl) (32 ∷ (class ++ (32 ∷ (kind ++ (32 ∷ (rdata ++ 10 ∷ []))))))
-
-middle_parts : (ttl class kind rest : List ℕ) → (32 ∷ ttl ++ 32 ∷ class ++ 32 ∷ kind ++ 32 ∷ []) ++ rest ≡ 32 ∷ (ttl ++ (32 ∷ (class ++ (32 ∷ (kind ++ (32 ∷ rest))))))
-middle_parts ttl class kind rest =
-    append_assoc (32 ∷ ttl ++ 32 ∷ class ++ 32 ∷ kind) (32 ∷ []) rest
-    ∙ append_assoc (32 ∷ ttl ++ 32 ∷ class) (32 ∷ kind) (32 ∷ rest)
-    ∙ append_assoc (32 ∷ ttl) (32 ∷ class) (32 ∷ (kind ++ (32 ∷ rest)))
+line_parts owner ttl class kind rdata = regroup owner (32 ∷ ttl) (32 ∷ class) (32 ∷ kind) (32 ∷ rdata) (10 ∷ [])
 
 -- a line is its owner, its middle, the data and a line feed
 pub line_split : (r : Record) → line r ≡ name_text r.owner ++ (line_middle r ++ (data_text (data_of r) ++ 10 ∷ []))
 line_split r =
     let value = data_text (data_of r) in
     line_parts (name_text r.owner) (decimal r.ttl) (class_text r.class) (kind_text r.class r.kind) value
-    ∙ ap (λ l. name_text r.owner ++ l) (sym (middle_parts (decimal r.ttl) (class_text r.class) (kind_text r.class r.kind) (value ++ 10 ∷ [])))
+    ∙ ap (λ l. name_text r.owner ++ l) (sym (regroup [] (32 ∷ decimal r.ttl) (32 ∷ class_text r.class) (32 ∷ kind_text r.class r.kind) (32 ∷ []) (value ++ 10 ∷ [])))
 
 -- owner, middle and what stands behind them were pushed
 pub line_pushed : (old named numbered new owner middle : List ℕ) (r : Record) → owner ≡ name_text r.owner → middle ≡ line_middle r
     → named ≡ old ++ owner → numbered ≡ named ++ middle → new ≡ numbered ++ (data_text (data_of r) ++ 10 ∷ []) → new ≡ old ++ line r
 line_pushed old named numbered new owner middle r e f g h i =
-    let rest = data_text (data_of r) ++ 10 ∷ [] in
-    i ∙ ap (λ l. l ++ rest) (h ∙ ap₂ (λ k l. k ++ l) (g ∙ ap (λ l. old ++ l) e) f)
-    ∙ append_assoc (old ++ name_text r.owner) (line_middle r) rest
-    ∙ append_assoc old (name_text r.owner) (line_middle r ++ rest)
-    ∙ ap (λ l. old ++ l) (sym (line_split r))
-
--- records of one TTL, class and type have one middle
-pub same_middle : (r s : Record) → r.ttl ≡ s.ttl → r.class ≡ s.class → r.kind ≡ s.kind → line_middle r ≡ line_middle s
-same_middle r s ttl class kind =
-    ap (λ n. 32 ∷ decimal n ++ 32 ∷ class_text r.class ++ 32 ∷ kind_text r.class r.kind ++ 32 ∷ []) ttl
-    ∙ ap (λ n. 32 ∷ decimal s.ttl ++ 32 ∷ class_text n ++ 32 ∷ kind_text n r.kind ++ 32 ∷ []) class
-    ∙ ap (λ n. 32 ∷ decimal s.ttl ++ 32 ∷ class_text s.class ++ 32 ∷ kind_text s.class n ++ 32 ∷ []) kind
+    rw (i, h, g, e, f, line_split r) (simp append_assoc)
 
 -- the first of the records to come was pushed
-pub line_moves : (piece grown : List ℕ) (records others : List Record) (r : Record) → records ≡ r ∷ others → grown ≡ piece ++ line r
-    → piece ++ lines records ≡ grown ++ lines others
-line_moves piece grown records others r e pushed =
-    ap (λ rs. piece ++ lines rs) e ∙ sym (append_assoc piece (line r) (lines others)) ∙ ap (λ l. l ++ lines others) (sym pushed)
+pub line_moves : (buffer grown : List ℕ) (records others : List Record) (r : Record) → records ≡ r ∷ others → grown ≡ buffer ++ line r
+    → buffer ++ lines records ≡ grown ++ lines others
+line_moves buffer grown records others r e pushed =
+    ap (λ rs. buffer ++ lines rs) e ∙ sym (append_assoc buffer (line r) (lines others)) ∙ ap (λ l. l ++ lines others) (sym pushed)
 
 -- no record is to come
-pub line_ends : (piece : List ℕ) (records : List Record) → records ≡ [] → piece ++ lines records ≡ piece ++ []
-line_ends piece records e = ap (λ rs. piece ++ lines rs) e
+pub line_ends : (buffer : List ℕ) (records : List Record) → records ≡ [] → buffer ++ lines records ≡ buffer ++ []
+line_ends buffer records e = ap (λ rs. buffer ++ lines rs) e
