@@ -1,5 +1,5 @@
 -- Records held: membership, sets, and what a refusal excludes.
-use Rattle.std.proofs.Common.{◌≡◌, ◌≢◌, ◌⊎◌, ℕ, Bool, true, false, not, Decides, ◌==◌, if◌then◌else◌, List, [], ◌∷◌, take, Ordering, Less, nat_cmp, eqb-true, eq-eqb, refl, sym, ap, ◌∙◌, subst, inl, inr, ⊎_elim}
+use Rattle.std.proofs.Common.{◌≡◌, ◌≢◌, ◌⊎◌, ℕ, Bool, true, false, Decides, ◌==◌, if◌then◌else◌, List, [], ◌∷◌, take, Ordering, Less, nat_cmp, eqb-true, eq-eqb, refl, sym, ap, ◌∙◌, subst, inl, inr, ⊎_elim}
 use Rattle.std.proofs.lemmas.Bool.{cases_eq}
 use Rattle.std.specs.Cmp.Lexicographic.{bytes_decides}
 use Rattle.std.specs.List.{AllByRecursion}
@@ -19,19 +19,6 @@ each_Has P (s ∷ records) r each has = ⊎_elim (λ same. subst P (sym same) ea
 pub each_from_Has : (P : Record → Type 0) (records : List Record) → ((r : Record) → Has records r → P r) → AllByRecursion P records
 each_from_Has P [] holds = tt
 each_from_Has P (s ∷ records) holds = (holds s (inl refl), each_from_Has P records (λ r has. holds r (inr has)))
-
--- what the opposite of a test says
-pub differs : {P : Type 0} (b r : Bool) → Decides b P → r ≡ not b → r ≡ true → P → ⊥
-differs true r decides is true_r p = cc
-differs false r decides is true_r p = let no : false ≡ true = decides.1 p in cc
-
-pub agrees : {P : Type 0} (b r : Bool) → Decides b P → r ≡ not b → r ≡ false → P
-agrees true r decides is false_r = decides.0 refl
-agrees false r decides is false_r = cc
-
-pub true_from : {P : Type 0} (b r : Bool) → Decides b P → r ≡ not b → (P → ⊥) → r ≡ true
-true_from true r decides is fails = absurd (fails (decides.0 refl))
-true_from false r decides is fails = is
 
 -- what is not false is true, where a test decides it
 stable : {P : Type 0} (b : Bool) → Decides b P → ((P → ⊥) → ⊥) → P

@@ -19,7 +19,7 @@ impl<'z> RrRef<'z> {
 
 /// Whether the labels are equal.
 #[tactic(auto, using(crate::proofs::KeyOrder::decides_owner))]
-fn is_same_name(name: &NameRef, other: &NameRef) -> bool
+pub(crate) fn is_same_name(name: &NameRef, other: &NameRef) -> bool
     ensures { IsTrue result ↔ (name.now ≡ other.now) }
 {
     name == other

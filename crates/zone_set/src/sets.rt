@@ -16,6 +16,7 @@ use crate::key::SetKey;
 use crate::records::Records;
 use crate::refusal::Refusal;
 use crate::rr::RrRef;
+use crate::same::is_same_name;
 use std::alloc::Global;
 use std::collections::BTreeMap;
 use std::collections::btree_map::Entry;
@@ -186,7 +187,8 @@ fn is_other_soa(first: &RrRef<'_>, rr: &Rr) -> bool
     if !rr.kind().is_soa() || !first.kind.is_soa() {
         return false;
     }
-    first.owner.wire() != rr.owner().wire() || first.rdata.octets() != rr.rdata().octets()
+    let owner = NameRef::of_wire(rr.owner().wire());
+    !is_same_name(&first.owner, &owner) || first.rdata.octets() != rr.rdata().octets()
 }
 
 /// The octets that records take in messages, and those of one more where it is new.
