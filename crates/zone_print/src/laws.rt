@@ -24,11 +24,13 @@ use zone_text::laws::line::{
 use zone_text::laws::pieces::{lines_are_cut_by_themselves, one_cut_of_a_text};
 
 /// The line of a record has one line feed, its last octet.
+#[tactic(auto, using(crate::proofs::Feeds::line_ends_with_feed))]
 pub fn each_line_ends()
     ensures { EachLineEnds }
 {}
 
 /// The canonical order is total, and records that it doesn't tell apart have one owner and one data.
+#[tactic(auto, using(crate::proofs::OneZone::canonical_total, crate::proofs::OneZone::canonical_exact))]
 pub fn canonical_order_is_total()
     ensures total { IsTotalOrder canonical_cmp }
     ensures exact { (r s : Record) → canonical_cmp r s ≡ Equal → (r.owner ≡ s.owner) × (data_of r ≡ data_of s) }
@@ -37,6 +39,7 @@ pub fn canonical_order_is_total()
 }
 
 /// A zone is fixed by the set of its records.
+#[tactic(auto, using(crate::proofs::OneZone::one_zone))]
 pub fn one_zone_of_records()
     ensures { (z w : Zone) → IsZone z → IsZone w → SameRecords z.records w.records → z ≡ w }
 {}
@@ -60,6 +63,7 @@ pub fn each_line_is_one_entry()
 }
 
 /// Two lines of records are equal exactly if the records are.
+#[tactic(auto, using(crate::proofs::ReadBack::equal_lines))]
 pub fn equal_lines_are_equal_records()
     ensures { (r s : Record) → IsRecord r → IsRecord s → (line r ≡ line s) ↔ (r ≡ s) }
 {
@@ -82,6 +86,7 @@ pub fn lines_read_back()
 }
 
 /// The canonical text of a zone, if it is within the limit, denotes that zone under every origin.
+#[tactic(auto, using(crate::proofs::ReadBack::text_back))]
 pub fn canonical_text_reads_back()
     ensures { (origin : Labels) (z : Zone) → IsZone z → length (canon z) ≤ text_limit → Denotes origin (canon z) z }
 {
@@ -89,6 +94,7 @@ pub fn canonical_text_reads_back()
 }
 
 /// Two zones have one canonical text exactly if they are one zone, however long it is.
+#[tactic(auto, using(crate::proofs::ReadBack::equal_texts))]
 pub fn equal_texts_are_equal_zones()
     ensures { (z w : Zone) → IsZone z → IsZone w → (canon z ≡ canon w) ↔ (z ≡ w) }
 {
@@ -99,6 +105,7 @@ pub fn equal_texts_are_equal_zones()
 
 /// The canonical text of a zone has at most four times as many octets as its records take in messages where no name is
 /// compressed (RFC 1035 3.2.1).
+#[tactic(auto, using(crate::proofs::Lengths::canon_length))]
 pub fn a_text_is_at_most_four_times_its_messages()
     ensures { (z : Zone) → IsZone z → length (canon z) ≤ 4 * message_octets z.records }
 {}
