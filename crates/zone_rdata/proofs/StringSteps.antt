@@ -5,7 +5,7 @@ use Rattle.zone_name.specs.Spelling.{Written, text_of, octet_of, IsUnit, no_octe
 use Rattle.zone_rdata.specs.declared.fault.Fault.TheVariants.{BadEscape, StringTooLong}
 use Rattle.zone_rdata.specs.Item.{RawItem}
 use Rattle.zone_rdata.specs.Strings.{ReachesUnit, StringFault, bad_escape, long_string, item_text}
-pub use Rattle.zone_name.proofs.Pushing.{AllByRecursion-append}
+use Rattle.zone_name.proofs.Pushing.{AllByRecursion-append}
 
 -- the octets of the units up to a place of an item's text
 pub record HasRead (item : RawItem) (octets rest : List ℕ) : Type 0 where

@@ -14,6 +14,7 @@ use Rattle.zone_rdata.specs.Fields.Strings.{strings_by, strings_of}
 use Rattle.zone_rdata.specs.Layout.{layout}
 use Rattle.zone_rdata.specs.Strings.{IsString}
 use Rattle.zone_rdata.specs.declared.fault.Fault.{Fault}
+use Rattle.zone_rdata.proofs.Lists.{bytes_each}
 use Rattle.zone_rdata.specs.declared.field.Field.{Field}
 use Rattle.zone_rdata.specs.declared.field.Field.TheVariants.{Name, Serial, Time, U16, Octets, OneString, Strings}
 use Rattle.zone_wire.specs.Machine.Data.{name_before, sized_before, strings_before, value_at, values_at, data_at}
@@ -28,11 +29,6 @@ use Rattle.zone_wire.proofs.Walking.{walk_names, take_each, drop_each}
 
 abbrev Shown : List ℕ → ℕ → ℕ → Field → FieldValue × ℕ → Type 0
 Shown octets end start field v = Holds field v.0 × (v.1 ≤ end) × StandsAt octets start v.1 v.0
-
--- octets, each below 256
-pub bytes_each : (octets : List ℕ) → ((k : ℕ) → get_or octets k 0 < 256) → AllByRecursion (λ c. c < 256) octets
-bytes_each [] small = tt
-bytes_each (c ∷ octets) small = (small 0, bytes_each octets (λ k. small (suc k)))
 
 strings_each_by : (n : ℕ) (octets : List ℕ) → ((k : ℕ) → get_or octets k 0 < 256) → AllByRecursion IsString (strings_by n octets)
 strings_each_by zero octets small = tt

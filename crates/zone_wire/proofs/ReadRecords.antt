@@ -21,7 +21,8 @@ use Rattle.zone_wire.specs.Message.{u16_at, RecordAt, IsRecordAt}
 use Rattle.zone_wire.specs.Answers.{handed_on}
 use Rattle.zone_wire.specs.Transfer.{octets_between, StandsAt, StandEach, AreFieldsAt, ttl_of, compressible}
 use Rattle.zone_wire.proofs.ReadAnswers.{unequal}
-use Rattle.zone_wire.proofs.ReadFields.{bytes_each, data_shown}
+use Rattle.zone_rdata.proofs.Lists.{bytes_each}
+use Rattle.zone_wire.proofs.ReadFields.{data_shown}
 use Rattle.zone_wire.proofs.ReadSections.{ok_same, leads, passes_on}
 use Rattle.zone_wire.proofs.ReadStreams.{Bytes}
 use Rattle.zone_wire.proofs.Walking.{take_each, drop_each}

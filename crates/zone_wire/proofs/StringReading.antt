@@ -17,12 +17,13 @@ use Rattle.zone_rdata.specs.Machine.Fronts.{AreWithLengths}
 use Rattle.zone_rdata.specs.Layout.{layout}
 use Rattle.zone_rdata.specs.Strings.{IsString}
 use Rattle.zone_rdata.proofs.Fields.Strings.{Framed, framed_short}
-use Rattle.zone_rdata.proofs.StringSteps.{AllByRecursion-append}
+use Rattle.zone_name.proofs.Pushing.{AllByRecursion-append}
+use Rattle.zone_rdata.proofs.Lists.{bytes_each}
 use Rattle.zone_wire.specs.Machine.Data.{strings_before, value_at}
 use Rattle.zone_wire.specs.Machine.DataReading.{parts_for, put_behind, Awaits, AwaitsStrings, PutsValue}
 use Rattle.zone_wire.specs.Transfer.{octets_between, StandsAt}
 use Rattle.zone_wire.proofs.Fielding.{strings_read}
-use Rattle.zone_wire.proofs.ReadFields.{bytes_each, part_bytes, strings_each, some_strings, value_shows}
+use Rattle.zone_wire.proofs.ReadFields.{part_bytes, strings_each, some_strings, value_shows}
 use Rattle.zone_wire.proofs.FieldReading.{between_first, between_join, part_len, sized_fails, string_sized}
 
 -- ---- strings
