@@ -1,7 +1,17 @@
-use Rattle.std.proofs.Common.{refl, sym, ◌∙◌}
-use Rattle.zone_set.proofs.Finishing.{IsZone-from_parts}
+use Rattle.std.proofs.Common.{refl, sym, subst, ◌∙◌}
+use Rattle.std.proofs.lemmas.Bool.{false≢true}
+use Rattle.zone_rdata.specs.declared.fault.Fault.TheVariants.{NoSoa}
+use Rattle.zone_rdata.specs.declared.fault.Place.TheVariants.{Whole}
+use Rattle.zone_rdata.specs.declared.fault.Stop.TheVariants.{Refused}
+use Rattle.zone_set.proofs.Finishing.{IsZone-from_parts, stops_without_soa}
+use Rattle.zone_set.specs.Builder.{StopsFinish}
 use Rattle.zone_set.specs.View.{record_of}
 use Rattle.zone_set.proofs.builder.ZoneBuilder.finish.Goals as goal
+
+pub returns-then-not-is_soa-clause-stopped : goal.returns-then-not-is_soa-clause-stopped
+returns-then-not-is_soa-clause-stopped c =
+    subst (λ held. StopsFinish held (Refused NoSoa Whole)) c.self.view_is
+    (stops_without_soa _ (record_of c.in-Some.first) _ c.iter.ensures.compatible (sym c.iter.ensures.records ∙ c.in-Some.ensures.steps) (λ same. false≢true (c.if-not-is_soa.ensures.1 same)))
 
 pub invariant_of-result : goal.invariant_of-result
 invariant_of-result c =
