@@ -19,7 +19,8 @@ use Rattle.zone_set.specs.Refusal.{AllAccepted, records_of}
 use Rattle.zone_set.specs.Zone.{Has, SameRecords, AreCompatible, Zone, IsZone}
 use Rattle.zone_print.specs.Canonical.{canon, text_limit}
 use Rattle.zonenorm.specs.Refusal.{RefusesReading, MakesZone, refused, unread, unfinished, too_large}
-use Rattle.zonenorm.proofs.Parting.{accepted_ttl, one_set, all_class, all_ttl, all_soa}
+use Rattle.zone_set.proofs.Together.{accepted_ttl, one_set}
+use Rattle.zonenorm.proofs.Parting.{all_class, all_ttl, all_soa}
 use Rattle.zonenorm.proofs.Deciding.{Settled, not_settled, same_owner, is_within, some_or_none, one_or_all}
 
 each_Has : (P : Record → Type 0) (records : List Record) (r : Record) → AllByRecursion P records → Has records r → P r

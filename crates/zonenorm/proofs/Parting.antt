@@ -7,6 +7,7 @@ use Rattle.zone_rdata.specs.declared.record.Placed.{Placed}
 use Rattle.zone_set.specs.Builder.{Accepts}
 use Rattle.zone_set.specs.Refusal.{AllAccepted, records_of}
 use Rattle.zone_set.specs.Zone.{Has, InOneSet}
+use Rattle.zone_set.proofs.Together.{accepted_class, accepted_soa, accepted_ttl}
 
 -- two partings of one list: at one place, or one of them before the other
 pub data Partings (before before' : List Placed) (p q : Placed) : Type 0 where
@@ -47,40 +48,8 @@ pub Has-part : (before others : List Placed) (p : Placed) → Has (records_of (b
 Has-part [] others p = inl refl
 Has-part (q ∷ before) others p = inr (Has-part before others p)
 
--- ---- what an accepted record has in common with those before it
-
-stable : {P : Type 0} (b : Bool) → Decides b P → ((P → ⊥) → ⊥) → P
-stable true decides twice = decides.0 refl
-stable false decides twice = absurd (twice (λ p. let no : false ≡ true = decides.1 p in cc))
-
-stable_number : (a b : ℕ) → ((a ≢ b) → ⊥) → a ≡ b
-stable_number a b twice = ⊎_elim (λ e. e) (λ ne. absurd (twice ne)) (cases_eq a b)
-
 pub Decides-owner : (a b : List (List ℕ)) → Decides (pointwise (pointwise nat_eq) a b) (a ≡ b)
 Decides-owner a b = pointwise_decides bytes_decides a b
-
-pub stable_owner : (a b : List (List ℕ)) → ((a ≢ b) → ⊥) → a ≡ b
-stable_owner a b twice = stable _ (Decides-owner a b) twice
-
--- records with one owner, type and data are of one set
-pub one_set : (r s : Record) → r.owner ≡ s.owner → r.kind ≡ s.kind → r.octets ≡ s.octets → InOneSet r s
-one_set r s owner kind octets = record { owner = owner; kind = kind; covers = λ i. if kind i == 46 then take 2 (octets i) else [] }
-
-module _ (held : List Record) (r : Record) (fits : Accepts held r) where
-  accepted_class : (s : Record) → Has held s → s.class ≡ r.class
-  accepted_class s has = stable_number _ _ (λ other. fits.one_class (s, has, other))
-
-  pub accepted_ttl : (s : Record) → Has held s → InOneSet s r → s.ttl ≡ r.ttl
-  accepted_ttl s has one = stable_number _ _ (λ other. fits.one_ttl (s, has, one, other))
-
-  accepted_soa : (s : Record) → Has held s → s.kind ≡ 6 → r.kind ≡ 6 → s ≡ r
-  accepted_soa s has soa_s soa_r =
-      let owner : s.owner ≡ r.owner = stable_owner _ _ (λ other. fits.one_soa (s, has, (soa_r, soa_s, inl other))) in
-      let octets : s.octets ≡ r.octets = stable _ (bytes_decides s.octets r.octets) (λ other. fits.one_soa (s, has, (soa_r, soa_s, inr other))) in
-      let kind : s.kind ≡ r.kind = soa_s ∙ sym soa_r in
-      let class : s.class ≡ r.class = accepted_class s has in
-      let ttl : s.ttl ≡ r.ttl = accepted_ttl s has (one_set s r owner kind octets) in
-      λ i. record { owner = owner i; class = class i; kind = kind i; ttl = ttl i; octets = octets i }
 
 -- ---- records of which each may stand with all before it
 
