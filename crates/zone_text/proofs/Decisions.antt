@@ -16,12 +16,12 @@ use Rattle.zone_text.specs.Given.{Ending, gives_none, gives_one, refused}
 use Rattle.zone_text.specs.Decided.{ArePieces, Decided, decided, undecided}
 use Rattle.zone_text.proofs.Cuttings.{cut_or_broken}
 use Rattle.zone_text.proofs.Lasting.{breaks_for_good}
-use Rattle.zone_text.proofs.CutAgain.{joined, AreEnded, cut_whole}
+use Rattle.zone_text.proofs.CutAgain.{joined, AreEnded, again_zero, cut_whole}
 use Rattle.zone_text.proofs.Ending.{ended_entries_first}
 use Rattle.zone_text.proofs.Decides.{pieces_of, goes_on, ended_on}
 use Rattle.zone_text.proofs.Escapes.{break_stays_or_ends}
 use Rattle.zone_text.proofs.ForGood.{ends_not_for_good}
-use Rattle.zone_text.proofs.Left.{line_feeds, reads_then, refused_before, reads_behind, numbered_then, IsSplit, cut_more, break_more, pieces_more, for_good_more, none_cut, none_more, cut_behind, ended_as_before, one_ended}
+use Rattle.zone_text.proofs.Left.{line_feeds, reads_then, refused_before, reads_behind, numbered_then, IsSplit, cut_more, break_more, pieces_more, for_good_more, none_cut, none_more, ended_as_before, one_ended}
 
 -- what is read of ended entries, the first of them on line 1
 abbrev pub ReadsEnded : List (List ℕ) → Ending → List (List Piece) → List Placed → Ending → Type 0
@@ -116,7 +116,7 @@ open_alone pieces none = sym (ap (λ t. joined t ++ (cut_from zero pieces).open_
 
 entries_are : (ended : List (List Piece)) (pieces : List Piece) → AreEnded zero ended → (cut_from zero pieces).ended ≡ [] → entries_of (joined ended ++ pieces) ≡ numbered 1 (and_last ended pieces)
 entries_are ended pieces are none =
-    ap (λ (c : Cut). numbered 1 (and_last c.ended c.open_pieces)) (cut_behind ended pieces are)
+    ap (λ (c : Cut). numbered 1 (and_last c.ended c.open_pieces)) (again_zero ended pieces are)
     ∙ ap (λ t. numbered 1 (and_last (ended ++ t) (cut_from zero pieces).open_pieces)) none
     ∙ ap (λ t. numbered 1 (and_last t (cut_from zero pieces).open_pieces)) (append-nil ended)
     ∙ ap (λ t. numbered 1 (and_last ended t)) (open_alone pieces none)

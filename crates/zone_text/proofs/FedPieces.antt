@@ -22,16 +22,6 @@ pub record HasFed (old new : Intake) (piece rest : List ℕ) : Type 0 where
   pub settled : (found : Fault × Place) → old.ended.decided.ending ≡ Some found → new ≡ old
   pub follow : FollowsOn old.ended old.unfinished.items new.ended new.unfinished.items front
 
-pub fed_nothing : (old : Intake) (piece : List ℕ) → IsIntake old.ended old.at old.unfinished.items → HasFed old old piece piece
-fed_nothing old piece is = record {
-  front = [];
-  whole = refl;
-  is = is;
-  near = omega arith;
-  settled = λ _ _. refl;
-  follow = λ origin fed given follow. subst (λ t. Follow origin old.ended old.unfinished.items t given) (sym (append-nil fed)) follow;
-}
-
 -- a part more
 pub fed_more : (old mid new : Intake) (piece rest part after : List ℕ) → HasFed old mid piece rest → mid.ended.decided.ending ≡ None → rest ≡ part ++ after → length rest ≡ length part + length after → IsIntake new.ended new.at new.unfinished.items → new.ended.line + length new.unfinished.items ≤ mid.ended.line + length mid.unfinished.items + length part → FollowsOn mid.ended mid.unfinished.items new.ended new.unfinished.items part → HasFed old new piece after
 fed_more old mid new piece rest part after before none cut len is near follow = record {

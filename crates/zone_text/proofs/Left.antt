@@ -139,15 +139,12 @@ none_more fed more ended unfinished pieces is (inr found) none fault good =
 
 -- ---- the entries of those pieces
 
-pub cut_behind : (ended : List (List Piece)) (more : List Piece) → AreEnded zero ended → cut_from zero (joined ended ++ more) ≡ record { ended = ended ++ (cut_from zero more).ended; open_pieces = (cut_from zero more).open_pieces }
-cut_behind ended more are = again_zero ended more are
-
 -- no entry more
 pub ended_as_before : (ended : List (List Piece)) (more : List Piece) → AreEnded zero ended → (cut_from zero more).ended ≡ [] → (cut_from zero (joined ended ++ more)).ended ≡ ended
 ended_as_before ended more are none =
-    ap (λ (c : Cut). c.ended) (cut_behind ended more are) ∙ ap (λ t. ended ++ t) none ∙ append-nil ended
+    ap (λ (c : Cut). c.ended) (again_zero ended more are) ∙ ap (λ t. ended ++ t) none ∙ append-nil ended
 
 -- one entry more
 pub one_ended : (ended : List (List Piece)) (entry : List Piece) → AreEnded zero ended → cut_from zero entry ≡ record { ended = entry ∷ []; open_pieces = [] } → (cut_from zero (joined ended ++ entry)).ended ≡ ended ++ entry ∷ []
 one_ended ended entry are one =
-    ap (λ (c : Cut). c.ended) (cut_behind ended entry are) ∙ ap (λ (c : Cut). ended ++ c.ended) one
+    ap (λ (c : Cut). c.ended) (again_zero ended entry are) ∙ ap (λ (c : Cut). ended ++ c.ended) one

@@ -75,18 +75,6 @@ taken_within start (c ∷ rest) = within_by rest (step_of start c) (λ next. tak
 pub takes_front : (start : ScanState) (octets : List ℕ) → length (take (scan_of start octets).taken octets) ≡ (scan_of start octets).taken
 takes_front start octets = simp length-take (omega (arith, taken_within start octets))
 
-all_by : (at : ScanState) (rest : List ℕ) (step : Step) → ((next : ScanState) → (scan_of next rest).step ≡ On at → (scan_of next rest).taken ≡ length rest) → (scan_on (λ next. scan_of next rest) step).step ≡ On at → (scan_on (λ next. scan_of next rest) step).taken ≡ suc (length rest)
-all_by at rest (On next) more e = omega (arith, more next e)
-all_by at rest Ends more e = absurd (let t : ⊥ = cc in t)
-all_by at rest LostEscape more e = absurd (let t : ⊥ = cc in t)
-all_by at rest ClosesNothing more e = absurd (let t : ⊥ = cc in t)
-
--- where it goes on it took all octets
-pub takes_all : (start at : ScanState) (octets : List ℕ) → (scan_of start octets).step ≡ On at → (scan_of start octets).taken ≡ length octets
-unfolding scan_of
-takes_all start at [] e = refl
-takes_all start at (c ∷ rest) e = all_by at rest (step_of start c) (λ next more. takes_all next at rest more) e
-
 depth_by : (start at : ScanState) (c : ℕ) (rest : List ℕ) (step : Step) → step_of start c ≡ step → ((next : ScanState) → (scan_of next rest).step ≡ On at → at.depth ≤ next.depth + length rest) → (scan_on (λ next. scan_of next rest) step).step ≡ On at → at.depth ≤ start.depth + suc (length rest)
 depth_by start at c rest (On next) same more e = omega (arith, more next e, rises start next c same)
 depth_by start at c rest Ends same more e = absurd (let t : ⊥ = cc in t)

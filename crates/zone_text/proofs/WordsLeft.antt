@@ -122,10 +122,6 @@ read_to items rest more v item reads front none =
     reads.parts ∙ (ap (parts_behind reads.words) front ∙ (next_part reads.words item more None (none reads.words reads.have) ∙ ap (λ t. record { words = reads.words; rest = t }) (sym front)))
     )
 
-pub read_all : (items rest : List RawItem) (v : Words) → ReadsWords items v rest → rest ≡ [] → ArePartsOf (parts_behind [] items) v rest
-read_all items rest v reads none =
-    parts_are _ reads.words v rest reads.have (reads.parts ∙ (ap (parts_behind reads.words) none ∙ ap (λ t. record { words = reads.words; rest = t }) (sym none)))
-
 some_of : (P : Word → Type 0) (o : Option Word) → IsSomeAnd o P → (word : Word) × ((o ≡ Some word) × P word)
 some_of P None h = absurd h
 some_of P (Some word) h = (word, (refl, h))
