@@ -99,9 +99,6 @@ Refuses-label text label rest RelativeName at short x = elim x [ ]
 abbrev pub ArePlain : List ℕ → ℕ → Type 0
 ArePlain text len = (k : ℕ) → k < len → IsUnit is_dot (plain (get_or text k 0))
 
-pub plain_more : (text : List ℕ) (len : ℕ) → ArePlain text len → IsUnit is_dot (plain (get_or text len 0)) → ArePlain text (suc len)
-plain_more text len each next k h = elim (cases_lt k len) [ inl below ↦ each k below | inr from ↦ let same : len ≡ k = omega arith in subst (λ t. IsUnit is_dot (plain (get_or text t 0))) same next ]
-
 -- what is behind them ends a label where it is no backslash
 abbrev pub begins_with : ℕ → List ℕ → Bool
 begins_with c rest = pointwise nat_eq (c ∷ []) (take 1 rest)
@@ -213,9 +210,6 @@ unfolding reading
 reading-nil [] e = refl
 reading-nil (c ∷ text) e = absurd (omega arith)
 
-pub Reads-refused : (text : List ℕ) (held : List (List ℕ)) (is_too_long : Bool) (rest : List ℕ) (fault : NameFault) → Reads text held is_too_long rest → Refuses rest fault → reading text ≡ Err fault
-Reads-refused text held is_too_long rest fault reads refuses = sym reads.leads ∙ refuses reads.labels reads.fuel reads.enough
-
 -- more labels take no fewer octets
 wire-more : (labels : List (List ℕ)) (label : List ℕ) → 255 < length (wire labels) → 255 < length (wire (labels ++ label ∷ []))
 wire-more labels label over = omega (arith, over, ap length (flat_map-append with_length labels (label ∷ [])), length-append (flat_map with_length labels) (flat_map with_length (label ∷ [])), length-append (flat_map with_length labels) (0 ∷ []), length-append (flat_map with_length (labels ++ label ∷ [])) (0 ∷ []))
@@ -267,8 +261,3 @@ Reads-relative text before after is_too_long is_left_out rest label behind reads
 ends_by : (fuel : ℕ) (labels : List (List ℕ)) (rest : List ℕ) → length rest < fuel → rest ≡ [] → read fuel labels [] rest ≡ Ok (labels, true)
 ends_by zero labels rest enough e = absurd (omega arith)
 ends_by (suc n) labels rest enough e = read_step n labels [] rest at_end (ap ahead_in e)
-
--- at the end of the text, behind a dot
-pub Reads-absolute : (text : List ℕ) (held : List (List ℕ)) (is_too_long : Bool) (rest : List ℕ) → Reads text held is_too_long rest → rest ≡ [] → (labels : List (List ℕ)) × (reading text ≡ Ok (labels, true)) × Collects held is_too_long labels
-Reads-absolute text held is_too_long rest reads e =
-    (reads.labels, sym reads.leads ∙ ends_by reads.fuel reads.labels rest reads.enough e, reads.collects)

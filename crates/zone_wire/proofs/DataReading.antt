@@ -67,9 +67,6 @@ pub record HaveValues (octets : List ℕ) (end start : ℕ) (fields : List Field
   pub past : start ≤ place
   pub inside : place ≤ end
 
-pub no_values : (octets : List ℕ) (end start : ℕ) (fields : List Field) (b : Built) → start ≤ end → HaveValues octets end start fields b b 0 start
-no_values octets end start fields b order = record { values = []; number = refl; put = put_none b; plain = λ each. (refl, omega arith); leads = λ others e. e; fails = λ fault e. e; past = omega arith; inside = order }
-
 plain_ready : (octets : List ℕ) (end start : ℕ) (b : Built) (field : Field) → field ≢ Strings → Awaits octets end start b field → IsReadyFor octets end start b field
 plain_ready octets end start b Strings other w = absurd (other refl)
 plain_ready octets end start b field other w = w

@@ -169,11 +169,6 @@ u16_front (c ∷ []) (x ∷ more) zero h k = absurd (omega (arith, k))
 u16_front (c ∷ []) (x ∷ more) (suc n) h k = refl
 u16_front (c ∷ d ∷ cut) more end h k = refl
 
-pub whole_front : (cut more : List ℕ) (end : ℕ) → length cut + end ≡ 2 + u16_at (cut ++ more) 0 → end ≤ length more → length (cut ++ take end more) ≡ 2 + u16_at (cut ++ take end more) 0
-whole_front cut more end e h =
-    let size = u16_front cut more end h (omega (arith, e)) in
-    omega (arith, e, size, length-append cut (take end more), length-take-le end more h)
-
 pub finishes : (t : Transfer) (unfinished fed : List ℕ) (given : List Placed) (ending : Option (Fault × Place)) → t.decided.ending ≡ None → ((placed : List Placed) → t.closed ≡ is_closed placed → StreamEnd (t.messages + 1) placed unfinished ending) → Follow t unfinished fed given → StreamReads fed (given ++ t.decided.placed.items) ending
 finishes t unfinished fed given ending going ends follow =
     let g = still_going t unfinished fed given t.decided.ending going follow.state in
@@ -197,21 +192,6 @@ fed_more piece rest taken old mid new each s going some within cut dropped count
         let still : old.transfer.decided.ending ≡ None = ap (λ (i : Intake). i.transfer.decided.ending) (sym same) ∙ going in
         let none : ⊥ = cc in
         absurd none
-
-pub fed_nothing : (piece : List ℕ) (t : Intake) → IsCut t.unfinished.items → IfSome t.transfer.decided.ending (λ _. t.unfinished.items ≡ []) → FedSoFar piece piece t t
-fed_nothing piece t cut dropped = record {
-  front = [];
-  parts = refl;
-  cut = cut;
-  dropped = dropped;
-  count = omega arith;
-  same = same t.transfer.decided.ending;
-  follow = λ fed given f. subst (λ xs. Follow t.transfer t.unfinished.items xs given) (sym (append-nil fed)) f;
-}
-  where
-    same : (ending : Option (Fault × Place)) → IfSome ending (λ _. t ≡ t)
-    same None = tt
-    same (Some f) = refl
 
 take_whole : {X : Type 0} (xs : List X) → take (length xs) xs ≡ xs
 take_whole [] = refl

@@ -105,17 +105,6 @@ module _ (stream : List ℕ) (each : Bytes stream) where
         stated = r.stated;
       }
 
-  pub decision_finds : (placed : List Placed) (ending : Option (Fault × Place)) → Decided stream placed ending → FindsDecision stream placed ending
-  decision_finds placed ending r =
-      let is = reading_is r.messages r.all ending (bytes_in r.messages r.rest r.framed.whole) r.framed.short r.read in
-      record {
-        messages = r.messages;
-        rest = r.rest;
-        framed = r.framed;
-        stated = r.stated ∙ ap (λ (x : Finds). handed_on x.placed) (sym is);
-        ends = ap (λ (x : Finds). x.fault) (sym is);
-      }
-
 -- what is read is records
 abbrev Fit : List Placed → Type 0
 Fit placed = AllByRecursion (λ (p : Placed). IsRecord p.rr) placed

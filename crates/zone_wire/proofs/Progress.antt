@@ -63,10 +63,6 @@ gains_opening questions placed p old new among first opening zone closed message
       ending = ending;
     }
 
-or_false : (a b : Bool) → a ≡ false → (a || b) ≡ b
-or_false true b e = cc
-or_false false b e = refl
-
 abbrev not_soa : Placed → Bool
 not_soa p = not (p.rr.kind == 6)
 

@@ -42,9 +42,6 @@ put_none b = ap (λ (ps : List FieldValue). let v : Built = record b { parts = p
 nothing_between : (octets : List ℕ) (start : ℕ) → octets_between octets start start ≡ []
 nothing_between octets start = ap (λ n. take n (drop start octets)) (let e : start - start ≡ 0 = omega arith in e)
 
-pub none_put : (octets : List ℕ) (end start : ℕ) (b : Built) → start ≤ end → HavePut octets end start b b start
-none_put octets end start b order = record { many = []; each = tt; parts = nothing_between octets start; put = put_none b; past = omega arith; inside = order }
-
 pub octets_of_strings : (many : List (List ℕ)) → octets_of (map string many) ≡ flat_map with_length many
 octets_of_strings [] = refl
 octets_of_strings (text ∷ many) = ap (λ o. with_length text ++ o) (octets_of_strings many)

@@ -66,11 +66,6 @@ walked_few records others left right number walked =
     let parts : length records ≡ length walked.front + length left = ap length walked.split ∙ length-append walked.front left in
     rw walked.counted (omega arith)
 
--- nothing is left on either side
-pub walked_all : (records others left right : List Record) (number : ℕ) → Walked records others left right number → left ≡ [] → right ≡ [] → lines records ≡ lines others
-walked_all records others left right number walked none none' =
-    ap lines (walked.split ∙ ap (λ rs. walked.front ++ rs) (none ∙ sym none') ∙ sym walked.other_split)
-
 -- ---- the first line at which they differ
 
 line_of_record : (records : List Record) (n : ℕ) → line_at (lines records) (suc n) ≡ slice_get (map line records) n

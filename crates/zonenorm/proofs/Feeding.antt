@@ -26,16 +26,6 @@ pub octets_of_input : (form : InputForm) (octets : Octets) → octets_of (input_
 octets_of_input (as_file origin) octets = refl
 octets_of_input as_transfer octets = refl
 
--- ---- octets that fit
-
-pub each_octet : (octets : Octets) → ((i : ℕ) → get_or octets i 0 < 256) → AllByRecursion (λ c. c < 256) octets
-each_octet [] fit = tt
-each_octet (c ∷ octets) fit = (fit 0, each_octet octets (λ i. fit (suc i)))
-
-pub each_joined : (octets more : Octets) → AllByRecursion (λ c. c < 256) octets → AllByRecursion (λ c. c < 256) more → AllByRecursion (λ c. c < 256) (octets ++ more)
-each_joined [] more each others = others
-each_joined (c ∷ octets) more each others = (each.0, each_joined octets more each.1 others)
-
 -- ---- what is read
 
 pub within : (limit : ℕ) (form : InputForm) (octets : Octets) (z : Zone) → AllByRecursion (λ c. c < 256) octets → length octets ≤ limit → ReadsZone (input_of form octets) z → ReadsZoneWithin limit (input_of form octets) z
@@ -115,19 +105,6 @@ tells_no_read failed (Refused fault place) is = tt
 tells_no_read failed Read is = absurd is
 tells_no_read failed Write is = tt
 tells_no_read failed Memory is = tt
-
-pub memory_of_bytes : (stop : Stop) → stop ≡ Memory → IsOfBytes stop
-memory_of_bytes stop is = subst IsOfBytes (sym is) tt
-
-pub taking_of_bytes : (old new : List Record) (pending rest : Pending) (stop : Stop) → StopsTaking old pending new rest stop → IsOfBytes stop
-taking_of_bytes old new pending rest _ (failure fails same kept) = tt
-taking_of_bytes old new pending rest _ (memory taken others p works parts more left) = tt
-taking_of_bytes old new pending rest _ (refused taken others p f works parts more left why) = tt
-taking_of_bytes old new pending rest _ (ending e works is more left) = tt
-
-pub finishing_of_bytes : (held : List Record) (stop : Stop) → StopsFinish held stop → IsOfBytes stop
-finishing_of_bytes held _ (no_soa without) = tt
-finishing_of_bytes held _ (outside owner least) = tt
 
 pub no_octets : (octets : Octets) → (length octets == 0) ≡ true → octets ≡ []
 no_octets [] none = refl

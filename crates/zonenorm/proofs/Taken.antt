@@ -63,9 +63,6 @@ front_reading : (placed : List Placed) (ending : Option (Fault × Place)) (fault
 front_reading placed ending _ _ (by_record fault place first) = refused fault place first
 front_reading placed ending _ _ (by_ending fault place accepted is) = unread fault place accepted is
 
-empty_records : (pending : Pending) → pending ≡ nothing_pending → pending.records ≡ []
-empty_records pending is = ap (λ p. p.records) is
-
 emptied_nothing : (pending rest : Pending) → pending.failed ≡ false → pending.ending ≡ None → rest ≡ leaves pending [] → rest ≡ nothing_pending
 emptied_nothing pending rest works whole emptied = emptied ∙ ap (λ failed. record { failed = failed; records = []; ending = pending.ending }) works ∙ ap (λ ending. record { failed = false; records = []; ending = ending }) whole
 

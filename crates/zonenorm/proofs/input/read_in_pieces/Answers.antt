@@ -1,9 +1,10 @@
-use Rattle.std.proofs.Common.{rules, refl, sym, ◌∙◌, ◌≤◌, ◌+◌, ◌++◌, [], length, length-append, arith}
+use Rattle.std.proofs.Common.{rules, refl, sym, ◌∙◌, ◌<◌, ◌≤◌, ◌+◌, ◌++◌, [], length, length-append, arith}
 use Rattle.std.proofs.lemmas.Result.{MatchResult-weaker}
 use Rattle.zonenorm.specs.Input.{input_of}
 use Rattle.zonenorm.specs.Machine.Taking.{ReadsZoneWithin}
 use Rattle.zonenorm.specs.Refusal.{IfRefused, IsRefusalWithin}
-use Rattle.zonenorm.proofs.Feeding.{begun, within, refused_within, all_given, too_many, nothing_consumed, consumed_both, consumed_none, each_joined, of_reading, tells_no_read, no_octets}
+use Rattle.zone_name.proofs.Pushing.{AllByRecursion-append}
+use Rattle.zonenorm.proofs.Feeding.{begun, within, refused_within, all_given, too_many, nothing_consumed, consumed_both, consumed_none, of_reading, tells_no_read, no_octets}
 use Rattle.zonenorm.proofs.input.read_in_pieces.Goals as goal
 
 pub loop-count-init : goal.loop-count-init
@@ -64,7 +65,7 @@ loop-count-preserved g c =
         given = fed.given ++ c.in_ok-given.given.now;
         consumed = consumed_both _ _ _ _ _ fed.consumed c.in_ok-given.ensures.taken;
         counted = rw length-append (rw fed.counted refl);
-        each = each_joined fed.given c.in_ok-given.given.now fed.each c.take.ensures.octets;
+        each = AllByRecursion-append (λ c. c < 256) fed.given c.in_ok-given.given.now fed.each c.take.ensures.octets;
         few = search rules;
         fed_few = search (rules, c.take.ensures.fed, fed.fed_few);
         taken = λ form begins. c.in_ok-take.ensures.taken form fed.given (fed.taken form begins);
