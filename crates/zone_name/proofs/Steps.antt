@@ -257,7 +257,3 @@ Reads-relative text before after is_too_long is_left_out rest label behind reads
       sym reads.leads ∙ reached.2 ∙ end_step reached.0 reads.labels label behind reached.1 closes.some is,
       joined_collects before after reads.labels label is_too_long is_left_out reads.collects closes.joins,
     )
-
-ends_by : (fuel : ℕ) (labels : List (List ℕ)) (rest : List ℕ) → length rest < fuel → rest ≡ [] → read fuel labels [] rest ≡ Ok (labels, true)
-ends_by zero labels rest enough e = absurd (omega arith)
-ends_by (suc n) labels rest enough e = read_step n labels [] rest at_end (ap ahead_in e)

@@ -157,18 +157,6 @@ pub record FedSoFar (piece rest : List ℕ) (old new : Intake) : Type 0 where
   pub same : IfSome old.transfer.decided.ending (λ _. new ≡ old)
   pub follow : (fed : List ℕ) (given : List Placed) → Follow old.transfer old.unfinished.items fed given → Follow new.transfer new.unfinished.items (fed ++ front) given
 
--- the first octets of a frame say its length
-u16_front : (cut more : List ℕ) (end : ℕ) → end ≤ length more → 2 ≤ length cut + end → u16_at (cut ++ take end more) 0 ≡ u16_at (cut ++ more) 0
-u16_front [] [] end h k = absurd (omega (arith, h, k))
-u16_front [] (x ∷ []) end h k = absurd (omega (arith, h, k))
-u16_front [] (x ∷ y ∷ more) zero h k = absurd (omega (arith, k))
-u16_front [] (x ∷ y ∷ more) (suc zero) h k = absurd (omega (arith, k))
-u16_front [] (x ∷ y ∷ more) (suc (suc n)) h k = refl
-u16_front (c ∷ []) [] end h k = absurd (omega (arith, h, k))
-u16_front (c ∷ []) (x ∷ more) zero h k = absurd (omega (arith, k))
-u16_front (c ∷ []) (x ∷ more) (suc n) h k = refl
-u16_front (c ∷ d ∷ cut) more end h k = refl
-
 pub finishes : (t : Transfer) (unfinished fed : List ℕ) (given : List Placed) (ending : Option (Fault × Place)) → t.decided.ending ≡ None → ((placed : List Placed) → t.closed ≡ is_closed placed → StreamEnd (t.messages + 1) placed unfinished ending) → Follow t unfinished fed given → StreamReads fed (given ++ t.decided.placed.items) ending
 finishes t unfinished fed given ending going ends follow =
     let g = still_going t unfinished fed given t.decided.ending going follow.state in
