@@ -25,22 +25,28 @@ pub fn spelling_is_unique()
 
 /// A text of octets spells a name under an origin or has a first fault, never both, and one first fault at most.
 pub fn texts_have_one_verdict()
-    ensures verdict { (origin : Option Labels) (text : Octets) → IfSome origin IsName → AreOctets text
+    ensures verdict { (origin : Option Labels) (text : Octets) → IfSome origin IsName
+        → AreOctets text
         → IsVerdict (Spells origin text) (FirstFault origin text) }
-    ensures one_of { (origin : Option Labels) (text : Octets) → IfSome origin IsName → AreOctets text
+    ensures one_of { (origin : Option Labels) (text : Octets) → IfSome origin IsName
+        → AreOctets text
         → EitherIs (Spells origin text) (FirstFault origin text) }
     ensures never_both { (origin : Option Labels) (text : Octets)
         → NeverBothAre (Spells origin text) (FirstFault origin text) }
-    ensures one_fault { (origin : Option Labels) (text : Octets) → AtMostOneIs (FirstFault origin text) }
+    ensures one_fault { (origin : Option Labels) (text : Octets)
+        → AtMostOneIs (FirstFault origin text) }
 {}
 
 /// What is printed for a name spells that name under every origin and without one.
 pub fn printed_names_are_spelled()
-    ensures { (origin : Option Labels) (labels : Labels) → IsName labels → Spells origin (name_text labels) labels }
+    ensures { (origin : Option Labels) (labels : Labels) → IsName labels
+        → Spells origin (name_text labels) labels }
 {}
 
 /// The octets of a name hold its labels, whatever stands behind them.
 pub fn octets_hold_labels()
-    ensures labels { (labels : Labels) (rest : Octets) → IsName labels → labels_of (wire labels ++ rest) ≡ labels }
-    ensures front { (labels : Labels) (rest : Octets) → IsName labels → BeginsWithName (wire labels ++ rest) }
+    ensures labels { (labels : Labels) (rest : Octets) → IsName labels
+        → labels_of (wire labels ++ rest) ≡ labels }
+    ensures front { (labels : Labels) (rest : Octets) → IsName labels
+        → BeginsWithName (wire labels ++ rest) }
 {}

@@ -55,7 +55,8 @@ fn is_plain(octet: u8) -> bool
 fn plain_len(text: &[u8]) -> usize
     ensures short { result ≤ length text.now }
     ensures each { (k : ℕ) → k < result → IsUnit is_dot (plain (slice_index text.now k)) }
-    ensures ends { result < length text.now → IsUnit is_dot (plain (slice_index text.now result)) → ⊥ }
+    ensures ends { result < length text.now → IsUnit is_dot (plain (slice_index text.now result))
+        → ⊥ }
 {
     let mut len = 0;
     while len < text.len() && is_plain(text[len]) {
@@ -213,7 +214,8 @@ fn end_with(octets: &mut ArrayVec<u8, MAX_NAME_LEN>, ending: &[u8]) -> Result<()
     requires holds { HoldsUnfolded octets.old.items }
     requires name { HoldsName ending.now }
     ensures ok { IfOk result (λ _. HoldsName octets.new.items
-        × (sized (unfolded_labels octets.old.items ++ labels_of ending.now) ≡ Ok (labels_of octets.new.items))) }
+        × (sized (unfolded_labels octets.old.items ++ labels_of ending.now) ≡ Ok
+        (labels_of octets.new.items))) }
     ensures err { IfErr result (λ fault.
         sized (unfolded_labels octets.old.items ++ labels_of ending.now) ≡ Err fault) }
 {
@@ -232,7 +234,8 @@ fn finish(
     requires { HoldsUnfolded octets.old.items }
     ensures ok { IfOk result (λ _. HoldsName octets.new.items × ((labels : Labels)
         → Collects (unfolded_labels octets.old.items) spelled.is_too_long labels
-        → under (option_copied origin.entry) (Ok (labels, spelled.is_absolute)) ≡ Ok (labels_of octets.new.items))) }
+        → under (option_copied origin.entry) (Ok (labels, spelled.is_absolute)) ≡ Ok
+        (labels_of octets.new.items))) }
     ensures err { IfErr result (λ fault. (labels : Labels)
         → Collects (unfolded_labels octets.old.items) spelled.is_too_long labels
         → under (option_copied origin.entry) (Ok (labels, spelled.is_absolute)) ≡ Err fault) }
@@ -262,8 +265,10 @@ fn read_into(
 ) -> Result<(), NameFault>
     requires { octets.old.items ≡ [] }
     ensures ok { IfOk result (λ _. HoldsName octets.new.items
-        × (under (option_copied origin.entry) (reading text.now) ≡ Ok (labels_of octets.new.items))) }
-    ensures err { IfErr result (λ fault. under (option_copied origin.entry) (reading text.now) ≡ Err fault) }
+        × (under (option_copied origin.entry) (reading text.now) ≡ Ok
+        (labels_of octets.new.items))) }
+    ensures err { IfErr result
+        (λ fault. under (option_copied origin.entry) (reading text.now) ≡ Err fault) }
 {
     let spelled = read_labels(octets, text)?;
     finish(octets, spelled, origin)

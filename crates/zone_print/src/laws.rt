@@ -32,7 +32,8 @@ pub fn each_line_ends()
 #[tactic(auto, using(crate::proofs::OneZone::canonical_total, crate::proofs::OneZone::canonical_exact))]
 pub fn canonical_order_is_total()
     ensures total { IsTotalOrder canonical_cmp }
-    ensures exact { (r s : Record) → canonical_cmp r s ≡ Equal → (r.owner ≡ s.owner) × (data_of r ≡ data_of s) }
+    ensures exact { (r s : Record) → canonical_cmp r s ≡ Equal → (r.owner ≡ s.owner)
+        × (data_of r ≡ data_of s) }
 {
     zone_name::laws::order_is_exact();
 }
@@ -87,7 +88,8 @@ pub fn lines_read_back()
 /// The canonical text of a zone, if it is within the limit, denotes that zone under every origin.
 #[tactic(auto, using(crate::proofs::ReadBack::text_back))]
 pub fn canonical_text_reads_back()
-    ensures { (origin : Labels) (z : Zone) → IsZone z → length (canon z) ≤ text_limit → Denotes origin (canon z) z }
+    ensures { (origin : Labels) (z : Zone) → IsZone z → length (canon z) ≤ text_limit
+        → Denotes origin (canon z) z }
 {
     lines_read_back();
 }

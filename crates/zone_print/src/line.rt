@@ -33,7 +33,8 @@ pub(crate) fn push_middle<S: Sink>(out: &mut S, rr: &RrRef) -> Result<(), S::Err
 ///
 /// `out` refuses octets. A front of the text may have been appended.
 pub(crate) fn push_data<S: Sink>(out: &mut S, rr: &RrRef) -> Result<(), S::Error>
-    ensures { OnOk result (S.takes out.old (data_text (data_of (record_of rr.now)) ++ 10 ∷ []) out.new) }
+    ensures { OnOk result
+        (S.takes out.old (data_text (data_of (record_of rr.now)) ++ 10 ∷ []) out.new) }
 {
     rr.rdata.print(out)?;
     out.push(b"\n")

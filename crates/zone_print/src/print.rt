@@ -129,7 +129,8 @@ pub(crate) fn write_within<W: OctetWriter>(
 fn write_lines<W: OctetWriter>(alloc: Global, zone: &Zone, writer: &mut W) -> Result<(), Stop>
     ensures text { OnOk result (Appends (W.contents writer.old) (W.contents writer.new) (canon zone.now)) }
     ensures stopped { IfErr result (IsOfWriting (W.Failed writer.new)) }
-    ensures front { OnErr result (AppendsPrefix (W.contents writer.old) (W.contents writer.new) (canon zone.now)) }
+    ensures front { OnErr result
+        (AppendsPrefix (W.contents writer.old) (W.contents writer.new) (canon zone.now)) }
 {
     let mut buffer = LineBuffer::new(alloc);
     for rr in zone.records() {

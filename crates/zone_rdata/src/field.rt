@@ -70,7 +70,8 @@ impl Field {
         octets: &mut Vec<u8>,
     ) -> Result<usize, NarrowFailing>
         ensures found { IfOk result (λ n.
-            AppendsFirst origin.now self (map raw items.now) (map raw (drop n items.now)) octets.old.items octets.new.items) }
+            AppendsFirst origin.now self (map raw items.now)
+            (map raw (drop n items.now)) octets.old.items octets.new.items) }
         ensures inside { IfOk result (λ n. n ≤ length items.now) }
         ensures fault { IfErr result
             (IfFault (IsFieldFault origin.now self (own_items self (map raw items.now)))) }

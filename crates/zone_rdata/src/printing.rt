@@ -27,7 +27,8 @@ fn push_space<S: Sink>(place: usize, out: &mut S) -> Result<(), S::Error>
 fn push_fields<S: Sink>(layout: Layout, octets: &[u8], out: &mut S) -> Result<(), S::Error>
     requires sized { AllByRecursion IsSized (fields_of layout) }
     requires laid { AreLaidOut (fields_of layout) octets.now }
-    ensures ok { OnOk result (S.takes out.old (laid_out_text (Some (fields_of layout)) octets.now) out.new) }
+    ensures ok { OnOk result
+        (S.takes out.old (laid_out_text (Some (fields_of layout)) octets.now) out.new) }
     ensures err { OnErr result (TakesSome S.takes out.old out.new) }
 {
     let mut rest = octets;
@@ -87,7 +88,8 @@ pub(crate) fn push_data<S: Sink>(
 ) -> Result<(), S::Error>
     requires sized { IfSome layout (λ l. AllByRecursion IsSized (fields_of l)) }
     requires laid { MatchOption layout (Unit {0}) (λ l. AreLaidOut (fields_of l) octets.now) }
-    ensures ok { OnOk result (S.takes out.old (laid_out_text (option_map fields_of layout) octets.now) out.new) }
+    ensures ok { OnOk result
+        (S.takes out.old (laid_out_text (option_map fields_of layout) octets.now) out.new) }
     ensures err { OnErr result (TakesSome S.takes out.old out.new) }
 {
     match layout {

@@ -21,7 +21,8 @@ use zone_name::{NextUnit, Sink, decimal_escape, next_unit};
 ///
 /// The leftmost `BadEscape` or `StringTooLong`; and `Memory` where memory is refused.
 pub(crate) fn push_string(item: Item, out: &mut Vec<u8>) -> Result<(), NarrowFailing>
-    ensures found { OnOk result (Appends (SpellsString (raw item.entry)) with_length out.old.items out.new.items) }
+    ensures found { OnOk result
+        (Appends (SpellsString (raw item.entry)) with_length out.old.items out.new.items) }
     ensures fault { (fault : Fault) → result ≡ Err (Failing.Fault fault)
         → StringFault (raw item.entry) fault }
     ensures err { OnErr result (out.new.items ≡ out.old.items) }

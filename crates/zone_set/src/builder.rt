@@ -77,7 +77,8 @@ impl ZoneBuilder {
     /// left. Nothing else of the source changes.
     pub fn take_all<S: RrSource>(&mut self, source: &mut S) -> Result<(), Stop>
         ensures taken { OnOk result (TakesAll self.old (S.pending source.old) self.new (S.pending source.new)) }
-        ensures stopped { IfErr result (StopsTaking self.old (S.pending source.old) self.new (S.pending source.new)) }
+        ensures stopped { IfErr result
+            (StopsTaking self.old (S.pending source.old) self.new (S.pending source.new)) }
         ensures beside { S.beside source.new ≡ S.beside source.old }
     {
         loop {

@@ -123,7 +123,8 @@ fn more(alloc: Global, few: Vec<Datum>, datum: Datum) -> Result<Datums, Datums>
 /// Where a datum goes in a list; `None` where it is in it.
 fn place_of(few: &[Datum], datum: &Datum) -> Option<usize>
     ensures { MatchOption result (insert_key (slice_cmp nat_cmp) few.now datum.now ≡ few.now)
-        (λ i. (i ≤ length few.now) × (insert few.now i datum.now ≡ insert_key (slice_cmp nat_cmp) few.now datum.now)) }
+        (λ i. (i ≤ length few.now)
+        × (insert few.now i datum.now ≡ insert_key (slice_cmp nat_cmp) few.now datum.now)) }
 {
     for (i, held) in few.iter().enumerate() {
         match datum.cmp(held) {

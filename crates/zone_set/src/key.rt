@@ -133,7 +133,8 @@ fn covered(rdata: &Rdata) -> &[u8]
 
 /// Appends the labels from the right, each with its end.
 fn push_labels(labels: Labels<'_>, out: &mut Vec<u8>) -> Result<(), AllocError>
-    ensures { OnOk result (out.new.items ≡ out.old.items ++ flat_map label_key (reverse labels.entry)) }
+    ensures { OnOk result
+        (out.new.items ≡ out.old.items ++ flat_map label_key (reverse labels.entry)) }
 {
     let mut left = labels;
     if let Some(label) = left.next() {

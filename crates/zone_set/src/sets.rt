@@ -228,7 +228,8 @@ fn put(
 ) -> Result<bool, Refusal>
     ensures told { IfOk result (λ is_new. IsTrue is_new ↔ IsNew (get set_cmp by_key.old key) datum) }
     ensures taken { OnOk result (by_key.new.entries
-        ≡ insert_entry set_cmp by_key.old.entries key (with_datum (get set_cmp by_key.old key) ttl kind datum)) }
+        ≡ insert_entry set_cmp by_key.old.entries key
+        (with_datum (get set_cmp by_key.old key) ttl kind datum)) }
     ensures one_ttl { OnOk result (IfSome (get set_cmp by_key.old key) (λ d. d.ttl ≡ ttl)) }
     ensures refused { IfErr result (IsSetRefusal (get set_cmp by_key.old key) ttl) }
     ensures unchanged { OnErr result (by_key.new.entries ≡ by_key.old.entries) }

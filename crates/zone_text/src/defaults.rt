@@ -69,7 +69,8 @@ impl Defaults {
     ) -> Result<(), AllocError>
         ensures { (origin : Labels) (before : List Entry) (line : ℕ) (pieces : List Piece)
             → AreDefaults origin before self.old → Cuts entry.now pieces
-            → OnOk result (DecidesEntry origin before (entry_of line pieces) place decided.old decided.new self.new) }
+            → OnOk result
+            (DecidesEntry origin before (entry_of line pieces) place decided.old decided.new self.new) }
     {
         cut_items(entry, items)?;
         self.read_form(alloc, form_of(entry, items), place, decided)
@@ -85,7 +86,8 @@ impl Defaults {
     ) -> Result<(), AllocError>
         ensures { (origin : Labels) (before : List Entry) (entry : Entry)
             → AreDefaults origin before self.old → form_of entry ≡ form_in form.entry
-            → OnOk result (DecidesEntry origin before entry place decided.old decided.new self.new) }
+            → OnOk result
+            (DecidesEntry origin before entry place decided.old decided.new self.new) }
     {
         match form {
             EntryForm::Blank => Ok(()),
@@ -126,8 +128,10 @@ impl Defaults {
         decided: &mut Reading,
     ) -> Result<(), AllocError>
         ensures { (origin : Labels) (before : List Entry) (entry : Entry)
-            → AreDefaults origin before self.old → form_of entry ≡ owned (raw owner.entry) (map raw items.now)
-            → OnOk result (DecidesEntry origin before entry place decided.old decided.new self.new) }
+            → AreDefaults origin before self.old → form_of entry ≡ owned (raw owner.entry)
+            (map raw items.now)
+            → OnOk result
+            (DecidesEntry origin before entry place decided.old decided.new self.new) }
     {
         let Item::Bare(text) = owner else {
             return refuse(Failing::Fault(Fault::NoOwner), place, decided);

@@ -97,7 +97,8 @@ impl Intake {
     fn end_entry<'p>(&mut self, part: &'p [u8], items: &mut Vec<Item<'p>>) -> Result<(), AllocError>
         requires undecided { self.old.ended.decided.ending ≡ None }
         requires fits { reach self.old + length part.now < 2 ^ 64 }
-        ensures { OnOk result (ReadsOctets (self.old.unfinished.items ++ part.now) self.old.ended self.new.ended) }
+        ensures { OnOk result
+            (ReadsOctets (self.old.unfinished.items ++ part.now) self.old.ended self.new.ended) }
     {
         if self.unfinished.is_empty() {
             self.ended.read(self.alloc, part, items)
@@ -111,7 +112,8 @@ impl Intake {
     fn end_buffered(&mut self) -> Result<(), AllocError>
         requires undecided { self.old.ended.decided.ending ≡ None }
         requires fits { reach self.old < 2 ^ 64 }
-        ensures { OnOk result (ReadsOctets self.old.unfinished.items self.old.ended self.new.ended) }
+        ensures { OnOk result
+            (ReadsOctets self.old.unfinished.items self.old.ended self.new.ended) }
     {
         let mut items = Vec::new(self.alloc);
         self.ended

@@ -12,7 +12,8 @@ use zone_rdata::Reading;
 ///
 /// `AllocError`.
 pub fn read_file(alloc: Global, origin: &Name, text: &[u8]) -> Result<Reading, AllocError>
-    ensures { IfOk result (λ reading. FileReads origin.now text.now reading.placed.items reading.ending) }
+    ensures { IfOk result
+        (λ reading. FileReads origin.now text.now reading.placed.items reading.ending) }
 {
     let mut source = TextSource::new(alloc, origin);
     source.feed(text).map_err(|_| AllocError)?;

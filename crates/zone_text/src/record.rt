@@ -71,7 +71,8 @@ impl Defaults {
     ) -> Result<(), AllocError>
         ensures { (origin : Labels) (before : List Entry) (entry : Entry)
             → HasOwnerOrNone origin before entry self.old (map raw items.now)
-            → OnOk result (DecidesEntry origin before entry place decided.old decided.new self.new) }
+            → OnOk result
+            (DecidesEntry origin before entry place decided.old decided.new self.new) }
     {
         lower_laws();
         let Some(owner) = &self.owner else {

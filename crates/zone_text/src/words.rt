@@ -98,7 +98,8 @@ impl Words {
 /// `BadTtl` and `BadClass` for the leftmost word without a value.
 pub(crate) fn words_of(items: &[Item]) -> Result<(Words, usize), Fault>
     ensures found { IfOk result (λ found.
-        ArePartsOf (parts_behind [] (map raw items.now)) found.0 (drop found.1 (map raw items.now))) }
+        ArePartsOf (parts_behind [] (map raw items.now)) found.0
+        (drop found.1 (map raw items.now))) }
     ensures within { IfOk result (λ found. found.1 ≤ length items.now) }
     ensures fault { IfErr result (WordsFault (parts_behind [] (map raw items.now)).words) }
 {

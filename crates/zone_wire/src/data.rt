@@ -96,7 +96,8 @@ fn push_octets(
     requires order { start ≤ end }
     requires inside { end ≤ length message.now }
     requires next { Awaits message.now end start builder.old (Field.Octets size) }
-    ensures found { IfOk result (PutsValue message.now end start (Field.Octets size) builder.old builder.new) }
+    ensures found { IfOk result
+        (PutsValue message.now end start (Field.Octets size) builder.old builder.new) }
     ensures fault { IfErr result (IfFault (λ f. value_at message.now end start (Field.Octets size) ≡ Err f)) }
 {
     let past = offset_past(start, size, end)?;
@@ -186,7 +187,8 @@ fn push_fields(
     requires short { end ≤ start + 65535 }
     requires laid { layout builder.old.class builder.old.kind ≡ Some (fields_of fields) }
     requires new { builder.old.parts ≡ [] }
-    ensures found { OnOk result (PutsValues message.now end start (fields_of fields) builder.old builder.new) }
+    ensures found { OnOk result
+        (PutsValues message.now end start (fields_of fields) builder.old builder.new) }
     ensures fault { IfErr result (IfFault (λ f. values_at message.now end start (fields_of fields) ≡ Err f)) }
 {
     let mut place = start;

@@ -43,7 +43,8 @@ impl Intake {
         requires fits { self.old.transfer.messages + length piece.now + 1 < 2 ^ 64 }
         requires dropped { IfSome self.old.transfer.decided.ending (λ _. self.old.unfinished.items ≡ []) }
         ensures cut { OnOk result (IsCut self.new.unfinished.items) }
-        ensures dropped { OnOk result (IfSome self.new.transfer.decided.ending (λ _. self.new.unfinished.items ≡ [])) }
+        ensures dropped { OnOk result
+            (IfSome self.new.transfer.decided.ending (λ _. self.new.unfinished.items ≡ [])) }
         ensures count { OnOk result (self.new.transfer.messages ≤ self.old.transfer.messages + length piece.now) }
         ensures decided { IfSome self.old.transfer.decided.ending (λ _. IsOk result × (self.new ≡ self.old)) }
         ensures follow { OnOk result ((fed : List ℕ) (given : List Placed)
@@ -65,12 +66,14 @@ impl Intake {
         requires going { self.old.transfer.decided.ending ≡ None }
         requires fits { self.old.transfer.messages + 1 < 2 ^ 64 }
         ensures cut { OnOk result (IsCut self.new.unfinished.items) }
-        ensures dropped { OnOk result (IfSome self.new.transfer.decided.ending (λ _. self.new.unfinished.items ≡ [])) }
+        ensures dropped { OnOk result
+            (IfSome self.new.transfer.decided.ending (λ _. self.new.unfinished.items ≡ [])) }
         ensures within { IfOk result (λ taken. (0 < taken) × (taken ≤ length octets.now)) }
         ensures count { OnOk result (self.new.transfer.messages ≤ self.old.transfer.messages + 1) }
         ensures follow { IfOk result (λ taken. (fed : List ℕ) (given : List Placed)
             → Follow self.old.transfer self.old.unfinished.items fed given
-            → Follow self.new.transfer self.new.unfinished.items (fed ++ take taken octets.now) given) }
+            → Follow self.new.transfer self.new.unfinished.items
+            (fed ++ take taken octets.now) given) }
     {
         match frame_end(self.unfinished.as_slice(), octets) {
             None => {
@@ -105,7 +108,8 @@ impl Intake {
         ensures count { self.new.transfer.messages ≡ self.old.transfer.messages }
         ensures reads { (fed : List ℕ) (given : List Placed)
             → Follow self.old.transfer self.old.unfinished.items fed given
-            → StreamReads fed (given ++ self.new.transfer.decided.placed.items) self.new.transfer.decided.ending }
+            → StreamReads fed (given ++ self.new.transfer.decided.placed.items)
+            self.new.transfer.decided.ending }
     {
         if self.transfer.decided.ending.is_none() {
             self.transfer.decided.ending = self.end();
@@ -152,7 +156,8 @@ fn message_of(framed: &[u8]) -> &[u8]
 fn frame_end(cut: &[u8], more: &[u8]) -> Option<usize>
     requires { IsCut cut.now }
     ensures { MatchOption result (IsCut (cut.now ++ more.now))
-        (λ end. (length cut.now + end ≡ 2 + u16_at (cut.now ++ more.now) 0) × (0 < end) × (end ≤ length more.now)) }
+        (λ end. (length cut.now + end ≡ 2 + u16_at (cut.now ++ more.now) 0) × (0 < end)
+        × (end ≤ length more.now)) }
 {
     let (high, low) = match (cut, more) {
         ([high, low, ..], _) => (*high, *low),

@@ -30,7 +30,8 @@ pub fn one_name_at_an_offset()
 pub fn a_name_is_bounded()
     ensures labels { (message : Octets) (offset : ℕ) (found : Found) → IsNameAt message offset found
         → length found.labels ≤ 127 }
-    ensures pointers { (message : Octets) (offset : ℕ) (found : Found) → IsNameAt message offset found
+    ensures pointers { (message : Octets) (offset : ℕ) (found : Found)
+        → IsNameAt message offset found
         → found.pointers ≤ 128 }
     ensures steps { (message : Octets) (offset : ℕ) (found : Found) → IsNameAt message offset found
         → found.steps ≤ 256 }
@@ -43,30 +44,39 @@ pub fn a_name_is_bounded()
 /// A walk has at most 256 places, all of them in the message: at most 127 labels and 128 pointers, and what is neither
 /// stands at the last place alone.
 pub fn a_walk_is_bounded()
-    ensures places { (message : Octets) (offset : ℕ) (visits : List Visit) → IsWalk message offset visits
+    ensures places { (message : Octets) (offset : ℕ) (visits : List Visit)
+        → IsWalk message offset visits
         → length visits ≤ 256 }
-    ensures labels { (message : Octets) (offset : ℕ) (visits : List Visit) → IsWalk message offset visits
+    ensures labels { (message : Octets) (offset : ℕ) (visits : List Visit)
+        → IsWalk message offset visits
         → labels_in visits ≤ 127 }
-    ensures pointers { (message : Octets) (offset : ℕ) (visits : List Visit) → IsWalk message offset visits
+    ensures pointers { (message : Octets) (offset : ℕ) (visits : List Visit)
+        → IsWalk message offset visits
         → pointers_in visits ≤ 128 }
-    ensures last { (message : Octets) (offset : ℕ) (visits : List Visit) → IsWalk message offset visits
+    ensures last { (message : Octets) (offset : ℕ) (visits : List Visit)
+        → IsWalk message offset visits
         → LeadToLast visits }
-    ensures inside { (message : Octets) (offset : ℕ) (visits : List Visit) → IsWalk message offset visits
+    ensures inside { (message : Octets) (offset : ℕ) (visits : List Visit)
+        → IsWalk message offset visits
         → AllByRecursion (λ visit. visit.offset < length message) visits }
 {}
 
 /// The walk of a name ends at the root, after as many places as the name has steps.
 pub fn a_name_is_walked()
-    ensures ending { (message : Octets) (offset : ℕ) (found : Found) (visits : List Visit) → IsNameAt message offset found
+    ensures ending { (message : Octets) (offset : ℕ) (found : Found) (visits : List Visit)
+        → IsNameAt message offset found
         → IsWalk message offset visits → ending visits ≡ None }
-    ensures steps { (message : Octets) (offset : ℕ) (found : Found) (visits : List Visit) → IsNameAt message offset found
+    ensures steps { (message : Octets) (offset : ℕ) (found : Found) (visits : List Visit)
+        → IsNameAt message offset found
         → IsWalk message offset visits → length visits ≡ found.steps }
 {}
 
 /// Where the walk ends at the root, a name stands.
 pub fn a_walk_to_the_root_is_a_name()
-    ensures { (message : Octets) (offset : ℕ) (visits : List Visit) → ((i : ℕ) → slice_index message i < 256)
-        → IsWalk message offset visits → ending visits ≡ None → (found : Found) × IsNameAt message offset found }
+    ensures { (message : Octets) (offset : ℕ) (visits : List Visit)
+        → ((i : ℕ) → slice_index message i < 256)
+        → IsWalk message offset visits → ending visits ≡ None → (found : Found)
+        × IsNameAt message offset found }
 {}
 
 /// Octets are a message in at most one way.
@@ -82,17 +92,21 @@ pub fn one_list_of_a_stream()
 /// A stream is read in at most one way, and one thing is decided for it.
 pub fn one_reading_of_a_stream()
     ensures whole { (stream : Octets) (placed other : List Placed) (ending late : Option (Fault × Place))
-        → StreamReads stream placed ending → StreamReads stream other late → (placed ≡ other) × (ending ≡ late) }
+        → StreamReads stream placed ending → StreamReads stream other late → (placed ≡ other)
+        × (ending ≡ late) }
     ensures decided { (stream : Octets) (placed other : List Placed) (ending late : Option (Fault × Place))
-        → Decided stream placed ending → Decided stream other late → (placed ≡ other) × (ending ≡ late) }
+        → Decided stream placed ending → Decided stream other late → (placed ≡ other)
+        × (ending ≡ late) }
 {}
 
 /// Each stream of octets is read in some way, and something is decided for it.
 pub fn each_stream_is_read()
     ensures whole { (stream : Octets) → ((i : ℕ) → slice_index stream i < 256)
-        → (placed : List Placed) × (ending : Option (Fault × Place)) × StreamReads stream placed ending }
+        → (placed : List Placed) × (ending : Option (Fault × Place))
+        × StreamReads stream placed ending }
     ensures decided { (stream : Octets) → ((i : ℕ) → slice_index stream i < 256)
-        → (placed : List Placed) × (ending : Option (Fault × Place)) × Decided stream placed ending }
+        → (placed : List Placed) × (ending : Option (Fault × Place))
+        × Decided stream placed ending }
 {}
 
 /// The records that are decided for a stream begin those of every longer one, and a decided fault stays.
@@ -100,8 +114,10 @@ pub fn what_is_decided_stays()
     ensures records { (stream more : Octets) (placed other : List Placed) (ending late : Option (Fault × Place))
         → Decided stream placed ending → Decided (stream ++ more) other late
         → (rest : List Placed) × (other ≡ placed ++ rest) }
-    ensures fault { (stream more : Octets) (placed other : List Placed) (e : Fault × Place) (late : Option (Fault × Place))
-        → Decided stream placed (Some e) → Decided (stream ++ more) other late → (other ≡ placed) × (late ≡ Some e) }
+    ensures fault { (stream more : Octets) (placed other : List Placed) (e : Fault × Place)
+        (late : Option (Fault × Place))
+        → Decided stream placed (Some e) → Decided (stream ++ more) other late → (other ≡ placed)
+        × (late ≡ Some e) }
 {}
 
 /// The records that are decided for a stream begin those that every longer one is read as, and a decided fault is its fault.
@@ -109,7 +125,8 @@ pub fn what_is_decided_is_read()
     ensures records { (stream more : Octets) (placed other : List Placed) (ending late : Option (Fault × Place))
         → Decided stream placed ending → StreamReads (stream ++ more) other late
         → (rest : List Placed) × (other ≡ placed ++ rest) }
-    ensures fault { (stream more : Octets) (placed other : List Placed) (e : Fault × Place) (late : Option (Fault × Place))
+    ensures fault { (stream more : Octets) (placed other : List Placed) (e : Fault × Place)
+        (late : Option (Fault × Place))
         → Decided stream placed (Some e) → StreamReads (stream ++ more) other late
         → (other ≡ placed) × (late ≡ Some e) }
 {}
@@ -135,7 +152,8 @@ pub fn what_is_read_is_records()
 
 /// A transfer is read as its records, without a fault, and a stream that is read without a fault is that transfer.
 pub fn a_transfer_is_read()
-    ensures found { (stream : Octets) (placed : List Placed) → ((i : ℕ) → slice_index stream i < 256)
+    ensures found { (stream : Octets) (placed : List Placed)
+        → ((i : ℕ) → slice_index stream i < 256)
         → StreamReads stream placed None → StreamStates stream placed }
     ensures only { (stream : Octets) (placed : List Placed) → StreamStates stream placed
         → StreamReads stream placed None }

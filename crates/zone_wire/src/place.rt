@@ -99,7 +99,8 @@ fn label_at(message: &[u8], spot: Spot, size: usize) -> Standing
 fn pointer_at(message: &[u8], spot: Spot) -> Standing
     requires here { spot.offset < length message.now }
     requires first { 192 ≤ slice_index message.now spot.offset }
-    ensures { standing_of result ≡ Some (pointer_of message.now (spot_of spot) (target_at message.now spot.offset)) }
+    ensures { standing_of result ≡ Some
+        (pointer_of message.now (spot_of spot) (target_at message.now spot.offset)) }
 {
     if message.len() - spot.offset < 2 {
         return Standing::Bad(Fault::ShortMessage);

@@ -153,8 +153,10 @@ impl Transfer {
 
     /// Takes the records of a message's answers up to the first fault.
     fn take_answers(&mut self, message: &Message<'_>) -> Result<(), (Failing, usize)>
-        ensures taken { (questions : List QuestionAt) (placed : List Placed) → Among questions placed self.old
-            → TakesEach message.now.octets message.now.sections.answers questions placed result self.old self.new }
+        ensures taken { (questions : List QuestionAt) (placed : List Placed)
+            → Among questions placed self.old
+            → TakesEach message.now.octets message.now.sections.answers questions placed result
+            self.old self.new }
         ensures count { self.new.messages ≡ self.old.messages }
         ensures ending { self.new.decided.ending ≡ self.old.decided.ending }
     {
@@ -174,7 +176,8 @@ impl Transfer {
             → Among questions placed self.old
             → Takes answer.now.octets answer.now.at questions placed self.old self.new) }
         ensures fault { IfErr result (IfFault (λ f. (questions : List QuestionAt) (placed : List Placed)
-            → Among questions placed self.old → AnswerFault answer.now.octets questions placed answer.now.at f)) }
+            → Among questions placed self.old
+            → AnswerFault answer.now.octets questions placed answer.now.at f)) }
         ensures unchanged { IfErr result (IfFault (λ _. self.new ≡ self.old)) }
         ensures count { self.new.messages ≡ self.old.messages }
         ensures ending { self.new.decided.ending ≡ self.old.decided.ending }
@@ -191,7 +194,8 @@ impl Transfer {
         requires { StatesRecord answer.now.octets answer.now.at rr }
         ensures gains { OnOk result ((questions : List QuestionAt) (placed : List Placed)
             → Among questions placed self.old
-            → Gains (record { rr = rr; place = in_message self.old.messages answer.now.at.offset } ∷ [])
+            → Gains (record { rr = rr; place = in_message self.old.messages answer.now.at.offset }
+            ∷ [])
             questions placed self.old self.new) }
         ensures count { self.new.messages ≡ self.old.messages }
         ensures ending { self.new.decided.ending ≡ self.old.decided.ending }
@@ -212,7 +216,8 @@ impl Transfer {
     /// Puts a record behind those that are still to be handed on.
     fn hand_on(&mut self, rr: Rr, offset: usize) -> Result<(), AllocError>
         ensures items { OnOk result (self.new.decided.placed.items
-            ≡ self.old.decided.placed.items ++ record { rr = rr; place = in_message self.old.messages offset } ∷ []) }
+            ≡ self.old.decided.placed.items
+            ++ record { rr = rr; place = in_message self.old.messages offset } ∷ []) }
         ensures others { self.new ≡ record self.old { decided = self.new.decided } }
         ensures ending { self.new.decided.ending ≡ self.old.decided.ending }
     {
@@ -238,7 +243,8 @@ impl Transfer {
 
     /// The fault of a record behind those before it.
     fn order_fault(&self, rr: &Rr) -> Option<Fault>
-        ensures { (questions : List QuestionAt) (placed : List Placed) → Among questions placed self.now
+        ensures { (questions : List QuestionAt) (placed : List Placed)
+            → Among questions placed self.now
             → result ≡ order_fault questions placed rr.now }
     {
         match &self.opening {

@@ -48,7 +48,8 @@ pub fn compare<R: Read, S: Read>(
 ) -> Result<Verdict, (Which, Stop)>
     ensures compared { IfOk result (λ verdict.
         IfSome (R.remaining first.old) (λ octets. IfSome (S.remaining second.old) (λ others.
-        Compares (input_of (form_of first_form.entry) octets) (input_of (form_of second_form.entry) others) verdict))) }
+        Compares (input_of (form_of first_form.entry) octets)
+        (input_of (form_of second_form.entry) others) verdict))) }
     ensures stopped { IfErr result (λ why. StopsCompare (form_of first_form.entry) (form_of second_form.entry)
         (R.remaining first.old) (S.remaining second.old) (S.remaining second.new) why.0 why.1) }
     ensures few { ConsumesAtMost (text_limit + 1) (R.remaining first.old) (R.remaining first.new) }

@@ -45,7 +45,8 @@ pub fn normalise<R: Read, W: Write>(
         (W.contents writer.old) (W.contents writer.new))) }
     ensures fault { IfErr result (λ stop. IfSome (R.remaining reader.old) (λ octets.
         IfRefused stop (IsRefusal (input_of (form_of form.entry) octets)))) }
-    ensures few { ConsumesAtMost (text_limit + 1) (R.remaining reader.old) (R.remaining reader.new) }
+    ensures few { ConsumesAtMost (text_limit + 1) (R.remaining reader.old)
+        (R.remaining reader.new) }
 {
     let zone = zone_of(alloc, form, reader)?;
     what_is_read_is_stated();
@@ -70,7 +71,8 @@ pub(crate) fn accepted_zone<R: OctetReader>(
         IfRefused stop (IsRefusal (input_of (form_of form.entry) octets)))) }
     ensures stopped { IfErr result IsOfReading }
     ensures failed { IfErr result (TellsRead (R.Failed reader.new)) }
-    ensures few { ConsumesAtMost (text_limit + 1) (R.remaining reader.old) (R.remaining reader.new) }
+    ensures few { ConsumesAtMost (text_limit + 1) (R.remaining reader.old)
+        (R.remaining reader.new) }
 {
     let stated = zone_of(alloc, form, reader)?;
     what_is_read_is_stated();
@@ -111,7 +113,8 @@ fn zone_of<R: OctetReader>(alloc: Global, form: Form<'_>, reader: &mut R) -> Res
     ensures form { IsForm (form_of form.entry) }
     ensures stopped { IfErr result IsOfReading }
     ensures failed { IfErr result (TellsRead (R.Failed reader.new)) }
-    ensures few { ConsumesAtMost (text_limit + 1) (R.remaining reader.old) (R.remaining reader.new) }
+    ensures few { ConsumesAtMost (text_limit + 1) (R.remaining reader.old)
+        (R.remaining reader.new) }
 {
     match form {
         Form::File(origin) => {

@@ -32,9 +32,11 @@ pub(crate) fn read_zone<S: FedSource, R: OctetReader>(
     requires open { S.finished (S.held source.old) ≡ false }
     requires unfed { S.fed (S.held source.old) ≡ 0 }
     ensures zone { IfOk result (ReadsKnown
-        (BeginsAs S.Stands (S.pending source.old) (S.held source.old)) limit (R.remaining reader.old)) }
+        (BeginsAs S.Stands (S.pending source.old) (S.held source.old)) limit
+        (R.remaining reader.old)) }
     ensures fault { IfErr result (RefusesKnown
-        (BeginsAs S.Stands (S.pending source.old) (S.held source.old)) limit (R.remaining reader.old)) }
+        (BeginsAs S.Stands (S.pending source.old) (S.held source.old)) limit
+        (R.remaining reader.old)) }
     ensures stopped { IfErr result IsOfReading }
     ensures failed { IfErr result (TellsRead (R.Failed reader.new)) }
     ensures few { ConsumesAtMost (limit + 1) (R.remaining reader.old) (R.remaining reader.new) }
@@ -63,9 +65,11 @@ fn read_in_pieces<S: FedSource, R: OctetReader>(
     requires unfed { S.fed (S.held source.old) ≡ 0 }
     requires room { 0 < length piece.old }
     ensures zone { IfOk result (ReadsKnown
-        (BeginsAs S.Stands (S.pending source.old) (S.held source.old)) limit (R.remaining reader.old)) }
+        (BeginsAs S.Stands (S.pending source.old) (S.held source.old)) limit
+        (R.remaining reader.old)) }
     ensures fault { IfErr result (RefusesKnown
-        (BeginsAs S.Stands (S.pending source.old) (S.held source.old)) limit (R.remaining reader.old)) }
+        (BeginsAs S.Stands (S.pending source.old) (S.held source.old)) limit
+        (R.remaining reader.old)) }
     ensures stopped { IfErr result IsOfReading }
     ensures failed { IfErr result (TellsRead (R.Failed reader.new)) }
     ensures few { ConsumesAtMost (limit + 1) (R.remaining reader.old) (R.remaining reader.new) }
@@ -91,7 +95,8 @@ fn read_in_pieces<S: FedSource, R: OctetReader>(
 /// `Read` where the reader failed.
 fn read_piece<'p, R: OctetReader>(reader: &mut R, piece: &'p mut [u8]) -> Result<&'p [u8], Stop>
     requires { 0 < length piece.old }
-    ensures taken { IfOk result (λ given. Consumes (R.remaining reader.old) (R.remaining reader.new) given.now) }
+    ensures taken { IfOk result
+        (λ given. Consumes (R.remaining reader.old) (R.remaining reader.new) given.now) }
     ensures few { IfOk result (λ given. length given.now ≤ length piece.old) }
     ensures end { IfOk result (λ given. given.now ≡ [] → IsAtEnd (R.remaining reader.new)) }
     ensures stopped { IfErr result (IsOfPiece (R.Failed reader.new)) }

@@ -23,8 +23,10 @@ ghost use Rattle.zonenorm.specs.Refusal.{IsRefusal, IsRefused, MakesZone, Refuse
 
 /// A reading is refused for at most one fault, at one place.
 pub fn one_fault_of_a_reading()
-    ensures { (placed : List Placed) (ending : Option (Fault × Place)) (fault other : Fault) (place elsewhere : Place)
-        → RefusesReading placed ending fault place → RefusesReading placed ending other elsewhere → (fault ≡ other) × (place ≡ elsewhere) }
+    ensures { (placed : List Placed) (ending : Option (Fault × Place)) (fault other : Fault)
+        (place elsewhere : Place)
+        → RefusesReading placed ending fault place → RefusesReading placed ending other elsewhere
+        → (fault ≡ other) × (place ≡ elsewhere) }
 {
     zone_name::laws::order_is_total();
 }
@@ -40,7 +42,8 @@ pub fn no_zone_of_a_refused_reading()
 /// Every reading is refused or makes a zone, and one with a fault at its end is refused.
 pub fn refusal_or_zone_of_a_reading()
     ensures whole { (placed : List Placed) → AllByRecursion IsRecord (records_of placed)
-        → ((fault : Fault) × (place : Place) × RefusesReading placed None fault place) ⊎ ((z : Zone) × MakesZone placed z) }
+        → ((fault : Fault) × (place : Place) × RefusesReading placed None fault place)
+        ⊎ ((z : Zone) × MakesZone placed z) }
     ensures broken { (placed : List Placed) (ending : Fault × Place)
         → (fault : Fault) × (place : Place) × RefusesReading placed (Some ending) fault place }
 {
@@ -52,7 +55,8 @@ pub fn refusal_or_zone_of_a_reading()
 /// An input is refused for at most one fault, at one place.
 pub fn one_refusal()
     ensures { (input : Input) (fault other : Fault) (place elsewhere : Place)
-        → IsRefusal input fault place → IsRefusal input other elsewhere → (fault ≡ other) × (place ≡ elsewhere) }
+        → IsRefusal input fault place → IsRefusal input other elsewhere → (fault ≡ other)
+        × (place ≡ elsewhere) }
 {
     one_fault_of_a_reading();
     zone_text::laws::file::a_file_has_one_reading();
@@ -83,7 +87,8 @@ pub fn no_zone_of_a_refused_input()
 /// Every input of octets is refused or denotes a zone.
 pub fn refusal_or_zone()
     ensures { (input : Input) → IsInput input
-        → ((fault : Fault) × (place : Place) × IsRefusal input fault place) ⊎ ((z : Zone) × InputDenotes input z) }
+        → ((fault : Fault) × (place : Place) × IsRefusal input fault place)
+        ⊎ ((z : Zone) × InputDenotes input z) }
 {
     refusal_or_zone_of_a_reading();
     zone_text::laws::file::a_file_has_a_reading();
@@ -95,7 +100,8 @@ pub fn refusal_or_zone()
 
 /// What refuses a front of an input refuses the input.
 pub(crate) fn what_is_decided_refuses()
-    ensures { (form : InputForm) (octets front more : Octets) (placed : List Placed) (ending : Option (Fault × Place)) (fault : Fault) (place : Place)
+    ensures { (form : InputForm) (octets front more : Octets) (placed : List Placed)
+        (ending : Option (Fault × Place)) (fault : Fault) (place : Place)
         → IsForm form → AllByRecursion (λ c. c < 256) octets → octets ≡ front ++ more
         → Decides (input_of form front) placed ending → RefusesFront placed ending fault place
         → RefusesRead (input_of form octets) fault place }
@@ -108,7 +114,8 @@ pub(crate) fn what_is_decided_refuses()
 
 /// What an input of octets is read as, without a fault, it states.
 pub fn what_is_read_is_stated()
-    ensures { (input : Input) (placed : List Placed) → IsInput input → Reads input placed None → States input placed }
+    ensures { (input : Input) (placed : List Placed) → IsInput input → Reads input placed None
+        → States input placed }
 {
     zone_text::laws::file::a_file_states_what_is_read();
     zone_wire::laws::a_transfer_is_read();
@@ -125,8 +132,10 @@ pub fn headline()
         → DenotesOnly (file origin (canon z)) z }
     ensures again { (input : Input) (z : Zone) (origin : Labels) → InputDenotes input z
         → NormalisesOnlyTo (file origin (canon z)) (canon z) }
-    ensures refused { (input : Input) → IsInput input → IsRefused input ↔ NothingIs (InputDenotes input) }
-    ensures bounded { (message : Octets) (offset : ℕ) → (visits : List Visit) × IsBoundedWalk message offset visits }
+    ensures refused { (input : Input) → IsInput input → IsRefused input
+        ↔ NothingIs (InputDenotes input) }
+    ensures bounded { (message : Octets) (offset : ℕ) → (visits : List Visit)
+        × IsBoundedWalk message offset visits }
 {
     one_zone();
     zone_print::laws::equal_texts_are_equal_zones();
@@ -147,7 +156,8 @@ pub fn normalised_texts()
         → DenoteOne input (file origin text) }
     ensures again { (input : Input) (text : Octets) (origin : Labels) → NormalisesTo input text
         → NormalisesOnlyTo (file origin text) text }
-    ensures written { (input : Input) (old new : Option Octets) (count : ℕ) → Normalises input old new count
+    ensures written { (input : Input) (old new : Option Octets) (count : ℕ)
+        → Normalises input old new count
         → (text : Octets) × NormalisesTo input text × Appends old new text }
 {
     headline();

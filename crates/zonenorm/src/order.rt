@@ -168,7 +168,8 @@ impl Call<'_> {
 /// `BadOrigin`.
 fn origin_of(text: &str) -> Result<Option<Name>, LineFault>
     ensures ordered { IfOk result (IsOriginText text.now) }
-    ensures refused { IfErr result (λ fault. (fault ≡ LineFault.BadOrigin) × NothingIs (IsOriginText text.now)) }
+    ensures refused { IfErr result
+        (λ fault. (fault ≡ LineFault.BadOrigin) × NothingIs (IsOriginText text.now)) }
 {
     if text == TRANSFER {
         return Ok(None);

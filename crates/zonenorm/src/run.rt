@@ -30,8 +30,10 @@ pub fn run<R1: Read, R2: Read, W: Write, E: Write>(
     errors: &mut E,
 ) -> u8
     ensures ran { Runs order.now
-        (devices (R1.remaining first.old) (R2.remaining second.old) (W.contents output.old) (E.contents errors.old))
-        (devices (R1.remaining first.new) (R2.remaining second.new) (W.contents output.new) (E.contents errors.new))
+        (devices (R1.remaining first.old) (R2.remaining second.old) (W.contents output.old)
+        (E.contents errors.old))
+        (devices (R1.remaining first.new) (R2.remaining second.new) (W.contents output.new)
+        (E.contents errors.new))
         result }
     ensures first { ReadsFew (R1.remaining first.old) (R1.remaining first.new) }
     ensures second { ReadsSecond order.now (R2.remaining second.old) (R2.remaining second.new) }
@@ -84,7 +86,8 @@ fn tell_verdict<W: Write, E: Write>(
 ///
 /// `Write`. A front of the line was written, but not all of it.
 fn write_verdict<W: Write>(verdict: Verdict, output: &mut W) -> Result<(), Stop>
-    ensures written { OnOk result (AppendsThisLine (verdict_line verdict) (W.contents output.old) (W.contents output.new)) }
+    ensures written { OnOk result
+        (AppendsThisLine (verdict_line verdict) (W.contents output.old) (W.contents output.new)) }
     ensures part { OnErr result (AppendsPart (W.contents output.old) (W.contents output.new)
         (verdict_line verdict ++ 10 ∷ [])) }
 {

@@ -16,7 +16,8 @@ pub(crate) fn push_address(
     octets: &mut Vec<u8>,
 ) -> Result<(), NarrowFailing>
     ensures found { OnOk result
-        (Appends (IsAddress count text.now) (λ address. address) octets.old.items octets.new.items) }
+        (Appends (IsAddress count text.now) (λ address. address) octets.old.items
+        octets.new.items) }
     ensures fault { IfErr result (IfFault (NoValue Fault.BadRdata (IsAddress count text.now))) }
 {
     match count {

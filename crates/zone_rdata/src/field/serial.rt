@@ -11,7 +11,8 @@ use byteorder::{BigEndian, ByteOrder};
 
 /// Appends the number that decimal digits stand for.
 pub(crate) fn push_serial(text: &[u8], octets: &mut Vec<u8>) -> Result<(), NarrowFailing>
-    ensures found { OnOk result (Appends (SpellsSerial text.now) (to_be_bytes w32) octets.old.items octets.new.items) }
+    ensures found { OnOk result
+        (Appends (SpellsSerial text.now) (to_be_bytes w32) octets.old.items octets.new.items) }
     ensures fault { IfErr result (IfFault (NoValue Fault.BadNumber (SpellsSerial text.now))) }
 {
     let number = at_most(u32::MAX, decimal_of(text))?;

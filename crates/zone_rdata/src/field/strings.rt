@@ -22,7 +22,8 @@ use zone_name::Sink;
 /// Appends the strings that the items spell, one or more, each behind its length.
 pub(crate) fn push_strings(items: &[Item], octets: &mut Vec<u8>) -> Result<(), NarrowFailing>
     ensures found { OnOk result
-        (Appends (SpellsStrings (map raw items.now)) (flat_map with_length) octets.old.items octets.new.items) }
+        (Appends (SpellsStrings (map raw items.now)) (flat_map with_length) octets.old.items
+        octets.new.items) }
     ensures fault { IfErr result (IfFault (StringsFault (map raw items.now))) }
 {
     if items.is_empty() {
@@ -72,7 +73,8 @@ fn are_strings(octets: &[u8]) -> bool
 pub(crate) fn push_strings_text<S: Sink>(octets: &[u8], out: &mut S) -> Result<(), S::Error>
     requires some { 0 < length octets.now }
     requires strings { HoldsStrings octets.now }
-    ensures ok { OnOk result (S.takes out.old (join_with_byte 32 (map string_text (strings_of octets.now))) out.new) }
+    ensures ok { OnOk result
+        (S.takes out.old (join_with_byte 32 (map string_text (strings_of octets.now))) out.new) }
     ensures err { OnErr result (TakesSome S.takes out.old out.new) }
 {
     let (string, mut rest) = split_string(octets);

@@ -11,7 +11,8 @@ use crate::time::seconds_of;
 
 /// Appends the number of seconds that a time stands for.
 pub(crate) fn push_time(text: &[u8], octets: &mut Vec<u8>) -> Result<(), NarrowFailing>
-    ensures found { OnOk result (Appends (SpellsTime text.now) (to_be_bytes w32) octets.old.items octets.new.items) }
+    ensures found { OnOk result
+        (Appends (SpellsTime text.now) (to_be_bytes w32) octets.old.items octets.new.items) }
     ensures fault { IfErr result (IfFault (NoValue Fault.BadNumber (SpellsTime text.now))) }
 {
     let number = at_most(u32::MAX, seconds_of(text))?;

@@ -11,7 +11,8 @@ use byteorder::{BigEndian, ByteOrder};
 
 /// Appends the number that decimal digits stand for.
 pub(crate) fn push_u16(text: &[u8], octets: &mut Vec<u8>) -> Result<(), NarrowFailing>
-    ensures found { OnOk result (Appends (SpellsU16 text.now) (to_be_bytes w16) octets.old.items octets.new.items) }
+    ensures found { OnOk result
+        (Appends (SpellsU16 text.now) (to_be_bytes w16) octets.old.items octets.new.items) }
     ensures fault { IfErr result (IfFault (NoValue Fault.BadNumber (SpellsU16 text.now))) }
 {
     let number = at_most(u32::from(u16::MAX), decimal_of(text))?;

@@ -13,15 +13,19 @@ pub fn a_text_is_one_address()
 
 /// What is printed for an address is read as that address.
 pub fn printed_addresses_are_read()
-    ensures ipv4 { (octets : Octets) → length octets ≡ 4 → AreOctets octets → IsIpv4Address (ipv4_text octets) octets }
-    ensures ipv6 { (octets : Octets) → length octets ≡ 16 → AreOctets octets → IsIpv6Address (ipv6_text octets) octets }
+    ensures ipv4 { (octets : Octets) → length octets ≡ 4 → AreOctets octets
+        → IsIpv4Address (ipv4_text octets) octets }
+    ensures ipv6 { (octets : Octets) → length octets ≡ 16 → AreOctets octets
+        → IsIpv6Address (ipv6_text octets) octets }
 {}
 
 /// What is printed for an address holds digits, lower-case hexadecimal letters, dots and colons only, so that it is one
 /// item of a master file.
 pub fn printed_addresses_are_plain()
-    ensures ipv4 { (octets : Octets) → length octets ≡ 4 → AreOctets octets → AllByRecursion IsAddressOctet (ipv4_text octets) }
-    ensures ipv6 { (octets : Octets) → length octets ≡ 16 → AreOctets octets → AllByRecursion IsAddressOctet (ipv6_text octets) }
+    ensures ipv4 { (octets : Octets) → length octets ≡ 4 → AreOctets octets
+        → AllByRecursion IsAddressOctet (ipv4_text octets) }
+    ensures ipv6 { (octets : Octets) → length octets ≡ 16 → AreOctets octets
+        → AllByRecursion IsAddressOctet (ipv6_text octets) }
 {}
 
 /// `::` is printed for the longest run of zero groups, the first of equal ones, and for none of fewer than two groups
@@ -48,6 +52,8 @@ pub fn addresses_have_their_octets()
 
 /// A text is an address of IPv4 or none, and one of IPv6 or none.
 pub fn texts_are_addresses_or_none()
-    ensures ipv4 { (text : Octets) → ((octets : Octets) × IsIpv4Address text octets) ⊎ NothingIs (IsIpv4Address text) }
-    ensures ipv6 { (text : Octets) → ((octets : Octets) × IsIpv6Address text octets) ⊎ NothingIs (IsIpv6Address text) }
+    ensures ipv4 { (text : Octets) → ((octets : Octets) × IsIpv4Address text octets)
+        ⊎ NothingIs (IsIpv4Address text) }
+    ensures ipv6 { (text : Octets) → ((octets : Octets) × IsIpv6Address text octets)
+        ⊎ NothingIs (IsIpv6Address text) }
 {}

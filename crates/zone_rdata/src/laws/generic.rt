@@ -14,7 +14,8 @@ pub fn generic_is_unique()
 
 /// Items that begin with the mark state octets or have a first fault.
 pub fn generic_or_fault()
-    ensures { (items : List RawItem) → IsGeneric items → EitherIs (StatesGeneric items) (GenericFault items) }
+    ensures { (items : List RawItem) → IsGeneric items
+        → EitherIs (StatesGeneric items) (GenericFault items) }
 {}
 
 /// Items that have a first fault state no octets.
@@ -29,7 +30,8 @@ pub fn generic_fault_is_unique()
 
 /// The items that are printed for octets, parted by single spaces, are their text and state those octets.
 pub fn printed_octets_are_stated()
-    ensures text { (octets : Octets) → generic_text octets ≡ join_with_byte 32 (map item_text (generic_items octets)) }
+    ensures text { (octets : Octets) → generic_text octets ≡ join_with_byte 32
+        (map item_text (generic_items octets)) }
     ensures stated { (octets : Octets) → AreOctets octets → length octets ≤ 65535
         → StatesGeneric (generic_items octets) octets }
 {}

@@ -14,31 +14,39 @@ use zone_name::laws::{spelling_is_unique, texts_have_one_verdict};
 
 /// A layout has at most seven fields, strings stand last in it, and its addresses have 4 or 16 octets.
 pub fn layouts_are_sound()
-    ensures { (class kind : ℕ) (fields : List Field) → layout class kind ≡ Some fields → IsLayout fields }
+    ensures { (class kind : ℕ) (fields : List Field) → layout class kind ≡ Some fields
+        → IsLayout fields }
 {}
 
 /// Items state at most one value of a class and type under an origin.
 pub fn data_is_unique()
-    ensures { (origin : List (List ℕ)) (class kind : ℕ) (items : List RawItem) (a b : List ℕ) → States origin class kind items a → States origin class kind items b → a ≡ b }
+    ensures { (origin : List (List ℕ)) (class kind : ℕ) (items : List RawItem) (a b : List ℕ)
+        → States origin class kind items a → States origin class kind items b → a ≡ b }
 {
     spelling_is_unique();
 }
 
 /// What items state is data that a record can have.
 pub fn stated_data_is_data()
-    ensures { (origin : List (List ℕ)) (class kind : ℕ) (items : List RawItem) (octets : List ℕ) → States origin class kind items octets → IsData class kind octets }
+    ensures { (origin : List (List ℕ)) (class kind : ℕ) (items : List RawItem) (octets : List ℕ)
+        → States origin class kind items octets → IsData class kind octets }
 {}
 
 /// Items of octets state a value of a class and type under an origin that is a name, or have a first fault.
 pub fn data_or_fault()
-    ensures { (origin : List (List ℕ)) (class kind : ℕ) (items : List RawItem) → IsName origin → AllByRecursion (λ item. AllByRecursion (λ c. c < 256) (item_text item)) items → ((octets : List ℕ) × States origin class kind items octets) ⊎ ((fault : Fault) × IsDataFault origin class kind items fault) }
+    ensures { (origin : List (List ℕ)) (class kind : ℕ) (items : List RawItem) → IsName origin
+        → AllByRecursion (λ item. AllByRecursion (λ c. c < 256) (item_text item)) items
+        → ((octets : List ℕ) × States origin class kind items octets)
+        ⊎ ((fault : Fault) × IsDataFault origin class kind items fault) }
 {
     texts_have_one_verdict();
 }
 
 /// Items that have a first fault state no value.
 pub fn faulty_items_state_none()
-    ensures { (origin : List (List ℕ)) (class kind : ℕ) (items : List RawItem) (octets : List ℕ) (fault : Fault) → States origin class kind items octets → IsDataFault origin class kind items fault → ⊥ }
+    ensures { (origin : List (List ℕ)) (class kind : ℕ) (items : List RawItem) (octets : List ℕ)
+        (fault : Fault) → States origin class kind items octets
+        → IsDataFault origin class kind items fault → ⊥ }
 {
     spelling_is_unique();
     texts_have_one_verdict();
@@ -46,7 +54,8 @@ pub fn faulty_items_state_none()
 
 /// Items have at most one first fault.
 pub fn data_fault_is_unique()
-    ensures { (origin : List (List ℕ)) (class kind : ℕ) (items : List RawItem) (a b : Fault) → IsDataFault origin class kind items a → IsDataFault origin class kind items b → a ≡ b }
+    ensures { (origin : List (List ℕ)) (class kind : ℕ) (items : List RawItem) (a b : Fault)
+        → IsDataFault origin class kind items a → IsDataFault origin class kind items b → a ≡ b }
 {
     texts_have_one_verdict();
 }

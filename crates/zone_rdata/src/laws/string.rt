@@ -10,7 +10,8 @@ pub fn string_is_unique()
 
 /// An item spells a string or has a first fault.
 pub fn string_or_fault()
-    ensures { (item : RawItem) → AreOctets (item_text item) → EitherIs (SpellsString item) (StringFault item) }
+    ensures { (item : RawItem) → AreOctets (item_text item)
+        → EitherIs (SpellsString item) (StringFault item) }
 {}
 
 /// An item that has a first fault spells no string.
@@ -25,6 +26,7 @@ pub fn string_fault_is_unique()
 
 /// What is printed for a string stands in quotes in one line, and spells that string.
 pub fn printed_strings_are_spelled()
-    ensures spells { (octets : Octets) → IsString octets → SpellsString (quoted (inside_text octets)) octets }
+    ensures spells { (octets : Octets) → IsString octets
+        → SpellsString (quoted (inside_text octets)) octets }
     ensures stands { (octets : Octets) → IsString octets → StandsInQuotes (inside_text octets) }
 {}

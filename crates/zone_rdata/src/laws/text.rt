@@ -9,8 +9,10 @@ use zone_name::laws::printed_names_are_spelled;
 
 /// What is printed for data is its items, parted by single spaces, and they state that data under every origin.
 pub fn printed_data_is_stated()
-    ensures written { (d : Data) → IsRdata d → data_text d ≡ join_with_byte 32 (map written_item (data_items d)) }
-    ensures stated { (origin : List (List ℕ)) (d : Data) → IsRdata d → States origin d.class d.kind (data_items d) d.octets }
+    ensures written { (d : Data) → IsRdata d
+        → data_text d ≡ join_with_byte 32 (map written_item (data_items d)) }
+    ensures stated { (origin : List (List ℕ)) (d : Data) → IsRdata d
+        → States origin d.class d.kind (data_items d) d.octets }
 {
     printed_names_are_spelled();
 }

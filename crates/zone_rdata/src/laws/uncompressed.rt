@@ -7,12 +7,15 @@ ghost use Rattle.zone_rdata.specs.declared.field.Field.{Field};
 
 /// Octets have at most one canonical form in the layout of a class and type.
 pub fn canonical_octets_are_unique()
-    ensures { (class kind : ℕ) (fields : List Field) (octets : Octets) → layout class kind ≡ Some fields
+    ensures { (class kind : ℕ) (fields : List Field) (octets : Octets)
+        → layout class kind ≡ Some fields
         → AtMostOneIs (IsUncompressed fields octets) }
 {}
 
 /// Octets have a canonical form in the layout of a class and type, or none.
 pub fn octets_are_canonical_or_none()
-    ensures { (class kind : ℕ) (fields : List Field) (octets : Octets) → layout class kind ≡ Some fields → AreOctets octets
-        → ((canonical : Octets) × IsUncompressed fields octets canonical) ⊎ NothingIs (IsUncompressed fields octets) }
+    ensures { (class kind : ℕ) (fields : List Field) (octets : Octets)
+        → layout class kind ≡ Some fields → AreOctets octets
+        → ((canonical : Octets) × IsUncompressed fields octets canonical)
+        ⊎ NothingIs (IsUncompressed fields octets) }
 {}

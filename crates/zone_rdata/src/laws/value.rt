@@ -8,21 +8,29 @@ ghost use Rattle.zone_rdata.specs.declared.field.Field.TheVariants.{Strings};
 
 /// Values of a layout are data, unless their octets are too many.
 pub fn held_values_are_data()
-    ensures { (class kind : ℕ) (fields : List Field) (values : List FieldValue) → layout class kind ≡ Some fields → HoldEach fields values → length (octets_of values) ≤ 65535 → IsData class kind (octets_of values) }
+    ensures { (class kind : ℕ) (fields : List Field) (values : List FieldValue)
+        → layout class kind ≡ Some fields → HoldEach fields values
+        → length (octets_of values) ≤ 65535 → IsData class kind (octets_of values) }
 {}
 
 /// Values of a layout that does not end in strings are short: at most 7 fields of at most 256 octets each never reach
 /// the limit.
 pub fn values_without_strings_are_short()
-    ensures { (class kind : ℕ) (fields : List Field) (values : List FieldValue) → layout class kind ≡ Some fields → AllByRecursion (λ field. field ≢ Strings) fields → HoldEach fields values → length (octets_of values) ≤ 65535 }
+    ensures { (class kind : ℕ) (fields : List Field) (values : List FieldValue)
+        → layout class kind ≡ Some fields → AllByRecursion (λ field. field ≢ Strings) fields
+        → HoldEach fields values → length (octets_of values) ≤ 65535 }
 {}
 
 /// Values of a layout with the same octets are the same values.
 pub fn equal_octets_are_equal_values()
-    ensures { (class kind : ℕ) (fields : List Field) (values others : List FieldValue) → layout class kind ≡ Some fields → HoldEach fields values → HoldEach fields others → octets_of values ≡ octets_of others → values ≡ others }
+    ensures { (class kind : ℕ) (fields : List Field) (values others : List FieldValue)
+        → layout class kind ≡ Some fields → HoldEach fields values → HoldEach fields others
+        → octets_of values ≡ octets_of others → values ≡ others }
 {}
 
 /// The values of a layout are got back from their octets.
 pub fn values_are_got_back()
-    ensures { (class kind : ℕ) (fields : List Field) (values : List FieldValue) → layout class kind ≡ Some fields → HoldEach fields values → values_of fields (octets_of values) ≡ values }
+    ensures { (class kind : ℕ) (fields : List Field) (values : List FieldValue)
+        → layout class kind ≡ Some fields → HoldEach fields values
+        → values_of fields (octets_of values) ≡ values }
 {}

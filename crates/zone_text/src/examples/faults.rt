@@ -8,7 +8,8 @@ use zone_rdata::laws::word::{kind_word_is_unique, time_is_unique};
 
 /// A directive's word is judged first, then its items, then the value.
 pub fn directives_that_are_refused()
-    ensures include { Reads (codes "@ 60 NS n.x.\n$include\n") (at_line 1 (ns x 1 60) ∷ []) (fault_at 2 IncludeDirective) }
+    ensures include { Reads (codes "@ 60 NS n.x.\n$include\n") (at_line 1 (ns x 1 60) ∷ [])
+        (fault_at 2 IncludeDirective) }
     ensures generate { Reads (codes "$GENERATE 1-2 a\n") [] (fault_at 1 UnknownDirective) }
     ensures dollar_alone { Reads (codes "$\n") [] (fault_at 1 UnknownDirective) }
     ensures no_item { Reads (codes "$ORIGIN\n") [] (fault_at 1 BadDirective) }
@@ -55,24 +56,31 @@ pub fn a_minimum_that_is_no_ttl()
 /// A break stands at the line of its entry and hides what else is wrong there.
 pub fn breaks_come_first()
     ensures escape { Reads (codes "$INCLUDE \\04") [] (fault_at 1 BadEscape) }
-    ensures parenthesis { Reads (codes "@ 60 NS n.x.\n$FOO )\n") (at_line 1 (ns x 1 60) ∷ []) (fault_at 2 UnbalancedParenthesis) }
-    ensures quote { Reads (codes "@ 60 NS n.x.\n( \"a") (at_line 1 (ns x 1 60) ∷ []) (fault_at 2 UnclosedQuote) }
+    ensures parenthesis { Reads (codes "@ 60 NS n.x.\n$FOO )\n") (at_line 1 (ns x 1 60) ∷ [])
+        (fault_at 2 UnbalancedParenthesis) }
+    ensures quote { Reads (codes "@ 60 NS n.x.\n( \"a") (at_line 1 (ns x 1 60) ∷ [])
+        (fault_at 2 UnclosedQuote) }
     ensures open_at_the_end { Reads (codes "( ; c") [] (fault_at 1 UnbalancedParenthesis) }
 {}
 
 /// The records in front of a break are given.
 pub fn records_before_an_open_quote()
-    ensures { Reads (codes "@ 60 SOA n h 1 2 3 4 5\na 60 A 10.0.0.1\na 61 A 10.0.0.1\nb 60 TXT \"\n") (at_line 1 (soa 60) ∷ at_line 2 (address (under 97 x) 60) ∷ at_line 3 (address (under 97 x) 61) ∷ []) (fault_at 4 UnclosedQuote) }
+    ensures { Reads
+        (codes "@ 60 SOA n h 1 2 3 4 5\na 60 A 10.0.0.1\na 61 A 10.0.0.1\nb 60 TXT \"\n")
+        (at_line 1 (soa 60) ∷ at_line 2 (address (under 97 x) 60) ∷ at_line 3
+        (address (under 97 x) 61) ∷ []) (fault_at 4 UnclosedQuote) }
 {}
 
 /// What is decided of a prefix: the entries that a line feed has ended, and no open one.
 pub fn decided_entries()
-    ensures { Decided x (codes "@ 60 NS n.x.\n$FOO\n@") (at_line 1 (ns x 1 60) ∷ []) (fault_at 2 UnknownDirective) }
+    ensures { Decided x (codes "@ 60 NS n.x.\n$FOO\n@") (at_line 1 (ns x 1 60) ∷ [])
+        (fault_at 2 UnknownDirective) }
 {}
 
 /// What is decided of a prefix that breaks: a `)` and a bad escape with what ends it, and no escape that is cut off.
 pub fn decided_breaks()
-    ensures parenthesis { Decided x (codes "@ 60 NS n.x.\n)") (at_line 1 (ns x 1 60) ∷ []) (fault_at 2 UnbalancedParenthesis) }
+    ensures parenthesis { Decided x (codes "@ 60 NS n.x.\n)") (at_line 1 (ns x 1 60) ∷ [])
+        (fault_at 2 UnbalancedParenthesis) }
     ensures lost_escape { Decided x (codes "t \\04x") [] (fault_at 1 BadEscape) }
     ensures cut_off_escape { Decided x (codes "t \\04") [] None }
 {}

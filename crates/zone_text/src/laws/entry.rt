@@ -49,29 +49,39 @@ pub(super) fn lower_choices()
 
 /// An item is taken for a class where it is a class's word, and no word is a class's and begins with a digit, as a TTL.
 pub fn class_words_are_known()
-    ensures word { (text : List ℕ) → (is_class_word text ≡ true) ↔ ((number : ℕ) × IsClassWord text number) }
-    ensures no_ttl { (text : List ℕ) (number : ℕ) → IsClassWord text number → begins_with_digit text ≡ false }
+    ensures word { (text : List ℕ) → (is_class_word text ≡ true)
+        ↔ ((number : ℕ) × IsClassWord text number) }
+    ensures no_ttl { (text : List ℕ) (number : ℕ) → IsClassWord text number
+        → begins_with_digit text ≡ false }
 {}
 
 /// An entry states at most one record.
 pub fn an_entry_states_one_record()
-    ensures { (origin : List (List ℕ)) (before : List Entry) (entry : Entry) (a b : Record) → StatesRecord origin before entry a → StatesRecord origin before entry b → a ≡ b }
+    ensures { (origin : List (List ℕ)) (before : List Entry) (entry : Entry) (a b : Record)
+        → StatesRecord origin before entry a → StatesRecord origin before entry b → a ≡ b }
 {
     lower_laws();
 }
 
 /// An entry has at most one first fault.
 pub fn an_entry_has_one_fault()
-    ensures { (origin : List (List ℕ)) (before : List Entry) (entry : Entry) (f g : Fault) → EntryFault origin before entry f → EntryFault origin before entry g → f ≡ g }
+    ensures { (origin : List (List ℕ)) (before : List Entry) (entry : Entry) (f g : Fault)
+        → EntryFault origin before entry f → EntryFault origin before entry g → f ≡ g }
 {
     lower_laws();
 }
 
 /// An entry that has a fault states neither a record nor nothing, and one that states nothing states no record.
 pub fn an_entry_has_one_outcome()
-    ensures record_or_fault { (origin : List (List ℕ)) (before : List Entry) (entry : Entry) (r : Record) (fault : Fault) → StatesRecord origin before entry r → EntryFault origin before entry fault → ⊥ }
-    ensures nothing_or_fault { (origin : List (List ℕ)) (before : List Entry) (entry : Entry) (fault : Fault) → StatesNothing origin before (form_of entry) → EntryFault origin before entry fault → ⊥ }
-    ensures nothing_or_record { (origin : List (List ℕ)) (before : List Entry) (entry : Entry) (r : Record) → StatesNothing origin before (form_of entry) → StatesRecord origin before entry r → ⊥ }
+    ensures record_or_fault { (origin : List (List ℕ)) (before : List Entry) (entry : Entry)
+        (r : Record) (fault : Fault) → StatesRecord origin before entry r
+        → EntryFault origin before entry fault → ⊥ }
+    ensures nothing_or_fault { (origin : List (List ℕ)) (before : List Entry) (entry : Entry)
+        (fault : Fault) → StatesNothing origin before (form_of entry)
+        → EntryFault origin before entry fault → ⊥ }
+    ensures nothing_or_record { (origin : List (List ℕ)) (before : List Entry) (entry : Entry)
+        (r : Record) → StatesNothing origin before (form_of entry)
+        → StatesRecord origin before entry r → ⊥ }
 {
     lower_laws();
 }
@@ -79,7 +89,11 @@ pub fn an_entry_has_one_outcome()
 /// An entry of octets states nothing or a record, or has a first fault, where each entry before it states nothing or a
 /// record and the origin is a name.
 pub fn an_entry_has_an_outcome()
-    ensures { (origin : List (List ℕ)) (before : List Entry) (entry : Entry) → IsName origin → AllState origin before → AreOctetItems entry.items → StatesNothing origin before (form_of entry) ⊎ (((r : Record) × StatesRecord origin before entry r) ⊎ ((fault : Fault) × EntryFault origin before entry fault)) }
+    ensures { (origin : List (List ℕ)) (before : List Entry) (entry : Entry) → IsName origin
+        → AllState origin before → AreOctetItems entry.items
+        → StatesNothing origin before (form_of entry)
+        ⊎ (((r : Record) × StatesRecord origin before entry r)
+        ⊎ ((fault : Fault) × EntryFault origin before entry fault)) }
 {
     lower_laws();
     lower_choices();

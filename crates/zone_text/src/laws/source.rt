@@ -8,12 +8,22 @@ ghost use Rattle.zone_text.specs.Source.{Gives, SourceState, Stands};
 
 /// Behind records that it gives a source stands for them too.
 pub fn what_is_given_was_given()
-    ensures { (origin : Labels) (old new : SourceState) (more : List Placed) (fed : List ℕ) (given : List Placed) → Gives old more new → Stands origin old fed given → Stands origin new fed (given ++ more) }
+    ensures { (origin : Labels) (old new : SourceState) (more : List Placed) (fed : List ℕ)
+        (given : List Placed) → Gives old more new → Stands origin old fed given
+        → Stands origin new fed (given ++ more) }
 {}
 
 /// Behind an answer of `next` a source stands for the record that it gave, or for what it stood for where it gave none.
 pub fn an_answer_is_given()
-    ensures some { (origin : Labels) (old new : SourceState) (r : Placed) (fed : List ℕ) (given : List Placed) → new.pending ≡ after old.pending → new.held ≡ old.held → answer_of old.pending ≡ Ok (Some r) → Stands origin old fed given → Stands origin new fed (given ++ r ∷ []) }
-    ensures none { (origin : Labels) (old new : SourceState) (fed : List ℕ) (given : List Placed) → new.pending ≡ after old.pending → new.held ≡ old.held → answer_of old.pending ≡ Ok None → Stands origin old fed given → Stands origin new fed given }
-    ensures stop { (origin : Labels) (old new : SourceState) (stop : Stop) (fed : List ℕ) (given : List Placed) → new.pending ≡ after old.pending → new.held ≡ old.held → answer_of old.pending ≡ Err stop → Stands origin old fed given → Stands origin new fed given }
+    ensures some { (origin : Labels) (old new : SourceState) (r : Placed) (fed : List ℕ)
+        (given : List Placed) → new.pending ≡ after old.pending → new.held ≡ old.held
+        → answer_of old.pending ≡ Ok (Some r) → Stands origin old fed given
+        → Stands origin new fed (given ++ r ∷ []) }
+    ensures none { (origin : Labels) (old new : SourceState) (fed : List ℕ) (given : List Placed)
+        → new.pending ≡ after old.pending → new.held ≡ old.held → answer_of old.pending ≡ Ok None
+        → Stands origin old fed given → Stands origin new fed given }
+    ensures stop { (origin : Labels) (old new : SourceState) (stop : Stop) (fed : List ℕ)
+        (given : List Placed) → new.pending ≡ after old.pending → new.held ≡ old.held
+        → answer_of old.pending ≡ Err stop → Stands origin old fed given
+        → Stands origin new fed given }
 {}

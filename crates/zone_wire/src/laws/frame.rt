@@ -11,27 +11,34 @@ ghost use Rattle.zone_wire.specs.Transfer.{StatedMessage, frame};
 
 /// The frames of joined octets are those of the first octets, and then those of their rest and the octets behind it.
 pub fn frames_of_joined_octets()
-    ensures { (stream more : Octets) (messages others : List Octets) (rest last : Octets) → IsFramed stream messages rest
-        → IsFramed (rest ++ more) others last → IsFramed (stream ++ more) (messages ++ others) last }
+    ensures { (stream more : Octets) (messages others : List Octets) (rest last : Octets)
+        → IsFramed stream messages rest
+        → IsFramed (rest ++ more) others last
+        → IsFramed (stream ++ more) (messages ++ others) last }
 {}
 
 /// Behind messages that are read, octets are one that is read, or are refused for one fault.
 pub fn a_message_behind_others()
-    ensures { (before : List StatedMessage) (octets : Octets) → ((i : ℕ) → slice_index octets i < 256) → length octets ≤ 65535
+    ensures { (before : List StatedMessage) (octets : Octets)
+        → ((i : ℕ) → slice_index octets i < 256) → length octets ≤ 65535
         → IsVerdict (λ (p : StatedMessage). (p.octets ≡ octets) × IsReadBehind before p)
         (λ (e : List Placed × Fault × ℕ). FaultBehind before octets e.0 e.1 e.2) }
 {}
 
 /// What is decided of a stream and a frame behind it is what was decided of the stream, and then what the frame adds.
 pub fn one_frame_more()
-    ensures read { (stream : Octets) (before : List StatedMessage) (p : StatedMessage) → IsFramed stream (octets_in before) []
+    ensures read { (stream : Octets) (before : List StatedMessage) (p : StatedMessage)
+        → IsFramed stream (octets_in before) []
         → AreRead [] before → length p.octets ≤ 65535 → IsReadBehind before p
         → Decided (stream ++ frame p.octets) (handed_on (placed_in before ++ p.placed)) None }
-    ensures refused { (stream octets : Octets) (before : List StatedMessage) (here : List Placed) (fault : Fault) (offset : ℕ)
+    ensures refused { (stream octets : Octets) (before : List StatedMessage) (here : List Placed)
+        (fault : Fault) (offset : ℕ)
         → IsFramed stream (octets_in before) [] → AreRead [] before → length octets ≤ 65535
         → FaultBehind before octets here fault offset
-        → Decided (stream ++ frame octets) (handed_on (placed_in before ++ here)) (Some (fault, Message (length before + 1) offset)) }
-    ensures adds { (placed here : List Placed) → (rest : List Placed) × (handed_on (placed ++ here) ≡ handed_on placed ++ rest) }
+        → Decided (stream ++ frame octets) (handed_on (placed_in before ++ here))
+        (Some (fault, Message (length before + 1) offset)) }
+    ensures adds { (placed here : List Placed) → (rest : List Placed)
+        × (handed_on (placed ++ here) ≡ handed_on placed ++ rest) }
 {}
 
 /// A message is judged by itself and, of the messages before it, by how many they are, the first ID, the name and class
@@ -39,8 +46,10 @@ pub fn one_frame_more()
 pub fn what_a_message_is_judged_by()
     ensures read { (before other : List StatedMessage) (p : StatedMessage) → AreAlike before other
         → IsReadBehind before p → IsReadBehind other p }
-    ensures refused { (before other : List StatedMessage) (octets : Octets) (here : List Placed) (fault : Fault) (offset : ℕ)
-        → AreAlike before other → FaultBehind before octets here fault offset → FaultBehind other octets here fault offset }
+    ensures refused { (before other : List StatedMessage) (octets : Octets) (here : List Placed)
+        (fault : Fault) (offset : ℕ)
+        → AreAlike before other → FaultBehind before octets here fault offset
+        → FaultBehind other octets here fault offset }
     ensures stays { (before other : List StatedMessage) (p : StatedMessage) → AreAlike before other
         → IsReadBehind before p → AreAlike (before ++ p ∷ []) (other ++ p ∷ []) }
 {}

@@ -14,7 +14,8 @@ pub fn what_is_given_was_given()
 /// Behind an answer of `next` a source stands for the record that it gave, or for what it stood for where it gave none.
 pub fn an_answer_is_given()
     ensures some { (old new : SourceState) (r : Placed) (fed : List ℕ) (given : List Placed)
-        → new.pending ≡ after old.pending → new.held ≡ old.held → answer_of old.pending ≡ Ok (Some r)
+        → new.pending ≡ after old.pending → new.held ≡ old.held
+        → answer_of old.pending ≡ Ok (Some r)
         → Stands old fed given → Stands new fed (given ++ r ∷ []) }
     ensures none { (old new : SourceState) (fed : List ℕ) (given : List Placed)
         → new.pending ≡ after old.pending → new.held ≡ old.held → answer_of old.pending ≡ Ok None

@@ -8,7 +8,8 @@ ghost use Rattle.zone_wire.specs.WholeWalk.{IsWalk, NameFault};
 /// One list is the walk from an offset: each of its places is the next behind those before it, and it is whole.
 pub fn one_walk_from_an_offset()
     ensures one { (message : Octets) (offset : ℕ) → AtMostOneIs (IsWalk message offset) }
-    ensures some { (message : Octets) (offset : ℕ) → (visits : List Visit) × IsWalk message offset visits }
+    ensures some { (message : Octets) (offset : ℕ) → (visits : List Visit)
+        × IsWalk message offset visits }
 {}
 
 /// At each offset of octets stands a name, or the walk from there ends with one fault, never both.
