@@ -1,11 +1,13 @@
 -- What a line is made of, and the lines to come.
-use Rattle.std.proofs.Common.{◌≡◌, ℕ, List, [], ◌∷◌, ◌++◌, decimal, ap, sym, ◌∙◌, append_assoc}
+use Rattle.std.proofs.Common.{◌≡◌, ◌≢◌, subst, ℕ, List, [], ◌∷◌, ◌++◌, decimal, ap, sym, ◌∙◌, append_assoc}
 use Rattle.zone_name.specs.Text.{name_text}
 use Rattle.zone_rdata.specs.Record.{Record, data_of}
 use Rattle.zone_rdata.specs.Text.{data_text}
 use Rattle.zone_rdata.specs.Words.{class_text, kind_text}
 use Rattle.zone_print.specs.Canonical.{line, lines}
 use Rattle.zone_print.specs.Machine.Middle.{line_middle}
+use Rattle.zone_print.proofs.Feeds.{line_ends_with_feed}
+use Rattle.zone_print.proofs.Front.{some_behind, some_more}
 
 -- data of equal classes, types and octets has equal texts
 pub same_text : (class class' kind kind' : ℕ) (octets : List ℕ) → class ≡ class' → kind ≡ kind'
@@ -42,3 +44,11 @@ line_moves buffer grown records others r e pushed =
 -- no record is to come
 pub line_ends : (buffer : List ℕ) (records : List Record) → records ≡ [] → buffer ++ lines records ≡ buffer ++ []
 line_ends buffer records e = ap (λ rs. buffer ++ lines rs) e
+
+-- while a record is to come, octets are
+pub line_to_come : (buffer : List ℕ) (records others : List Record) (r : Record) → records ≡ r ∷ others → buffer ++ lines records ≢ []
+line_to_come buffer records others r e none =
+    let ends = line_ends_with_feed r in
+    some_behind buffer (lines (r ∷ others))
+    (some_more (line r) (lines others) (subst (λ l. l ≢ []) (sym ends.split) (some_behind ends.front (10 ∷ []) (λ f. cc))))
+    (sym (ap (λ rs. buffer ++ lines rs) e) ∙ none)

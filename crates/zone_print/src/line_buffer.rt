@@ -1,4 +1,4 @@
-ghost use Rattle.std.specs.Prelude.{◌≡◌, [], ◌++◌, length, IfSome, OnOk};
+ghost use Rattle.std.specs.Prelude.{◌≡◌, [], ◌++◌, length, IfOk, IfSome, OnOk};
 ghost use Rattle.zone_name.specs.Text.{name_text};
 ghost use Rattle.zone_print.specs.Canonical.{line};
 ghost use Rattle.zone_print.specs.Machine.Middle.{line_middle};
@@ -46,6 +46,29 @@ impl<'z> LineBuffer<'z> {
             owner: Vec::new(alloc),
             middle: Vec::new(alloc),
         }
+    }
+
+    /// No line, with room for lines of so many octets.
+    ///
+    /// # Errors
+    ///
+    /// Want of memory.
+    pub(crate) fn with_capacity(alloc: Global, len: usize) -> Result<LineBuffer<'z>, AllocError>
+        ensures { IfOk result (λ buffer. buffer ≡ []) }
+    {
+        Ok(LineBuffer {
+            octets: Vec::with_capacity(alloc, len)?,
+            last: None,
+            owner: Vec::new(alloc),
+            middle: Vec::new(alloc),
+        })
+    }
+
+    /// The lines, which are owned from then on.
+    pub(crate) fn into_octets(self) -> Vec<u8>
+        ensures { result.items ≡ self.entry }
+    {
+        self.octets
     }
 
     /// The lines.

@@ -1,15 +1,14 @@
 ghost use Rattle.std.specs.Prelude.{◌≡◌, ◌+◌, ◌≤◌, ◌↔◌, length, min, IfOk, IfErr, OnOk, OnErr, IsTrue};
 ghost use Rattle.std.specs.Io.KnownBytes.{Appends};
 ghost use Rattle.zone_print.specs.Canonical.{canon, text_limit};
-ghost use Rattle.zone_print.specs.Machine.Writing.{IsOfWriting, TellsWrite};
-ghost use Rattle.zone_print.specs.Writing.{AppendsPrefix, StopsPush, StopsWrite};
+ghost use Rattle.zone_print.specs.Machine.Writing.{IsOfWriting};
+ghost use Rattle.zone_print.specs.Writing.{AppendsPart, StopsPush, StopsWrite, TellsWrite};
 
 use crate::laws::a_text_is_at_most_four_times_its_messages;
 use crate::line::push_lines;
 use crate::line_buffer::LineBuffer;
-use crate::write::{OctetWriter, Text, write_octets};
+use crate::write::{OctetWriter, write_octets};
 use std::alloc::Global;
-use std::io::Write;
 use zone_name::Room;
 use zone_rdata::{Fault, Place, Stop};
 use zone_set::Zone;
@@ -52,13 +51,16 @@ pub fn push_zone(alloc: Global, zone: &Zone) -> Result<Vec<u8>, Stop>
 /// # Errors
 ///
 /// `ZoneTooLarge` at the input as a whole where the text has more than [`TEXT_LIMIT`] octets, before the first octet;
-/// `Write` where the writer answered an error or took no octet; `Memory`. After the last two a front of the text was
-/// written.
-pub fn write_zone<W: Write>(alloc: Global, zone: &Zone, writer: &mut W) -> Result<(), Stop>
+/// `Write` where the writer failed, as one of std does that answers an error or takes no octet; `Memory`. After the last
+/// two a proper prefix of the text was written.
+pub fn write_zone<W: OctetWriter>(alloc: Global, zone: &Zone, writer: &mut W) -> Result<(), Stop>
     ensures text { OnOk result (Appends (W.contents writer.old) (W.contents writer.new) (canon zone.now)) }
     ensures short { OnOk result (length (canon zone.now) ≤ text_limit) }
     ensures stopped { IfErr result
         (StopsWrite text_limit (canon zone.now) (W.contents writer.old) (W.contents writer.new)) }
+    ensures works { OnOk result (W.Works writer.old → W.Works writer.new) }
+    ensures failed { IfErr result (TellsWrite
+        (W.Works writer.old → W.Works writer.new) (W.Works writer.old → W.Failed writer.new)) }
 {
     write_within(alloc, zone, writer, TEXT_LIMIT)
 }
@@ -94,11 +96,11 @@ pub(crate) fn push_within(alloc: Global, zone: &Zone, limit: u64) -> Result<Vec<
     if text_len > limit {
         return Err(Stop::Refused(Fault::ZoneTooLarge, Place::Whole));
     }
-    let mut text = Text {
-        octets: Vec::with_capacity(alloc, text_len as usize)?,
-    };
-    write_lines(alloc, zone, &mut text)?;
-    Ok(text.octets)
+    let mut text = LineBuffer::with_capacity(alloc, text_len as usize)?;
+    for rr in zone.records() {
+        text.push_record(rr)?;
+    }
+    Ok(text.into_octets())
 }
 
 /// `write_zone` under a limit.
@@ -113,7 +115,9 @@ pub(crate) fn write_within<W: OctetWriter>(
     ensures short { OnOk result (length (canon zone.now) ≤ limit) }
     ensures stopped { IfErr result
         (StopsWrite limit (canon zone.now) (W.contents writer.old) (W.contents writer.new)) }
-    ensures failed { IfErr result (TellsWrite (W.Failed writer.new)) }
+    ensures works { OnOk result (W.Works writer.old → W.Works writer.new) }
+    ensures failed { IfErr result (TellsWrite
+        (W.Works writer.old → W.Works writer.new) (W.Works writer.old → W.Failed writer.new)) }
 {
     if !text_fits_within(zone, limit) {
         return Err(Stop::Refused(Fault::ZoneTooLarge, Place::Whole));
@@ -125,12 +129,14 @@ pub(crate) fn write_within<W: OctetWriter>(
 ///
 /// # Errors
 ///
-/// `Write` where the writer failed, and `Memory`. A front of the text was written.
+/// `Write` where the writer failed, and `Memory`. A proper prefix of the text was written.
 fn write_lines<W: OctetWriter>(alloc: Global, zone: &Zone, writer: &mut W) -> Result<(), Stop>
     ensures text { OnOk result (Appends (W.contents writer.old) (W.contents writer.new) (canon zone.now)) }
-    ensures stopped { IfErr result (IsOfWriting (W.Failed writer.new)) }
-    ensures front { OnErr result
-        (AppendsPrefix (W.contents writer.old) (W.contents writer.new) (canon zone.now)) }
+    ensures part { OnErr result
+        (AppendsPart (W.contents writer.old) (W.contents writer.new) (canon zone.now)) }
+    ensures works { OnOk result (W.Works writer.old → W.Works writer.new) }
+    ensures stopped { IfErr result (IsOfWriting
+        (W.Works writer.old → W.Works writer.new) (W.Works writer.old → W.Failed writer.new)) }
 {
     let mut buffer = LineBuffer::new(alloc);
     for rr in zone.records() {

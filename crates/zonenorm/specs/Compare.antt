@@ -1,14 +1,15 @@
 -- What comparing two inputs answers: that their canonical texts are equal, or the first line at which they differ (this
 -- project's own).
 use Rattle.std.specs.Prelude.{◌≡◌, ◌≢◌, ℕ, zero, suc, ◌<◌, ◌≤◌, ◌==◌, if◌then◌else◌, List, [], ◌∷◌, slice_get, Option, None, IfSome}
-use Rattle.std.specs.Io.KnownBytes.{Keeps}
+use Rattle.std.specs.Io.KnownBytes.{IsAtEnd, Keeps}
 use Rattle.std.specs.List.{onto_first}
 use Rattle.zone_rdata.specs.declared.fault.Stop.{Stop}
 use Rattle.zone_set.specs.Zone.{Zone}
-use Rattle.zone_print.specs.Canonical.{canon}
+use Rattle.zone_print.specs.Canonical.{canon, text_limit}
 use Rattle.zonenorm.specs.Input.{Input, InputForm, input_of, InputDenotes}
-use Rattle.zonenorm.specs.Normalise.{IsOfReading}
+use Rattle.zonenorm.specs.Normalise.{IsOfReading, ReadsWhole}
 use Rattle.zonenorm.specs.Refusal.{IfRefused, IsRefusal}
+use Rattle.zonenorm.specs.Stops.{TellsRead}
 use Rattle.zonenorm.specs.declared.compare.Verdict.{Verdict}
 use Rattle.zonenorm.specs.declared.compare.Verdict.TheVariants.{Same, Different}
 use Rattle.zonenorm.specs.declared.compare.Which.{Which}
@@ -57,3 +58,15 @@ pub record StopsReading (form : InputForm) (known : Option (List ℕ)) (stop : S
 pub data StopsCompare (form other_form : InputForm) (first second second' : Option (List ℕ)) : Which → Stop → Type 0 where
   by_first : (stop : Stop) → StopsReading form first stop → Keeps second second' → StopsCompare form other_form first second second' First stop
   by_second : (stop : Stop) → IsAccepted form first → StopsReading other_form second stop → StopsCompare form other_form first second second' Second stop
+
+-- how far two readers were read, of octets that are known before and after, where one of them is refused: that one whole,
+-- and the first to its end where it is the second
+abbrev pub ReadsWholeTo : Option (List ℕ) → Option (List ℕ) → Option (List ℕ) → Option (List ℕ) → Which → Stop → Type 0
+ReadsWholeTo first first' second second' First stop = IfRefused stop (λ fault place. ReadsWhole text_limit first first')
+ReadsWholeTo first first' second second' Second stop =
+    IsAtEnd first' × IfRefused stop (λ fault place. ReadsWhole text_limit second second')
+
+-- what a stop by an input tells of the two readers, of each that it works and that it failed
+abbrev pub TellsReadOf : Type 0 → Type 0 → Type 0 → Type 0 → Which → Stop → Type 0
+TellsReadOf works failed other_works other_failed First stop = TellsRead works failed stop × other_works
+TellsReadOf works failed other_works other_failed Second stop = works × TellsRead other_works other_failed stop

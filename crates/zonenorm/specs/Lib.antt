@@ -1,5 +1,6 @@
 pub mod Form
 pub mod Input
+pub mod Stops
 pub mod Normalise
 pub mod Refusal
 pub mod Headline

@@ -1,11 +1,11 @@
 -- What normalising an input answers and leaves (this project's own).
-use Rattle.std.specs.Prelude.{◌≡◌, ℕ, ◌-◌, ◌^◌, ◌≤◌, List, length, min, Option, ◌⊎◌}
-use Rattle.std.specs.Io.KnownBytes.{Appends, Consumes, Keeps}
+use Rattle.std.specs.Prelude.{◌≡◌, ℕ, ◌-◌, ◌^◌, ◌+◌, ◌≤◌, List, length, min, Option, ◌⊎◌}
+use Rattle.std.specs.Io.KnownBytes.{Appends, Consumes, IsAtEnd, Keeps}
 use Rattle.zone_rdata.specs.declared.fault.Stop.{Stop}
 use Rattle.zone_rdata.specs.declared.fault.Stop.TheVariants.{Refused, Read, Write, Memory}
 use Rattle.zone_set.specs.Zone.{Zone}
 use Rattle.zone_print.specs.Canonical.{canon}
-use Rattle.zone_print.specs.Writing.{AppendsPrefix}
+use Rattle.zone_print.specs.Writing.{AppendsPart}
 use Rattle.zonenorm.specs.Input.{Input, InputDenotes}
 
 -- The input denotes a zone, its canonical text and nothing else was written, and the answer is the number of its records.
@@ -43,11 +43,15 @@ IsOfReading Read = Unit {0}
 IsOfReading Write = ⊥
 IsOfReading Memory = Unit {0}
 
--- nothing was written, or a prefix of the canonical text of the zone that the input denotes
+-- nothing was written, or a proper prefix of the canonical text of the zone that the input denotes
 abbrev pub WritesPrefix : Input → Option (List ℕ) → Option (List ℕ) → Type 0
 WritesPrefix input old new =
-    Keeps old new ⊎ ((z : Zone) × InputDenotes input z × AppendsPrefix old new (canon z))
+    Keeps old new ⊎ ((z : Zone) × InputDenotes input z × AppendsPart old new (canon z))
 
 -- the known octets of a reader lost a front of at most so many
 abbrev pub ConsumesAtMost : ℕ → Option (List ℕ) → Option (List ℕ) → Type 0
 ConsumesAtMost most old new = (given : List ℕ) × (length given ≤ most) × Consumes old new given
+
+-- a reader was read whole: to its end, or to one octet over the limit
+abbrev pub ReadsWhole : ℕ → Option (List ℕ) → Option (List ℕ) → Type 0
+ReadsWhole limit old new = IsAtEnd new ⊎ ((given : List ℕ) × (length given ≡ limit + 1) × Consumes old new given)

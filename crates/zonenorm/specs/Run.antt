@@ -1,10 +1,11 @@
 -- What a run of an order reads, writes and answers (this project's own).
-use Rattle.std.specs.Prelude.{◌≡◌, ◌≢◌, ℕ, ◌+◌, ◌-◌, ◌^◌, List, [], ◌∷◌, ◌++◌, codes, decimal, length, min, Option, Some, None, IfSome, ◌⊎◌}
+use Rattle.std.specs.Prelude.{◌≡◌, ℕ, ◌+◌, ◌-◌, ◌^◌, List, [], ◌∷◌, ◌++◌, codes, decimal, length, min, Option, Some, None, IfSome, ◌⊎◌}
 use Rattle.std.specs.Io.KnownBytes.{Appends, Keeps}
 use Rattle.zone_rdata.specs.declared.fault.Stop.{Stop}
 use Rattle.zone_rdata.specs.declared.fault.Stop.TheVariants.{Refused, Read, Write, Memory}
 use Rattle.zone_set.specs.Zone.{Zone}
 use Rattle.zone_print.specs.Canonical.{text_limit}
+use Rattle.zone_print.specs.Writing.{AppendsPart}
 use Rattle.zonenorm.specs.Compare.{Compares, IsAccepted}
 use Rattle.zonenorm.specs.Input.{InputDenotes, InputForm, as_file, as_transfer, input_of}
 use Rattle.zonenorm.specs.Normalise.{ConsumesAtMost, Normalises, WritesPrefix}
@@ -31,10 +32,6 @@ AppendsLine front old new = (line : List ℕ) × Appends old new (front ++ line 
 -- this line was written, and nothing else
 abbrev pub AppendsThisLine : List ℕ → Option (List ℕ) → Option (List ℕ) → Type 0
 AppendsThisLine line old new = Appends old new (line ++ 10 ∷ [])
-
--- a part of the text was written, but not all of it
-abbrev pub AppendsPart : Option (List ℕ) → Option (List ℕ) → List ℕ → Type 0
-AppendsPart old new text = (front rest : List ℕ) × (rest ≢ []) × (text ≡ front ++ rest) × Appends old new front
 
 -- nothing was written, or a part of one such line with its line feed, but not all of it
 abbrev pub TellsPart : (List ℕ → Type 0) → Option (List ℕ) → Option (List ℕ) → Type 0

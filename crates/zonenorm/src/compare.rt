@@ -1,14 +1,15 @@
-ghost use Rattle.std.specs.Prelude.{◌+◌, ◌≤◌, length, IfOk, IfErr, IfSome};
+ghost use Rattle.std.specs.Prelude.{◌+◌, ◌≤◌, length, IfOk, IfErr, IfSome, OnOk};
+ghost use Rattle.std.specs.Io.KnownBytes.{IsAtEnd};
 ghost use Rattle.zone_print.specs.Canonical.{canon, text_limit};
-ghost use Rattle.zonenorm.specs.Compare.{Compares, IsVerdictOnTexts, StopsCompare};
+ghost use Rattle.zonenorm.specs.Compare.{Compares, IsVerdictOnTexts, ReadsWholeTo, StopsCompare, TellsReadOf};
 ghost use Rattle.zonenorm.specs.Form.{form_of};
 ghost use Rattle.zonenorm.specs.Input.{input_of};
 ghost use Rattle.zonenorm.specs.Normalise.{ConsumesAtMost};
 
 use crate::engine::accepted_zone;
 use crate::form::Form;
+use crate::octets::OctetReader;
 use std::alloc::Global;
-use std::io::Read;
 use zone_print::laws::equal_lines_are_equal_records;
 use zone_rdata::Stop;
 use zone_set::Zone;
@@ -37,9 +38,9 @@ pub enum Which {
 ///
 /// # Errors
 ///
-/// The first input that stops it, and by what: `Refused` where its octets denote no zone, `Read` and `Memory`. Where that
-/// is the first input, the second isn't read.
-pub fn compare<R: Read, S: Read>(
+/// The first input that stops it, and by what: `Refused` where its octets denote no zone, `Read` where its reader failed,
+/// which isn't called again, and `Memory`. Where that is the first input, the second isn't read.
+pub fn compare<R: OctetReader, S: OctetReader>(
     alloc: Global,
     first_form: Form<'_>,
     first: &mut R,
@@ -54,6 +55,15 @@ pub fn compare<R: Read, S: Read>(
         (R.remaining first.old) (S.remaining second.old) (S.remaining second.new) why.0 why.1) }
     ensures few { ConsumesAtMost (text_limit + 1) (R.remaining first.old) (R.remaining first.new) }
     ensures few_of_second { ConsumesAtMost (text_limit + 1) (S.remaining second.old) (S.remaining second.new) }
+    ensures whole { OnOk result (IsAtEnd (R.remaining first.new) × IsAtEnd (S.remaining second.new)) }
+    ensures whole_refused { IfErr result (λ why. ReadsWholeTo (R.remaining first.old)
+        (R.remaining first.new) (S.remaining second.old) (S.remaining second.new) why.0 why.1) }
+    ensures works { OnOk result ((R.Works first.old → R.Works first.new)
+        × (S.Works second.old → S.Works second.new)) }
+    ensures failed { IfErr result (λ why. TellsReadOf
+        (R.Works first.old → R.Works first.new) (R.Works first.old → R.Failed first.new)
+        (S.Works second.old → S.Works second.new) (S.Works second.old → S.Failed second.new)
+        why.0 why.1) }
 {
     let zone = match accepted_zone(alloc, first_form, first) {
         Ok(zone) => zone,

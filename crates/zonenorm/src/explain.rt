@@ -1,15 +1,20 @@
 ghost use Rattle.std.specs.Prelude.{[], IfErr, IfOk, OnErr, OnOk, string_bytes};
+ghost use Rattle.zone_print.specs.Canonical.{text_limit};
+ghost use Rattle.zone_print.specs.Writing.{TellsWrite};
 ghost use Rattle.zonenorm.specs.Form.{form_of};
+ghost use Rattle.zonenorm.specs.Normalise.{ReadsWhole};
 ghost use Rattle.zonenorm.specs.Run.{Explains, IsExplanation, IsFailure, IsStopLine, KeepsUnlessWrite, ReadsFew, TellsPart};
+ghost use Rattle.zonenorm.specs.Stops.{TellsRead};
 
 use crate::engine::accepted_zone;
 use crate::form::Form;
 use crate::line::write_line;
+use crate::octets::OctetReader;
 use crate::status;
 use itoa::Buffer;
 use std::alloc::{AllocError, Global};
-use std::io::{Read, Write};
 use zone_name::Name;
+use zone_print::OctetWriter;
 use zone_rdata::{Fault, Place, Stop};
 
 /// What a user is told where memory was refused.
@@ -20,8 +25,9 @@ pub(crate) const OUT_OF_MEMORY: &str = "out of memory";
 ///
 /// # Errors
 ///
-/// `Read` and `Memory`, which write nothing, and `Write`, where a part of the line was written, but not all of it.
-pub fn explain<R: Read, W: Write>(
+/// `Read` where the reader failed and `Memory`, which write nothing, and `Write` where the writer failed and a proper
+/// prefix of the line was written. Neither is called again.
+pub fn explain<R: OctetReader, W: OctetWriter>(
     alloc: Global,
     form: Form<'_>,
     reader: &mut R,
@@ -29,12 +35,20 @@ pub fn explain<R: Read, W: Write>(
 ) -> Result<u8, Stop>
     ensures explained { IfOk result (Explains (form_of form.entry) (R.remaining reader.old)
         (W.contents writer.old) (W.contents writer.new)) }
-    ensures failed { IfErr result IsFailure }
+    ensures failure { IfErr result IsFailure }
     ensures kept { IfErr result (λ stop.
         KeepsUnlessWrite stop (W.contents writer.old) (W.contents writer.new)) }
     ensures part { OnErr result (TellsPart (IsExplanation (form_of form.entry) (R.remaining reader.old))
         (W.contents writer.old) (W.contents writer.new)) }
     ensures few { ReadsFew (R.remaining reader.old) (R.remaining reader.new) }
+    ensures whole { OnOk result
+        (ReadsWhole text_limit (R.remaining reader.old) (R.remaining reader.new)) }
+    ensures works { OnOk result ((R.Works reader.old → R.Works reader.new)
+        × (W.Works writer.old → W.Works writer.new)) }
+    ensures failed { IfErr result (λ stop. TellsRead (R.Works reader.old → R.Works reader.new)
+        (R.Works reader.old → R.Failed reader.new) stop
+        × TellsWrite (W.Works writer.old → W.Works writer.new)
+        (W.Works writer.old → W.Failed writer.new) stop) }
 {
     match accepted_zone(alloc, form, reader) {
         Ok(zone) => {

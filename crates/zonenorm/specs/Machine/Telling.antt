@@ -4,7 +4,8 @@ use Rattle.std.specs.Io.KnownBytes.{Appends, Keeps}
 use Rattle.zone_rdata.specs.declared.fault.Stop.{Stop}
 use Rattle.zone_rdata.specs.declared.fault.Stop.TheVariants.{Refused, Read, Write, Memory}
 use Rattle.zonenorm.specs.Order.{line_status, line_text}
-use Rattle.zonenorm.specs.Run.{AppendsLine, AppendsPart, AppendsThisLine, verdict_line, verdict_status}
+use Rattle.zone_print.specs.Writing.{AppendsPart}
+use Rattle.zonenorm.specs.Run.{AppendsLine, AppendsThisLine, verdict_line, verdict_status}
 use Rattle.zonenorm.specs.declared.compare.Verdict.{Verdict}
 use Rattle.zonenorm.specs.declared.compare.Which.{Which}
 use Rattle.zonenorm.specs.declared.compare.Which.TheVariants.{First, Second}
