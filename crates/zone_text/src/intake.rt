@@ -3,6 +3,7 @@ ghost use Rattle.std.specs.Prelude.{◌≡◌, ◌+◌, ◌<◌, ◌≤◌, ◌^
 ghost use Rattle.zone_text.specs.Machine.Feeding.{Follow, FollowOn, IsIntake, reach, ReadsAll, ReadsOctets, ScansTo};
 ghost use Rattle.zone_text.specs.Machine.Scan.{beginning};
 
+use crate::blank::blank_lines;
 use crate::ended::EndedEntries;
 use crate::scan::{ScanState, Step, end_fault, scan};
 use std::alloc::{AllocError, Global};
@@ -49,6 +50,14 @@ impl Intake {
         let mut items = Vec::new(self.alloc);
         let mut rest = piece;
         while !rest.is_empty() && self.ended.decided.ending.is_none() {
+            if self.unfinished.is_empty() {
+                let blank = blank_lines(rest);
+                if blank.count > 0 {
+                    self.ended.line += blank.count as u64;
+                    rest = blank.rest;
+                    continue;
+                }
+            }
             let found = scan(rest, self.at);
             let (part, after) = rest.split_at(found.taken);
             self.take_part(part, found.step, &mut items)?;

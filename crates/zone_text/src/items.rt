@@ -89,7 +89,7 @@ fn item_len(text: &[u8], extent: Extent) -> usize
 }
 
 /// The number of octets of the comment at the front, without its semicolon.
-fn comment_len(text: &[u8]) -> usize
+pub(crate) fn comment_len(text: &[u8]) -> usize
     ensures len { result ≡ length (before_line_feed text.now) }
     ensures within { result ≤ length text.now }
 {

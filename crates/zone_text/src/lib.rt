@@ -1,6 +1,7 @@
 //! Master files (RFC 1035 5): from text to records and the first fault.
 #![tactic(auto)]
 
+mod blank;
 mod defaults;
 mod directive;
 mod ended;

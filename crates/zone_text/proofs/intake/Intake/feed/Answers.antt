@@ -1,5 +1,6 @@
 use Rattle.std.proofs.Common.{◌≡◌, ◌+◌, length, true, refl, sym, arith}
 use Rattle.std.proofs.lemmas.List.{take-append-drop}
+use Rattle.zone_text.proofs.BlankLines.{fed_lines}
 use Rattle.zone_text.proofs.Begun.{none_found, none_left, some_found}
 use Rattle.zone_text.proofs.FedPieces.{fed_more, fed_all, fed_fault, fed_settled, takes_part, depth_within}
 use Rattle.zone_text.proofs.intake.Intake.feed.Goals as goal
@@ -20,6 +21,14 @@ loop-self-preserved c =
     (rw (c.split_at.ensures.front, c.split_at.ensures.back) (sym (take-append-drop c.scan-found.result.taken c.loop-self.rest.now)))
     (let h : length c.loop-self.rest.now ≡ length c.split_at.result.0.now + length c.split_at.result.1.now = omega (arith, c.split_at.ensures.front_len, c.split_at.ensures.back_len, c.scan-found.ensures.within) in h)
     c.in_ok-take_part.ensures.is c.in_ok-take_part.ensures.near c.in_ok-take_part.ensures.follow
+
+pub loop-self-preserved-then-blank-gt0 : goal.loop-self-preserved-then-blank-gt0
+loop-self-preserved-then-blank-gt0 c =
+    let mid = c.loop-self.self in
+    fed_lines c.args.self.now mid _ c.args.piece.now c.loop-self.rest.now c.blank_lines-blank.result.rest.now c.blank_lines-blank.result.count c.loop-self.invariant
+    (none_found mid.ended.decided.ending c.if-is_none.ensures)
+    (none_left mid.unfinished.items mid.unfinished.len c.is_empty-in-loop-self.result mid.unfinished.ok.0 c.is_empty-in-loop-self.ensures c.if-is_empty.true)
+    c.blank_lines-blank.ensures.are c.blank_lines-blank.ensures.few refl refl refl
 
 pub returns-clause-settled : goal.returns-clause-settled
 returns-clause-settled c = fed_settled c.args.self.now c.loop-self.self c.args.piece.now c.loop-self.rest.now c.loop-self.invariant
