@@ -45,6 +45,7 @@ impl Intake {
         ensures is { OnOk result (IsIntake self.new.ended self.new.at self.new.unfinished.items) }
         ensures near { OnOk result (reach self.new ≤ reach self.old + length piece.now) }
         ensures settled { IfSome self.old.ended.decided.ending (λ _. IsOk result × (self.new ≡ self.old)) }
+        ensures nothing { piece.now ≡ [] → IsOk result × (self.new ≡ self.old) }
         ensures follow { OnOk result (FollowOn self.old piece.now self.new) }
     {
         let mut items = Vec::new(self.alloc);
@@ -146,6 +147,8 @@ impl Intake {
         ensures none { OnOk result (self.new.unfinished.items ≡ []) }
         ensures near { OnOk result (self.new.ended.line ≤ reach self.old) }
         ensures is { OnOk result (IsIntake self.new.ended self.new.at self.new.unfinished.items) }
+        ensures settled { IfSome self.old.ended.decided.ending (λ _. IsOk result) }
+        ensures nothing { self.old.unfinished.items ≡ [] → IsOk result }
         ensures reads { OnOk result (ReadsAll self.old self.new) }
     {
         if self.ended.decided.ending.is_none() {
@@ -162,6 +165,7 @@ impl Intake {
         requires fits { reach self.old < 2 ^ 64 }
         ensures later { OnOk result (self.old.ended.line ≤ self.new.ended.line) }
         ensures near { OnOk result (self.new.ended.line ≤ reach self.old) }
+        ensures nothing { self.old.unfinished.items ≡ [] → IsOk result }
         ensures reads { OnOk result (ReadsAll self.old self.new) }
     {
         match end_fault(self.at) {

@@ -86,6 +86,8 @@ impl TextSource {
         ensures count { OnOk result (self.new.held.fed ≡ self.old.held.fed + length piece.now) }
         ensures decided { self.old.pending.failed ≡ false → IfSome self.old.pending.ending
             (λ _. IsOk result × (self.new ≡ counted (length piece.now) self.old)) }
+        ensures nothing { piece.now ≡ [] → (self.new ≡ self.old)
+            × (self.old.pending.failed ≡ false → IsOk result) }
         ensures works { OnOk result (self.old.pending.failed ≡ false) }
         ensures working { OnOk result (self.new.pending.failed ≡ false) }
         ensures memory { IfErr result (λ stop. stop ≡ Stop.Memory) }
@@ -105,7 +107,8 @@ impl TextSource {
         }
     }
 
-    /// Takes the end of the file. What the source has still to give is then the rest of what is read of the file.
+    /// Takes the end of the file. What the source has still to give is then the rest of what is read of the file. It takes
+    /// no memory where no octets are undecided.
     ///
     /// # Errors
     ///
@@ -120,6 +123,10 @@ impl TextSource {
         ensures memory { IfErr result (λ stop. stop ≡ Stop.Memory) }
         ensures failed { OnErr result (self.new.pending.failed ≡ true) }
         ensures goes_on { OnErr result (self.new.held.finished ≡ false) }
+        ensures decided { self.old.pending.failed ≡ false
+            → IfSome self.old.pending.ending (λ _. IsOk result) }
+        ensures nothing { self.old.pending.failed ≡ false
+            → self.old.held.unfinished ≡ [] → IsOk result }
         ensures count { self.new.held.fed ≡ self.old.held.fed }
     {
         if let Status::OutOfMemory = self.status {

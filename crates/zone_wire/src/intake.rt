@@ -47,6 +47,7 @@ impl Intake {
             (IfSome self.new.transfer.decided.ending (λ _. self.new.unfinished.items ≡ [])) }
         ensures count { OnOk result (self.new.transfer.messages ≤ self.old.transfer.messages + length piece.now) }
         ensures decided { IfSome self.old.transfer.decided.ending (λ _. IsOk result × (self.new ≡ self.old)) }
+        ensures nothing { piece.now ≡ [] → IsOk result × (self.new ≡ self.old) }
         ensures follow { OnOk result ((fed : List ℕ) (given : List Placed)
             → Follow self.old.transfer self.old.unfinished.items fed given
             → Follow self.new.transfer self.new.unfinished.items (fed ++ piece.now) given) }

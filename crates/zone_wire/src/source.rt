@@ -91,6 +91,8 @@ impl TransferSource {
         ensures count { OnOk result (self.new.held.fed ≡ self.old.held.fed + length piece.now) }
         ensures decided { self.old.pending.failed ≡ false → IfSome self.old.pending.ending
             (λ _. IsOk result × (self.new ≡ counted (length piece.now) self.old)) }
+        ensures nothing { piece.now ≡ [] → (self.new ≡ self.old)
+            × (self.old.pending.failed ≡ false → IsOk result) }
         ensures works { OnOk result (self.old.pending.failed ≡ false) }
         ensures working { OnOk result (self.new.pending.failed ≡ false) }
         ensures memory { IfErr result (λ stop. stop ≡ Stop.Memory) }
@@ -114,7 +116,8 @@ impl TransferSource {
         }
     }
 
-    /// Takes the end of the stream. What the source has still to give is then the rest of what the stream is read as.
+    /// Takes the end of the stream. What the source has still to give is then the rest of what the stream is read as. It
+    /// takes no memory.
     ///
     /// # Errors
     ///
@@ -129,6 +132,7 @@ impl TransferSource {
         ensures memory { IfErr result (λ stop. stop ≡ Stop.Memory) }
         ensures failed { OnErr result (self.new.pending.failed ≡ true) }
         ensures goes_on { OnErr result (self.new.held.finished ≡ false) }
+        ensures only { OnErr result (self.old.pending.failed ≡ true) }
         ensures count { self.new.held.fed ≡ self.old.held.fed }
     {
         if let Status::OutOfMemory = self.status {

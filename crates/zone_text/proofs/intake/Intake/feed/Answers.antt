@@ -1,4 +1,4 @@
-use Rattle.std.proofs.Common.{◌≡◌, ◌+◌, length, true, refl, sym, arith}
+use Rattle.std.proofs.Common.{◌≡◌, ◌==◌, ◌+◌, ℕ, List, length, true, false, refl, sym, ap, ◌∙◌, arith}
 use Rattle.std.proofs.lemmas.List.{take-append-drop}
 use Rattle.zone_text.proofs.BlankLines.{fed_lines}
 use Rattle.zone_text.proofs.Begun.{none_found, none_left, some_found}
@@ -8,19 +8,27 @@ use Rattle.zone_text.proofs.intake.Intake.feed.Goals.{then-loop-self-test+else-i
 
 pub scan-found-requires : goal.scan-found-requires
 scan-found-requires c =
-    let depth = depth_within c.loop-self.self.ended c.loop-self.self.at c.loop-self.self.unfinished.items c.loop-self.invariant.is in
-    omega (arith, depth, c.loop-self.invariant.near, c.loop-self.invariant.is.line, c.requires.fits)
+    let depth = depth_within c.loop-self.self.ended c.loop-self.self.at c.loop-self.self.unfinished.items c.loop-self.invariant.fed.is in
+    omega (arith, depth, c.loop-self.invariant.fed.near, c.loop-self.invariant.fed.is.line, c.requires.fits)
 
 pub take_part-requires-clause-scanned : goal.take_part-requires-clause-scanned
 take_part-requires-clause-scanned c = takes_part c.loop-self.self.at c.loop-self.rest.now c.split_at.result.0.now c.scan-found.result c.scan-found.ensures.found c.split_at.ensures.front
 
 pub loop-self-preserved : goal.loop-self-preserved
 loop-self-preserved c =
-    fed_more c.args.self.now c.loop-self.self c.take_part.new.self c.args.piece.now c.loop-self.rest.now c.split_at.result.0.now c.split_at.result.1.now c.loop-self.invariant
-    (none_found c.loop-self.self.ended.decided.ending c.if-is_none.ensures)
-    (rw (c.split_at.ensures.front, c.split_at.ensures.back) (sym (take-append-drop c.scan-found.result.taken c.loop-self.rest.now)))
-    (let h : length c.loop-self.rest.now ≡ length c.split_at.result.0.now + length c.split_at.result.1.now = omega (arith, c.split_at.ensures.front_len, c.split_at.ensures.back_len, c.scan-found.ensures.within) in h)
-    c.in_ok-take_part.ensures.is c.in_ok-take_part.ensures.near c.in_ok-take_part.ensures.follow
+    record {
+      fed = fed_more c.args.self.now c.loop-self.self c.take_part.new.self c.args.piece.now c.loop-self.rest.now c.split_at.result.0.now c.split_at.result.1.now c.loop-self.invariant.fed
+      (none_found c.loop-self.self.ended.decided.ending c.if-is_none.ensures)
+      (rw (c.split_at.ensures.front, c.split_at.ensures.back) (sym (take-append-drop c.scan-found.result.taken c.loop-self.rest.now)))
+      (let h : length c.loop-self.rest.now ≡ length c.split_at.result.0.now + length c.split_at.result.1.now = omega (arith, c.split_at.ensures.front_len, c.split_at.ensures.back_len, c.scan-found.ensures.within) in h)
+      c.in_ok-take_part.ensures.is c.in_ok-take_part.ensures.near c.in_ok-take_part.ensures.follow;
+      nothing = λ none.
+          let empty : (length c.loop-self.rest.now == 0) ≡ true = ap (λ (l : List ℕ). length l == 0) (c.loop-self.invariant.nothing none).1 in
+          let some : false ≡ (length c.loop-self.rest.now == 0) = c.loop-self-test.ensures in
+          let clash : false ≡ true = some ∙ empty in
+          let no : ⊥ = cc in
+          absurd no;
+    }
 
 pub loop-self-preserved-then-blank-gt0 : goal.loop-self-preserved-then-blank-gt0
 loop-self-preserved-then-blank-gt0 c =
@@ -31,13 +39,13 @@ loop-self-preserved-then-blank-gt0 c =
     c.blank_lines-blank.ensures.are c.blank_lines-blank.ensures.few refl refl refl
 
 pub returns-clause-settled : goal.returns-clause-settled
-returns-clause-settled c = fed_settled c.args.self.now c.loop-self.self c.args.piece.now c.loop-self.rest.now c.loop-self.invariant
+returns-clause-settled c = fed_settled c.args.self.now c.loop-self.self c.args.piece.now c.loop-self.rest.now c.loop-self.invariant.fed
 
 pub returns-clause-follow : goal.returns-clause-follow
 returns-clause-follow c =
     elim c.loop-self-test.branch [
       | then-loop-self-test+else-is_none w ↦
           let found = some_found c.loop-self.self.ended.decided.ending w.if-is_none.ensures in
-          fed_fault c.args.self.now c.loop-self.self c.args.piece.now c.loop-self.rest.now found.0 c.loop-self.invariant found.1
-      | else-loop-self-test w ↦ fed_all c.args.self.now c.loop-self.self c.args.piece.now c.loop-self.rest.now c.loop-self.invariant (none_left c.loop-self.rest.now (length c.loop-self.rest.now) true refl w.loop-self-test.ensures refl)
+          fed_fault c.args.self.now c.loop-self.self c.args.piece.now c.loop-self.rest.now found.0 c.loop-self.invariant.fed found.1
+      | else-loop-self-test w ↦ fed_all c.args.self.now c.loop-self.self c.args.piece.now c.loop-self.rest.now c.loop-self.invariant.fed (none_left c.loop-self.rest.now (length c.loop-self.rest.now) true refl w.loop-self-test.ensures refl)
     ]
