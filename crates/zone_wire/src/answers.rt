@@ -1,11 +1,11 @@
 ghost use Rattle.std.specs.Prelude.{◌≡◌};
 ghost use Rattle.zone_wire.specs.Message.{RecordAt, IsRecordAt};
 
-use crate::name::{Decoded, name_at};
+use crate::name::read_name;
 use crate::number::{u16_at, u32_at};
 use crate::place::RECORD_HEAD_LEN;
 use std::marker::Model;
-use zone_name::Name;
+use zone_name::{Name, NameBuilder};
 
 /// A record of a message as it stands there, its data not read (RFC 1035 4.1.3).
 #[derive(Debug, Drop)]
@@ -140,11 +140,12 @@ fn record_at<'m>(message: &'m [u8], offset: usize) -> RawRr<'m>
     ensures octets { result.octets ≡ message.now }
     ensures at { IsRecordAt message.now offset result.at }
 {
-    match name_at(message, offset) {
-        Ok(Decoded { name, end, .. }) => RawRr {
+    let mut owner = NameBuilder::new();
+    match read_name(message, offset, &mut owner) {
+        Ok((end, _)) => RawRr {
             message,
             offset,
-            owner: name,
+            owner: owner.finish(),
             kind: u16_at(message, end),
             class: u16_at(message, end + 2),
             ttl: u32_at(message, end + 4),

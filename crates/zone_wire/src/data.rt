@@ -7,10 +7,11 @@ ghost use Rattle.zone_wire.specs.Machine.Data.{data_at, value_at, values_at};
 ghost use Rattle.zone_wire.specs.Machine.DataReading.{Awaits, AwaitsStrings, IsReadyFor, IsRead, PutsValue, PutsValues};
 
 use crate::answers::RawRr;
-use crate::name::name_at;
+use crate::name::read_name;
 use crate::number::{u16_at, u32_at};
 use crate::octets::are_octets;
 use std::alloc::Global;
+use zone_name::NameBuilder;
 use zone_rdata::{Class, Failing, Fault, Field, Kind, Layout, Rdata, RdataBuilder, layout_of};
 
 /// The offset after so many octets, in data that ends at another.
@@ -38,15 +39,16 @@ fn push_name(
     ensures found { IfOk result (PutsValue message.now end start Field.Name builder.old builder.new) }
     ensures fault { IfErr result (IfFault (λ f. value_at message.now end start Field.Name ≡ Err f)) }
 {
-    let found = match name_at(message, start) {
-        Ok(found) => found,
-        Err((fault, _)) => return Err(Failing::Fault(fault)),
+    let mut labels = NameBuilder::new();
+    let past = match read_name(message, start, &mut labels) {
+        Ok((past, _)) => past,
+        Err((fault, _)) => return Err(Failing::Fault(fault.widened())),
     };
-    if found.end > end {
+    if past > end {
         return Err(Failing::Fault(Fault::BadRdata));
     }
-    builder.push_name(&found.name)?;
-    Ok(found.end)
+    builder.push_name(&labels.finish())?;
+    Ok(past)
 }
 
 /// Pushes the number of 32 bits at an offset of a message, and gives the offset after it.

@@ -1,6 +1,6 @@
 ghost use Rattle.std.specs.Prelude.{◌≡◌, ◌+◌, ◌^◌, ◌<◌, ◌≤◌, length, slice_index, Some};
 ghost use Rattle.zone_wire.specs.Name.{target_at};
-ghost use Rattle.zone_wire.specs.Machine.Place.{spot_of, standing_of, ticks_at};
+ghost use Rattle.zone_wire.specs.Machine.Place.{fault_here, spot_of, standing_of, ticks_at};
 ghost use Rattle.zone_wire.specs.Walk.{place_of, label_of, pointer_of};
 ghost use Rattle.zone_wire.specs.Machine.Walk.{outset, past_label, past_pointer};
 
@@ -44,8 +44,36 @@ pub(crate) struct Spot {
     pub(crate) octets: usize,
 }
 
+/// What is wrong at one place of a name, in one octet: a `Fault` has room for a name.
+#[derive(Clone, Copy, Debug)]
+pub(crate) enum PlaceFault {
+    ShortMessage,
+    ReservedLabel,
+    BadPointer,
+    TooManyPointers,
+    NameTooLong,
+}
+
+impl PlaceFault {
+    /// The fault itself.
+    // Not inlined: only what is refused needs the room.
+    #[cold]
+    #[inline(never)]
+    pub(crate) fn widened(self) -> Fault
+        ensures { result ≡ fault_here self }
+    {
+        match self {
+            PlaceFault::ShortMessage => Fault::ShortMessage,
+            PlaceFault::ReservedLabel => Fault::ReservedLabel,
+            PlaceFault::BadPointer => Fault::BadPointer,
+            PlaceFault::TooManyPointers => Fault::TooManyPointers,
+            PlaceFault::NameTooLong => Fault::NameTooLong,
+        }
+    }
+}
+
 /// What stands at one place of a name.
-#[derive(Debug, Drop)]
+#[derive(Clone, Copy, Debug)]
 pub(crate) enum Standing {
     /// No octet of the message.
     Outside,
@@ -54,7 +82,7 @@ pub(crate) enum Standing {
     Label(usize),
     /// A pointer, and where it leads.
     Pointer(usize),
-    Bad(Fault),
+    Bad(PlaceFault),
 }
 
 /// What stands at a place, by its first octet. Where there is one, it counts a step before it looks at it.
@@ -74,7 +102,7 @@ pub(crate) fn place_at(message: &[u8], spot: Spot, ticks: &mut Ticks) -> Standin
     match first {
         0 => Standing::Root,
         1..=63 => label_at(message, spot, first as usize),
-        64..=191 => Standing::Bad(Fault::ReservedLabel),
+        64..=191 => Standing::Bad(PlaceFault::ReservedLabel),
         _ => pointer_at(message, spot),
     }
 }
@@ -87,9 +115,9 @@ fn label_at(message: &[u8], spot: Spot, size: usize) -> Standing
     ensures { standing_of result ≡ Some (label_of message.now (spot_of spot) size) }
 {
     if size >= message.len() - spot.offset {
-        Standing::Bad(Fault::ShortMessage)
+        Standing::Bad(PlaceFault::ShortMessage)
     } else if spot.octets + size + 2 > MAX_NAME_LEN {
-        Standing::Bad(Fault::NameTooLong)
+        Standing::Bad(PlaceFault::NameTooLong)
     } else {
         Standing::Label(size)
     }
@@ -103,13 +131,13 @@ fn pointer_at(message: &[u8], spot: Spot) -> Standing
         (pointer_of message.now (spot_of spot) (target_at message.now spot.offset)) }
 {
     if message.len() - spot.offset < 2 {
-        return Standing::Bad(Fault::ShortMessage);
+        return Standing::Bad(PlaceFault::ShortMessage);
     }
     let target = (u16_at(message, spot.offset) - POINTER_BITS) as usize;
     if target < HEADER_LEN || target >= spot.bound {
-        Standing::Bad(Fault::BadPointer)
+        Standing::Bad(PlaceFault::BadPointer)
     } else if spot.pointers >= MAX_POINTERS {
-        Standing::Bad(Fault::TooManyPointers)
+        Standing::Bad(PlaceFault::TooManyPointers)
     } else {
         Standing::Pointer(target)
     }
