@@ -24,9 +24,9 @@ explain_app = with_rule (new_app (codes "explain")) (argument (codes "ORIGIN"))
 abbrev pub compare_app : App
 compare_app = with_rule (with_rule (with_rule (with_rule (new_app (codes "compare")) (argument (codes "ORIGIN1"))) (argument (codes "PATH1"))) (argument (codes "ORIGIN2"))) (argument (codes "PATH2"))
 
--- the program without its name, as `clap` sees it
+-- the program without its name, as `clap` sees it; it has a version to tell
 abbrev pub bare_app : App
-bare_app = let app = new_app (codes "zonenorm") in record app { top = record app.top { no_binary_name = true } }
+bare_app = let app = new_app (codes "zonenorm") in record app { top = record app.top { no_binary_name = true; has_version = true } }
 
 -- the program with its commands
 abbrev pub program_app : App
