@@ -31,12 +31,12 @@ labels_of-frames labels rest each =
     let fuel : length (flat_map with_length labels ++ rest) ≡ length labels + n = omega (arith, length-frames labels, length-append (flat_map with_length labels) rest) in
     (n, labels_by-frames labels rest (length (flat_map with_length labels ++ rest)) n fuel each)
 
--- no label is behind the root
+-- no label follows the root
 pub labels_by-root : (n : ℕ) (rest : List ℕ) → labels_by n (0 ∷ rest) ≡ []
 labels_by-root zero rest = refl
 labels_by-root (suc n) rest = refl
 
--- no label is in no octets
+-- no octets hold no label
 pub labels_by-nil : (n : ℕ) → labels_by n [] ≡ []
 labels_by-nil zero = refl
 labels_by-nil (suc n) = refl
@@ -52,7 +52,7 @@ labels_of-wire labels each =
     let found = labels_of-frames labels (0 ∷ []) each in
     rw (found.1, labels_by-root found.0 []) (append-nil labels)
 
--- frames with no root behind them
+-- frames with no root after them
 pub labels_of-open : (labels : List (List ℕ)) → AllByRecursion IsLabel labels → labels_of (flat_map with_length labels) ≡ labels
 labels_of-open labels each =
     let found = labels_of-frames labels [] each in

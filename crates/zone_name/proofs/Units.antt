@@ -25,7 +25,7 @@ unit_of_escape left_out (plain c) is = absurd is
 unit_of_escape left_out (escaped c) is = is
 unit_of_escape left_out (decimal x y z) is = is
 
--- and so is a written octet behind a backslash
+-- and so is a written octet after a backslash
 pub escape_of_unit : (left_out : ℕ → Bool) (w : Written) (rest more : List ℕ) → IsUnit left_out w → text_of w ++ rest ≡ 92 ∷ more → IsEscape w
 escape_of_unit left_out (plain c) rest more is e = absurd (is.1 (cc))
 escape_of_unit left_out (escaped c) rest more is e = is

@@ -52,7 +52,7 @@ pub record HoldsName (octets : List ℕ) : Type 0 where
   pub whole : wire (labels_of octets) ≡ octets
   pub name : IsName (labels_of octets)
 
--- the octets of labels, each behind its length, to which the root's octet makes a name
+-- the octets of labels, each after its length, which the root's octet makes a name
 pub record HoldsLabels (octets : List ℕ) : Type 0 where
   pub whole : flat_map with_length (labels_of octets) ≡ octets
   pub name : IsName (labels_of octets)

@@ -13,7 +13,8 @@ use std::marker::Model;
 /// The most octets that a label has (RFC 1035 2.3.4).
 pub const MAX_LABEL_LEN: usize = 63;
 
-/// The most octets that a name has, with the octet that each label's length takes and the root's (RFC 1035 2.3.4).
+/// The most octets that a name has, with the octet that each label's length takes and the root's
+/// (RFC 1035 2.3.4).
 pub const MAX_NAME_LEN: usize = 255;
 
 /// A domain name: its uncompressed octets (RFC 1035 3.1) in lower case. Contracts see its labels.
@@ -34,12 +35,13 @@ impl Model for Name {
 }
 
 impl Name {
-    /// The name that the text spells under the origin (RFC 1035 5.1). An absolute text needs no origin.
+    /// The name that the text spells under the origin (RFC 1035 5.1). An absolute text needs no
+    /// origin.
     ///
     /// # Errors
     ///
-    /// The first of: the leftmost `EmptyLabel`, `LabelTooLong` or `BadEscape`; then `RelativeName`; then
-    /// `NameTooLong`.
+    /// The first of: the leftmost `EmptyLabel`, `LabelTooLong` or `BadEscape`; then `RelativeName`;
+    /// then `NameTooLong`.
     pub fn from_text(text: &[u8], origin: Option<&Name>) -> Result<Name, NameFault>
         ensures found { IfOk result (λ name. Spells (option_copied origin.entry) text.now name) }
         ensures only { (name : List Octets) → Spells (option_copied origin.entry) text.now name

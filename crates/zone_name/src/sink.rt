@@ -6,7 +6,7 @@ ghost use Rattle.zone_name.specs.Machine.Joined.{appended_twice, counted_twice};
 use std::alloc::AllocError;
 use std::convert::Infallible;
 
-/// What takes octets, one piece behind the other: a vector that grows by them, or a count of them.
+/// What takes octets, one slice after another: a vector that grows by them, or a count of them.
 pub trait Sink {
     // Between two states of the sink it took these octets.
     ghost takes: { Self → List ℕ → Self → Type 0 };
@@ -44,7 +44,8 @@ impl Sink for Vec<u8> {
     ghost joins = { λ a b c x y. appended_twice a.items b.items c.items x y };
 }
 
-/// A count of octets, from a limit down to none, where it stays. It keeps no octet and takes no memory.
+/// A count of octets, from a limit down to none, where it stays. It keeps no octet and takes no
+/// memory.
 #[derive(Clone, Copy, Debug)]
 pub struct Room {
     /// How many more octets may come.

@@ -61,7 +61,8 @@ impl Sink for Spelling {
     ghost joins = { λ a b c x y. fitted_twice 1021 a.octets.items b.octets.items c.octets.items x y };
 }
 
-/// Whether the octet means something else inside a master file, and takes a backslash (RFC 1035 5.1).
+/// Whether the octet means something else inside a master file, and takes a backslash (RFC 1035
+/// 5.1).
 pub(crate) fn is_special_octet(octet: u8) -> bool
     ensures { result ≡ is_special octet }
 {

@@ -60,7 +60,8 @@ field_back f v rest h last = let k = kind_of f in each f k (λ w. field_at f (fi
 pub field_low : (f : Field) (v : FieldValue) → Holds f v → AreLow (field_octets v)
 field_low f v h = let k = kind_of f in each f k (λ w. AreLow (field_octets w)) k.laws.low v h
 
--- a field that is no strings takes at most 256 octets: a name at most 255, a string its length and at most 255
+-- a field that is no strings takes at most 256 octets: a name at most 255, a string its length and
+-- at most 255
 pub field_short : (f : Field) (v : FieldValue) → f ≢ Strings → IsSized f → Holds f v → length (field_octets v) ≤ 256
 field_short f v many sized h = let k = kind_of f in each f k (λ w. length (field_octets w) ≤ 256) (λ x held. k.laws.short x many sized held) v h
 

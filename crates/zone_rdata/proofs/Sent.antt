@@ -11,7 +11,7 @@ use Rattle.zone_name.specs.declared.fault.NameFault.TheVariants.{EmptyLabel, Lab
 use Rattle.zone_rdata.specs.Machine.Fronts.{BeginsWithSent}
 use Rattle.zone_name.proofs.Pushing.{AllByRecursion-append, AllByRecursion-back}
 
--- ---- lists one behind another
+-- ---- lists one after another
 -- lists of one length are cut off alike
 pub append_same : (x y a b : List ℕ) → length x ≡ length y → x ++ a ≡ y ++ b → (x ≡ y) × (a ≡ b)
 append_same [] [] a b count e = (refl, e)
@@ -23,7 +23,7 @@ append_same (c ∷ x) (d ∷ y) a b count e =
     let rest = append_same x y a b (omega arith) tails in
     (ap (λ h. h ∷ x) heads ∙ ap (λ t. d ∷ t) rest.0, rest.1)
 
--- what stands behind its length is cut off alike
+-- what stands after its length is cut off alike
 pub frame_same : (x y a b : List ℕ) → with_length x ++ a ≡ with_length y ++ b → (x ≡ y) × (a ≡ b)
 frame_same x y a b e =
     let counts : length x ≡ length y = cc in

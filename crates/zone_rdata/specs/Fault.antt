@@ -1,5 +1,5 @@
--- The faults of names among those of an input, and what is said of a fault. That a refusal is one fault is this
--- project's own choice.
+-- The faults of names among those of an input, and what is said of a fault. That a refusal is one
+-- fault is this project's own choice.
 use Rattle.std.specs.Prelude.{◌≡◌, ⊤}
 use Rattle.zone_name.specs.declared.fault.NameFault.{NameFault}
 use Rattle.zone_name.specs.declared.fault.NameFault.TheVariants as names

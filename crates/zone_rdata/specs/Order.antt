@@ -1,5 +1,5 @@
--- The order of record data: by class and type, which is this project's choice, and within a set by canonical octets
--- (RFC 4034 6.3).
+-- The order of record data: by class and type, which is this project's choice, and within a set by
+-- canonical octets (RFC 4034 6.3).
 use Rattle.std.specs.Ordering.{nat_cmp, on, then_cmp}
 use Rattle.std.specs.declared.cmp.Ordering.{Ordering}
 use Rattle.std.specs.Cmp.Lexicographic.{slice_cmp}

@@ -1,5 +1,5 @@
--- The types and the classes that have a mnemonic, a row each (RFC 1035 3.2.2, 3.2.4). Which ones are read is this
--- project's own choice.
+-- The types and the classes that have a mnemonic, a row each (RFC 1035 3.2.2, 3.2.4). Which ones
+-- are read is this project's own choice.
 use Rattle.std.specs.Prelude.{ℕ, List, [], ◌∷◌, Bool, true, false, ◌==◌, ◌&&◌, nat_lt, bytes_eq, codes, map, Option, option_map}
 use Rattle.std.specs.List.{find}
 use Rattle.zone_name.specs.Name.{folded_label}
@@ -15,7 +15,8 @@ pub record Named : Type 0 where
   pub number : ℕ
   pub mnemonic : List ℕ
 
--- a type: its number and mnemonic, whether its data has these fields in class IN alone, and the fields
+-- a type: its number and mnemonic, whether its data has these fields in class IN alone, and the
+-- fields
 pub record NamedType : Type 0 where
   pub named : Named
   pub in_only : Bool

@@ -43,7 +43,8 @@ impl Class {
         }
     }
 
-    /// The class of a word in any case: IN, CS, CH, HS or CLASS with a number. `None`: it is no such word.
+    /// The class of a word in any case: IN, CS, CH, HS or CLASS with a number. `None`: it is no
+    /// such word.
     ///
     /// # Errors
     ///

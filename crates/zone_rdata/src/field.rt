@@ -62,7 +62,8 @@ impl Field {
         matches!(self, Field::Strings)
     }
 
-    /// Appends the octets of the value that the field's items spell, and gives how many items these are.
+    /// Appends the octets of the value that the field's items spell, and gives how many items these
+    /// are.
     pub(crate) fn push_items(
         self,
         items: &[Item],

@@ -36,7 +36,8 @@ impl Kind {
     ///
     /// # Errors
     ///
-    /// `UnknownType` from 65536 on, and `MetaType` where no record can have it: 0, 41 and 128 to 255.
+    /// `UnknownType` from 65536 on, and `MetaType` where no record can have it: 0, 41 and 128 to
+    /// 255.
     pub fn from_number(number: u64) -> Result<Kind, Fault>
         ensures ok { IfOk result (λ kind. kind ≡ number) }
         ensures err { IfErr result (λ fault. (number < 65536 → fault ≡ Fault.MetaType)
@@ -53,8 +54,8 @@ impl Kind {
     ///
     /// # Errors
     ///
-    /// `UnknownType` where it is no such word or the number is over 65535, and `MetaType` where no record can have
-    /// the type.
+    /// `UnknownType` where it is no such word or the number is over 65535, and `MetaType` where no
+    /// record can have the type.
     pub fn from_word(word: &[u8]) -> Result<Kind, Fault>
         ensures found { IfOk result (IsKindWord word.now) }
         ensures err { IfErr result (IsWordFault word.now) }

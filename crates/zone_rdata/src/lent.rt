@@ -10,8 +10,8 @@ use crate::printing::push_data;
 use std::marker::Model;
 use zone_name::Sink;
 
-/// The data of a record in octets that are lent: class, type and canonical octets (RFC 1035 3.2.1). Contracts see these
-/// three.
+/// The data of a record in octets that are lent: class, type and canonical octets (RFC 1035 3.2.1).
+/// Contracts see these three.
 #[derive(Debug, Drop)]
 pub struct RdataRef<'a> {
     class: Class,

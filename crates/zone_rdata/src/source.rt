@@ -15,7 +15,8 @@ pub trait RrSource {
     /// Whether it failed, the records still to come, and the fault after them, if one is decided.
     ghost pending: { Self → Pending };
 
-    /// The next record. With none left the fault, and the same again from then on; `None` where no fault is decided.
+    /// The next record. With none left the fault, and the same again from then on; `None` where no
+    /// fault is decided.
     ///
     /// # Errors
     ///

@@ -14,8 +14,8 @@ use arrayvec::ArrayVec;
 use std::alloc::AllocError;
 use zone_name::{NextUnit, Sink, decimal_escape, next_unit};
 
-/// Appends the string that the item spells, its octets behind their number (RFC 1035 3.3, 5.1). Refused, `out` holds
-/// what it held.
+/// Appends the string that the item spells, its octets after their number (RFC 1035 3.3, 5.1). If
+/// it is refused, `out` holds what it held.
 ///
 /// # Errors
 ///
@@ -32,7 +32,7 @@ pub(crate) fn push_string(item: Item, out: &mut Vec<u8>) -> Result<(), NarrowFai
     Ok(())
 }
 
-/// Appends a string's octets behind their number. Where memory is refused, `out` holds what it held.
+/// Appends a string's octets after their number. Where memory is refused, `out` holds what it held.
 pub(crate) fn push_with_length(octets: &[u8], out: &mut Vec<u8>) -> Result<(), AllocError>
     requires { length octets.now ≤ 255 }
     ensures ok { OnOk result (out.new.items ≡ out.old.items ++ with_length octets.now) }

@@ -19,7 +19,7 @@ fn seconds_of_unit(octet: u8) -> Option<u64>
     }
 }
 
-/// What was read of a time: the groups so far, and the digits behind the last of them.
+/// What was read of a time: the groups so far, and the digits after the last of them.
 #[derive(Clone, Copy, Debug)]
 pub(crate) struct Progress {
     total: u64,
@@ -73,8 +73,8 @@ impl Progress {
     }
 }
 
-/// The seconds that a text states, at most 4294967296: decimal digits, or one or more groups of digits and a unit w,
-/// d, h, m or s, summed. `None`: it is no time.
+/// The seconds that a text states, at most 4294967296: decimal digits, or one or more groups of
+/// digits and a unit w, d, h, m or s, summed. `None`: it is no time.
 pub fn seconds_of(text: &[u8]) -> Option<u64>
     ensures found { IfSome result (IsCapped (IsTime text.now)) }
     ensures none { IfNone result (NothingIs (IsTime text.now)) }

@@ -19,7 +19,8 @@ pub(crate) fn is_word(word: &[u8], wanted: &[u8]) -> bool
     word.eq_ignore_ascii_case(wanted)
 }
 
-/// The number in decimal right behind a name in any case, at most `CAP`. `None`: the word is none.
+/// The decimal number right after the name in any letter case, at most `CAP`. `None`: it is no such
+/// word.
 pub(crate) fn numbered(name: &[u8], word: &[u8]) -> Option<u64>
     ensures found { IfSome result (IsCapped (IsNumbered name.now word.now)) }
     ensures none { IfNone result (NothingIs (IsNumbered name.now word.now)) }
@@ -48,8 +49,8 @@ fn row_named<'r, R: Row>(rows: &'r [R], word: &[u8]) -> Option<&'r R>
     None
 }
 
-/// The number that a word stands for in any case, at most `CAP`: that of a mnemonic of the rows, or the one right behind
-/// the name. `None`: it is no such word.
+/// The number that a word stands for in any letter case, at most `CAP`: that of a mnemonic of the
+/// rows, or the one right after the name. `None`: it is no such word.
 pub(crate) fn number_of_word<R: Row>(rows: &[R], name: &[u8], word: &[u8]) -> Option<u64>
     requires { ascend 0 (map R.names rows.now) ≡ true }
     ensures found { IfSome result

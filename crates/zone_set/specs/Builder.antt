@@ -1,5 +1,6 @@
--- What a builder of a zone takes and refuses (RFC 1035 5.2; one TTL in a set: RFC 2181 5.2; the order of the faults is this
--- project's choice). It holds a set of records, as its one ascending list.
+-- What a builder of a zone takes and refuses (RFC 1035 5.2; one TTL in a set: RFC 2181 5.2; the
+-- order of the faults is this project's choice). It holds a set of records, as its one ascending
+-- list.
 use Rattle.std.specs.Prelude.{◌≡◌, ◌≢◌, ℕ, List, [], ◌∷◌, ◌++◌, Some, None, ◌⊎◌, ◌↔◌, true, false}
 use Rattle.std.specs.declared.cmp.Ordering.TheVariants.{Less}
 use Rattle.zone_name.specs.Name.{IsWithin}
@@ -69,9 +70,9 @@ pub record TakesAll (old : List Record) (pending : Pending) (new : List Record) 
   pub taken : AddsEach old pending.records new
   pub emptied : rest ≡ leaves pending []
 
--- why taking a source ended early, and what it has left: it had failed, and nothing of it is taken; memory was refused for
--- a record, or the record was, all before it are held, and the record is dropped; or all are held, and a fault stands at
--- its end
+-- why taking a source ended early, and what it has left: it had failed, and nothing of it is taken;
+-- memory was refused for a record, or the record was, all before it are held, and the record is
+-- dropped; or all are held, and a fault stands at its end
 pub data StopsTaking (old : List Record) (pending : Pending) (new : List Record) (rest : Pending) : Stop → Type 0 where
   failure : pending.failed ≡ true → new ≡ old → rest ≡ pending → StopsTaking old pending new rest Memory
   memory : (taken others : List Placed) (p : Placed) → pending.failed ≡ false → pending.records ≡ taken ++ p ∷ others → AddsEach old taken new → rest ≡ leaves pending others → StopsTaking old pending new rest Memory

@@ -1,5 +1,5 @@
--- The first record of an input that can't stand with those before it (RFC 1035 5.2; RFC 2181 5.2; the order of the faults is
--- this project's choice).
+-- The first record of an input that can't stand with those before it (RFC 1035 5.2; RFC 2181 5.2;
+-- the order of the faults is this project's choice).
 use Rattle.std.specs.Prelude.{◌≡◌, List, ◌∷◌, ◌++◌, map}
 use Rattle.zone_rdata.specs.Record.{Record}
 use Rattle.zone_rdata.specs.declared.fault.Fault.{Fault}

@@ -43,7 +43,8 @@ impl Held {
         }
     }
 
-    /// Takes the datum of a record with this TTL, and tells whether it is new. An equal one is dropped.
+    /// Takes the datum of a record with this TTL, and tells whether it is new. An equal one is
+    /// dropped.
     ///
     /// # Errors
     ///

@@ -14,14 +14,14 @@ HasForm text Root = text ≡ codes "."
 HasForm text Origin = text ≡ codes "@"
 HasForm text Labels = (text ≢ codes ".") × (text ≢ codes "@")
 
--- the octets of labels, each behind its length, with their letters as they are
+-- the octets of labels, each after its length, with their letters as they are
 abbrev pub HoldsUnfolded : List ℕ → Type 0
 HoldsUnfolded octets = HoldsLabels (map folded_octet octets)
 
 abbrev pub unfolded_labels : List ℕ → List (List ℕ)
 unfolded_labels octets = labels_of (map folded_octet octets)
 
--- a label is put behind others, or left out where it makes them too long
+-- a label is added after others, or left out where it makes them too long
 abbrev pub Joins : List (List ℕ) → List ℕ → Bool → List (List ℕ) → Type 0
 Joins before label true after = (after ≡ before) × (255 < length (wire (before ++ folded_label label ∷ [])))
 Joins before label false after = after ≡ before ++ folded_label label ∷ []

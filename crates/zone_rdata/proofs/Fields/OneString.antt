@@ -33,7 +33,7 @@ part v s fits real = absurd s
 
 -- ---- the string at the front of octets
 
--- the first octet, and those behind it
+-- the first octet, and those after it
 pub first_behind : (octets : List ℕ) → 1 ≤ length octets → octets ≡ get_or octets 0 0 ∷ drop 1 octets
 first_behind [] some = absurd (omega arith)
 first_behind (c ∷ octets) some = refl

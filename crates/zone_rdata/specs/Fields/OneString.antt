@@ -1,4 +1,5 @@
--- A field that is one character-string, behind its length (RFC 1035 3.3). An item spells it by `SpellsString`.
+-- A field that is one character-string, after its length (RFC 1035 3.3). An item spells it by
+-- `SpellsString`.
 use Rattle.std.specs.Prelude.{ℕ, List, [], ◌∷◌, take}
 use Rattle.zone_rdata.specs.Item.{RawItem, quoted}
 use Rattle.zone_rdata.specs.Strings.{inside_text}

@@ -11,7 +11,7 @@ pub record AreStrings (many : List (List ℕ)) : Type 0 where
   pub some : 0 < length many
   pub each : AllByRecursion IsString many
 
--- the strings one behind another in octets, n at the most
+-- the strings one after another in octets, at most n of them
 abbrev pub strings_by : ℕ → List ℕ → List (List ℕ)
 strings_by zero octets = []
 strings_by (suc n) [] = []

@@ -16,7 +16,7 @@ pub record Appends {V : Type 0} (Stated : V → Type 0) (octets : V → List ℕ
 abbrev pub AppendsField : List (List ℕ) → Field → List RawItem → List ℕ → List ℕ → Type 0
 AppendsField origin field items old new = Appends (SpellsField origin field items) field_octets old new
 
--- likewise for the field at the front of items, and the rest is behind it
+-- likewise for the field that the items begin with; `rest` is what follows it
 pub record AppendsFirst (origin : List (List ℕ)) (field : Field) (items rest : List RawItem) (old new : List ℕ) : Type 0 where
   pub appends : AppendsField origin field (own_items field items) old new
   pub behind : rest ≡ items_behind field items
@@ -45,7 +45,7 @@ pub record AppendsValue (field : Field) (octets rest old new : List ℕ) : Type 
 abbrev pub BeginsWithNone : Field → List ℕ → Type 0
 BeginsWithNone field octets = (value : FieldValue) (rest : List ℕ) → BeginsWithValue field octets value rest → ⊥
 
--- the front of octets is appended, and the rest is behind it
+-- the first `count` octets are appended; `rest` is what follows them
 pub record AppendsPrefix (count : ℕ) (octets rest old new : List ℕ) : Type 0 where
   pub fits : count ≤ length octets
   pub behind : rest ≡ drop count octets

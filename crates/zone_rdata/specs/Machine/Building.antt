@@ -16,7 +16,7 @@ abbrev pub part_field : Field → Field
 part_field Strings = OneString
 part_field field = field
 
--- n more strings behind a last field of strings
+-- n more fields of strings after a last field of strings
 abbrev pub more_fields : Field → ℕ → List Field
 more_fields Strings zero = []
 more_fields Strings (suc n) = OneString ∷ more_fields Strings n
@@ -57,7 +57,7 @@ IsReal (fixed octets) = AllByRecursion (λ c. c < 256) octets
 IsReal (string octets) = AllByRecursion (λ c. c < 256) octets
 IsReal part = ⊤
 
--- why a part can't be put behind octets
+-- why a part can't be added after octets
 pub data IsOver (octets : List ℕ) (part : FieldValue) : Fault → Type 0 where
   over_string : (FitsString part → ⊥) → IsOver octets part StringTooLong
   over_data : FitsString part → 65535 < length octets + length (field_octets part) → IsOver octets part RdataTooLong

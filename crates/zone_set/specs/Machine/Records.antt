@@ -1,4 +1,4 @@
--- The records that an iterator has still to give.
+-- The records that an iterator has left.
 use Rattle.std.specs.Prelude.{◌≡◌, ◌≢◌, ℕ, List, [], ◌++◌, map, Option, Some, None}
 use Rattle.std.specs.List.{AllByRecursion}
 use Rattle.zone_rdata.specs.Record.{Record, IsRecord}
