@@ -64,7 +64,7 @@ ahead-bad rest bad = bad_by rest (ahead_in rest) bad (ahead_is rest)
 
 -- ---- what the code finds
 
--- the test of a dot at the front
+-- the test of a dot at the beginning
 abbrev pub has_dot : List ℕ → Bool
 has_dot rest = pointwise nat_eq (46 ∷ []) (take 1 rest)
 

@@ -95,7 +95,7 @@ Refuses-label text label rest RelativeName at short x = elim x [ ]
 
 -- ---- a label of plain octets
 
--- each of the octets at the front is plain
+-- each of the octets at the beginning is plain
 abbrev pub ArePlain : List ℕ → ℕ → Type 0
 ArePlain text len = (k : ℕ) → k < len → IsUnit is_dot (plain (get_or text k 0))
 

@@ -36,7 +36,7 @@ pub record IsName (labels : List (List ℕ)) : Type 0 where
   pub each : AllByRecursion IsLabel labels
   pub short : length (wire labels) ≤ 255
 
--- the labels at the front of octets, one after another up to the root, n at the most
+-- the labels at the beginning of octets, one after another up to the root, at most n of them
 abbrev pub labels_by : ℕ → List ℕ → List (List ℕ)
 labels_by zero octets = []
 labels_by (suc n) [] = []

@@ -38,7 +38,8 @@ octet_of (decimal x y z) = 100 * (x - 48) + 10 * (y - 48) + (z - 48)
 abbrev pub IsEscape : Written → Type 0
 IsEscape (plain c) = ⊥
 IsEscape (escaped c) = (is_digit c ≡ false) × (c ≢ 10) × (c ≢ 13)
-IsEscape (decimal x y z) = (is_digit x ≡ true) × (is_digit y ≡ true) × (is_digit z ≡ true) × (octet_of (decimal x y z) ≤ 255)
+IsEscape (decimal x y z) =
+  (is_digit x ≡ true) × (is_digit y ≡ true) × (is_digit z ≡ true) × (octet_of (decimal x y z) ≤ 255)
 
 -- a written octet where some octets mean something else: an octet by itself that is none of them
 -- and no backslash, or an escape
@@ -84,16 +85,19 @@ pub record AreWrittenLabels (labels : List (List Written)) : Type 0 where
   pub each : AllByRecursion IsWrittenLabel labels
 
 -- how a text spells labels under an origin, whatever their length
-pub data Writes (origin : Option (List (List ℕ))) (text : List ℕ) (labels : List (List ℕ)) : Type 0 where
+pub data Writes (origin : Option (List (List ℕ))) (text : List ℕ)
+    (labels : List (List ℕ)) : Type 0 where
   root : text ≡ codes "." → labels ≡ [] → Writes origin text labels
   at_origin : text ≡ codes "@" → origin ≡ Some labels → Writes origin text labels
-  absolute : (written : List (List Written)) → AreWrittenLabels written → text ≡ dotted written → labels ≡ named written → Writes origin text labels
+  absolute : (written : List (List Written)) → AreWrittenLabels written → text ≡ dotted written
+      → labels ≡ named written → Writes origin text labels
   relative : (written : List (List Written)) (above : List (List ℕ)) → AreWrittenLabels written
       → text ≢ codes "@" → text ≡ parted written → origin ≡ Some above
       → labels ≡ named written ++ above → Writes origin text labels
 
 -- the text spells the name under the origin
-pub record Spells (origin : Option (List (List ℕ))) (text : List ℕ) (labels : List (List ℕ)) : Type 0 where
+pub record Spells (origin : Option (List (List ℕ))) (text : List ℕ)
+    (labels : List (List ℕ)) : Type 0 where
   pub written : Writes origin text labels
   pub name : IsName labels
 
@@ -103,7 +107,9 @@ EndsLabel rest = (rest ≡ []) ⊎ ((more : List ℕ) × (rest ≡ 46 ∷ more))
 
 -- a backslash that begins no escape
 abbrev pub IsBadEscape : List ℕ → Type 0
-IsBadEscape rest = (more : List ℕ) × (rest ≡ 92 ∷ more) × ((w : Written) (after : List ℕ) → IsEscape w → rest ≢ text_of w ++ after)
+IsBadEscape rest =
+  (more : List ℕ) × (rest ≡ 92 ∷ more)
+    × ((w : Written) (after : List ℕ) → IsEscape w → rest ≢ text_of w ++ after)
 
 -- a text from a backslash on: an escape, which stands for the octet, and the rest
 pub record BeginsWithEscape (text : List ℕ) (octet : ℕ) (rest : List ℕ) : Type 0 where
@@ -113,7 +119,8 @@ pub record BeginsWithEscape (text : List ℕ) (octet : ℕ) (rest : List ℕ) : 
   pub parts : text ≡ text_of escape ++ rest
 
 -- a text from a written octet on, which stands for the octet, and the rest
-pub record BeginsWithUnit (left_out : ℕ → Bool) (text : List ℕ) (octet : ℕ) (rest : List ℕ) : Type 0 where
+pub record BeginsWithUnit (left_out : ℕ → Bool) (text : List ℕ) (octet : ℕ)
+    (rest : List ℕ) : Type 0 where
   pub unit : Written
   pub is_unit : IsUnit left_out unit
   pub value : octet_of unit ≡ octet
@@ -121,7 +128,8 @@ pub record BeginsWithUnit (left_out : ℕ → Bool) (text : List ℕ) (octet : �
 
 -- A text up to a place: labels of at most 63 octets with their dots, and the octets of the label
 -- that is open
-pub record Reaches (text : List ℕ) (before : List (List Written)) (open_label : List Written) (rest : List ℕ) : Type 0 where
+pub record Reaches (text : List ℕ) (before : List (List Written)) (open_label : List Written)
+    (rest : List ℕ) : Type 0 where
   pub labels : AllByRecursion IsWrittenLabel before
   pub short : AllByRecursion (λ label. length label ≤ 63) before
   pub octets : AllByRecursion (IsUnit is_dot) open_label
@@ -131,17 +139,26 @@ pub record Reaches (text : List ℕ) (before : List (List Written)) (open_label 
 -- The leftmost fault of a text itself: at the dot or end that closes an empty label, at the 64th
 -- octet of a label, or at a backslash that begins no escape
 pub data FaultAt (text : List ℕ) : NameFault → Type 0 where
-  empty_label : (before : List (List Written)) (rest : List ℕ) → Reaches text before [] rest → EndsLabel rest → (rest ≡ [] → before ≡ []) → text ≢ codes "." → FaultAt text EmptyLabel
-  long_label : (before : List (List Written)) (open_label : List Written) (w : Written) (rest : List ℕ) → Reaches text before open_label (text_of w ++ rest) → length open_label ≡ 63 → IsUnit is_dot w → FaultAt text LabelTooLong
-  bad_escape : (before : List (List Written)) (open_label : List Written) (rest : List ℕ) → Reaches text before open_label rest → IsBadEscape rest → FaultAt text BadEscape
+  empty_label : (before : List (List Written)) (rest : List ℕ) → Reaches text before
+      [] rest → EndsLabel rest → (rest ≡ [] → before ≡ []) → text ≢ codes "."
+      → FaultAt text EmptyLabel
+  long_label : (before : List (List Written)) (open_label : List Written) (w : Written)
+      (rest : List ℕ) → Reaches text before open_label (text_of w ++ rest) → length open_label ≡ 63
+      → IsUnit is_dot w → FaultAt text LabelTooLong
+  bad_escape : (before : List (List Written)) (open_label : List Written) (rest : List ℕ)
+      → Reaches text before open_label rest → IsBadEscape rest → FaultAt text BadEscape
 
 -- a relative text of labels of at most 63 octets, `@` among them
 abbrev pub IsRelative : List ℕ → Type 0
-IsRelative text = (written : List (List Written)) × AreWrittenLabels written × AllByRecursion (λ label. length label ≤ 63) written × (text ≡ parted written)
+IsRelative text =
+  (written : List (List Written)) × AreWrittenLabels written
+    × AllByRecursion (λ label. length label ≤ 63) written × (text ≡ parted written)
 
 -- The first fault: one of the text itself, then a relative text without an origin, then a name that
 -- is too long
 pub data FirstFault (origin : Option (List (List ℕ))) (text : List ℕ) : NameFault → Type 0 where
   within : (fault : NameFault) → FaultAt text fault → FirstFault origin text fault
   unfounded : origin ≡ None → IsRelative text → FirstFault origin text RelativeName
-  long_name : (labels : List (List ℕ)) → Writes origin text labels → AllByRecursion (λ label. length label ≤ 63) labels → 255 < length (wire labels) → FirstFault origin text NameTooLong
+  long_name : (labels : List (List ℕ)) → Writes origin text labels
+      → AllByRecursion (λ label. length label ≤ 63) labels → 255 < length (wire labels)
+      → FirstFault origin text NameTooLong

@@ -42,7 +42,7 @@ impl NameBuilder {
     /// # Errors
     ///
     /// `EmptyLabel` for no octets, `LabelTooLong` for more than 63, and `NameTooLong` where the
-    /// name would take more than 255 octets. The builder then has what it had.
+    /// name would take more than 255 octets. The builder is then unchanged.
     pub fn push_label(&mut self, label: &[u8]) -> Result<(), NameFault>
         ensures ok { OnOk result (self.new ≡ self.old ++ folded_label label.now ∷ []) }
         ensures empty { (result ≡ Err EmptyLabel) ↔ (length label.now ≡ 0) }

@@ -4,7 +4,7 @@ ghost use Rattle.zone_name.specs.NextUnit.{IsNextUnit};
 ghost use Rattle.zone_name.specs.Spelling.{BeginsWithEscape, IsBadEscape, is_digit};
 ghost use Rattle.zone_name.specs.Text.{decimal_escape};
 
-/// The written octet at the front of a text (RFC 1035 5.1).
+/// The written octet that a text begins with (RFC 1035 5.1).
 #[derive(Drop)]
 pub enum NextUnit<'t> {
     /// The text ends.
@@ -15,7 +15,7 @@ pub enum NextUnit<'t> {
     BadEscape,
 }
 
-/// The octet at the front of a text, by itself or by an escape (RFC 1035 5.1). Only a backslash
+/// The octet that a text begins with, by itself or by an escape (RFC 1035 5.1). Only a backslash
 /// does not stand for itself.
 pub fn next_unit(text: &[u8]) -> NextUnit<'_>
     ensures { IsNextUnit text.now result }

@@ -78,7 +78,7 @@ impl Name {
         self.octets.as_slice()
     }
 
-    /// An equal name.
+    /// A copy of the name.
     pub fn copy(&self) -> Name
         ensures { result ≡ self.now }
     {
@@ -110,7 +110,7 @@ impl Name {
         }
     }
 
-    /// The same name in octets that are lent.
+    /// The same name, borrowed.
     pub(crate) fn lend(&self) -> NameRef<'_>
         ensures value { result ≡ self.now }
         ensures name { IsName self.now }
@@ -118,7 +118,7 @@ impl Name {
         NameRef::of_wire(self.octets.as_slice())
     }
 
-    /// The name of these octets, which are copied.
+    /// The name of these octets, which it copies.
     pub(crate) fn holding(octets: &[u8]) -> Name
         requires { HoldsName octets.now }
         ensures { result ≡ labels_of octets.now }
@@ -136,7 +136,7 @@ impl Name {
         Name { octets }
     }
 
-    /// The name at the front of uncompressed octets that were judged before.
+    /// The name at the beginning of uncompressed octets that were judged before.
     pub fn from_front(octets: &[u8]) -> Name
         requires { BeginsWithName octets.now }
         ensures { result ≡ labels_of octets.now }

@@ -51,7 +51,7 @@ fn is_plain(octet: u8) -> bool
     octet != b'.' && octet != b'\\'
 }
 
-/// How many octets at the front of a text are plain.
+/// How many octets at the beginning of a text are plain.
 fn plain_len(text: &[u8]) -> usize
     ensures short { result ≤ length text.now }
     ensures each { (k : ℕ) → k < result → IsUnit is_dot (plain (slice_index text.now k)) }
@@ -83,7 +83,7 @@ fn close(octets: &mut ArrayVec<u8, MAX_NAME_LEN>, label: &[u8]) -> Result<bool, 
     Ok(false)
 }
 
-/// A label that was read at the front of a text.
+/// A label that was read at the beginning of a text.
 #[derive(Drop)]
 struct ReadLabel<'t> {
     /// There was no room for it, and it was not kept.
@@ -92,7 +92,7 @@ struct ReadLabel<'t> {
     behind: &'t [u8],
 }
 
-/// Puts the label at the front of a text in place.
+/// Puts the label that a text begins with in place.
 fn read_label<'t>(
     octets: &mut ArrayVec<u8, MAX_NAME_LEN>,
     text: &'t [u8],

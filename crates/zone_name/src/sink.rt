@@ -18,7 +18,7 @@ pub trait Sink {
     ///
     /// # Errors
     ///
-    /// The sink refuses them, and is as it was.
+    /// The sink refuses them, and is unchanged.
     fn push(&mut self, octets: &[u8]) -> Result<(), Self::Error>
         ensures ok { OnOk result (takes self.old octets.now self.new) }
         ensures err { OnErr result (takes self.old [] self.new) };
@@ -26,7 +26,7 @@ pub trait Sink {
     // A sink that is left alone took nothing.
     ghost nothing: { (a : Self) → takes a [] a };
 
-    // Octets that were taken one after the other were taken as one list.
+    // Octets that were taken in two calls were taken as one list.
     ghost joins: { (a b c : Self) (x y : List ℕ) → takes a x b → takes b y c → takes a (x ++ y) c };
 }
 
@@ -48,7 +48,7 @@ impl Sink for Vec<u8> {
 /// memory.
 #[derive(Clone, Copy, Debug)]
 pub struct Room {
-    /// How many more octets may come.
+    /// How many more octets it takes.
     pub left: u64,
 }
 

@@ -17,7 +17,7 @@ impl Name {
     ///
     /// # Errors
     ///
-    /// `out` refuses the octets, and holds what it held.
+    /// `out` refuses the octets, and is unchanged.
     pub fn push_text<S: Sink>(&self, out: &mut S) -> Result<(), S::Error>
         ensures ok { OnOk result (S.takes out.old (name_text self.now) out.new) }
         ensures err { OnErr result (S.takes out.old [] out.new) }

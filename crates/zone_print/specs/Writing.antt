@@ -15,9 +15,10 @@ pub data StopsPush (limit : ℕ) (text : List ℕ) : Stop → Type 0 where
 abbrev pub AppendsPrefix : Option (List ℕ) → Option (List ℕ) → List ℕ → Type 0
 AppendsPrefix old new text = (front rest : List ℕ) × (text ≡ front ++ rest) × Appends old new front
 
--- Why a text was not written, and what the writer holds: nothing of a text that is longer than the limit. A text within
--- it was written in part: memory was refused, or the writer failed.
+-- Why a text was not written, and what the writer holds: nothing of a text that is longer than the
+-- limit. A text within it was written in part: memory was refused, or the writer failed.
 pub data StopsWrite (limit : ℕ) (text : List ℕ) (old new : Option (List ℕ)) : Stop → Type 0 where
-  large : limit < length text → Keeps old new → StopsWrite limit text old new (Refused ZoneTooLarge Whole)
+  large : limit < length text → Keeps old new
+      → StopsWrite limit text old new (Refused ZoneTooLarge Whole)
   memory : length text ≤ limit → AppendsPrefix old new text → StopsWrite limit text old new Memory
   write : length text ≤ limit → AppendsPrefix old new text → StopsWrite limit text old new Write

@@ -20,7 +20,8 @@ pub const TEXT_LIMIT: u64 = 1_073_741_824;
 /// How many octets of lines are gathered before they are written.
 const WRITE_LEN: usize = 65_536;
 
-/// The length of the canonical text in octets, or one more than [`TEXT_LIMIT`] where it is longer. Takes no memory.
+/// The length of the canonical text in octets, or one more than [`TEXT_LIMIT`] where it is longer.
+/// Takes no memory.
 pub fn canon_len(zone: &Zone) -> u64
     ensures { result ≡ min (length (canon zone.now)) (text_limit + 1) }
 {
@@ -38,7 +39,8 @@ pub fn text_fits(zone: &Zone) -> bool
 ///
 /// # Errors
 ///
-/// `ZoneTooLarge` at the input as a whole where the text has more than [`TEXT_LIMIT`] octets; `Memory`.
+/// `ZoneTooLarge` at the input as a whole where the text has more than [`TEXT_LIMIT`] octets;
+/// `Memory`.
 pub fn push_zone(alloc: Global, zone: &Zone) -> Result<Vec<u8>, Stop>
     ensures text { IfOk result (λ text. text.items ≡ canon zone.now) }
     ensures short { OnOk result (length (canon zone.now) ≤ text_limit) }
@@ -51,11 +53,12 @@ pub fn push_zone(alloc: Global, zone: &Zone) -> Result<Vec<u8>, Stop>
 ///
 /// # Errors
 ///
-/// `ZoneTooLarge` at the input as a whole where the text has more than [`TEXT_LIMIT`] octets, before the first octet;
-/// `Write` where the writer answered an error or took no octet; `Memory`. After the last two a front of the text was
-/// written.
+/// `ZoneTooLarge` at the input as a whole where the text has more than [`TEXT_LIMIT`] octets,
+/// before the first octet; `Write` where the writer answered an error or took no octet; `Memory`.
+/// After the last two a front of the text was written.
 pub fn write_zone<W: Write>(alloc: Global, zone: &Zone, writer: &mut W) -> Result<(), Stop>
-    ensures text { OnOk result (Appends (W.contents writer.old) (W.contents writer.new) (canon zone.now)) }
+    ensures text { OnOk result
+        (Appends (W.contents writer.old) (W.contents writer.new) (canon zone.now)) }
     ensures short { OnOk result (length (canon zone.now) ≤ text_limit) }
     ensures stopped { IfErr result
         (StopsWrite text_limit (canon zone.now) (W.contents writer.old) (W.contents writer.new)) }
@@ -73,8 +76,8 @@ pub(crate) fn len_within(zone: &Zone, limit: u64) -> u64
     limit + 1 - room.left
 }
 
-/// Whether the canonical text has at most so many octets. It is counted only where four times the octets of the records
-/// in messages are more.
+/// Whether the canonical text has at most so many octets. It is counted only where four times the
+/// octets of the records in messages are more.
 fn text_fits_within(zone: &Zone, limit: u64) -> bool
     requires { limit ≤ text_limit }
     ensures { IsTrue result ↔ length (canon zone.now) ≤ limit }
@@ -109,7 +112,8 @@ pub(crate) fn write_within<W: OctetWriter>(
     limit: u64,
 ) -> Result<(), Stop>
     requires { limit ≤ text_limit }
-    ensures text { OnOk result (Appends (W.contents writer.old) (W.contents writer.new) (canon zone.now)) }
+    ensures text { OnOk result
+        (Appends (W.contents writer.old) (W.contents writer.new) (canon zone.now)) }
     ensures short { OnOk result (length (canon zone.now) ≤ limit) }
     ensures stopped { IfErr result
         (StopsWrite limit (canon zone.now) (W.contents writer.old) (W.contents writer.new)) }
@@ -127,7 +131,8 @@ pub(crate) fn write_within<W: OctetWriter>(
 ///
 /// `Write` where the writer failed, and `Memory`. A front of the text was written.
 fn write_lines<W: OctetWriter>(alloc: Global, zone: &Zone, writer: &mut W) -> Result<(), Stop>
-    ensures text { OnOk result (Appends (W.contents writer.old) (W.contents writer.new) (canon zone.now)) }
+    ensures text { OnOk result
+        (Appends (W.contents writer.old) (W.contents writer.new) (canon zone.now)) }
     ensures stopped { IfErr result (IsOfWriting (W.Failed writer.new)) }
     ensures front { OnErr result
         (AppendsPrefix (W.contents writer.old) (W.contents writer.new) (canon zone.now)) }

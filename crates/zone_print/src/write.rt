@@ -7,8 +7,8 @@ ghost use Rattle.zone_print.specs.Writing.{AppendsPrefix};
 use std::io::Write;
 use zone_rdata::Stop;
 
-/// What octets are written to. All that writes is proved for every `Failed`, so that it answers `Write` only where a
-/// call of the writer did.
+/// What octets are written to. All that writes is proved for every `Failed`, so that it answers
+/// `Write` only where a call of the writer did.
 pub(crate) trait OctetWriter {
     /// The octets that it holds, where they are known.
     ghost contents: { Self → Option (List ℕ) };
@@ -68,9 +68,11 @@ impl OctetWriter for Text {
 ///
 /// `Write` where the writer failed, and `Memory`. A front of the octets was written.
 pub(crate) fn write_octets<W: OctetWriter>(writer: &mut W, octets: &[u8]) -> Result<(), Stop>
-    ensures written { OnOk result (Appends (W.contents writer.old) (W.contents writer.new) octets.now) }
+    ensures written { OnOk result
+        (Appends (W.contents writer.old) (W.contents writer.new) octets.now) }
     ensures stopped { IfErr result (IsOfWriting (W.Failed writer.new)) }
-    ensures front { OnErr result (AppendsPrefix (W.contents writer.old) (W.contents writer.new) octets.now) }
+    ensures front { OnErr result
+        (AppendsPrefix (W.contents writer.old) (W.contents writer.new) octets.now) }
 {
     let mut rest = octets;
     while !rest.is_empty() {

@@ -8,7 +8,7 @@ use Rattle.zone_rdata.specs.Machine.AddressReading.{Lacks, HasGapAt}
 use Rattle.zone_rdata.proofs.Addresses.{group_lacks, last_lacks}
 use Rattle.zone_rdata.proofs.AddressParts.{parts_unique}
 
--- no two colons in a row, from the front
+-- no two colons in a row, from the first octet on
 abbrev NoGaps : List ℕ → Type 0
 NoGaps [] = Unit {0}
 NoGaps (c ∷ []) = Unit {0}

@@ -53,7 +53,7 @@ each_spelt origin f k P own items v h =
 
 -- ---- its octets
 
--- the field at the front of its octets is the value that was written
+-- the field at the beginning of its octets is the value that was written
 pub field_back : (f : Field) (v : FieldValue) (rest : List ℕ) → Holds f v → (f ≡ Strings → rest ≡ []) → field_at f (field_octets v ++ rest) ≡ v
 field_back f v rest h last = let k = kind_of f in each f k (λ w. field_at f (field_octets w ++ rest) ≡ w) (λ x held. k.laws.back x rest held last) v h
 

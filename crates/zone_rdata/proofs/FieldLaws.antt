@@ -148,7 +148,7 @@ plain_sent Name v front other h s = absurd (other refl)
 plain_sent f (name labels) front other h s = absurd h
 plain_sent f v front other h s = s
 
--- so many octets at the front of octets are a value, and appended
+-- so many octets at the beginning of octets are a value, and appended
 pub appends_plain : (f : Field) (octets rest old new : List ℕ) (count : ℕ) (v : FieldValue) → f ≢ Name → Holds f v → take count octets ≡ field_octets v → (f ≡ Strings → rest ≡ []) → AppendsPrefix count octets rest old new → AppendsValue f octets rest old new
 appends_plain f octets rest old new count v other held is last grows = record {
   value = v;

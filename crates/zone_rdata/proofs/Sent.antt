@@ -150,7 +150,7 @@ no_label octets rest labels c behind label fault r cut e some fits same is only 
     let count : 0 < length label = omega (arith, length-take c behind, ap length same) in
     refused_by fault labels label r is only empty long too_long count (subst (λ l. Fits labels l) (sym same) (next_fits octets rest labels c behind cut e some fits name tail b))
 
--- ---- a name at the front is one name
+-- ---- a name at the beginning is one name
 pub name_by : (more : List (List ℕ)) (rest tail : List ℕ) → AreSome more → 0 ∷ rest ≡ wire more ++ tail → (more ≡ []) × (rest ≡ tail)
 name_by [] rest tail some e = (refl, (cc))
 name_by ([] ∷ more) rest tail some e = absurd (omega (arith, some.0))

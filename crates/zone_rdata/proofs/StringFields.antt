@@ -12,7 +12,7 @@ use Rattle.zone_rdata.specs.declared.field.Field.{Field}
 use Rattle.zone_rdata.specs.declared.field.Field.TheVariants as fields
 use Rattle.zone_name.proofs.Octets.{length-frames}
 
--- one string cut off the front
+-- one string cut off the beginning
 string_cut : (text more : List ℕ) (m : ℕ) → strings_by (suc m) (with_length text ++ more) ≡ text ∷ strings_by m more
 string_cut text more m = rw (take_at text more (length text) refl, drop_at text more (length text) refl) refl
 
@@ -83,7 +83,7 @@ pub no_strings : strings_of [] ≡ []
 unfolding strings_of
 no_strings = refl
 
--- a field of strings at the front of octets is all of them
+-- a field of strings at the beginning of octets is all of them
 pub all_strings : (octets : List ℕ) → AreStrings (strings_of octets) → take (length (flat_map with_length (strings_of octets))) octets ≡ flat_map with_length (strings_of octets) → HoldsStrings octets
 all_strings octets are front =
     let len = strings_len octets in

@@ -1,5 +1,5 @@
--- The string of an item, or its first fault, as an answer on lists: of the units at the front of
--- its text.
+-- The string of an item, or its first fault, as an answer on lists: of the units at the beginning
+-- of its text.
 use Rattle.std.proofs.Common.{◌≡◌, ℕ, zero, suc, ◌<◌, ◌≤◌, Bool, nat_le, if◌then◌else◌, List, [], ◌∷◌, ◌++◌, length, Result, Ok, Err, ◌⊎◌, inl, inr, refl, sym, ap, ◌∙◌, subst, arith, append_assoc, length-append}
 use Rattle.std.specs.List.{AllByRecursion}
 use Rattle.std.proofs.lemmas.Bool.{cases_Bool, false≢true, le-leb, lt-leb, leb-true, leb-false}

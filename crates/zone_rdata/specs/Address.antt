@@ -71,7 +71,8 @@ pub record AreAround (front back octets : List ℕ) : Type 0 where
 -- an address of sixteen octets: eight groups, or fewer with `::` in one place (RFC 4291 2.2)
 pub data IsIpv6Address (text octets : List ℕ) : Type 0 where
   eight : ArePartsOf true text octets → length octets ≡ 16 → IsIpv6Address text octets
-  fewer : (front back : List ℕ) → text ≡ front ++ (codes "::" ++ back) → AreAround front back octets → IsIpv6Address text octets
+  fewer : (front back : List ℕ) → text ≡ front ++ (codes "::" ++ back) → AreAround front back octets
+      → IsIpv6Address text octets
 
 -- the canonical text of four octets: decimal numbers without leading zeros
 abbrev pub ipv4_text : List ℕ → List ℕ
@@ -83,16 +84,20 @@ parted_groups groups = std_text.groups_text groups
 
 -- the groups with `::` for `len` of them from `start` on
 abbrev pub shortened_groups : List ℕ → ℕ → ℕ → List ℕ
-shortened_groups groups start len = parted_groups (take start groups) ++ codes "::" ++ parted_groups (drop (start + len) groups)
+shortened_groups groups start len =
+  parted_groups (take start groups) ++ codes "::" ++ parted_groups (drop (start + len) groups)
 
 -- The canonical text of sixteen octets (RFC 5952 4): `::` stands for the longest run of zero
 -- groups, the first of equal ones, if it has two groups or more.
 abbrev pub ipv6_text : List ℕ → List ℕ
-ipv6_text octets = let groups = segments_of octets in std_text.compressed_text groups (std_text.longest_zero_run groups)
+ipv6_text octets =
+  let groups = segments_of octets in
+    std_text.compressed_text groups (std_text.longest_zero_run groups)
 
 -- so many zero groups in a row
 abbrev pub IsZeroRun : List ℕ → ℕ → ℕ → Type 0
-IsZeroRun groups start len = (start + len ≤ length groups) × (take len (drop start groups) ≡ replicate len 0)
+IsZeroRun groups start len =
+  (start + len ≤ length groups) × (take len (drop start groups) ≡ replicate len 0)
 
 -- the run that `::` stands for (RFC 5952 4.2): of two groups or more, none longer, none as long
 -- before it

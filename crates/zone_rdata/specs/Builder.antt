@@ -24,7 +24,8 @@ ends_with_strings (f ∷ g ∷ fields) = ends_with_strings (g ∷ fields)
 -- the field of the part after i parts: one more field of strings after the layout's, where strings
 -- stand last in it
 abbrev pub part_at : List Field → ℕ → Option Field
-part_at fields i = option_or (slice_get fields i) (if ends_with_strings fields then Some Strings else None)
+part_at fields i =
+  option_or (slice_get fields i) (if ends_with_strings fields then Some Strings else None)
 
 -- opaque data is one part of octets
 abbrev pub IsOpaque : ℕ → FieldValue → Type 0
@@ -50,9 +51,12 @@ pub record Pushes (old : Built) (part : FieldValue) (new : Built) : Type 0 where
 
 -- The first fault of a push: the part isn't the next, a string is too long, or all is too long
 pub data IsPushFault (b : Built) (part : FieldValue) : Fault → Type 0 where
-  misplaced : (IsNext (layout b.class b.kind) (length b.parts) part → ⊥) → IsPushFault b part BadRdata
-  long_string : IsNext (layout b.class b.kind) (length b.parts) part → (FitsString part → ⊥) → IsPushFault b part StringTooLong
-  too_long : IsNext (layout b.class b.kind) (length b.parts) part → FitsString part → 65535 < length (octets_of (b.parts ++ part ∷ [])) → IsPushFault b part RdataTooLong
+  misplaced : (IsNext (layout b.class b.kind) (length b.parts) part → ⊥)
+      → IsPushFault b part BadRdata
+  long_string : IsNext (layout b.class b.kind) (length b.parts) part → (FitsString part → ⊥)
+      → IsPushFault b part StringTooLong
+  too_long : IsNext (layout b.class b.kind) (length b.parts) part → FitsString part
+      → 65535 < length (octets_of (b.parts ++ part ∷ [])) → IsPushFault b part RdataTooLong
 
 -- nothing is missing: a part for each field, strings at least one; opaque data its one part
 abbrev pub IsWhole : Option (List Field) → List FieldValue → Type 0

@@ -61,7 +61,7 @@ HoldEach [] (v ∷ values) = ⊥
 HoldEach (f ∷ fields) [] = ⊥
 HoldEach (f ∷ fields) (v ∷ values) = Holds f v × HoldEach fields values
 
--- the value of a field at the front of octets; strings are all that is left
+-- the value of a field at the beginning of octets; strings are all that is left
 abbrev pub field_at : Field → List ℕ → FieldValue
 field_at Name octets = name (labels_of octets)
 field_at Serial octets = u32_value (serial_at octets)
@@ -74,7 +74,8 @@ field_at Strings octets = strings (strings_of octets)
 -- the values that octets hold, field after field: the inverse of `octets_of`
 abbrev pub values_of : List Field → List ℕ → List FieldValue
 values_of [] octets = []
-values_of (f ∷ fields) octets = field_at f octets ∷ values_of fields (drop (length (field_octets (field_at f octets))) octets)
+values_of (f ∷ fields) octets =
+  field_at f octets ∷ values_of fields (drop (length (field_octets (field_at f octets))) octets)
 
 -- the octets of a value as they are sent: a name's labels in any letter case, all else as it is
 -- kept

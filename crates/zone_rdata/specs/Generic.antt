@@ -20,7 +20,8 @@ pub record IsGenericForm (items : List RawItem) (n : ℕ) (digits : List RawItem
 -- bare items, each of two hexadecimal digits in any case for each octet, that join to the octets
 abbrev pub JoinTo : List RawItem → List ℕ → Type 0
 JoinTo [] octets = octets ≡ []
-JoinTo (bare text ∷ items) octets = (front rest : List ℕ) × (decode_of text ≡ Ok front) × (octets ≡ front ++ rest) × JoinTo items rest
+JoinTo (bare text ∷ items) octets =
+  (front rest : List ℕ) × (decode_of text ≡ Ok front) × (octets ≡ front ++ rest) × JoinTo items rest
 JoinTo (quoted text ∷ items) octets = ⊥
 
 -- the items state the octets in the generic form
@@ -33,9 +34,13 @@ pub record StatesGeneric (items : List RawItem) (octets : List ℕ) : Type 0 whe
 -- The first fault of items that begin with the mark: no length in decimal, a length over 65,535, or
 -- digits that aren't those of so many octets
 pub data GenericFault (items : List RawItem) : Fault → Type 0 where
-  no_length : IsGeneric items → ((n : ℕ) (digits : List RawItem) → IsGenericForm items n digits → ⊥) → GenericFault items BadGeneric
-  long_length : (n : ℕ) (digits : List RawItem) → IsGenericForm items n digits → 65535 < n → GenericFault items RdataTooLong
-  bad_digits : (n : ℕ) (digits : List RawItem) → IsGenericForm items n digits → n ≤ 65535 → ((octets : List ℕ) → JoinTo digits octets → length octets ≢ n) → GenericFault items BadGeneric
+  no_length : IsGeneric items → ((n : ℕ) (digits : List RawItem) → IsGenericForm items n digits → ⊥)
+      → GenericFault items BadGeneric
+  long_length : (n : ℕ) (digits : List RawItem) → IsGenericForm items n digits → 65535 < n
+      → GenericFault items RdataTooLong
+  bad_digits : (n : ℕ) (digits : List RawItem) → IsGenericForm items n digits → n ≤ 65535
+      → ((octets : List ℕ) → JoinTo digits octets → length octets ≢ n)
+      → GenericFault items BadGeneric
 
 -- the digits after the length, in one item where there are any
 abbrev pub digit_items : List ℕ → List RawItem

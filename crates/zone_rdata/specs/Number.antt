@@ -49,4 +49,5 @@ group_seconds g = decimal_value g.digits * g.unit
 -- a number of seconds, or one or more groups that are summed
 pub data IsTime (text : List ℕ) (n : ℕ) : Type 0 where
   plain : IsDecimal text n → IsTime text n
-  grouped : (groups : List Group) → 0 < length groups → AllByRecursion IsTimeGroup groups → text ≡ flat_map group_text groups → n ≡ sum_by group_seconds groups → IsTime text n
+  grouped : (groups : List Group) → 0 < length groups → AllByRecursion IsTimeGroup groups
+      → text ≡ flat_map group_text groups → n ≡ sum_by group_seconds groups → IsTime text n

@@ -35,8 +35,11 @@ pub record ReachesUnit (text : List ℕ) (before : List Written) (rest : List �
 -- the leftmost fault of an item that spells no string: at a backslash that begins no escape, or at
 -- the 256th octet
 pub data StringFault (item : RawItem) : Fault → Type 0 where
-  bad_escape : (before : List Written) (rest : List ℕ) → ReachesUnit (item_text item) before rest → IsBadEscape rest → StringFault item BadEscape
-  long_string : (before : List Written) (w : Written) (rest : List ℕ) → ReachesUnit (item_text item) before (text_of w ++ rest) → length before ≡ 255 → IsUnit no_octet w → StringFault item StringTooLong
+  bad_escape : (before : List Written) (rest : List ℕ) → ReachesUnit (item_text item) before rest
+      → IsBadEscape rest → StringFault item BadEscape
+  long_string : (before : List Written) (w : Written) (rest : List ℕ)
+      → ReachesUnit (item_text item) before (text_of w ++ rest) → length before ≡ 255
+      → IsUnit no_octet w → StringFault item StringTooLong
 
 -- the octets that print as themselves inside quotes, a space and `!` to `~`
 abbrev pub is_shown : ℕ → Bool
@@ -45,7 +48,8 @@ is_shown c = nat_le 32 c && nat_le c 126
 -- an octet between quotes: a quote or a backslash after a backslash, any other by itself or by its
 -- value
 abbrev pub unit_text : ℕ → List ℕ
-unit_text c = if c == 34 || c == 92 then 92 ∷ c ∷ [] else (if is_shown c then c ∷ [] else decimal_escape c)
+unit_text c =
+  if c == 34 || c == 92 then 92 ∷ c ∷ [] else (if is_shown c then c ∷ [] else decimal_escape c)
 
 -- what is printed between the quotes
 abbrev pub inside_text : List ℕ → List ℕ

@@ -113,7 +113,7 @@ pub enum Fault {
 }
 
 impl Fault {
-    /// An equal fault.
+    /// A copy of the fault.
     pub fn copy(&self) -> Fault
         ensures { result ≡ self.now }
     {
@@ -199,7 +199,7 @@ pub enum Stop {
     Refused(Fault, Place),
     /// The reader answered an error.
     Read,
-    /// The writer answered an error, or took nothing of a nonempty piece.
+    /// The writer answered an error, or took no octet of a nonempty buffer.
     Write,
     /// Memory was refused.
     Memory,

@@ -50,7 +50,7 @@ impl Kind {
         }
     }
 
-    /// The type of a word in any case: a mnemonic, or TYPE with a number.
+    /// The type of a word in any letter case: a mnemonic, or TYPE with a number.
     ///
     /// # Errors
     ///
@@ -90,7 +90,7 @@ impl Kind {
     ///
     /// # Errors
     ///
-    /// `out` refuses the octets, and holds what it held.
+    /// `out` refuses the octets, and is unchanged.
     pub fn push_word<S: Sink>(self, class: Class, out: &mut S) -> Result<(), S::Error>
         ensures ok { OnOk result (S.takes out.old (kind_text class self) out.new) }
         ensures err { OnErr result (S.takes out.old [] out.new) }

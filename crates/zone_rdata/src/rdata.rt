@@ -202,7 +202,7 @@ impl Rdata {
         }
     }
 
-    /// Appends the canonical text. Where memory is refused, `out` holds what it held.
+    /// Appends the canonical text. Where memory is refused, `out` is unchanged.
     ///
     /// # Errors
     ///
@@ -223,7 +223,7 @@ impl Rdata {
     ///
     /// # Errors
     ///
-    /// `out` refuses octets. A front of the text may have been appended.
+    /// `out` refuses octets. The beginning of the text may have been appended.
     pub fn print<S: Sink>(&self, out: &mut S) -> Result<(), S::Error>
         ensures ok { OnOk result (S.takes out.old (data_text self.now) out.new) }
         ensures err { OnErr result (TakesSome S.takes out.old out.new) }

@@ -7,7 +7,7 @@ use std::collections::VecDeque;
 
 /// A source of records in order, and the fault after them.
 pub trait RrSource {
-    /// What else it holds.
+    /// What else the source holds.
     ghost Beside: { Type 0 };
 
     ghost beside: { Self → Beside };

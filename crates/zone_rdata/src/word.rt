@@ -12,7 +12,7 @@ use arrayvec::ArrayVec;
 use itoa::Buffer;
 use zone_name::Sink;
 
-/// Whether two words are equal in any case of their letters.
+/// Whether two words are equal but for the case of their letters.
 pub(crate) fn is_word(word: &[u8], wanted: &[u8]) -> bool
     ensures { IsTrue result ↔ (folded_label word.now ≡ folded_label wanted.now) }
 {
@@ -35,7 +35,7 @@ pub(crate) fn numbered(name: &[u8], word: &[u8]) -> Option<u64>
     decimal_of(digits)
 }
 
-/// The row whose mnemonic a word is, in any case.
+/// The row whose mnemonic a word is, in any letter case.
 fn row_named<'r, R: Row>(rows: &'r [R], word: &[u8]) -> Option<&'r R>
     ensures { option_copied result
         ≡ find (λ row. bytes_eq (folded_label word.now) (folded_label (R.names row).mnemonic))
@@ -71,7 +71,7 @@ const LONGEST: usize = 10;
 ///
 /// # Errors
 ///
-/// `out` refuses the octets, and holds what it held.
+/// `out` refuses the octets, and is unchanged.
 pub(crate) fn push_numbered<S: Sink>(word: &[u8], number: u16, out: &mut S) -> Result<(), S::Error>
     requires { length word.now ≤ 5 }
     ensures ok { OnOk result (S.takes out.old (word.now ++ decimal number) out.new) }

@@ -25,7 +25,7 @@ pub record InOneSet (r s : Record) : Type 0 where
   pub kind : r.kind ≡ s.kind
   pub covers : covered_octets (data_of r) ≡ covered_octets (data_of s)
 
--- what records have in common that stand together: one class, one TTL in each set, one SOA at the
+-- what records have in common that stand together: one class, one TTL in each set, one SOA at
 -- most. A set of records is kept as its one strictly ascending list.
 pub record AreCompatible (records : List Record) : Type 0 where
   pub each : AllByRecursion IsRecord records

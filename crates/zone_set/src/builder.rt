@@ -58,11 +58,12 @@ impl ZoneBuilder {
         }
     }
 
-    /// `add` for a record that is lent, which answers without handing it back.
+    /// `add` for a borrowed record, which is not handed back.
     fn hold(&mut self, placed: &Placed) -> Result<(), Refusal>
         ensures accepted { OnOk result (Accepts self.old placed.now.rr) }
         ensures taken { OnOk result (Adds self.old placed.now.rr self.new) }
-        ensures refused { IfErr result (λ e. StopsAdd self.old placed.now (stop_for e placed.now.place)) }
+        ensures refused { IfErr result
+            (λ e. StopsAdd self.old placed.now (stop_for e placed.now.place)) }
         ensures unchanged { OnErr result (self.new ≡ self.old) }
     {
         self.sets.add(self.alloc, &placed.rr)
@@ -76,7 +77,8 @@ impl ZoneBuilder {
     /// refused or the source has failed. The records before it are held, and the one that was
     /// refused is dropped: the source has those after it left. Nothing else of the source changes.
     pub fn take_all<S: RrSource>(&mut self, source: &mut S) -> Result<(), Stop>
-        ensures taken { OnOk result (TakesAll self.old (S.pending source.old) self.new (S.pending source.new)) }
+        ensures taken { OnOk result
+            (TakesAll self.old (S.pending source.old) self.new (S.pending source.new)) }
         ensures stopped { IfErr result
             (StopsTaking self.old (S.pending source.old) self.new (S.pending source.new)) }
         ensures beside { S.beside source.new ≡ S.beside source.old }

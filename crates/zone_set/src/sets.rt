@@ -211,7 +211,7 @@ fn len_in_messages(rr: &Rr) -> u64
 {
     let owner = rr.owner();
     owner.known();
-    // Behind the owner type, class, TTL and the length of the data.
+    // After the owner type, class, TTL and the length of the data.
     owner.wire().len() as u64 + 10 + rr.rdata().octets().len() as u64
 }
 
@@ -229,7 +229,8 @@ fn put(
     kind: Kind,
     datum: Datum,
 ) -> Result<bool, Refusal>
-    ensures told { IfOk result (λ is_new. IsTrue is_new ↔ IsNew (get set_cmp by_key.old key) datum) }
+    ensures told { IfOk result
+        (λ is_new. IsTrue is_new ↔ IsNew (get set_cmp by_key.old key) datum) }
     ensures taken { OnOk result (by_key.new.entries
         ≡ insert_entry set_cmp by_key.old.entries key
         (with_datum (get set_cmp by_key.old key) ttl kind datum)) }

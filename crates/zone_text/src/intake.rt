@@ -1,4 +1,5 @@
-//! Octets of a master file as they come in pieces: the entries that they end, and the one that they leave unfinished.
+//! Octets of a master file as they come in pieces: the entries that they end, and the one that they
+//! leave unfinished.
 ghost use Rattle.std.specs.Prelude.{◌≡◌, ◌+◌, ◌<◌, ◌≤◌, ◌^◌, ◌++◌, [], length, IfSome, IsOk, OnOk, None};
 ghost use Rattle.zone_text.specs.Machine.Feeding.{Follow, FollowOn, IsIntake, reach, ReadsAll, ReadsOctets, ScansTo};
 ghost use Rattle.zone_text.specs.Machine.Scan.{beginning};
@@ -9,12 +10,12 @@ use std::alloc::{AllocError, Global};
 use zone_name::Name;
 use zone_rdata::{Fault, Item};
 
-/// The entries that were ended, and the octets behind them.
+/// The entries that were ended, and the octets after them.
 #[derive(Drop)]
 pub(crate) struct Intake {
     alloc: Global,
     pub(crate) ended: EndedEntries,
-    /// Where the octets of the unfinished entry leave its pieces.
+    /// Where the octets of the unfinished entry leave its tokens.
     pub(crate) at: ScanState,
     /// The octets of the unfinished entry. No other input is kept.
     pub(crate) unfinished: Vec<u8>,
@@ -43,7 +44,8 @@ impl Intake {
         requires fits { reach self.old + length piece.now < 2 ^ 64 }
         ensures is { OnOk result (IsIntake self.new.ended self.new.at self.new.unfinished.items) }
         ensures near { OnOk result (reach self.new ≤ reach self.old + length piece.now) }
-        ensures settled { IfSome self.old.ended.decided.ending (λ _. IsOk result × (self.new ≡ self.old)) }
+        ensures settled { IfSome self.old.ended.decided.ending
+            (λ _. IsOk result × (self.new ≡ self.old)) }
         ensures follow { OnOk result (FollowOn self.old piece.now self.new) }
     {
         let mut items = Vec::new(self.alloc);

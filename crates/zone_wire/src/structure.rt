@@ -37,7 +37,8 @@ fn header_fault(octets: &[u8]) -> Option<Fault>
     if octets.len() < HEADER_LEN {
         return Some(Fault::ShortMessage);
     }
-    // QR, of one bit, and the opcode, of four, stand above AA, TC and RD; RA and Z above RCODE, of four (RFC 1035 4.1.1).
+    // QR, of one bit, and the opcode, of four, stand above AA, TC and RD; RA and Z above RCODE, of
+    // four (RFC 1035 4.1.1).
     if octets[2] >> 3 != 0b10000 {
         Some(Fault::NotAResponse)
     } else if octets[2] >> 1 & 1 != 0 {
@@ -72,7 +73,8 @@ fn question_end(message: &[u8], offset: usize) -> Result<usize, Fault>
     Ok(end + 4)
 }
 
-/// The offset after the record at an offset: its name, type, class, TTL, and its data behind its length (RFC 1035 4.1.3).
+/// The offset after the record at an offset: its name, type, class, TTL, and its data after its
+/// length (RFC 1035 4.1.3).
 fn record_end(message: &[u8], offset: usize) -> Result<usize, Fault>
     ensures { result ≡ part_end_of (λ r. r.end) (record_at message.now offset) }
 {

@@ -18,8 +18,8 @@ use zone_set::Zone;
 pub enum Verdict {
     /// Their canonical texts are equal.
     Same,
-    /// The number of the first line, from 1, at which their canonical texts differ: the one behind the shorter text's last
-    /// where that text begins the other.
+    /// The number of the first line, from 1, at which their canonical texts differ: the one after
+    /// the shorter text's last where that text begins the other.
     Different(u64),
 }
 
@@ -32,13 +32,14 @@ pub enum Which {
     Second,
 }
 
-/// Compares the canonical texts of the zones that two readers' octets denote, without making the texts. Each reader is
-/// read as by [`normalise`](crate::normalise), the second one after the first input was judged whole.
+/// Compares the canonical texts of the zones that two readers' octets denote, without making the
+/// texts. Each reader is read as by [`normalise`](crate::normalise), the second one after the first
+/// input was judged whole.
 ///
 /// # Errors
 ///
-/// The first input that stops it, and by what: `Refused` where its octets denote no zone, `Read` and `Memory`. Where that
-/// is the first input, the second isn't read.
+/// The first input that stops it, and by what: `Refused` where its octets denote no zone, `Read`
+/// and `Memory`. Where that is the first input, the second isn't read.
 pub fn compare<R: Read, S: Read>(
     alloc: Global,
     first_form: Form<'_>,
@@ -50,10 +51,12 @@ pub fn compare<R: Read, S: Read>(
         IfSome (R.remaining first.old) (λ octets. IfSome (S.remaining second.old) (λ others.
         Compares (input_of (form_of first_form.entry) octets)
         (input_of (form_of second_form.entry) others) verdict))) }
-    ensures stopped { IfErr result (λ why. StopsCompare (form_of first_form.entry) (form_of second_form.entry)
+    ensures stopped { IfErr result
+        (λ why. StopsCompare (form_of first_form.entry) (form_of second_form.entry)
         (R.remaining first.old) (S.remaining second.old) (S.remaining second.new) why.0 why.1) }
     ensures few { ConsumesAtMost (text_limit + 1) (R.remaining first.old) (R.remaining first.new) }
-    ensures few_of_second { ConsumesAtMost (text_limit + 1) (S.remaining second.old) (S.remaining second.new) }
+    ensures few_of_second { ConsumesAtMost (text_limit + 1) (S.remaining second.old)
+        (S.remaining second.new) }
 {
     let zone = match accepted_zone(alloc, first_form, first) {
         Ok(zone) => zone,
@@ -65,8 +68,8 @@ pub fn compare<R: Read, S: Read>(
     }
 }
 
-/// The verdict on the canonical texts of two zones. Each line is that of a record, and lines are equal exactly if the
-/// records are, so records are compared.
+/// The verdict on the canonical texts of two zones. Each line is that of a record, and lines are
+/// equal exactly if the records are, so records are compared.
 fn first_difference(zone: &Zone, other: &Zone) -> Verdict
     requires { length (canon zone.now) ≤ text_limit }
     ensures { IsVerdictOnTexts result (canon zone.now) (canon other.now) }

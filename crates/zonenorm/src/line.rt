@@ -6,8 +6,8 @@ ghost use Rattle.zonenorm.specs.Run.{AppendsPart};
 use std::io::Write;
 use zone_rdata::Stop;
 
-/// Writes these words, the line and a line feed. Every error of the writer ends it, `Interrupted` too, and it isn't
-/// flushed.
+/// Writes these words, the line and a line feed. Every error of the writer ends it, `Interrupted`
+/// too, and it isn't flushed.
 ///
 /// # Errors
 ///
@@ -30,8 +30,10 @@ pub(crate) fn write_line<W: Write>(writer: &mut W, words: &str, line: &str) -> R
 ///
 /// `Write`. A front of the octets was written, but not all of them.
 fn write_octets<W: Write>(writer: &mut W, octets: &[u8]) -> Result<(), Stop>
-    ensures written { OnOk result (Appends (W.contents writer.old) (W.contents writer.new) octets.now) }
-    ensures part { OnErr result (AppendsPart (W.contents writer.old) (W.contents writer.new) octets.now) }
+    ensures written { OnOk result
+        (Appends (W.contents writer.old) (W.contents writer.new) octets.now) }
+    ensures part { OnErr result
+        (AppendsPart (W.contents writer.old) (W.contents writer.new) octets.now) }
     ensures stop { IfErr result (λ stop. stop ≡ Stop.Write) }
 {
     let mut rest = octets;

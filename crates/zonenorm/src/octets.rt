@@ -6,8 +6,8 @@ ghost use Rattle.zonenorm.specs.Machine.Stops.{IsOfPiece};
 use std::io::Read;
 use zone_rdata::Stop;
 
-/// What octets are read from. All that reads is proved for every `Failed`, so that it answers `Read` only where a call
-/// of the reader did.
+/// What octets are read from. All that reads is proved for every `Failed`, so that it answers
+/// `Read` only where a call of the reader did.
 pub(crate) trait OctetReader {
     /// The octets that it will give, where they are known.
     ghost remaining: { Self → Option (List ℕ) };
@@ -15,7 +15,8 @@ pub(crate) trait OctetReader {
     /// That it failed.
     ghost Failed: { Self → Type 0 };
 
-    /// Reads into a front of `piece` and answers its length, which is 0 at the end or for an empty piece alone.
+    /// Reads into a front of `piece` and answers its length, which is 0 at the end or for an empty
+    /// piece alone.
     ///
     /// # Errors
     ///

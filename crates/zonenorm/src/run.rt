@@ -14,12 +14,14 @@ use std::alloc::Global;
 use std::io::{Read, Write};
 use zone_rdata::Stop;
 
-/// The whole program over two readers, a writer and an error writer. `normalise` and `explain` read the first reader alone,
-/// and a comparison reads the second once the first was accepted. It answers the exit status: 0 where the canonical text
-/// was written, the zone was accepted or both are the same; 1 where two zones differ; 3 where an input is refused; 4 where
-/// reading, writing or memory failed. Of 3 and 4 a line on the error writer tells why, of a comparison behind the name of
-/// the input; `explain` tells of 3 on the writer. Where that can't be told the status is 4. With 4 the writer got nothing, or
-/// a front of the text or line that the order writes. No writer is flushed.
+/// The whole program over two readers, a writer and an error writer. `normalise` and `explain` read
+/// the first reader alone, and a comparison reads the second once the first was accepted. It
+/// answers the exit status: 0 where the canonical text was written, the zone was accepted or both
+/// are the same; 1 where two zones differ; 3 where an input is refused; 4 where reading, writing or
+/// memory failed. Of 3 and 4 a line on the error writer tells why, of a comparison after the name
+/// of the input; `explain` tells of 3 on the writer. Where that can't be told the status is 4. With
+/// 4 the writer got nothing, or a front of the text or line that the order writes. No writer is
+/// flushed.
 #[tactic(auto, using(crate::proofs::Running::normalised, crate::proofs::Running::normalise_stopped, crate::proofs::Running::explained, crate::proofs::Running::explain_stopped, crate::proofs::Running::compared, crate::proofs::Running::compare_stopped))]
 pub fn run<R1: Read, R2: Read, W: Write, E: Write>(
     alloc: Global,
@@ -120,7 +122,8 @@ fn words_of(which: Which) -> &'static str
     }
 }
 
-/// Tells why a run stopped, behind these words, and answers its status: 4 also where that could not be told.
+/// Tells why a run stopped, after these words, and answers its status: 4 also where that could not
+/// be told.
 fn report<E: Write>(alloc: Global, words: &str, stop: &Stop, errors: &mut E) -> u8
     ensures { TellsStop words.now stop.now (E.contents errors.old) (E.contents errors.new) result }
 {

@@ -7,5 +7,6 @@ pub appended_twice : (a b c x y : List ℕ) → b ≡ a ++ x → c ≡ b ++ y �
 appended_twice a b c x y first second = second ∙ ap (λ t. t ++ y) first ∙ append_assoc a x y
 
 -- octets counted down, and more of them
-pub counted_twice : (a b c : ℕ) (x y : List ℕ) → b ≡ a - length x → c ≡ b - length y → c ≡ a - length (x ++ y)
+pub counted_twice : (a b c : ℕ) (x y : List ℕ) → b ≡ a - length x → c ≡ b - length y
+    → c ≡ a - length (x ++ y)
 counted_twice a b c x y first second = omega (arith, first, second, length-append x y)

@@ -33,15 +33,21 @@ abbrev pub step_at : List (List ℕ) → List ℕ → Ahead → Step
 step_at labels [] at_end = done labels true
 step_at labels (c ∷ open_label) at_end = done (labels ++ folded_label (c ∷ open_label) ∷ []) false
 step_at labels [] (at_dot rest) = failed EmptyLabel
-step_at labels (c ∷ open_label) (at_dot rest) = goes (labels ++ folded_label (c ∷ open_label) ∷ []) [] rest
-step_at labels open_label (at_octet c rest) = if nat_le 63 (length open_label) then failed LabelTooLong else goes labels (open_label ++ c ∷ []) rest
+step_at labels (c ∷ open_label) (at_dot rest) =
+  goes (labels ++ folded_label (c ∷ open_label) ∷ []) [] rest
+step_at labels open_label (at_octet c rest) =
+  if nat_le 63 (length open_label) then failed LabelTooLong
+    else goes labels (open_label ++ c ∷ []) rest
 step_at labels open_label at_fault = failed BadEscape
 
 -- the labels of a text and whether they are all of the name, or the text's own first fault; n is
 -- above the octets that are left
 abbrev pub read : ℕ → List (List ℕ) → List ℕ → List ℕ → Result (List (List ℕ) × Bool) NameFault
 read zero labels open_label rest = Err BadEscape
-read (suc n) labels open_label rest = elim (step_at labels open_label (ahead_in rest)) [ done found whole ↦ Ok (found, whole) | failed fault ↦ Err fault | goes more open_next left ↦ read n more open_next left ]
+read (suc n) labels open_label rest =
+  elim (step_at labels open_label (ahead_in rest))
+    [ done found whole ↦ Ok (found, whole) | failed fault ↦ Err fault
+      | goes more open_next left ↦ read n more open_next left ]
 
 unfoldable pub reading : List ℕ → Result (List (List ℕ) × Bool) NameFault
 reading [] = Err EmptyLabel
@@ -56,7 +62,8 @@ abbrev pub sized : List (List ℕ) → Result (List (List ℕ)) NameFault
 sized labels = if nat_le (length (wire labels)) 255 then Ok labels else Err NameTooLong
 
 -- the name of the labels that were read
-abbrev pub under : Option (List (List ℕ)) → Result (List (List ℕ) × Bool) NameFault → Result (List (List ℕ)) NameFault
+abbrev pub under : Option (List (List ℕ)) → Result (List (List ℕ) × Bool) NameFault
+    → Result (List (List ℕ)) NameFault
 under origin (Err fault) = Err fault
 under origin (Ok (labels, true)) = sized labels
 under None (Ok (labels, false)) = Err RelativeName

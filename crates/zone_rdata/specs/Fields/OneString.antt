@@ -4,7 +4,7 @@ use Rattle.std.specs.Prelude.{ℕ, List, [], ◌∷◌, take}
 use Rattle.zone_rdata.specs.Item.{RawItem, quoted}
 use Rattle.zone_rdata.specs.Strings.{inside_text}
 
--- the string at the front of octets, by the length before it
+-- the string at the beginning of octets, by the length before it
 abbrev pub string_at : List ℕ → List ℕ
 string_at [] = []
 string_at (n ∷ octets) = take n octets

@@ -26,4 +26,5 @@ pub record HoldsStrings (octets : List ℕ) : Type 0 where
 
 -- octets that are one string or more, each after its length
 abbrev pub AreWithLengths : List ℕ → Type 0
-AreWithLengths octets = (many : List (List ℕ)) × AreStrings many × (octets ≡ flat_map with_length many)
+AreWithLengths octets =
+  (many : List (List ℕ)) × AreStrings many × (octets ≡ flat_map with_length many)

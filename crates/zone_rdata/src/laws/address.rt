@@ -33,7 +33,8 @@ pub fn printed_addresses_are_plain()
 pub fn the_longest_zero_run_is_shortened()
     ensures run { (octets : Octets) (start len : ℕ) → IsShortenedRun (segments_of octets) start len
         → ipv6_text octets ≡ shortened_groups (segments_of octets) start len }
-    ensures none { (octets : Octets) → ((start len : ℕ) → IsShortenedRun (segments_of octets) start len → ⊥)
+    ensures none { (octets : Octets)
+        → ((start len : ℕ) → IsShortenedRun (segments_of octets) start len → ⊥)
         → ipv6_text octets ≡ parted_groups (segments_of octets) }
     ensures exists { (groups : List ℕ) (start len : ℕ) → IsZeroRun groups start len → 2 ≤ len
         → (first longest : ℕ) × IsShortenedRun groups first longest }

@@ -28,7 +28,7 @@ pub fn equal_octets_are_equal_values()
         → octets_of values ≡ octets_of others → values ≡ others }
 {}
 
-/// The values of a layout are got back from their octets.
+/// The values of a layout are read back from their octets.
 pub fn values_are_got_back()
     ensures { (class kind : ℕ) (fields : List Field) (values : List FieldValue)
         → layout class kind ≡ Some fields → HoldEach fields values
