@@ -19,7 +19,7 @@ left_less old mid new text rest part others left e taken = record {
   taken = Appends-trans old mid new left.front part left.taken taken;
 }
 
--- the front of n octets of the rest is taken
+-- the first n octets of the rest are taken
 pub left_after : (old mid new : Option (List ℕ)) (text rest : List ℕ) (n : ℕ) → Left old mid text rest → Appends mid new (take n rest) → Left old new text (drop n rest)
 left_after old mid new text rest n left taken = left_less old mid new text rest (take n rest) (drop n rest) left (sym (take-append-drop n rest)) taken
 

@@ -18,7 +18,7 @@ same_text class class' kind kind' octets e f =
 regroup : (a b c d e f : List ℕ) → a ++ b ++ c ++ d ++ e ++ f ≡ a ++ (b ++ (c ++ (d ++ (e ++ f))))
 regroup a b c d e f = simp append_assoc
 
--- the spaces and the line feed, each in front of what stands behind it
+-- the spaces and the line feed, each before what follows it
 pub line_parts : (owner ttl class kind rdata : List ℕ) → owner ++ 32 ∷ ttl ++ 32 ∷ class ++ 32 ∷ kind ++ 32 ∷ rdata ++ 10 ∷ [] ≡ owner ++ (32 ∷ (ttl ++ (32 ∷ (class ++ (32 ∷ (kind ++ (32 ∷ (rdata ++ 10 ∷ []))))))))
 line_parts owner ttl class kind rdata = regroup owner (32 ∷ ttl) (32 ∷ class) (32 ∷ kind) (32 ∷ rdata) (10 ∷ [])
 
@@ -29,7 +29,7 @@ line_split r =
     line_parts (name_text r.owner) (decimal r.ttl) (class_text r.class) (kind_text r.class r.kind) value
     ∙ ap (λ l. name_text r.owner ++ l) (sym (regroup [] (32 ∷ decimal r.ttl) (32 ∷ class_text r.class) (32 ∷ kind_text r.class r.kind) (32 ∷ []) (value ++ 10 ∷ [])))
 
--- owner, middle and what stands behind them were pushed
+-- owner, middle and what follows them were pushed
 pub line_pushed : (old named numbered new owner middle : List ℕ) (r : Record) → owner ≡ name_text r.owner → middle ≡ line_middle r
     → named ≡ old ++ owner → numbered ≡ named ++ middle → new ≡ numbered ++ (data_text (data_of r) ++ 10 ∷ []) → new ≡ old ++ line r
 line_pushed old named numbered new owner middle r e f g h i =

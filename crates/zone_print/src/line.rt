@@ -27,7 +27,7 @@ pub(crate) fn push_middle<S: Sink>(out: &mut S, rr: &RrRef) -> Result<(), S::Err
     out.push(b" ")
 }
 
-/// Appends the record's data and the line feed behind it.
+/// Appends the record's data and the line feed after it.
 ///
 /// # Errors
 ///

@@ -126,7 +126,8 @@ fn hold_owner(text: &mut Vec<u8>, last: &Option<RrRef>, rr: &RrRef) -> Result<()
     rr.owner.print(text)
 }
 
-/// Makes the text what stands between the record's owner and its data, where it isn't already the last one's.
+/// Makes the text what stands between the record's owner and its data, where it isn't already the
+/// last one's.
 fn hold_middle(text: &mut Vec<u8>, last: &Option<RrRef>, rr: &RrRef) -> Result<(), AllocError>
     requires { IfSome last.now (λ last. text.old.items ≡ line_middle (record_of last)) }
     ensures { OnOk result (text.new.items ≡ line_middle (record_of rr.now)) }

@@ -19,7 +19,8 @@ pub const TEXT_LIMIT: u64 = 1_073_741_824;
 /// How many octets of lines are gathered before they are written.
 const WRITE_LEN: usize = 65_536;
 
-/// The length of the canonical text in octets, or one more than [`TEXT_LIMIT`] where it is longer. Takes no memory.
+/// The length of the canonical text in octets, or one more than [`TEXT_LIMIT`] where it is longer.
+/// Takes no memory.
 pub fn canon_len(zone: &Zone) -> u64
     ensures { result ≡ min (length (canon zone.now)) (text_limit + 1) }
 {
@@ -37,7 +38,8 @@ pub fn text_fits(zone: &Zone) -> bool
 ///
 /// # Errors
 ///
-/// `ZoneTooLarge` at the input as a whole where the text has more than [`TEXT_LIMIT`] octets; `Memory`.
+/// `ZoneTooLarge` at the input as a whole where the text has more than [`TEXT_LIMIT`] octets;
+/// `Memory`.
 pub fn push_zone(alloc: Global, zone: &Zone) -> Result<Vec<u8>, Stop>
     ensures text { IfOk result (λ text. text.items ≡ canon zone.now) }
     ensures short { OnOk result (length (canon zone.now) ≤ text_limit) }
@@ -75,8 +77,8 @@ pub(crate) fn len_within(zone: &Zone, limit: u64) -> u64
     limit + 1 - room.left
 }
 
-/// Whether the canonical text has at most so many octets. It is counted only where four times the octets of the records
-/// in messages are more.
+/// Whether the canonical text has at most so many octets. It is counted only where four times the
+/// octets of the records in messages are more.
 fn text_fits_within(zone: &Zone, limit: u64) -> bool
     requires { limit ≤ text_limit }
     ensures { IsTrue result ↔ length (canon zone.now) ≤ limit }
@@ -111,7 +113,8 @@ pub(crate) fn write_within<W: OctetWriter>(
     limit: u64,
 ) -> Result<(), Stop>
     requires { limit ≤ text_limit }
-    ensures text { OnOk result (Appends (W.contents writer.old) (W.contents writer.new) (canon zone.now)) }
+    ensures text { OnOk result
+        (Appends (W.contents writer.old) (W.contents writer.new) (canon zone.now)) }
     ensures short { OnOk result (length (canon zone.now) ≤ limit) }
     ensures stopped { IfErr result
         (StopsWrite limit (canon zone.now) (W.contents writer.old) (W.contents writer.new)) }

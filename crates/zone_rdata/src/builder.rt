@@ -35,7 +35,9 @@ impl Model for RdataBuilder {
 
     ghost Value = { Built };
 
-    ghost view = { λ b. record { class = b.class; kind = b.kind; parts = parts_of (layout b.class b.kind) b.count b.octets.items } };
+    ghost view = { λ b.
+        record { class = b.class; kind = b.kind;
+          parts = parts_of (layout b.class b.kind) b.count b.octets.items } };
 
     ghost invariant = { λ b. IsBuilt b.class b.kind b.count b.octets.items };
 }
@@ -65,12 +67,13 @@ impl RdataBuilder {
         }
     }
 
-    /// Pushes an address, or the octets of opaque data. Refused, the builder has what it had.
+    /// Pushes an address, or the octets of opaque data. On an error the builder is unchanged.
     ///
     /// # Errors
     ///
-    /// `BadRdata` where that isn't the next part or the octets are not as many as the field's, `RdataTooLong` where
-    /// the data would have more than 65,535 octets; and `Memory` where memory is refused.
+    /// `BadRdata` where that isn't the next part or the octets are not as many as the field's,
+    /// `RdataTooLong` where the data would have more than 65,535 octets; and `Memory` where memory
+    /// is refused.
     pub fn push_octets(&mut self, octets: &[u8]) -> Result<(), Failing>
         ensures ok { OnOk result (Pushes self.old (fixed octets.now) self.new) }
         ensures fault { IfErr result (IfFault (IsPushFault self.old (fixed octets.now))) }
@@ -79,12 +82,12 @@ impl RdataBuilder {
         self.push(Pushed::Octets(octets))
     }
 
-    /// Pushes a number of 16 bits. Refused, the builder has what it had.
+    /// Pushes a number of 16 bits. On an error the builder is unchanged.
     ///
     /// # Errors
     ///
-    /// `BadRdata` where that isn't the next part, `RdataTooLong` where the data would have more than 65,535 octets; and
-    /// `Memory` where memory is refused.
+    /// `BadRdata` where that isn't the next part, `RdataTooLong` where the data would have more
+    /// than 65,535 octets; and `Memory` where memory is refused.
     pub fn push_u16(&mut self, number: u16) -> Result<(), Failing>
         ensures ok { OnOk result (Pushes self.old (u16_value number) self.new) }
         ensures fault { IfErr result (IfFault (IsPushFault self.old (u16_value number))) }
@@ -93,11 +96,12 @@ impl RdataBuilder {
         self.push(Pushed::U16(number))
     }
 
-    /// Pushes a number of 32 bits, a serial or a time in seconds. Refused, the builder has what it had.
+    /// Pushes a number of 32 bits, a serial or a time in seconds. On an error the
+    /// builder is unchanged.
     ///
     /// # Errors
     ///
-    /// As `push_u16` has.
+    /// Those of `push_u16`.
     pub fn push_u32(&mut self, number: u32) -> Result<(), Failing>
         ensures ok { OnOk result (Pushes self.old (u32_value number) self.new) }
         ensures fault { IfErr result (IfFault (IsPushFault self.old (u32_value number))) }
@@ -106,11 +110,11 @@ impl RdataBuilder {
         self.push(Pushed::U32(number))
     }
 
-    /// Pushes a name. Refused, the builder has what it had.
+    /// Pushes a name. On an error the builder is unchanged.
     ///
     /// # Errors
     ///
-    /// As `push_u16` has.
+    /// Those of `push_u16`.
     pub fn push_name(&mut self, target: &Name) -> Result<(), Failing>
         ensures ok { OnOk result (Pushes self.old (name target.now) self.new) }
         ensures fault { IfErr result (IfFault (IsPushFault self.old (name target.now))) }
@@ -119,7 +123,8 @@ impl RdataBuilder {
         self.push(Pushed::Name(target))
     }
 
-    /// Pushes a string, the next field or one more of several. Refused, the builder has what it had.
+    /// Pushes a string, the next field or one more of several. On an error the
+    /// builder is unchanged.
     ///
     /// # Errors
     ///
@@ -181,7 +186,7 @@ fn least_parts(class: Class, kind: Kind) -> usize
     }
 }
 
-/// Whether the part is the next behind so many.
+/// Whether the part can be the next after `count` parts.
 fn is_next(class: Class, kind: Kind, count: usize, part: Pushed) -> bool
     ensures { IsTrue result ↔ IsNext (layout class kind) count (value_of part.entry) }
 {
@@ -205,7 +210,7 @@ fn known(part: Pushed)
     }
 }
 
-/// Appends the octets of a part. Refused, `out` holds what it held.
+/// Appends the octets of a part. If it is refused, `out` is unchanged.
 fn append(part: Pushed, out: &mut Vec<u8>) -> Result<(), Failing>
     requires { length out.old.items ≤ LONGEST_DATA }
     ensures ok { OnOk result (Grows out.old.items (value_of part.entry) out.new.items) }
@@ -221,7 +226,7 @@ fn append(part: Pushed, out: &mut Vec<u8>) -> Result<(), Failing>
     }
 }
 
-/// Appends octets. Refused, `out` holds what it held.
+/// Appends octets. If they are refused, `out` is unchanged.
 fn append_octets(octets: &[u8], out: &mut Vec<u8>) -> Result<(), Failing>
     requires { length out.old.items ≤ LONGEST_DATA }
     ensures ok { OnOk result (Grows out.old.items (fixed octets.now) out.new.items) }
@@ -235,7 +240,7 @@ fn append_octets(octets: &[u8], out: &mut Vec<u8>) -> Result<(), Failing>
     Ok(())
 }
 
-/// Appends a string behind its length. Refused, `out` holds what it held.
+/// Appends a string after its length. If it is refused, `out` is unchanged.
 fn append_string(octets: &[u8], out: &mut Vec<u8>) -> Result<(), Failing>
     requires { length out.old.items ≤ LONGEST_DATA }
     ensures ok { OnOk result (Grows out.old.items (string octets.now) out.new.items) }

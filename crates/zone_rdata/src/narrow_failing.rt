@@ -21,7 +21,8 @@ pub(crate) enum Cause {
     Memory,
 }
 
-/// Why items state no data, in one octet: a `Failing` has room for a name. Contracts see the failing.
+/// Why items state no data, in one octet: a `Failing` has room for a name. Contracts see the
+/// failing.
 #[derive(Debug, Drop)]
 pub(crate) struct NarrowFailing {
     cause: Cause,

@@ -31,7 +31,7 @@ use Rattle.zone_text.proofs.Scanned.{goes_on, ends_entry, stays_open, loses_esca
 
 -- ---- what is left of the octets fed so far, entry by entry
 
--- the ended entries, the octets behind them, what they leave, and the records that they state
+-- the ended entries, the octets after them, what they leave, and the records that they state
 pub record IsRead (origin : Labels) (ended : List (List Piece)) (entries : EndedEntries) (unfinished fed : List ℕ) (given : List Placed) : Type 0 where
   pub parts : IsSplit fed ended unfinished
   pub defaults : AreDefaults origin (reverse (numbered 1 ended)) entries.defaults
@@ -51,7 +51,7 @@ is_read origin entries unfinished fed given none follow =
       },
     )
 
--- ---- the octets of the unfinished entry and others behind them
+-- ---- the octets of the unfinished entry and others after them
 
 pub scans_on : (at : ScanState) (unfinished part : List ℕ) (step : Step) → ScansTo beginning unfinished (On at) → ScansTo at part step → ScansTo beginning (unfinished ++ part) step
 scans_on at unfinished part step before behind =
@@ -86,7 +86,7 @@ follow_on origin entries at unfinished part fed given scanned none follow =
 reverse_more : (entries : List Entry) (entry : Entry) → reverse (entries ++ entry ∷ []) ≡ entry ∷ reverse entries
 reverse_more entries entry = reverse-append entries (entry ∷ [])
 
--- the entries behind one more
+-- the entries after one more
 numbered_more : (ended : List (List Piece)) (pieces : List Piece) → reverse (numbered 1 (ended ++ pieces ∷ [])) ≡ entry_of (line_behind ended) pieces ∷ reverse (numbered 1 ended)
 numbered_more ended pieces =
     ap reverse (numbered_then 1 ended (pieces ∷ [])) ∙ reverse_more (numbered 1 ended) (entry_of (line_behind ended) pieces)

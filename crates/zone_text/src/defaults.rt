@@ -16,7 +16,7 @@ use std::alloc::{AllocError, Global};
 use zone_name::Name;
 use zone_rdata::{Class, Failing, Fault, Item, Place, Reading};
 
-/// What the entries of a master file leave to those behind them (RFC 1035 5.1, RFC 2308 4).
+/// What the entries of a master file leave to those after them (RFC 1035 5.1, RFC 2308 4).
 #[derive(Debug, Drop)]
 pub(crate) struct Defaults {
     /// The origin of relative names.
@@ -55,10 +55,12 @@ impl Defaults {
         }
     }
 
-    /// Reads an entry behind those before it, and takes what it decides into `decided`: the record that it states, with
-    /// its place; or its first fault; or nothing, as of a blank entry, `$ORIGIN` and `$TTL`. The entry is known to be
-    /// cut into pieces. `items` holds nothing that is used again. Behind a fault the defaults say nothing.
-    // Records and faults hold names, and are wide. So they are written where they go, and not handed up.
+    /// Reads the entry after those before it, and takes what it decides into `decided`: the record
+    /// that it states, with its place; or its first fault; or nothing, as of a blank entry,
+    /// `$ORIGIN` and `$TTL`. The entry is known to be cut into pieces. `items` holds nothing that
+    /// is used again. After a fault the defaults say nothing.
+    // Records and faults hold names, and are wide. So they are written where they go, and not
+    // handed up.
     pub(crate) fn read<'t>(
         &mut self,
         alloc: Global,

@@ -14,9 +14,9 @@ use zone_rdata::{Fault, Item, Place, Reading};
 pub(crate) struct EndedEntries {
     /// Their records that were not given yet, and the fault.
     pub(crate) decided: Reading,
-    /// What they leave to the entries behind them.
+    /// What they leave to the entries after them.
     pub(crate) defaults: Defaults,
-    /// The line behind them.
+    /// The line after them.
     pub(crate) line: u64,
 }
 
@@ -50,7 +50,8 @@ impl EndedEntries {
         }
     }
 
-    /// Reads the entry behind them, which is known to be cut into pieces. `items` holds nothing that is used again.
+    /// Reads the entry after them, which is known to be cut into tokens. `items` holds nothing that
+    /// is used again.
     pub(crate) fn read<'t>(
         &mut self,
         alloc: Global,
@@ -68,10 +69,11 @@ impl EndedEntries {
         Ok(())
     }
 
-    /// Decides the fault of the entry behind them.
+    /// Decides the fault of the entry after them.
     pub(crate) fn refuse(&mut self, fault: Fault)
         ensures records { self.new.decided.placed.items ≡ self.old.decided.placed.items }
-        ensures ending { self.new.decided.ending ≡ Some (record { 0 = fault; 1 = Place.Line self.old.line }) }
+        ensures ending { self.new.decided.ending
+            ≡ Some (record { 0 = fault; 1 = Place.Line self.old.line }) }
         ensures line { self.new.line ≡ self.old.line }
     {
         self.decided.ending = Some((fault, Place::Line(self.line)));

@@ -11,9 +11,9 @@ use zone_rdata::Item;
 /// A directive (RFC 1035 5.1; `$TTL` RFC 2308 4).
 #[derive(Drop)]
 pub(crate) enum Directive<'i, 't> {
-    /// `$ORIGIN`, and the items behind the word.
+    /// `$ORIGIN`, and the items after the word.
     Origin(&'i [Item<'t>]),
-    /// `$TTL`, and the items behind the word.
+    /// `$TTL`, and the items after the word.
     Ttl(&'i [Item<'t>]),
     /// `$INCLUDE`, which isn't read.
     Include,
@@ -28,7 +28,7 @@ pub(crate) enum EntryForm<'i, 't> {
     Blank,
     /// A directive.
     Directive(Directive<'i, 't>),
-    /// A record that states its owner, and the items behind the owner.
+    /// A record that states its owner, and the items after the owner.
     Owned(Item<'t>, &'i [Item<'t>]),
     /// A record that omits its owner.
     Unowned(&'i [Item<'t>]),

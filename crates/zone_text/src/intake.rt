@@ -1,4 +1,5 @@
-//! Octets of a master file as they come in pieces: the entries that they end, and the one that they leave unfinished.
+//! Octets of a master file as they come in pieces: the entries that they end, and the one that they
+//! leave unfinished.
 ghost use Rattle.std.specs.Prelude.{◌≡◌, ◌+◌, ◌<◌, ◌≤◌, ◌^◌, ◌++◌, [], length, IfSome, IsOk, OnOk, None};
 ghost use Rattle.zone_text.specs.Machine.Feeding.{Follow, FollowOn, IsIntake, reach, ReadsAll, ReadsOctets, ScansTo};
 ghost use Rattle.zone_text.specs.Machine.Scan.{beginning};
@@ -10,12 +11,12 @@ use std::alloc::{AllocError, Global};
 use zone_name::Name;
 use zone_rdata::{Fault, Item};
 
-/// The entries that were ended, and the octets behind them.
+/// The entries that were ended, and the octets after them.
 #[derive(Drop)]
 pub(crate) struct Intake {
     alloc: Global,
     pub(crate) ended: EndedEntries,
-    /// Where the octets of the unfinished entry leave its pieces.
+    /// Where the octets of the unfinished entry leave its tokens.
     pub(crate) at: ScanState,
     /// The octets of the unfinished entry. No other input is kept.
     pub(crate) unfinished: Vec<u8>,

@@ -9,8 +9,9 @@ use std::marker::Model;
 use zone_name::Name;
 use zone_rdata::{Placed, Reading, RrSource, Stop};
 
-/// The records of a master file (RFC 1035 5.1) that is fed in pieces. It gives a record as soon as a line feed has ended
-/// its entry. Contracts see what it has still to give and what it holds beside.
+/// The records of a master file (RFC 1035 5.1) that is fed in pieces. It gives a record as soon as
+/// a line feed has ended its entry. Contracts see the records that it has left to give, the fault
+/// after them, and what else it holds.
 ///
 /// Refused memory, it has failed: every later `feed`, `finish` and `next` answers `Memory`.
 #[derive(Drop)]
@@ -72,8 +73,8 @@ impl TextSource {
         }
     }
 
-    /// Takes the next piece of the file, of any length. Once a fault is decided a piece is counted alone, which takes no
-    /// memory.
+    /// Takes the next piece of the file, of any length. Once a fault is decided a piece is counted
+    /// alone, which takes no memory.
     ///
     /// # Errors
     ///
@@ -148,8 +149,9 @@ impl TextSource {
         matches!(self.status, Status::Finished)
     }
 
-    /// The number of octets of the file that the source keeps: those behind the last line feed that ended an entry, and
-    /// none once a fault is decided, the file has ended or the source has failed.
+    /// The number of octets of the file that the source keeps: those after the last line feed that
+    /// ended an entry, and none once a fault is decided, the file has ended or the source has
+    /// failed.
     pub fn undecided(&self) -> usize
         ensures held { result ≡ length self.now.held.unfinished }
         ensures decided { IfSome self.now.pending.ending (λ _. result ≡ 0) }
@@ -166,7 +168,7 @@ impl TextSource {
         self.fed
     }
 
-    /// What it has still to give.
+    /// What it has left to give.
     pub(crate) fn into_reading(self) -> Reading
         ensures records { result.placed.items ≡ self.pending.records }
         ensures ending { result.ending ≡ self.pending.ending }

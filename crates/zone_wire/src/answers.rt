@@ -90,7 +90,8 @@ impl<'m> RawRr<'m> {
     }
 }
 
-/// The answers of a message that are still to come, in order (RFC 1035 4.1). Contracts see their list.
+/// The answers of a message that are still to come, in order (RFC 1035 4.1). Contracts see their
+/// list.
 #[derive(Debug, Drop)]
 pub struct Answers<'m> {
     /// The octets of the whole message.

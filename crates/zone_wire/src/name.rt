@@ -25,10 +25,11 @@ pub struct Decoded {
 ///
 /// # Errors
 ///
-/// The fault at the first place of the name that has one, and the steps of the walk: one for each place that was looked
-/// at.
+/// The fault at the first place of the name that has one, and the steps of the walk: one for each
+/// place that was looked at.
 pub fn name_at(message: &[u8], offset: usize) -> Result<Decoded, (Fault, u16)>
-    ensures found { IfOk result (λ d. (pointers : ℕ) × IsNameAt message.now offset (found_by d pointers)) }
+    ensures found { IfOk result
+        (λ d. (pointers : ℕ) × IsNameAt message.now offset (found_by d pointers)) }
     ensures only { (found : Found) → IsNameAt message.now offset found → IsOk result }
     ensures within { IfOk result (λ d. (offset < d.end) × (d.end ≤ length message.now)) }
     ensures fault { IfErr result (λ e. NameFault message.now offset e.0) }

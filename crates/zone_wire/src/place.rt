@@ -24,10 +24,12 @@ pub(crate) const NSCOUNT: usize = 8;
 /// Where a header says how many additional records there are (RFC 1035 4.1.1).
 pub(crate) const ARCOUNT: usize = 10;
 
-/// The octets of a record between its name and its data: its type, its class, its TTL and the data's length (RFC 1035 4.1.3).
+/// The octets of a record between its name and its data: its type, its class, its TTL and the
+/// data's length (RFC 1035 4.1.3).
 pub(crate) const RECORD_HEAD_LEN: usize = 10;
 
-/// The greatest number of pointers through which a name is followed. RFC 1035 states none; this is the project's own choice.
+/// The greatest number of pointers through which a name is followed. RFC 1035 states none; this is
+/// the project's own choice.
 const MAX_POINTERS: usize = 128;
 
 /// What the two high bits of a pointer, both set, count in its 16 bits (RFC 1035 4.1.4).
@@ -85,7 +87,8 @@ pub(crate) enum Standing {
     Bad(PlaceFault),
 }
 
-/// What stands at a place, by its first octet. Where there is one, it counts a step before it looks at it.
+/// What stands at a place, by its first octet. Where there is one, it counts a step before it looks
+/// at it.
 #[tactic(auto, unfolding(crate::specs::Walk::place_of))]
 pub(crate) fn place_at(message: &[u8], spot: Spot, ticks: &mut Ticks) -> Standing
     requires octets { spot.octets < 256 }
@@ -98,7 +101,8 @@ pub(crate) fn place_at(message: &[u8], spot: Spot, ticks: &mut Ticks) -> Standin
     }
     ticks.tick();
     let first = message[spot.offset];
-    // The two high bits say the form: 00 is a label's length, 11 a pointer, and the others are reserved (RFC 1035 4.1.4).
+    // The two high bits say the form: 00 is a label's length, 11 a pointer, and the others are
+    // reserved (RFC 1035 4.1.4).
     match first {
         0 => Standing::Root,
         1..=63 => label_at(message, spot, first as usize),
@@ -156,7 +160,7 @@ impl Spot {
         }
     }
 
-    /// Behind a label of this many octets.
+    /// The place after a label of this many octets.
     pub(crate) fn past_label(self, size: usize) -> Spot
         requires offset { self.offset + 1 + size < 2 ^ 64 }
         requires octets { self.octets + 1 + size < 256 }

@@ -41,7 +41,8 @@ fn header_fault(octets: &[u8]) -> Option<Fault>
     if octets.len() < HEADER_LEN {
         return Some(Fault::ShortMessage);
     }
-    // QR, of one bit, and the opcode, of four, stand above AA, TC and RD; RA and Z above RCODE, of four (RFC 1035 4.1.1).
+    // QR, of one bit, and the opcode, of four, stand above AA, TC and RD; RA and Z above RCODE, of
+    // four (RFC 1035 4.1.1).
     if octets[2] >> 3 != 0b10000 {
         Some(Fault::NotAResponse)
     } else if octets[2] >> 1 & 1 != 0 {

@@ -67,7 +67,8 @@ begun Stands form pending inside held refusal none unrefused begins = all_taken 
 
 -- ---- what was read so far
 
--- The octets that the reader gave, and what was taken of them for each form under which the source began with nothing
+-- The octets that the reader gave, and what was taken of them for each form under which the source
+-- began with nothing
 pub record HasFed (Began : InputForm → Type 0) (Taken : InputForm → Octets → Type 0) (old new : Option Octets) (count fed limit : ℕ) : Type 0 where
   pub given : Octets
   pub consumed : Consumes old new given

@@ -15,7 +15,7 @@ pub part_first : (old new : Option (List ℕ)) (piece front back : List ℕ) →
 part_first old new piece front back is (taken, rest, some, split, appended) =
     (taken, rest ++ back, some_more rest back some, ap (λ (l : List ℕ). l ++ back) (sym is ∙ split) ∙ append_assoc taken rest back, appended)
 
--- so is the front and a part of what is behind it
+-- so is the beginning and a part of what follows it
 pub part_then : (old mid new : Option (List ℕ)) (piece front back : List ℕ) → piece ≡ front → Appends old mid piece → AppendsPart mid new back → AppendsPart old new (front ++ back)
 part_then old mid new piece front back is whole (taken, rest, some, split, appended) =
     (piece ++ taken, rest, some, ap (λ (l : List ℕ). l ++ back) (sym is) ∙ ap (λ (l : List ℕ). piece ++ l) split ∙ sym (append_assoc piece taken rest), Appends-trans old mid new piece taken whole appended)

@@ -1,5 +1,5 @@
--- What comparing two inputs answers: that their canonical texts are equal, or the first line at which they differ (this
--- project's own).
+-- What comparing two inputs answers: that their canonical texts are equal, or the first line at
+-- which they differ (this project's own).
 use Rattle.std.specs.Prelude.{◌≡◌, ◌≢◌, ℕ, zero, suc, ◌<◌, ◌≤◌, ◌==◌, if◌then◌else◌, List, [], ◌∷◌, slice_get, Option, None, IfSome}
 use Rattle.std.specs.Io.KnownBytes.{IsAtEnd, Keeps}
 use Rattle.std.specs.List.{onto_first}
@@ -15,12 +15,13 @@ use Rattle.zonenorm.specs.declared.compare.Verdict.TheVariants.{Same, Different}
 use Rattle.zonenorm.specs.declared.compare.Which.{Which}
 use Rattle.zonenorm.specs.declared.compare.Which.TheVariants.{First, Second}
 
--- the lines of a text, each with the line feed that ends it; octets behind the last line feed are a line too
+-- the lines of a text, each with the line feed that ends it; octets after the last line feed are a
+-- line too
 abbrev pub lines_of : List ℕ → List (List ℕ)
 lines_of [] = []
 lines_of (c ∷ text) = if c == 10 then (c ∷ []) ∷ lines_of text else onto_first c (lines_of text)
 
--- the line of this number, from 1; there is none behind the last
+-- the line of this number, from 1; there is none after the last
 abbrev pub line_at : List ℕ → ℕ → Option (List ℕ)
 line_at text zero = None
 line_at text (suc n) = slice_get (lines_of text) n
@@ -48,7 +49,8 @@ pub record Compares (first second : Input) (verdict : Verdict) : Type 0 where
 abbrev pub IsAccepted : InputForm → Option (List ℕ) → Type 0
 IsAccepted form known = IfSome known (λ octets. (z : Zone) × InputDenotes (input_of form octets) z)
 
--- an input was not read: known octets are refused so, the reader answered an error, or memory was refused
+-- an input was not read: known octets are refused so, the reader answered an error, or memory was
+-- refused
 pub record StopsReading (form : InputForm) (known : Option (List ℕ)) (stop : Stop) : Type 0 where
   pub kind : IsOfReading stop
   pub fault : IfSome known (λ octets. IfRefused stop (IsRefusal (input_of form octets)))

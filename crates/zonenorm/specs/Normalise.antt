@@ -8,7 +8,8 @@ use Rattle.zone_print.specs.Canonical.{canon}
 use Rattle.zone_print.specs.Writing.{AppendsPart}
 use Rattle.zonenorm.specs.Input.{Input, InputDenotes}
 
--- The input denotes a zone, its canonical text and nothing else was written, and the answer is the number of its records.
+-- The input denotes a zone, its canonical text and nothing else was written, and the answer is the
+-- number of its records.
 pub record Normalises (input : Input) (old new : Option (List ℕ)) (count : ℕ) : Type 0 where
   pub zone : Zone
   pub denotes : InputDenotes input zone
@@ -35,8 +36,8 @@ IsOfBytes Read = ⊥
 IsOfBytes Write = ⊥
 IsOfBytes Memory = Unit {0}
 
--- the stops of a call that has a reader and no writer: the input is refused, the reader answered an error, or memory was
--- refused
+-- the stops of a call that has a reader and no writer: the input is refused, the reader answered an
+-- error, or memory was refused
 abbrev pub IsOfReading : Stop → Type 0
 IsOfReading (Refused fault place) = Unit {0}
 IsOfReading Read = Unit {0}

@@ -19,8 +19,8 @@ use zone_set::Zone;
 pub enum Verdict {
     /// Their canonical texts are equal.
     Same,
-    /// The number of the first line, from 1, at which their canonical texts differ: the one behind the shorter text's last
-    /// where that text begins the other.
+    /// The number of the first line, from 1, at which their canonical texts differ: the one after
+    /// the shorter text's last where that text begins the other.
     Different(u64),
 }
 
@@ -33,8 +33,9 @@ pub enum Which {
     Second,
 }
 
-/// Compares the canonical texts of the zones that two readers' octets denote, without making the texts. Each reader is
-/// read as by [`normalise`](crate::normalise), the second one after the first input was judged whole.
+/// Compares the canonical texts of the zones that two readers' octets denote, without making the
+/// texts. Each reader is read as by [`normalise`](crate::normalise), the second one after the first
+/// input was judged whole.
 ///
 /// # Errors
 ///
@@ -51,7 +52,8 @@ pub fn compare<R: OctetReader, S: OctetReader>(
         IfSome (R.remaining first.old) (λ octets. IfSome (S.remaining second.old) (λ others.
         Compares (input_of (form_of first_form.entry) octets)
         (input_of (form_of second_form.entry) others) verdict))) }
-    ensures stopped { IfErr result (λ why. StopsCompare (form_of first_form.entry) (form_of second_form.entry)
+    ensures stopped { IfErr result
+        (λ why. StopsCompare (form_of first_form.entry) (form_of second_form.entry)
         (R.remaining first.old) (S.remaining second.old) (S.remaining second.new) why.0 why.1) }
     ensures few { ConsumesAtMost (text_limit + 1) (R.remaining first.old) (R.remaining first.new) }
     ensures few_of_second { ConsumesAtMost (text_limit + 1) (S.remaining second.old) (S.remaining second.new) }
@@ -75,8 +77,8 @@ pub fn compare<R: OctetReader, S: OctetReader>(
     }
 }
 
-/// The verdict on the canonical texts of two zones. Each line is that of a record, and lines are equal exactly if the
-/// records are, so records are compared.
+/// The verdict on the canonical texts of two zones. Each line is that of a record, and lines are
+/// equal exactly if the records are, so records are compared.
 fn first_difference(zone: &Zone, other: &Zone) -> Verdict
     requires { length (canon zone.now) ≤ text_limit }
     ensures { IsVerdictOnTexts result (canon zone.now) (canon other.now) }

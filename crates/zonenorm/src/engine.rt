@@ -22,8 +22,8 @@ use zone_text::TextSource;
 use zone_text::laws::file::of_nothing_nothing_is_decided;
 use zone_wire::TransferSource;
 
-/// Writes the canonical text of the zone that the reader's octets denote, and answers the number of its records. The
-/// reader is read to its end, or to the octet behind [`TEXT_LIMIT`], in pieces.
+/// Writes the canonical text of the zone that the reader's octets denote, and answers the number of
+/// its records. The reader is read to its end, or to the octet after [`TEXT_LIMIT`], in pieces.
 ///
 /// # Errors
 ///
@@ -69,7 +69,8 @@ pub fn normalise<R: OctetReader, W: OctetWriter>(
 ///
 /// # Errors
 ///
-/// `Refused` where they denote none, also where its canonical text is too long; `Read` and `Memory`.
+/// `Refused` where they denote none, also where its canonical text is too long; `Read` and
+/// `Memory`.
 pub(crate) fn accepted_zone<R: OctetReader>(
     alloc: Global,
     form: Form<'_>,
@@ -119,8 +120,8 @@ pub fn normalise_bytes(alloc: Global, form: Form<'_>, octets: &[u8]) -> Result<V
 ///
 /// # Errors
 ///
-/// `Refused` with the refusal of the input, but for the length of its canonical text; `Read` where the reader failed, and
-/// `Memory`.
+/// `Refused` with the refusal of the input, but for the length of its canonical text; `Read` where
+/// the reader failed, and `Memory`.
 fn zone_of<R: OctetReader>(alloc: Global, form: Form<'_>, reader: &mut R) -> Result<Zone, Stop>
     ensures zone { IfOk result (λ z. IfSome (R.remaining reader.old) (λ octets.
         ReadsZoneWithin text_limit (input_of (form_of form.entry) octets) z)) }

@@ -20,8 +20,9 @@ use zone_rdata::{Fault, Place, Stop};
 /// What a user is told where memory was refused.
 pub(crate) const OUT_OF_MEMORY: &str = "out of memory";
 
-/// Writes a line that tells how many records the zone has that the reader's octets denote, and answers 0; or one that tells
-/// why they are refused, and answers 3. It reads what `normalise` reads.
+/// Writes a line that tells how many records the zone has that the reader's octets denote, and
+/// answers 0; or one that tells why they are refused, and answers 3. It reads what `normalise`
+/// reads.
 ///
 /// # Errors
 ///
@@ -38,7 +39,8 @@ pub fn explain<R: OctetReader, W: OctetWriter>(
     ensures failure { IfErr result IsFailure }
     ensures kept { IfErr result (λ stop.
         KeepsUnlessWrite stop (W.contents writer.old) (W.contents writer.new)) }
-    ensures part { OnErr result (TellsPart (IsExplanation (form_of form.entry) (R.remaining reader.old))
+    ensures part { OnErr result
+        (TellsPart (IsExplanation (form_of form.entry) (R.remaining reader.old))
         (W.contents writer.old) (W.contents writer.new)) }
     ensures few { ReadsFew (R.remaining reader.old) (R.remaining reader.new) }
     ensures whole { OnOk result

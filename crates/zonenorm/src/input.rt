@@ -15,14 +15,14 @@ use zone_set::Zone;
 /// How many octets one read asks for at most.
 const PIECE: usize = 65_536;
 
-/// The zone of what the reader gives up to its end, which is fed to a source in pieces. Behind a fault it reads on, since
-/// an input that is too long is refused for that.
+/// The zone of what the reader gives up to its end, which is fed to a source in pieces. After a
+/// fault it reads on, since an input that is too long is refused for that.
 ///
 /// # Errors
 ///
-/// `Read` where the reader failed, by an interruption too; `Refused` with `InputTooLong` where it gives more than
-/// `limit` octets, of which `limit + 1` are read, and else with the refusal of the input, but for the length of its
-/// canonical text; `Memory`.
+/// `Read` where the reader failed, by an interruption too; `Refused` with `InputTooLong` where it
+/// gives more than `limit` octets, of which `limit + 1` are read, and else with the refusal of the
+/// input, but for the length of its canonical text; `Memory`.
 pub(crate) fn read_zone<S: FedSource, R: OctetReader>(
     alloc: Global,
     source: &mut S,

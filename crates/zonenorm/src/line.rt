@@ -6,8 +6,8 @@ ghost use Rattle.zone_print.specs.Writing.{AppendsPart, IsFailedWrite};
 use zone_print::{OctetWriter, write_octets};
 use zone_rdata::Stop;
 
-/// Writes these words, the line and a line feed. Every error of the writer ends it, `Interrupted` too, and it isn't
-/// flushed.
+/// Writes these words, the line and a line feed. Every error of the writer ends it, `Interrupted`
+/// too, and it isn't flushed.
 ///
 /// # Errors
 ///

@@ -16,12 +16,14 @@ use std::alloc::Global;
 use zone_print::OctetWriter;
 use zone_rdata::Stop;
 
-/// The whole program over two readers, a writer and an error writer. `normalise` and `explain` read the first reader alone,
-/// and a comparison reads the second once the first was accepted. It answers the exit status: 0 where the canonical text
-/// was written, the zone was accepted or both are the same; 1 where two zones differ; 3 where an input is refused; 4 where
-/// reading, writing or memory failed. Of 3 and 4 a line on the error writer tells why, of a comparison behind the name of
-/// the input; `explain` tells of 3 on the writer. Where that can't be told the status is 4. With 4 the writer got nothing, or
-/// a front of the text or line that the order writes. No writer is flushed.
+/// The whole program over two readers, a writer and an error writer. `normalise` and `explain` read
+/// the first reader alone, and a comparison reads the second once the first was accepted. It
+/// answers the exit status: 0 where the canonical text was written, the zone was accepted or both
+/// are the same; 1 where two zones differ; 3 where an input is refused; 4 where reading, writing or
+/// memory failed. Of 3 and 4 a line on the error writer tells why, of a comparison after the name
+/// of the input; `explain` tells of 3 on the writer. Where that can't be told the status is 4. With
+/// 4 the writer got nothing, or a front of the text or line that the order writes. No writer is
+/// flushed.
 #[tactic(auto, using(crate::proofs::Running::normalised, crate::proofs::Running::normalise_stopped, crate::proofs::Running::explained, crate::proofs::Running::explain_stopped, crate::proofs::Running::compared, crate::proofs::Running::compare_stopped))]
 pub fn run<R1: OctetReader, R2: OctetReader, W: OctetWriter, E: OctetWriter>(
     alloc: Global,

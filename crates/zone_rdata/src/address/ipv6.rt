@@ -35,8 +35,8 @@ fn octets_of_eight(text: &[u8]) -> Option<[u8; 16]>
     Some(octets)
 }
 
-/// The octets of the groups before and after `::`, and of the zero groups between them. `None`: these texts aren't
-/// groups, or there are too many.
+/// The octets of the groups before and after `::`, and of the zero groups between them. `None`:
+/// these texts aren't groups, or there are too many.
 fn octets_around(front: &[u8], back: &[u8]) -> Option<[u8; 16]>
     ensures found { IfSome result (λ octets. AreAround front.now back.now octets) }
     ensures none { IfNone result (NothingIs (AreAround front.now back.now)) }

@@ -122,7 +122,8 @@ fn is_run(alloc: Global, vector: &Vector, ran: &Run) -> Result<bool, Fail> {
     }
 }
 
-/// What `run` does, over a reader that gives all at once and over one that gives an octet at a time.
+/// What `run` does, over a reader that gives all at once and over one that gives an octet at a
+/// time.
 struct Runs;
 
 impl Question for Runs {
@@ -141,8 +142,8 @@ fn runs_over_files(rt: HostRuntime) -> Result<(), Fail> {
     Ok(())
 }
 
-/// What `run` does where the reader fails at once, behind half of the file, and in place of its end, whatever was wrong
-/// before.
+/// What `run` does where the reader fails at once, after half of the file, and in place of its end,
+/// whatever was wrong before.
 struct BrokenRuns;
 
 impl Question for BrokenRuns {
@@ -186,7 +187,8 @@ fn is_kept_under(
     }
 }
 
-/// Whether the canonical text that an input is answered is read back under other origins and its own.
+/// Whether the canonical text that an input is answered is read back under other origins and its
+/// own.
 pub(super) fn is_kept(
     alloc: Global,
     form: Form<'_>,

@@ -1,4 +1,5 @@
-//! Zone transfers: what `normalise` and `normalise_bytes` answer to a stream, and what is read of it in pieces.
+//! Zone transfers: what `normalise` and `normalise_bytes` answer to a stream, and what is read of
+//! it in pieces.
 use crate::form::Form;
 use crate::order::Order;
 use crate::run::run;
@@ -36,7 +37,8 @@ fn written(alloc: Global, octets: &[u8]) -> Result<Result<Vec<u8>, Stop>, Fail> 
     }
 }
 
-/// Whether a run over the stream has the status of this answer, writes what it says and tells what it says.
+/// Whether a run over the stream has the status of this answer, writes what it says and tells what
+/// it says.
 fn is_ran(alloc: Global, answer: &Answer, octets: &[u8]) -> Result<bool, Fail> {
     let mut reader = octets;
     let (mut output, mut told) = (roomy(alloc)?, roomy(alloc)?);
@@ -139,7 +141,8 @@ impl Fed for TransferSource {
     }
 }
 
-/// The name of the first stream that gives other records or another fault, where it is fed in pieces.
+/// The name of the first stream that gives other records or another fault, where it is fed in
+/// pieces.
 fn first_miscut(alloc: Global, streams: &[Stream]) -> Result<Option<&'static str>, Fail> {
     let root = Name::root();
     for stream in streams {
