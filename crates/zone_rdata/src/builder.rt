@@ -10,6 +10,7 @@ use crate::class::Class;
 use crate::fault::{Failing, Fault};
 use crate::kind::Kind;
 use crate::layout::layout_of;
+use crate::narrow_failing::{Cause, NarrowFailing};
 use crate::rdata::Rdata;
 use crate::reading::are_octets;
 use crate::record::LONGEST_DATA;
@@ -79,7 +80,7 @@ impl RdataBuilder {
         ensures fault { IfErr result (IfFault (IsPushFault self.old (fixed octets.now))) }
         ensures err { OnErr result (self.new ≡ self.old) }
     {
-        self.push(Pushed::Octets(octets))
+        Ok(self.push(Pushed::Octets(octets))?)
     }
 
     /// Pushes a number of 16 bits. On an error the builder is unchanged.
@@ -93,7 +94,7 @@ impl RdataBuilder {
         ensures fault { IfErr result (IfFault (IsPushFault self.old (u16_value number))) }
         ensures err { OnErr result (self.new ≡ self.old) }
     {
-        self.push(Pushed::U16(number))
+        Ok(self.push(Pushed::U16(number))?)
     }
 
     /// Pushes a number of 32 bits, a serial or a time in seconds. On an error the
@@ -107,7 +108,7 @@ impl RdataBuilder {
         ensures fault { IfErr result (IfFault (IsPushFault self.old (u32_value number))) }
         ensures err { OnErr result (self.new ≡ self.old) }
     {
-        self.push(Pushed::U32(number))
+        Ok(self.push(Pushed::U32(number))?)
     }
 
     /// Pushes a name. On an error the builder is unchanged.
@@ -120,7 +121,7 @@ impl RdataBuilder {
         ensures fault { IfErr result (IfFault (IsPushFault self.old (name target.now))) }
         ensures err { OnErr result (self.new ≡ self.old) }
     {
-        self.push(Pushed::Name(target))
+        Ok(self.push(Pushed::Name(target))?)
     }
 
     /// Pushes a string, the next field or one more of several. On an error the
@@ -135,17 +136,17 @@ impl RdataBuilder {
         ensures fault { IfErr result (IfFault (IsPushFault self.old (string octets.now))) }
         ensures err { OnErr result (self.new ≡ self.old) }
     {
-        self.push(Pushed::String(octets))
+        Ok(self.push(Pushed::String(octets))?)
     }
 
     /// Pushes a part.
-    fn push(&mut self, part: Pushed) -> Result<(), Failing>
+    fn push(&mut self, part: Pushed) -> Result<(), NarrowFailing>
         ensures ok { OnOk result (Pushes self.old (value_of part.entry) self.new) }
         ensures fault { IfErr result (IfFault (IsPushFault self.old (value_of part.entry))) }
         ensures err { OnErr result (self.new ≡ self.old) }
     {
         if !is_next(self.class, self.kind, self.count, part) {
-            return Err(Failing::Fault(Fault::BadRdata));
+            return Err(NarrowFailing::of(Cause::BadRdata));
         }
         known(part);
         append(part, &mut self.octets)?;
@@ -211,7 +212,7 @@ fn known(part: Pushed)
 }
 
 /// Appends the octets of a part. If it is refused, `out` is unchanged.
-fn append(part: Pushed, out: &mut Vec<u8>) -> Result<(), Failing>
+fn append(part: Pushed, out: &mut Vec<u8>) -> Result<(), NarrowFailing>
     requires { length out.old.items ≤ LONGEST_DATA }
     ensures ok { OnOk result (Grows out.old.items (value_of part.entry) out.new.items) }
     ensures fault { IfErr result (IfFault (IsOver out.old.items (value_of part.entry))) }
@@ -227,31 +228,31 @@ fn append(part: Pushed, out: &mut Vec<u8>) -> Result<(), Failing>
 }
 
 /// Appends octets. If they are refused, `out` is unchanged.
-fn append_octets(octets: &[u8], out: &mut Vec<u8>) -> Result<(), Failing>
+fn append_octets(octets: &[u8], out: &mut Vec<u8>) -> Result<(), NarrowFailing>
     requires { length out.old.items ≤ LONGEST_DATA }
     ensures ok { OnOk result (Grows out.old.items (fixed octets.now) out.new.items) }
     ensures fault { IfErr result (IfFault (IsOver out.old.items (fixed octets.now))) }
     ensures err { OnErr result (out.new.items ≡ out.old.items) }
 {
     if octets.len() > LONGEST_DATA - out.len() {
-        return Err(Failing::Fault(Fault::RdataTooLong));
+        return Err(NarrowFailing::of(Cause::RdataTooLong));
     }
     out.extend_from_slice(octets)?;
     Ok(())
 }
 
 /// Appends a string after its length. If it is refused, `out` is unchanged.
-fn append_string(octets: &[u8], out: &mut Vec<u8>) -> Result<(), Failing>
+fn append_string(octets: &[u8], out: &mut Vec<u8>) -> Result<(), NarrowFailing>
     requires { length out.old.items ≤ LONGEST_DATA }
     ensures ok { OnOk result (Grows out.old.items (string octets.now) out.new.items) }
     ensures fault { IfErr result (IfFault (IsOver out.old.items (string octets.now))) }
     ensures err { OnErr result (out.new.items ≡ out.old.items) }
 {
     if octets.len() > 255 {
-        return Err(Failing::Fault(Fault::StringTooLong));
+        return Err(NarrowFailing::of(Cause::StringTooLong));
     }
     if octets.len() + 1 > LONGEST_DATA - out.len() {
-        return Err(Failing::Fault(Fault::RdataTooLong));
+        return Err(NarrowFailing::of(Cause::RdataTooLong));
     }
     push_with_length(octets, out)?;
     Ok(())
