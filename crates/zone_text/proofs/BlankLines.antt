@@ -29,11 +29,11 @@ use Rattle.zone_text.proofs.PartTaken.{FollowsOn}
 
 -- ---- a comment at the front
 
-abbrev IsFront : List ℕ → List ℕ → Type 0
+abbrev pub IsFront : List ℕ → List ℕ → Type 0
 IsFront octets front =
     (octets ≡ front ++ drop (length front) octets) × (AllByRecursion (λ c. c ≢ 10) front × ((c : ℕ) (rest : List ℕ) → drop (length front) octets ≡ c ∷ rest → c ≡ 10))
 
-comment_front : (octets : List ℕ) → IsFront octets (before_line_feed octets)
+pub comment_front : (octets : List ℕ) → IsFront octets (before_line_feed octets)
 unfolding before_line_feed
 comment_front [] = (refl, (tt, λ c rest e. absurd (let t : ⊥ = cc in t)))
 comment_front (c ∷ octets) =

@@ -26,6 +26,7 @@ pub mod Begun
 pub mod PartTaken
 pub mod FedPieces
 pub mod BlankLines
+pub mod FirstEntries
 pub mod Standing
 pub mod DecidedOnce
 pub mod ScanSteps

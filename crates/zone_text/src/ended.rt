@@ -1,9 +1,12 @@
 //! The entries that were ended, read one by one (RFC 1035 5.1).
-ghost use Rattle.std.specs.Prelude.{◌≡◌, ◌+◌, ◌<◌, ◌≤◌, ◌^◌, ◌==◌, [], count_by, length, OnOk, Some, None};
+ghost use Rattle.std.specs.Prelude.{◌≡◌, ◌+◌, ◌<◌, ◌≤◌, ◌^◌, ◌==◌, [], count_by, length, map, OnOk, Some, None};
+ghost use Rattle.zone_rdata.specs.Item.{raw};
 ghost use Rattle.zone_text.specs.Defaults.{AreDefaults};
 ghost use Rattle.zone_text.specs.Machine.Feeding.{ReadsOctets};
+ghost use Rattle.zone_text.specs.Machine.Line.{AreItems};
 
 use crate::defaults::Defaults;
+use crate::items::cut_items;
 use std::alloc::{AllocError, Global};
 use std::collections::VecDeque;
 use zone_name::Name;
@@ -61,6 +64,22 @@ impl EndedEntries {
         requires undecided { self.old.decided.ending ≡ None }
         requires fits { self.old.line + length entry.now < 2 ^ 64 }
         ensures { OnOk result (ReadsOctets entry.now self.old self.new) }
+    {
+        cut_items(entry, items)?;
+        self.read_cut(alloc, entry, items)
+    }
+
+    /// Reads the entry after them, of which these are the items.
+    pub(crate) fn read_cut<'t>(
+        &mut self,
+        alloc: Global,
+        entry: &'t [u8],
+        items: &[Item<'t>],
+    ) -> Result<(), AllocError>
+        requires undecided { self.old.decided.ending ≡ None }
+        requires fits { self.old.line + length entry.now < 2 ^ 64 }
+        ensures { AreItems entry.now (map raw items.now)
+            → OnOk result (ReadsOctets entry.now self.old self.new) }
     {
         let place = Place::Line(self.line);
         self.defaults

@@ -6,6 +6,7 @@ ghost use Rattle.zone_text.specs.Machine.Scan.{beginning};
 
 use crate::blank::blank_lines;
 use crate::ended::EndedEntries;
+use crate::line::cut_line;
 use crate::scan::{ScanState, Step, end_fault, scan};
 use std::alloc::{AllocError, Global};
 use zone_name::Name;
@@ -57,6 +58,12 @@ impl Intake {
                 if blank.count > 0 {
                     self.ended.line += blank.count as u64;
                     rest = blank.rest;
+                    continue;
+                }
+                if let Some(taken) = cut_line(rest, &mut items)? {
+                    let (entry, after) = rest.split_at(taken);
+                    self.ended.read_cut(self.alloc, entry, &items)?;
+                    rest = after;
                     continue;
                 }
             }

@@ -1,5 +1,5 @@
-ghost use Rattle.std.specs.Prelude.{◌≡◌, ◌≤◌, ◌<◌, List, [], ◌∷◌, ◌++◌, map, length, drop, false, not, IfNone, IfSome, OnOk, option_map, option_to_list};
-ghost use Rattle.std.specs.List.{flat_map};
+ghost use Rattle.std.specs.Prelude.{◌≡◌, ◌≤◌, ◌<◌, List, [], ◌∷◌, ◌++◌, map, length, drop, take, false, not, IfNone, IfSome, OnOk, option_map, option_to_list};
+ghost use Rattle.std.specs.List.{All, flat_map};
 ghost use Rattle.zone_name.specs.Common.{Octets};
 ghost use Rattle.zone_rdata.specs.Item.{raw};
 ghost use Rattle.zone_text.specs.Entries.{item_of};
@@ -41,8 +41,9 @@ impl Extent {
 }
 
 /// The number of octets before the first that ends the item or is a backslash.
-fn plain_len(text: &[u8], extent: Extent) -> usize
+pub(crate) fn plain_len(text: &[u8], extent: Extent) -> usize
     ensures within { result ≤ length text.now }
+    ensures plain { All (λ c. stops_within extent c ≡ false) (take result text.now) }
     ensures reaches { Reaches (ends_within extent) text.now result }
     ensures stops { EndsAt (stops_within extent) (drop result text.now) }
 {

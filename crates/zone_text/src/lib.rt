@@ -10,6 +10,7 @@ mod form;
 mod intake;
 mod items;
 pub mod laws;
+mod line;
 mod reader;
 mod record;
 mod scan;
