@@ -7,5 +7,6 @@ pub mod Headline
 pub mod Examples
 pub mod Compare
 pub mod Order
+pub mod Telling
 pub mod Run
 pub mod Machine

@@ -71,13 +71,6 @@ pub data Explains (form : InputForm) (known old new : Option (List ℕ)) : ℕ �
 abbrev pub ReadsFew : Option (List ℕ) → Option (List ℕ) → Type 0
 ReadsFew = ConsumesAtMost (text_limit + 1)
 
--- what a user is told of a stop that is no refusal
-abbrev pub IsStopLine : Stop → List ℕ → Type 0
-IsStopLine (Refused fault place) line = Unit {0}
-IsStopLine Read line = line ≡ codes "read failed"
-IsStopLine Write line = line ≡ codes "write failed"
-IsStopLine Memory line = line ≡ codes "out of memory"
-
 -- a stop that is no refusal
 abbrev pub IsFailure : Stop → Type 0
 IsFailure (Refused fault place) = ⊥
