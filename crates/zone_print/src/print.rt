@@ -55,7 +55,7 @@ pub fn push_zone(alloc: Global, zone: &Zone) -> Result<Vec<u8>, Stop>
 ///
 /// `ZoneTooLarge` at the input as a whole where the text has more than [`TEXT_LIMIT`] octets,
 /// before the first octet; `Write` where the writer answered an error or took no octet; `Memory`.
-/// After the last two a front of the text was written.
+/// After the last two a prefix of the text was written.
 pub fn write_zone<W: Write>(alloc: Global, zone: &Zone, writer: &mut W) -> Result<(), Stop>
     ensures text { OnOk result
         (Appends (W.contents writer.old) (W.contents writer.new) (canon zone.now)) }
@@ -129,7 +129,7 @@ pub(crate) fn write_within<W: OctetWriter>(
 ///
 /// # Errors
 ///
-/// `Write` where the writer failed, and `Memory`. A front of the text was written.
+/// `Write` where the writer failed, and `Memory`. A prefix of the text was written.
 fn write_lines<W: OctetWriter>(alloc: Global, zone: &Zone, writer: &mut W) -> Result<(), Stop>
     ensures text { OnOk result
         (Appends (W.contents writer.old) (W.contents writer.new) (canon zone.now)) }

@@ -16,7 +16,7 @@ pub(crate) trait OctetWriter {
     /// That it failed.
     ghost Failed: { Self → Type 0 };
 
-    /// Takes a front of the octets and answers its length, which is 0 for no octets alone.
+    /// Takes a prefix of the octets and answers its length, which is 0 for no octets alone.
     ///
     /// # Errors
     ///
@@ -66,7 +66,7 @@ impl OctetWriter for Text {
 ///
 /// # Errors
 ///
-/// `Write` where the writer failed, and `Memory`. A front of the octets was written.
+/// `Write` where the writer failed, and `Memory`. A prefix of the octets was written.
 pub(crate) fn write_octets<W: OctetWriter>(writer: &mut W, octets: &[u8]) -> Result<(), Stop>
     ensures written { OnOk result
         (Appends (W.contents writer.old) (W.contents writer.new) octets.now) }

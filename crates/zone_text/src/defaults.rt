@@ -57,7 +57,7 @@ impl Defaults {
 
     /// Reads the entry after those before it, and takes what it decides into `decided`: the record
     /// that it states, with its place; or its first fault; or nothing, as of a blank entry,
-    /// `$ORIGIN` and `$TTL`. The entry is known to be cut into pieces. `items` holds nothing that
+    /// `$ORIGIN` and `$TTL`. The entry is known to be cut into tokens. `items` holds nothing that
     /// is used again. After a fault the defaults say nothing.
     // Records and faults hold names, and are wide. So they are written where they go, and not
     // handed up.

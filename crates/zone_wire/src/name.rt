@@ -57,8 +57,8 @@ fn walked(message: &[u8], offset: usize) -> Result<Decoded, (Fault, u16)>
     }
 }
 
-/// Walks along the name at an offset, and gives the offset after it and the steps of the walk. The labels go into a builder
-/// where there is one.
+/// Walks along the name at an offset, and gives the offset after it and the steps of the walk. The
+/// labels go into a builder where there is one.
 ///
 /// # Errors
 ///

@@ -11,7 +11,7 @@ use zone_rdata::Stop;
 ///
 /// # Errors
 ///
-/// `Write`. A front of all that was written, but not all of it.
+/// `Write`. A prefix of all that was written, but not all of it.
 pub(crate) fn write_line<W: Write>(writer: &mut W, words: &str, line: &str) -> Result<(), Stop>
     ensures written { OnOk result (Appends (W.contents writer.old) (W.contents writer.new)
         (words.now ++ line.now ++ 10 ∷ [])) }
@@ -28,7 +28,7 @@ pub(crate) fn write_line<W: Write>(writer: &mut W, words: &str, line: &str) -> R
 ///
 /// # Errors
 ///
-/// `Write`. A front of the octets was written, but not all of them.
+/// `Write`. A prefix of the octets was written, but not all of them.
 fn write_octets<W: Write>(writer: &mut W, octets: &[u8]) -> Result<(), Stop>
     ensures written { OnOk result
         (Appends (W.contents writer.old) (W.contents writer.new) octets.now) }

@@ -15,7 +15,7 @@ pub(crate) trait OctetReader {
     /// That it failed.
     ghost Failed: { Self → Type 0 };
 
-    /// Reads into a front of `piece` and answers its length, which is 0 at the end or for an empty
+    /// Reads into a prefix of `piece` and answers its length, which is 0 at the end or for an empty
     /// piece alone.
     ///
     /// # Errors
