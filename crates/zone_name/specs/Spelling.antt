@@ -39,7 +39,7 @@ abbrev pub IsEscape : Written → Type 0
 IsEscape (plain c) = ⊥
 IsEscape (escaped c) = (is_digit c ≡ false) × (c ≢ 10) × (c ≢ 13)
 IsEscape (decimal x y z) =
-  (is_digit x ≡ true) × (is_digit y ≡ true) × (is_digit z ≡ true) × (octet_of (decimal x y z) ≤ 255)
+    (is_digit x ≡ true) × (is_digit y ≡ true) × (is_digit z ≡ true) × (octet_of (decimal x y z) ≤ 255)
 
 -- a written octet where some octets mean something else: an octet by itself that is none of them
 -- and no backslash, or an escape
@@ -108,7 +108,7 @@ EndsLabel rest = (rest ≡ []) ⊎ ((more : List ℕ) × (rest ≡ 46 ∷ more))
 -- a backslash that begins no escape
 abbrev pub IsBadEscape : List ℕ → Type 0
 IsBadEscape rest =
-  (more : List ℕ) × (rest ≡ 92 ∷ more)
+    (more : List ℕ) × (rest ≡ 92 ∷ more)
     × ((w : Written) (after : List ℕ) → IsEscape w → rest ≢ text_of w ++ after)
 
 -- a text from a backslash on: an escape, which stands for the octet, and the rest
@@ -139,9 +139,8 @@ pub record Reaches (text : List ℕ) (before : List (List Written)) (open_label 
 -- The leftmost fault of a text itself: at the dot or end that closes an empty label, at the 64th
 -- octet of a label, or at a backslash that begins no escape
 pub data FaultAt (text : List ℕ) : NameFault → Type 0 where
-  empty_label : (before : List (List Written)) (rest : List ℕ) → Reaches text before
-      [] rest → EndsLabel rest → (rest ≡ [] → before ≡ []) → text ≢ codes "."
-      → FaultAt text EmptyLabel
+  empty_label : (before : List (List Written)) (rest : List ℕ) → Reaches text before [] rest
+      → EndsLabel rest → (rest ≡ [] → before ≡ []) → text ≢ codes "." → FaultAt text EmptyLabel
   long_label : (before : List (List Written)) (open_label : List Written) (w : Written)
       (rest : List ℕ) → Reaches text before open_label (text_of w ++ rest) → length open_label ≡ 63
       → IsUnit is_dot w → FaultAt text LabelTooLong
@@ -151,7 +150,7 @@ pub data FaultAt (text : List ℕ) : NameFault → Type 0 where
 -- a relative text of labels of at most 63 octets, `@` among them
 abbrev pub IsRelative : List ℕ → Type 0
 IsRelative text =
-  (written : List (List Written)) × AreWrittenLabels written
+    (written : List (List Written)) × AreWrittenLabels written
     × AllByRecursion (λ label. length label ≤ 63) written × (text ≡ parted written)
 
 -- The first fault: one of the text itself, then a relative text without an origin, then a name that

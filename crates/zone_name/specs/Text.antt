@@ -17,7 +17,7 @@ decimal_escape c = 92 ∷ (48 + c / 100) ∷ (48 + c / 10 % 10) ∷ (48 + c % 10
 
 abbrev pub octet_text : ℕ → List ℕ
 octet_text c =
-  if is_special c then 92 ∷ c ∷ [] else (if is_printed c then c ∷ [] else decimal_escape c)
+    if is_special c then 92 ∷ c ∷ [] else (if is_printed c then c ∷ [] else decimal_escape c)
 
 -- a label's octets, and the dot after it
 abbrev pub label_text : List ℕ → List ℕ

@@ -10,7 +10,7 @@ use Rattle.zone_set.specs.Zone.{Zone}
 -- owner, TTL, class, type and data, parted by single spaces, and a line feed
 abbrev pub line : Record → List ℕ
 line r =
-  name_text r.owner ++ 32 ∷ decimal r.ttl ++ 32 ∷ class_text r.class
+    name_text r.owner ++ 32 ∷ decimal r.ttl ++ 32 ∷ class_text r.class
     ++ 32 ∷ kind_text r.class r.kind ++ 32 ∷ data_text (data_of r) ++ 10 ∷ []
 
 -- the lines of records in their order

@@ -24,7 +24,7 @@ pub record EndsWithItsFeed (octets : List ℕ) : Type 0 where
 abbrev pub EachLineEnds : Type 0
 EachLineEnds = (r : Record) → EndsWithItsFeed (line r)
 
--- The octets are one line of a master file for the record: they are cut into pieces, these are one
+-- The octets are one line of a master file for the record: they are cut into tokens, these are one
 -- entry that a line feed ends, and it states every part of the record itself
 pub record IsLineOf (r : Record) (octets : List ℕ) : Type 0 where
   pub pieces : List Piece
@@ -36,4 +36,4 @@ pub record IsLineOf (r : Record) (octets : List ℕ) : Type 0 where
 abbrev pub placed_from : ℕ → List Record → List Placed
 placed_from number [] = []
 placed_from number (r ∷ records) =
-  record { rr = r; place = Line number } ∷ placed_from (number + 1) records
+    record { rr = r; place = Line number } ∷ placed_from (number + 1) records

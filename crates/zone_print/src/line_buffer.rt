@@ -96,7 +96,7 @@ impl<'z> LineBuffer<'z> {
     ///
     /// # Errors
     ///
-    /// Want of memory. A front of the line may have been appended.
+    /// Want of memory. A prefix of the line may have been appended.
     pub(crate) fn push_record(&mut self, rr: RrRef<'z>) -> Result<(), AllocError>
         ensures { OnOk result (self.new ≡ self.old ++ line (record_of rr.entry)) }
     {

@@ -20,7 +20,7 @@ pub trait OctetWriter {
     /// That its last call failed, and none before.
     ghost Failed: { Self → Type 0 };
 
-    /// Takes a front of the octets and answers its length, which is 0 for no octets alone.
+    /// Takes a prefix of the octets and answers its length, which is 0 for no octets alone.
     ///
     /// # Errors
     ///

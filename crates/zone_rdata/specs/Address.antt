@@ -85,19 +85,19 @@ parted_groups groups = std_text.groups_text groups
 -- the groups with `::` for `len` of them from `start` on
 abbrev pub shortened_groups : List ℕ → ℕ → ℕ → List ℕ
 shortened_groups groups start len =
-  parted_groups (take start groups) ++ codes "::" ++ parted_groups (drop (start + len) groups)
+    parted_groups (take start groups) ++ codes "::" ++ parted_groups (drop (start + len) groups)
 
 -- The canonical text of sixteen octets (RFC 5952 4): `::` stands for the longest run of zero
 -- groups, the first of equal ones, if it has two groups or more.
 abbrev pub ipv6_text : List ℕ → List ℕ
 ipv6_text octets =
-  let groups = segments_of octets in
+    let groups = segments_of octets in
     std_text.compressed_text groups (std_text.longest_zero_run groups)
 
 -- so many zero groups in a row
 abbrev pub IsZeroRun : List ℕ → ℕ → ℕ → Type 0
 IsZeroRun groups start len =
-  (start + len ≤ length groups) × (take len (drop start groups) ≡ replicate len 0)
+    (start + len ≤ length groups) × (take len (drop start groups) ≡ replicate len 0)
 
 -- the run that `::` stands for (RFC 5952 4.2): of two groups or more, none longer, none as long
 -- before it

@@ -25,7 +25,7 @@ ends_with_strings (f ∷ g ∷ fields) = ends_with_strings (g ∷ fields)
 -- stand last in it
 abbrev pub part_at : List Field → ℕ → Option Field
 part_at fields i =
-  option_or (slice_get fields i) (if ends_with_strings fields then Some Strings else None)
+    option_or (slice_get fields i) (if ends_with_strings fields then Some Strings else None)
 
 -- opaque data is one part of octets
 abbrev pub IsOpaque : ℕ → FieldValue → Type 0

@@ -17,9 +17,9 @@ abbrev pub FirstFieldFault : List (List ℕ) → List Field → List RawItem →
 FirstFieldFault origin [] [] fault = ⊥
 FirstFieldFault origin [] (item ∷ items) fault = fault ≡ BadRdata
 FirstFieldFault origin (f ∷ fields) items fault =
-  IsFieldFault origin f (own_items f items) fault
+    IsFieldFault origin f (own_items f items) fault
     ⊎ ((value : FieldValue) × SpellsField origin f (own_items f items) value
-      × FirstFieldFault origin fields (items_behind f items) fault)
+    × FirstFieldFault origin fields (items_behind f items) fault)
 
 -- the first fault of items for fields, or all is spelled and takes too many octets
 pub data IsWordsFault (origin : List (List ℕ)) (fields : List Field)

@@ -1,6 +1,6 @@
--- What the fields of record data hold (RFC 1035 3.3): for each kind of field its values, their octets, the items that
--- spell them and the fault of items that don't. What is said of a kind stands in `Fields`, a file
--- each.
+-- What the fields of record data hold (RFC 1035 3.3): for each kind of field its values, their
+-- octets, the items that spell them and the fault of items that don't. What is said of a kind
+-- stands in `Fields`, a file each.
 use Rattle.std.specs.Prelude.{◌≡◌, ℕ, ◌<◌, List, [], ◌∷◌, length, take, drop, map, decimal, Bool, true, false, ⊤, Option, Some}
 use Rattle.std.specs.List.{flat_map}
 use Rattle.zone_name.specs.Name.{with_length, wire, labels_of, IsName}
@@ -75,7 +75,7 @@ field_at Strings octets = strings (strings_of octets)
 abbrev pub values_of : List Field → List ℕ → List FieldValue
 values_of [] octets = []
 values_of (f ∷ fields) octets =
-  field_at f octets ∷ values_of fields (drop (length (field_octets (field_at f octets))) octets)
+    field_at f octets ∷ values_of fields (drop (length (field_octets (field_at f octets))) octets)
 
 -- the octets of a value as they are sent: a name's labels in any letter case, all else as it is
 -- kept

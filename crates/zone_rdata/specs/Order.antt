@@ -8,5 +8,5 @@ use Rattle.zone_rdata.specs.Record.{Data}
 -- by class, by type number, then by canonical octets as unsigned strings, a missing octet first
 abbrev pub data_cmp : Data → Data → Ordering
 data_cmp =
-  then_cmp (on (λ d. d.class) nat_cmp)
+    then_cmp (on (λ d. d.class) nat_cmp)
     (then_cmp (on (λ d. d.kind) nat_cmp) (on (λ d. d.octets) (slice_cmp nat_cmp)))

@@ -26,7 +26,7 @@ first_answer (r ∷ records) ending = Ok (Some r)
 -- the next answer: want of memory where it failed, else the first record, else the fault
 abbrev pub answer_of : Pending → Result (Option Placed) Stop
 answer_of pending =
-  elim pending.failed [ true ↦ Err Memory | false ↦ first_answer pending.records pending.ending ]
+    elim pending.failed [ true ↦ Err Memory | false ↦ first_answer pending.records pending.ending ]
 
 abbrev pub others : List Placed → List Placed
 others [] = []
@@ -35,5 +35,5 @@ others (r ∷ records) = records
 -- what is left after an answer
 abbrev pub after : Pending → Pending
 after pending =
-  elim pending.failed
+    elim pending.failed
     [ true ↦ pending | false ↦ record pending { records = others pending.records } ]

@@ -11,7 +11,7 @@ pub use Rattle.zone_rdata.specs.Item.{RawItem, bare, quoted, raw, generic_mark, 
 abbrev pub SpellEach : List (List ℕ) → List Field → List RawItem → List FieldValue → Type 0
 SpellEach origin [] [] [] = ⊤
 SpellEach origin (f ∷ fields) items (v ∷ values) =
-  SpellsField origin f (own_items f items) v × SpellEach origin fields (items_behind f items) values
+    SpellsField origin f (own_items f items) v × SpellEach origin fields (items_behind f items) values
 SpellEach origin fields items values = ⊥
 
 -- the canonical octets of octets that stand for data: of the layout's values, or the octets
@@ -23,7 +23,7 @@ IsCanonicalOf (Some fields) stated octets = IsUncompressed fields stated octets
 -- items in the generic form state canonical octets for a layout, if there is one
 abbrev pub StatesInForm : Option (List Field) → List RawItem → List ℕ → Type 0
 StatesInForm laid items octets =
-  (stated : List ℕ) × StatesGeneric items stated × IsCanonicalOf laid stated octets
+    (stated : List ℕ) × StatesGeneric items stated × IsCanonicalOf laid stated octets
 
 -- The items state canonical octets for a layout, if there is one, under an origin: field by field,
 -- or in the generic form. Data without a layout has the generic form alone.

@@ -49,7 +49,7 @@ is_shown c = nat_le 32 c && nat_le c 126
 -- value
 abbrev pub unit_text : ℕ → List ℕ
 unit_text c =
-  if c == 34 || c == 92 then 92 ∷ c ∷ [] else (if is_shown c then c ∷ [] else decimal_escape c)
+    if c == 34 || c == 92 then 92 ∷ c ∷ [] else (if is_shown c then c ∷ [] else decimal_escape c)
 
 -- what is printed between the quotes
 abbrev pub inside_text : List ℕ → List ℕ

@@ -34,14 +34,20 @@ classes =
 -- a type with the fields in every class
 abbrev pub in_every : ℕ → List ℕ → List Field → NamedType
 in_every number mnemonic fields =
-  record { named = record { number = number; mnemonic = mnemonic }; in_only = false;
-      fields = fields }
+    record {
+      named = record { number = number; mnemonic = mnemonic };
+      in_only = false;
+      fields = fields;
+    }
 
 -- a type with the fields in class IN alone
 abbrev pub in_one : ℕ → List ℕ → List Field → NamedType
 in_one number mnemonic fields =
-  record { named = record { number = number; mnemonic = mnemonic }; in_only = true;
-      fields = fields }
+    record {
+      named = record { number = number; mnemonic = mnemonic };
+      in_only = true;
+      fields = fields;
+    }
 
 -- the types, their numbers ascending (RFC 1035 3.3, 3.4.1, and as noted)
 abbrev pub types : List NamedType
@@ -56,7 +62,7 @@ types =
     ∷ in_one 28 (codes "AAAA") (Octets 16 ∷ [])  -- RFC 3596 2.2
     ∷ in_every 33 (codes "SRV") (U16 ∷ U16 ∷ U16 ∷ Name ∷ [])  -- RFC 2782
     ∷ in_every 35 (codes "NAPTR")
-        (U16 ∷ U16 ∷ OneString ∷ OneString ∷ OneString ∷ Name ∷ [])  -- RFC 3403 4.1
+    (U16 ∷ U16 ∷ OneString ∷ OneString ∷ OneString ∷ Name ∷ [])  -- RFC 3403 4.1
     ∷ []
 
 -- the numbers and mnemonics of the types
@@ -70,7 +76,7 @@ mnemonic_among rows n = option_map (λ row. row.mnemonic) (find (λ row. n == ro
 -- the number of a mnemonic in any case
 abbrev pub number_among : List Named → List ℕ → Option ℕ
 number_among rows word =
-  option_map (λ row. row.number)
+    option_map (λ row. row.number)
     (find (λ row. bytes_eq (folded_label word) (folded_label row.mnemonic)) rows)
 
 -- the numbers ascend from above the first

@@ -8,7 +8,7 @@ use Rattle.zone_rdata.specs.Field.{FieldValue, HoldEach, IsSent, octets_of}
 abbrev pub AreSent : List FieldValue → List ℕ → Type 0
 AreSent [] octets = octets ≡ []
 AreSent (v ∷ values) octets =
-  (front rest : List ℕ) × IsSent v front × (octets ≡ front ++ rest) × AreSent values rest
+    (front rest : List ℕ) × IsSent v front × (octets ≡ front ++ rest) × AreSent values rest
 
 -- the octets are those of values of the layout, but for the letter case of names, and these values'
 -- octets are canonical

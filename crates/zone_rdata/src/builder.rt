@@ -37,8 +37,11 @@ impl Model for RdataBuilder {
     ghost Value = { Built };
 
     ghost view = { λ b.
-        record { class = b.class; kind = b.kind;
-          parts = parts_of (layout b.class b.kind) b.count b.octets.items } };
+        record {
+          class = b.class;
+          kind = b.kind;
+          parts = parts_of (layout b.class b.kind) b.count b.octets.items;
+        } };
 
     ghost invariant = { λ b. IsBuilt b.class b.kind b.count b.octets.items };
 }
@@ -129,8 +132,8 @@ impl RdataBuilder {
     ///
     /// # Errors
     ///
-    /// `BadRdata` where that isn't the next part, `StringTooLong` over 255 octets, `RdataTooLong` where the data would
-    /// have more than 65,535 octets; and `Memory` where memory is refused.
+    /// `BadRdata` where that isn't the next part, `StringTooLong` over 255 octets, `RdataTooLong`
+    /// where the data would have more than 65,535 octets; and `Memory` where memory is refused.
     pub fn push_string(&mut self, octets: &[u8]) -> Result<(), Failing>
         ensures ok { OnOk result (Pushes self.old (string octets.now) self.new) }
         ensures fault { IfErr result (IfFault (IsPushFault self.old (string octets.now))) }

@@ -93,7 +93,8 @@ impl Field {
         Ok(1)
     }
 
-    /// Appends the canonical octets of the field's value at the beginning of octets, and gives the octets after it.
+    /// Appends the canonical octets of the field's value at the beginning of octets, and gives the
+    /// octets after it.
     pub(crate) fn push_sent<'o>(
         self,
         octets: &'o [u8],

@@ -28,7 +28,7 @@ impl Eq for Rdata {
 impl PartialOrd for Rdata {
     ghost partial_cmp = { as_partial_cmp
         (then_cmp (on (λ d. d.class) nat_cmp)
-          (then_cmp (on (λ d. d.kind) nat_cmp) (on (λ d. d.octets) (slice_cmp nat_cmp)))) };
+        (then_cmp (on (λ d. d.kind) nat_cmp) (on (λ d. d.octets) (slice_cmp nat_cmp)))) };
 
     ghost laws = { partial_order_from_own_ties (Prim.search (comparing, rules))
         (Prim.search (comparing, rules)) };

@@ -125,8 +125,8 @@ impl Rdata {
     ///
     /// # Errors
     ///
-    /// `RdataTooLong` over 65,535 octets, `BadRdata` where they aren't exactly one value of the layout; and `Memory` where
-    /// memory is refused.
+    /// `RdataTooLong` over 65,535 octets, `BadRdata` where they aren't exactly one value of the
+    /// layout; and `Memory` where memory is refused.
     pub fn from_wire(
         alloc: Global,
         class: Class,
@@ -223,7 +223,7 @@ impl Rdata {
     ///
     /// # Errors
     ///
-    /// `out` refuses octets. The beginning of the text may have been appended.
+    /// `out` refuses octets. A prefix of the text may have been appended.
     pub fn print<S: Sink>(&self, out: &mut S) -> Result<(), S::Error>
         ensures ok { OnOk result (S.takes out.old (data_text self.now) out.new) }
         ensures err { OnErr result (TakesSome S.takes out.old out.new) }

@@ -85,7 +85,7 @@ fn string_of(item: Item<'_>) -> Result<ArrayVec<u8, 255>, NarrowFailing>
 ///
 /// # Errors
 ///
-/// `out` refuses octets. The beginning of the text may have been appended.
+/// `out` refuses octets. A prefix of the text may have been appended.
 pub(crate) fn push_string_text<S: Sink>(octets: &[u8], out: &mut S) -> Result<(), S::Error>
     ensures ok { OnOk result (S.takes out.old (string_text octets.now) out.new) }
     ensures err { OnErr result (TakesSome S.takes out.old out.new) }

@@ -59,9 +59,9 @@ pub data StopsAdd (held : List Record) (p : Placed) : Stop → Type 0 where
 abbrev pub AddsEach : List Record → List Placed → List Record → Type 0
 AddsEach old [] new = new ≡ old
 AddsEach old (p ∷ placed) new =
-  (next : List Record) × Accepts old p.rr × Adds old p.rr next × AddsEach next placed new
+    (next : List Record) × Accepts old p.rr × Adds old p.rr next × AddsEach next placed new
 
--- what a source still has to give where only these of its records are left
+-- a source of which only these records are left
 abbrev pub leaves : Pending → List Placed → Pending
 leaves pending records = record pending { records = records }
 
@@ -88,8 +88,8 @@ pub data StopsTaking (old : List Record) (pending : Pending) (new : List Record)
       → rest ≡ leaves pending others → IsRefusedFor new p.rr f
       → StopsTaking old pending new rest (Refused f p.place)
   ending : (e : Fault × Place) → pending.failed ≡ false → pending.ending ≡ Some e
-      → AddsEach old pending.records new → rest ≡ leaves pending
-      [] → StopsTaking old pending new rest (Refused e.0 e.1)
+      → AddsEach old pending.records new → rest ≡ leaves pending []
+      → StopsTaking old pending new rest (Refused e.0 e.1)
 
 -- no SOA is held
 abbrev pub HasNoSoa : List Record → Type 0

@@ -17,7 +17,7 @@ soa_rank r = if r.kind == 6 then 0 else 1
 -- class)
 abbrev pub canonical_cmp : Record → Record → Ordering
 canonical_cmp =
-  then_cmp (on soa_rank nat_cmp) (then_cmp (on (λ r. r.owner) name_cmp) (on data_of data_cmp))
+    then_cmp (on soa_rank nat_cmp) (then_cmp (on (λ r. r.owner) name_cmp) (on data_of data_cmp))
 
 -- each record before all that follow it
 abbrev pub Ascends : List Record → Type 0

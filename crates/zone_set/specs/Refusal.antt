@@ -14,7 +14,7 @@ records_of placed = map (λ p. p.rr) placed
 -- each record may stand with all before it
 abbrev pub AllAccepted : List Placed → Type 0
 AllAccepted placed =
-  (before others : List Placed) (p : Placed) → placed ≡ before ++ p ∷ others
+    (before others : List Placed) (p : Placed) → placed ≡ before ++ p ∷ others
     → Accepts (records_of before) p.rr
 
 -- A record is refused at its place, and each one before it may stand with all before that.

@@ -69,7 +69,7 @@ impl ZoneBuilder {
         self.sets.add(self.alloc, &placed.rr)
     }
 
-    /// Takes all that a source still has to give.
+    /// Takes all that a source has left to give.
     ///
     /// # Errors
     ///

@@ -136,7 +136,7 @@ fn place_of(few: &[Datum], datum: &Datum) -> Option<usize>
     Some(few.len())
 }
 
-/// A list with a datum at a place.
+/// A list with a datum inserted at an index.
 ///
 /// # Errors
 ///

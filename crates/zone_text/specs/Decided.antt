@@ -22,11 +22,13 @@ ArePieces octets pieces = Cuts octets pieces ⊎ ((fault : Fault) × Breaks octe
 pub data Decided (origin : List (List ℕ)) (octets : List ℕ) (placed : List Placed)
     (ending : Ending) : Type 0 where
   undecided : (pieces : List Piece) → ArePieces octets pieces
-      → ((fault : Fault) → BreaksForGood octets pieces fault → ⊥) → ReadEach origin None
-      [] (ended_entries pieces) placed ending → Decided origin octets placed ending
+      → ((fault : Fault) → BreaksForGood octets pieces fault → ⊥)
+      → ReadEach origin None [] (ended_entries pieces) placed ending
+      → Decided origin octets placed ending
   decided : (pieces : List Piece) (fault : Fault) → BreaksForGood octets pieces fault
-      → ReadEach origin (Some (fault, Line (open_line pieces)))
-      [] (ended_entries pieces) placed ending → Decided origin octets placed ending
+      → ReadEach origin (Some (fault, Line (open_line pieces))) []
+      (ended_entries pieces) placed ending
+      → Decided origin octets placed ending
 
 -- what was decided stays: the records are the first of those that come to be, and after a fault
 -- nothing comes

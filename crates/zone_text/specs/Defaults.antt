@@ -15,7 +15,7 @@ IsOneOrNone Is found = MatchOption found (NothingIs Is) Is
 -- the seconds of a TTL's text, or none where there is no text
 abbrev pub IsTtlOrNone : Option (List ℕ) → Option ℕ → Type 0
 IsTtlOrNone text seconds =
-  MatchOption text (seconds ≡ None) (λ stated. IsSomeAnd seconds (IsTtl stated))
+    MatchOption text (seconds ≡ None) (λ stated. IsSomeAnd seconds (IsTtl stated))
 
 -- The defaults are those that the entries leave, the latest first: the origin, the last owner, the
 -- last class or else IN, the latest `$TTL`, the latest TTL that a record states, and the MINIMUM of

@@ -17,7 +17,7 @@ pub record Cut : Type 0 where
 abbrev pub in_front : Piece → List (List Piece) → List Piece → Cut
 in_front p [] open_pieces = record { ended = []; open_pieces = p ∷ open_pieces }
 in_front p (entry ∷ ended) open_pieces =
-  record { ended = (p ∷ entry) ∷ ended; open_pieces = open_pieces }
+    record { ended = (p ∷ entry) ∷ ended; open_pieces = open_pieces }
 
 abbrev pub in_front_of : Piece → Cut → Cut
 in_front_of p behind = in_front p behind.ended behind.open_pieces
@@ -25,7 +25,7 @@ in_front_of p behind = in_front p behind.ended behind.open_pieces
 -- a line feed outside parentheses ends an entry
 abbrev pub ending_one : Cut → Cut
 ending_one behind =
-  record { ended = (line_feed ∷ []) ∷ behind.ended; open_pieces = behind.open_pieces }
+    record { ended = (line_feed ∷ []) ∷ behind.ended; open_pieces = behind.open_pieces }
 
 -- the entries of tokens, from a depth on
 abbrev pub cut_from : ℕ → List Piece → Cut
@@ -58,18 +58,18 @@ item_of p = []
 
 abbrev pub entry_of : ℕ → List Piece → Entry
 entry_of line pieces =
-  record { line = line; first = first_octet (text pieces); items = flat_map item_of pieces }
+    record { line = line; first = first_octet (text pieces); items = flat_map item_of pieces }
 
 -- an entry's line is 1 and the line feeds before its first octet
 abbrev pub numbered : ℕ → List (List Piece) → List Entry
 numbered line [] = []
 numbered line (pieces ∷ entries) =
-  entry_of line pieces ∷ numbered (line + count_by (λ c. c == 10) (text pieces)) entries
+    entry_of line pieces ∷ numbered (line + count_by (λ c. c == 10) (text pieces)) entries
 
 -- the entries of tokens that are a whole text
 abbrev pub entries_of : List Piece → List Entry
 entries_of pieces =
-  let cut = cut_from zero pieces in numbered 1 (and_last cut.ended cut.open_pieces)
+    let cut = cut_from zero pieces in numbered 1 (and_last cut.ended cut.open_pieces)
 
 -- the entries that a line feed has ended
 abbrev pub ended_entries : List Piece → List Entry

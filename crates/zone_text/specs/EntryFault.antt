@@ -17,7 +17,7 @@ use Rattle.zone_text.specs.Records.{HasValue, Head, HasHead, StatesData, HasTtl}
 -- the first fault of a text that is no name where it stands after entries
 abbrev pub IsNameFaultBehind : List (List ℕ) → List Entry → List ℕ → Fault → Type 0
 IsNameFaultBehind origin before text fault =
-  (above : List (List ℕ)) × (IsOrigin origin before above × IsNameFault above text fault)
+    (above : List (List ℕ)) × (IsOrigin origin before above × IsNameFault above text fault)
 
 -- the item of `$ORIGIN` is no name
 abbrev pub OriginFault : List (List ℕ) → List Entry → Option (List ℕ) → Fault → Type 0
@@ -34,7 +34,7 @@ abbrev pub DirectiveFault : List (List ℕ) → List Entry → EntryForm → Fau
 DirectiveFault origin before includes fault = fault ≡ IncludeDirective
 DirectiveFault origin before unknown fault = fault ≡ UnknownDirective
 DirectiveFault origin before (sets_origin items) fault =
-  OriginFault origin before (one_bare items) fault
+    OriginFault origin before (one_bare items) fault
 DirectiveFault origin before (sets_ttl items) fault = DefaultTtlFault (one_bare items) fault
 DirectiveFault origin before form fault = ⊥
 
@@ -42,16 +42,16 @@ DirectiveFault origin before form fault = ⊥
 abbrev pub OwnerFault : List (List ℕ) → List Entry → EntryForm → Fault → Type 0
 OwnerFault origin before (owned (quoted text) items) fault = fault ≡ NoOwner
 OwnerFault origin before (owned (bare text) items) fault =
-  IsNameFaultBehind origin before text fault
+    IsNameFaultBehind origin before text fault
 OwnerFault origin before (unowned items) fault =
-  (fault ≡ NoOwner) × ((name : List (List ℕ)) → IsLastOwner origin before name → ⊥)
+    (fault ≡ NoOwner) × ((name : List (List ℕ)) → IsLastOwner origin before name → ⊥)
 OwnerFault origin before form fault = ⊥
 
 -- a TTL that is no time of 31 bits, a class that holds no zone data
 abbrev pub WordFault : Word → Fault → Type 0
 WordFault (ttl text) fault = (fault ≡ BadTtl) × ((seconds : ℕ) → IsTtl text seconds → ⊥)
 WordFault (class text) fault =
-  (fault ≡ BadClass) × ((number : ℕ) × (IsClassWord text number × (IsClass number → ⊥)))
+    (fault ≡ BadClass) × ((number : ℕ) × (IsClassWord text number × (IsClass number → ⊥)))
 
 -- the leftmost of them
 abbrev pub WordsFault : List Word → Fault → Type 0

@@ -19,8 +19,10 @@ ReadEach origin = GiveEach (EntryFault origin) origin
 -- and then of the break at the line of the entry that is open there
 pub data FileReads (origin : List (List ℕ)) (octets : List ℕ) (placed : List Placed)
     (ending : Ending) : Type 0 where
-  whole : (pieces : List Piece) → Cuts octets pieces → ReadEach origin None
-      [] (entries_of pieces) placed ending → FileReads origin octets placed ending
+  whole : (pieces : List Piece) → Cuts octets pieces
+      → ReadEach origin None [] (entries_of pieces) placed ending
+      → FileReads origin octets placed ending
   broken : (pieces : List Piece) (fault : Fault) → Breaks octets pieces fault
-      → ReadEach origin (Some (fault, Line (open_line pieces)))
-      [] (ended_entries pieces) placed ending → FileReads origin octets placed ending
+      → ReadEach origin (Some (fault, Line (open_line pieces))) []
+      (ended_entries pieces) placed ending
+      → FileReads origin octets placed ending

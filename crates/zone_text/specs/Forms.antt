@@ -19,7 +19,7 @@ pub data EntryForm : Type 0 where
   owned : RawItem → List RawItem → EntryForm
   unowned : List RawItem → EntryForm
 
--- a directive's word, in any case
+-- a directive's word, in any letter case
 abbrev pub directive : RawItem → List RawItem → EntryForm
 directive (quoted text) items = unknown
 directive (bare text) items =
@@ -50,11 +50,11 @@ are_digits [] = false
 are_digits (c ∷ []) = is_digit c
 are_digits (c ∷ d ∷ text) = is_digit c && are_digits (d ∷ text)
 
--- the mnemonic of a class, or CLASS and digits (RFC 3597 5), in any case
+-- the mnemonic of a class, or CLASS and digits (RFC 3597 5), in any letter case
 abbrev pub is_class_word : List ℕ → Bool
 is_class_word text =
     is_some (number_among classes text)
-        || (bytes_eq (take 5 (folded_label text)) (codes "class") && are_digits (drop 5 text))
+    || (bytes_eq (take 5 (folded_label text)) (codes "class") && are_digits (drop 5 text))
 
 -- a word before the type
 pub data Word : Type 0 where
@@ -94,9 +94,10 @@ pub record Parts : Type 0 where
 abbrev pub parts_behind : List Word → List RawItem → Parts
 parts_behind words [] = record { words = words; rest = [] }
 parts_behind words (item ∷ items) =
-  elim (word_behind words item)
-    [ None ↦ record { words = words; rest = item ∷ items }
-      | Some word ↦ parts_behind (words ++ word ∷ []) items ]
+    elim (word_behind words item) [
+      | None ↦ record { words = words; rest = item ∷ items }
+      | Some word ↦ parts_behind (words ++ word ∷ []) items
+    ]
 
 abbrev pub parts_in : EntryForm → Option Parts
 parts_in (owned owner items) = Some (parts_behind [] items)

@@ -31,5 +31,5 @@ abbrev pub GiveEach : (List Entry → Entry → Fault → Type 0) → List (List
     → List Entry → List Placed → Ending → Type 0
 GiveEach Refuses origin behind before [] placed ending = (placed ≡ []) × (ending ≡ behind)
 GiveEach Refuses origin behind before (entry ∷ entries) placed ending =
-  GivesFirst (Refuses before entry) origin before entry
+    GivesFirst (Refuses before entry) origin before entry
     (GiveEach Refuses origin behind (entry ∷ before) entries) placed ending

@@ -64,19 +64,19 @@ abbrev pub IsOrigin : List (List ℕ) → List Entry → List (List ℕ) → Typ
 IsOrigin origin [] name = name ≡ origin
 IsOrigin origin (entry ∷ before) name =
     MatchOption (origin_text entry) (IsOrigin origin before name)
-        (λ text. (above : List (List ℕ))
-          × (IsOrigin origin before above × Spells (Some above) text name))
+    (λ text. (above : List (List ℕ))
+    × (IsOrigin origin before above × Spells (Some above) text name))
 
 -- the text spells the name where it stands after entries
 abbrev pub SpellsBehind : List (List ℕ) → List Entry → List ℕ → List (List ℕ) → Type 0
 SpellsBehind origin before text name =
-  (above : List (List ℕ)) × (IsOrigin origin before above × Spells (Some above) text name)
+    (above : List (List ℕ)) × (IsOrigin origin before above × Spells (Some above) text name)
 
 -- the owner of the latest record entry that states one, read under the origin of that entry
 abbrev pub IsLastOwner : List (List ℕ) → List Entry → List (List ℕ) → Type 0
 IsLastOwner origin [] name = ⊥
 IsLastOwner origin (entry ∷ before) name =
-  MatchOption (owner_text entry) (IsLastOwner origin before name)
+    MatchOption (owner_text entry) (IsLastOwner origin before name)
     (λ text. SpellsBehind origin before text name)
 
 -- the owner of a record entry: its own, or the last one stated where it begins with a blank
@@ -89,13 +89,13 @@ IsOwner origin before form name = ⊥
 -- choice where RFC 1035 5.1 leaves it open.
 abbrev pub HasClass : List Entry → Entry → ℕ → Type 0
 HasClass before entry class =
-  MatchOption (latest class_word (entry ∷ before)) (class ≡ 1) (λ text. IsClassWord text class)
+    MatchOption (latest class_word (entry ∷ before)) (class ≡ 1) (λ text. IsClassWord text class)
 
 -- the text of a record entry's TTL: its own, else that of the latest `$TTL`, else the latest that a
 -- record states
 abbrev pub stated_ttl : List Entry → Entry → Option (List ℕ)
 stated_ttl before entry =
-  or_else (ttl_text entry) (or_else (latest default_ttl_text before) (latest ttl_text before))
+    or_else (ttl_text entry) (or_else (latest default_ttl_text before) (latest ttl_text before))
 
 -- a time that a TTL may be (RFC 2181 8)
 pub record IsTtl (text : List ℕ) (seconds : ℕ) : Type 0 where

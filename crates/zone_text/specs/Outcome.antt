@@ -12,8 +12,8 @@ use Rattle.zone_text.specs.Records.{StatesNothing, StatesRecord}
 abbrev pub AllState : List (List ℕ) → List Entry → Type 0
 AllState origin [] = ⊤
 AllState origin (entry ∷ before) =
-  (StatesNothing origin before (form_of entry)
-      ⊎ ((r : Record) × StatesRecord origin before entry r)) × AllState origin before
+    (StatesNothing origin before (form_of entry)
+    ⊎ ((r : Record) × StatesRecord origin before entry r)) × AllState origin before
 
 -- items of octets
 abbrev pub AreOctetItems : List RawItem → Type 0

@@ -57,8 +57,8 @@ abbrev pub IsLastMinimum : List (List ℕ) → List Entry → ℕ → Type 0
 IsLastMinimum origin [] seconds = ⊥
 IsLastMinimum origin (entry ∷ before) seconds =
     StatesMinimum origin before entry seconds
-        ⊎ (((other : ℕ) → StatesMinimum origin before entry other → ⊥)
-          × IsLastMinimum origin before seconds)
+    ⊎ (((other : ℕ) → StatesMinimum origin before entry other → ⊥)
+    × IsLastMinimum origin before seconds)
 
 -- The TTL of a record entry, whatever its bound: a stated one, else the MINIMUM of the latest SOA,
 -- which may be the entry. The MINIMUM as the last choice is this project's own: RFC 2308 4 asks for
@@ -66,7 +66,7 @@ IsLastMinimum origin (entry ∷ before) seconds =
 abbrev pub HasTtl : List (List ℕ) → List Entry → Entry → ℕ → Type 0
 HasTtl origin before entry seconds =
     MatchOption (stated_ttl before entry) (IsLastMinimum origin (entry ∷ before) seconds)
-        (λ text. IsTime text seconds)
+    (λ text. IsTime text seconds)
 
 abbrev pub head_of : Record → List RawItem → Head
 head_of r items = record { owner = r.owner; class = r.class; kind = r.kind; items = items }
@@ -84,6 +84,6 @@ pub record StatesRecord (origin : List (List ℕ)) (before : List Entry) (entry 
 abbrev pub StatesNothing : List (List ℕ) → List Entry → EntryForm → Type 0
 StatesNothing origin before no_items = ⊤
 StatesNothing origin before (sets_origin (bare text ∷ [])) =
-  (name : List (List ℕ)) × SpellsBehind origin before text name
+    (name : List (List ℕ)) × SpellsBehind origin before text name
 StatesNothing origin before (sets_ttl (bare text ∷ [])) = (seconds : ℕ) × IsTtl text seconds
 StatesNothing origin before form = ⊥

@@ -34,14 +34,14 @@ pub(crate) enum EntryForm<'i, 't> {
     Unowned(&'i [Item<'t>]),
 }
 
-/// Whether two words are equal in any case of their letters.
+/// Whether two words are equal but for the case of their letters.
 fn is_word(word: &[u8], wanted: &[u8]) -> bool
     ensures { result ≡ bytes_eq (folded_label word.now) (folded_label wanted.now) }
 {
     word.eq_ignore_ascii_case(wanted)
 }
 
-/// The directive of a word in any case.
+/// The directive of a word in any letter case.
 fn directive_of<'i, 't>(word: Item<'t>, items: &'i [Item<'t>]) -> Directive<'i, 't>
     ensures { directive_in result ≡ directive (raw word.entry) (map raw items.now) }
 {

@@ -13,7 +13,8 @@ use zone_rdata::{Placed, Reading, RrSource, Stop};
 /// a line feed has ended its entry. Contracts see the records that it has left to give, the fault
 /// after them, and what else it holds.
 ///
-/// Refused memory, it has failed: every later `feed`, `finish` and `next` answers `Memory`.
+/// Once it was refused memory it has failed: every later `feed`, `finish` and `next` answers
+/// `Memory`.
 #[derive(Drop)]
 pub struct TextSource {
     intake: Intake,

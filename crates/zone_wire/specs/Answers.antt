@@ -49,4 +49,4 @@ pub data StandsBehind (questions : List QuestionAt) (before : List Placed)
 abbrev pub StandInOrder : List QuestionAt → List Placed → List Placed → Type 0
 StandInOrder questions before [] = ⊤
 StandInOrder questions before (p ∷ placed) =
-  StandsBehind questions before p.rr × StandInOrder questions (before ++ p ∷ []) placed
+    StandsBehind questions before p.rr × StandInOrder questions (before ++ p ∷ []) placed

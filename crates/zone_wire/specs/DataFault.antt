@@ -25,10 +25,10 @@ pub record HasValueAt (octets : List ℕ) (end : ℕ) (field : Field) (start pas
 -- fault or ends past the data; all else has none there that fits in the data.
 abbrev pub FieldFault : List ℕ → ℕ → Field → ℕ → Fault → Type 0
 FieldFault octets end Name start fault =
-  NameFault octets start fault
+    NameFault octets start fault
     ⊎ ((fault ≡ BadRdata) × (found : Found) × IsNameAt octets start found × (end < found.end))
 FieldFault octets end field start fault =
-  (fault ≡ BadRdata)
+    (fault ≡ BadRdata)
     × ((past : ℕ) (value : FieldValue) → HasValueAt octets end field start past value → ⊥)
 
 -- the first of fields from an offset on that has none; or after the last of them the data isn't at
@@ -36,11 +36,11 @@ FieldFault octets end field start fault =
 abbrev pub FieldsFault : List ℕ → ℕ → List Field → ℕ → Fault → Type 0
 FieldsFault octets end [] start fault = (fault ≡ BadRdata) × (start ≢ end)
 FieldsFault octets end (field ∷ fields) start fault =
-  FieldFault octets end field start fault
+    FieldFault octets end field start fault
     ⊎ ((past : ℕ) × (value : FieldValue) × HasValueAt octets end field start past value
-      × FieldsFault octets end fields past fault)
+    × FieldsFault octets end fields past fault)
 
 -- the first fault of a record's data; opaque data has none
 abbrev pub DataFault : List ℕ → RecordAt → Fault → Type 0
 DataFault octets a fault =
-  MatchOption (layout a.class a.kind) ⊥ (λ fields. FieldsFault octets a.end fields a.start fault)
+    MatchOption (layout a.class a.kind) ⊥ (λ fields. FieldsFault octets a.end fields a.start fault)

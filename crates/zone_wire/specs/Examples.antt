@@ -54,7 +54,7 @@ longest_walk = labels_a 127 ++ 0 ∷ chain 128 267 12
 -- the header of an answer with ID 1, and how many questions, answers and additional records follow
 abbrev pub answer_header : ℕ → ℕ → ℕ → List ℕ
 answer_header questions answers additional =
-  0 ∷ 1 ∷ 132 ∷ 0 ∷ 0 ∷ questions ∷ 0 ∷ answers ∷ 0 ∷ 0 ∷ 0 ∷ additional ∷ []
+    0 ∷ 1 ∷ 132 ∷ 0 ∷ 0 ∷ questions ∷ 0 ∷ answers ∷ 0 ∷ 0 ∷ 0 ∷ additional ∷ []
 
 -- a question for the zone `x.` of class IN, in a message at offset 12
 abbrev pub question_x : List ℕ
@@ -63,19 +63,19 @@ question_x = 1 ∷ 120 ∷ 0 ∷ 0 ∷ 252 ∷ 0 ∷ 1 ∷ []
 -- the numbers of an SOA: its serial, and 2 3 4 5
 abbrev pub numbers : ℕ → List ℕ
 numbers serial =
-  0 ∷ 0 ∷ 0 ∷ serial ∷ 0 ∷ 0 ∷ 0 ∷ 2 ∷ 0 ∷ 0 ∷ 0 ∷ 3 ∷ 0 ∷ 0 ∷ 0 ∷ 4 ∷ 0 ∷ 0 ∷ 0 ∷ 5 ∷ []
+    0 ∷ 0 ∷ 0 ∷ serial ∷ 0 ∷ 0 ∷ 0 ∷ 2 ∷ 0 ∷ 0 ∷ 0 ∷ 3 ∷ 0 ∷ 0 ∷ 0 ∷ 4 ∷ 0 ∷ 0 ∷ 0 ∷ 5 ∷ []
 
 -- After the question, from offset 19 on: the SOA of `x.` with `n.x.` and `h.x.`, TTL 3600. The
 -- names are compressed.
 abbrev pub opening_x : List ℕ
 opening_x =
-  (192 ∷ 12 ∷ 0 ∷ 6 ∷ 0 ∷ 1 ∷ 0 ∷ 0 ∷ 14 ∷ 16 ∷ 0 ∷ 28 ∷ 1 ∷ 110 ∷ 192 ∷ 12 ∷ 1 ∷ 104 ∷ 192 ∷ 12 ∷
-      []) ++ numbers 1
+    (192 ∷ 12 ∷ 0 ∷ 6 ∷ 0 ∷ 1 ∷ 0 ∷ 0 ∷ 14 ∷ 16 ∷ 0 ∷ 28
+    ∷ 1 ∷ 110 ∷ 192 ∷ 12 ∷ 1 ∷ 104 ∷ 192 ∷ 12 ∷ []) ++ numbers 1
 
 -- a record of `x.` with TTL 3600, of a class and a type and with data
 abbrev pub record_of_class : ℕ → ℕ → List ℕ → List ℕ
 record_of_class class kind octets =
-  (192 ∷ 12 ∷ 0 ∷ kind ∷ 0 ∷ class ∷ 0 ∷ 0 ∷ 14 ∷ 16 ∷ 0 ∷ length octets ∷ []) ++ octets
+    (192 ∷ 12 ∷ 0 ∷ kind ∷ 0 ∷ class ∷ 0 ∷ 0 ∷ 14 ∷ 16 ∷ 0 ∷ length octets ∷ []) ++ octets
 
 abbrev pub record_x : ℕ → List ℕ → List ℕ
 record_x kind octets = record_of_class 1 kind octets
@@ -87,7 +87,7 @@ server_x = record_x 2 (192 ∷ 31 ∷ [])
 -- the SOA again, with a serial, its names being pointers to the first one's
 abbrev pub closing_x : ℕ → List ℕ
 closing_x serial =
-  (192 ∷ 12 ∷ 0 ∷ 6 ∷ 0 ∷ 1 ∷ 0 ∷ 0 ∷ 14 ∷ 16 ∷ 0 ∷ 24 ∷ 192 ∷ 31 ∷ 192 ∷ 35 ∷ []) ++ numbers serial
+    (192 ∷ 12 ∷ 0 ∷ 6 ∷ 0 ∷ 1 ∷ 0 ∷ 0 ∷ 14 ∷ 16 ∷ 0 ∷ 24 ∷ 192 ∷ 31 ∷ 192 ∷ 35 ∷ []) ++ numbers serial
 
 -- the question, the SOA, and an answer as the last part of the message
 abbrev pub ends_with : List ℕ → List ℕ
@@ -109,7 +109,7 @@ small_message = message_with server_x
 -- the first of two messages: the SOA, the name server, and OPT as additional record
 abbrev pub first_message : List ℕ
 first_message =
-  answer_header 1 2 1 ++ question_x ++ opening_x ++ server_x
+    answer_header 1 2 1 ++ question_x ++ opening_x ++ server_x
     ++ 0 ∷ 0 ∷ 41 ∷ 4 ∷ 208 ∷ 0 ∷ 0 ∷ 0 ∷ 0 ∷ 0 ∷ 0 ∷ []
 
 -- the second: the address 10.0.0.1 of `n.x.`, the name server again, and the SOA again, without a
@@ -120,7 +120,7 @@ second_message =
     ++ (1 ∷ 110 ∷ 1 ∷ 120 ∷ 0 ∷ 0 ∷ 1 ∷ 0 ∷ 1 ∷ 0 ∷ 0 ∷ 14 ∷ 16 ∷ 0 ∷ 4 ∷ 10 ∷ 0 ∷ 0 ∷ 1 ∷ [])
     ++ (192 ∷ 14 ∷ 0 ∷ 2 ∷ 0 ∷ 1 ∷ 0 ∷ 0 ∷ 14 ∷ 16 ∷ 0 ∷ 2 ∷ 192 ∷ 12 ∷ [])
     ++ (192 ∷ 14 ∷ 0 ∷ 6 ∷ 0 ∷ 1 ∷ 0 ∷ 0 ∷ 14 ∷ 16 ∷ 0 ∷ 26 ∷ 192 ∷ 12 ∷ 1 ∷ 104 ∷ 192 ∷ 14 ∷ [])
-        ++ numbers 1
+    ++ numbers 1
 
 -- the records that these messages state
 abbrev pub name_x : List (List ℕ)
@@ -131,23 +131,38 @@ name_n = (110 ∷ []) ∷ (120 ∷ []) ∷ []
 
 abbrev pub soa_x : Record
 soa_x =
-  record { owner = name_x; class = 1; kind = 6; ttl = 3600;
-      octets = (1 ∷ 110 ∷ 1 ∷ 120 ∷ 0 ∷ 1 ∷ 104 ∷ 1 ∷ 120 ∷ 0 ∷ []) ++ numbers 1 }
+    record {
+      owner = name_x;
+      class = 1;
+      kind = 6;
+      ttl = 3600;
+      octets = (1 ∷ 110 ∷ 1 ∷ 120 ∷ 0 ∷ 1 ∷ 104 ∷ 1 ∷ 120 ∷ 0 ∷ []) ++ numbers 1;
+    }
 
 abbrev pub ns_x : Record
 ns_x =
-  record { owner = name_x; class = 1; kind = 2; ttl = 3600; octets = 1 ∷ 110 ∷ 1 ∷ 120 ∷ 0 ∷ [] }
+    record { owner = name_x; class = 1; kind = 2; ttl = 3600; octets = 1 ∷ 110 ∷ 1 ∷ 120 ∷ 0 ∷ [] }
 
 abbrev pub srv_x : Record
 srv_x =
-  record { owner = name_x; class = 1; kind = 33; ttl = 3600;
-      octets = 0 ∷ 0 ∷ 0 ∷ 5 ∷ 19 ∷ 196 ∷ 1 ∷ 110 ∷ 1 ∷ 120 ∷ 0 ∷ [] }
+    record {
+      owner = name_x;
+      class = 1;
+      kind = 33;
+      ttl = 3600;
+      octets = 0 ∷ 0 ∷ 0 ∷ 5 ∷ 19 ∷ 196 ∷ 1 ∷ 110 ∷ 1 ∷ 120 ∷ 0 ∷ [];
+    }
 
 -- order 100, preference 10, the strings `U` and two empty ones, and `n.x.`
 abbrev pub naptr_x : Record
 naptr_x =
-  record { owner = name_x; class = 1; kind = 35; ttl = 3600;
-      octets = 0 ∷ 100 ∷ 0 ∷ 10 ∷ 1 ∷ 85 ∷ 0 ∷ 0 ∷ 1 ∷ 110 ∷ 1 ∷ 120 ∷ 0 ∷ [] }
+    record {
+      owner = name_x;
+      class = 1;
+      kind = 35;
+      ttl = 3600;
+      octets = 0 ∷ 100 ∷ 0 ∷ 10 ∷ 1 ∷ 85 ∷ 0 ∷ 0 ∷ 1 ∷ 110 ∷ 1 ∷ 120 ∷ 0 ∷ [];
+    }
 
 abbrev pub address_n : Record
 address_n = record { owner = name_n; class = 1; kind = 1; ttl = 3600; octets = 10 ∷ 0 ∷ 0 ∷ 1 ∷ [] }

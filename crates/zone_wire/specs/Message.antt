@@ -68,8 +68,12 @@ pub record QuestionAt : Type 0 where
 
 abbrev pub question_by : List ℕ → Found → QuestionAt
 question_by octets found =
-  record { name = found.labels; kind = u16_at octets found.end;
-      class = u16_at octets (found.end + 2); end = found.end + 4 }
+    record {
+      name = found.labels;
+      kind = u16_at octets found.end;
+      class = u16_at octets (found.end + 2);
+      end = found.end + 4;
+    }
 
 pub record IsQuestionAt (octets : List ℕ) (offset : ℕ) (q : QuestionAt) : Type 0 where
   pub found : Found
@@ -112,7 +116,7 @@ AreAt Is end_of offset (x ∷ parts) end = Is offset x × AreAt Is end_of (end_o
 
 abbrev pub AreQuestionsAt : List ℕ → ℕ → List QuestionAt → ℕ → Type 0
 AreQuestionsAt octets offset questions end =
-  AreAt (IsQuestionAt octets) (λ q. q.end) offset questions end
+    AreAt (IsQuestionAt octets) (λ q. q.end) offset questions end
 
 abbrev pub AreRecordsAt : List ℕ → ℕ → List RecordAt → ℕ → Type 0
 AreRecordsAt octets offset records end = AreAt (IsRecordAt octets) (λ r. r.end) offset records end

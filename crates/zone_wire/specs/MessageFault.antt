@@ -19,8 +19,8 @@ pub data HeaderFault (octets : List ℕ) : Fault → Type 0 where
   counts : 12 ≤ length octets → IsResponse octets → tc_of octets ≡ 0 → rcode_of octets ≡ 0
       → (HasCounts octets → ⊥) → HeaderFault octets BadCounts
 
--- What begins with a name at an offset, and ends as far after it as is given, has a fault: the name's, or it runs past
--- the message.
+-- What begins with a name at an offset, and ends as far after it as is given, has a fault: the
+-- name's, or it runs past the message.
 pub data PartFault (octets : List ℕ) (end_behind : Found → ℕ) (offset : ℕ) : Fault → Type 0 where
   of_name : (fault : Fault) → NameFault octets offset fault
       → PartFault octets end_behind offset fault
@@ -29,16 +29,16 @@ pub data PartFault (octets : List ℕ) (end_behind : Found → ℕ) (offset : �
 
 abbrev pub QuestionFault : List ℕ → ℕ → Fault → Type 0
 QuestionFault octets offset fault =
-  PartFault octets (λ found. (question_by octets found).end) offset fault
+    PartFault octets (λ found. (question_by octets found).end) offset fault
 
 abbrev pub RecordFault : List ℕ → ℕ → Fault → Type 0
 RecordFault octets offset fault =
-  PartFault octets (λ found. (record_by octets offset found).end) offset fault
+    PartFault octets (λ found. (record_by octets offset found).end) offset fault
 
 -- so many parts stand one after another from an offset to another
 abbrev pub Stand : {X : Type 0} → (ℕ → X → Type 0) → (X → ℕ) → ℕ → ℕ → ℕ → Type 0
 Stand {X} Is end_of count offset end =
-  (parts : List X) × ((length parts ≡ count) × AreAt Is end_of offset parts end)
+    (parts : List X) × ((length parts ≡ count) × AreAt Is end_of offset parts end)
 
 -- of so many parts from an offset on the first that has a fault, and where it begins: those before
 -- it stand
@@ -56,24 +56,24 @@ HasQuestions octets end = Stand (IsQuestionAt octets) (λ q. q.end) (qdcount_of 
 
 abbrev pub HasAnswers : List ℕ → ℕ → Type 0
 HasAnswers octets end =
-  (start : ℕ)
+    (start : ℕ)
     × (HasQuestions octets start
-      × Stand (IsRecordAt octets) (λ r. r.end) (ancount_of octets) start end)
+    × Stand (IsRecordAt octets) (λ r. r.end) (ancount_of octets) start end)
 
 abbrev pub HasAdditional : List ℕ → ℕ → Type 0
 HasAdditional octets end =
-  (start : ℕ)
+    (start : ℕ)
     × (HasAnswers octets start
-      × Stand (IsRecordAt octets) (λ r. r.end) (arcount_of octets) start end)
+    × Stand (IsRecordAt octets) (λ r. r.end) (arcount_of octets) start end)
 
 -- the first of so many questions, or records, that has a fault
 abbrev pub FirstQuestionFault : List ℕ → ℕ → ℕ → Fault → ℕ → Type 0
 FirstQuestionFault octets count offset fault start =
-  FirstFault (IsQuestionAt octets) (λ q. q.end) (QuestionFault octets) count offset fault start
+    FirstFault (IsQuestionAt octets) (λ q. q.end) (QuestionFault octets) count offset fault start
 
 abbrev pub FirstRecordFault : List ℕ → ℕ → ℕ → Fault → ℕ → Type 0
 FirstRecordFault octets count offset fault start =
-  FirstFault (IsRecordAt octets) (λ r. r.end) (RecordFault octets) count offset fault start
+    FirstFault (IsRecordAt octets) (λ r. r.end) (RecordFault octets) count offset fault start
 
 -- The first fault of a message: of its header, of a question, of an answer, of an additional
 -- record; or all of them stand and octets are left over. The last and those of the header are of

@@ -10,7 +10,7 @@ label_at message offset size = folded_label (take size (drop (offset + 1) messag
 -- the low fourteen bits of the two octets of a pointer
 abbrev pub target_at : List ℕ → ℕ → ℕ
 target_at message offset =
-  (slice_index message offset - 192) * 256 + slice_index message (offset + 1)
+    (slice_index message offset - 192) * 256 + slice_index message (offset + 1)
 
 -- The labels from an offset on, with the offset after them, the steps and the pointers. The bound
 -- is the offset at which the run of labels began that stands there: a pointer leads to at least 12,

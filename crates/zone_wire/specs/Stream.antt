@@ -42,7 +42,7 @@ pub record AsksIn (zone : Option ZoneAsked) (q : QuestionAt) : Type 0 where
 -- each question asks for the zone that messages before fixed
 abbrev pub AskBehind : List StatedMessage → Sections → Type 0
 AskBehind before s =
-  AllByRecursion (AsksIn (zone_of (asked_in before) (placed_in before))) s.questions
+    AllByRecursion (AsksIn (zone_of (asked_in before) (placed_in before))) s.questions
 
 -- octets are a message that stands after others: of the same ID, and its questions are for the same
 -- zone
@@ -107,7 +107,7 @@ pub record ReadUpTo (before : List StatedMessage) (messages : List (List ℕ)) (
 abbrev pub ReadBehind : List StatedMessage → List (List ℕ) → List Placed → Option (Fault × Place)
     → Type 0
 ReadBehind before messages placed ending =
-  MatchOption ending (AllRead before messages placed) (λ e. ReadUpTo before messages placed e)
+    MatchOption ending (AllRead before messages placed) (λ e. ReadUpTo before messages placed e)
 
 -- the ID of the first of messages, and the opening SOA, which is the first of records
 abbrev pub first_id : List StatedMessage → Option ℕ
@@ -130,8 +130,8 @@ pub record AreAlike (before other : List StatedMessage) : Type 0 where
 
 -- how a stream ends after whole messages without a fault, the number of the next message known:
 -- inside a frame, without the closing SOA, or with it
-pub data StreamEnd (number : ℕ) (placed : List Placed) (rest : List ℕ) : Option
-    (Fault × Place) → Type 0 where
+pub data StreamEnd (number : ℕ) (placed : List Placed) (rest : List ℕ)
+    : Option (Fault × Place) → Type 0 where
   in_frame : rest ≢ [] → StreamEnd number placed rest (Some (ShortFrame, Message number 0))
   unclosed : rest ≡ [] → is_closed placed ≡ false
       → StreamEnd number placed rest (Some (NoClosingSoa, Message number 0))

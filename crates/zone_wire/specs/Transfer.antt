@@ -18,15 +18,15 @@ octets_between octets start end = take (end - start) (drop start octets)
 -- other value by its octets (RFC 1035 3.3).
 abbrev pub StandsAt : List ℕ → ℕ → ℕ → FieldValue → Type 0
 StandsAt octets start end (name labels) =
-  (found : Found) × IsNameAt octets start found × (found.labels ≡ labels) × (found.end ≡ end)
+    (found : Found) × IsNameAt octets start found × (found.labels ≡ labels) × (found.end ≡ end)
 StandsAt octets start end value =
-  (start ≤ end) × (octets_between octets start end ≡ field_octets value)
+    (start ≤ end) × (octets_between octets start end ≡ field_octets value)
 
 -- values stand one after another from one offset to another
 abbrev pub StandEach : List ℕ → ℕ → ℕ → List FieldValue → Type 0
 StandEach octets start end [] = start ≡ end
 StandEach octets start end (v ∷ values) =
-  (next : ℕ) × (next ≤ end) × StandsAt octets start next v × StandEach octets next end values
+    (next : ℕ) × (next ≤ end) × StandsAt octets start next v × StandEach octets next end values
 
 -- the canonical octets of the values that stand there for the fields of a layout
 pub record AreFieldsAt (octets : List ℕ) (start end : ℕ) (fields : List Field)
@@ -40,7 +40,7 @@ pub record AreFieldsAt (octets : List ℕ) (start end : ℕ) (fields : List Fiel
 -- where there is none (RFC 3597 3, 4)
 abbrev pub IsDataAt : List ℕ → RecordAt → List ℕ → Type 0
 IsDataAt octets a canonical =
-  MatchOption (layout a.class a.kind) (canonical ≡ octets_between octets a.start a.end)
+    MatchOption (layout a.class a.kind) (canonical ≡ octets_between octets a.start a.end)
     (λ fields. AreFieldsAt octets a.start a.end fields canonical)
 
 -- a TTL with its top bit set counts as 0 (RFC 2181 8)
@@ -69,7 +69,7 @@ pub record StatesRecord (octets : List ℕ) (a : RecordAt) (r : Record) : Type 0
 abbrev pub StateEach : ℕ → List ℕ → List RecordAt → List Placed → Type 0
 StateEach number octets [] [] = ⊤
 StateEach number octets (a ∷ answers) (p ∷ placed) =
-  StatesRecord octets a p.rr × (p.place ≡ Message number a.offset)
+    StatesRecord octets a p.rr × (p.place ≡ Message number a.offset)
     × StateEach number octets answers placed
 StateEach number octets answers placed = ⊥
 
@@ -97,7 +97,7 @@ pub record IsStatedMessage (id : ℕ) (zone : Record) (number : ℕ) (p : Stated
 abbrev pub AreStatedMessages : ℕ → Record → ℕ → List StatedMessage → Type 0
 AreStatedMessages id zone number [] = ⊤
 AreStatedMessages id zone number (p ∷ parts) =
-  IsStatedMessage id zone number p × AreStatedMessages id zone (number + 1) parts
+    IsStatedMessage id zone number p × AreStatedMessages id zone (number + 1) parts
 
 -- a message as it stands in a stream, after its length in two octets
 abbrev pub frame : List ℕ → List ℕ

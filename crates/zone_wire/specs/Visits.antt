@@ -22,4 +22,4 @@ abbrev pub LeadToLast : List Visit → Type 0
 LeadToLast [] = ⊤
 LeadToLast (last ∷ []) = ⊤
 LeadToLast (v ∷ next ∷ visits) =
-  (is_label v.standing || is_pointer v.standing ≡ true) × LeadToLast (next ∷ visits)
+    (is_label v.standing || is_pointer v.standing ≡ true) × LeadToLast (next ∷ visits)

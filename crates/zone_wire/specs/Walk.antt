@@ -17,8 +17,8 @@ pub record Visit : Type 0 where
   pub offset : ℕ
   pub standing : Standing
 
--- A place that is come to: its offset, the offset at which the run of labels began that stands there, and how many pointers
--- and octets of labels, each with its length, stand before it.
+-- A place that is come to: its offset, the offset at which the run of labels began that stands
+-- there, and how many pointers and octets of labels, each with its length, stand before it.
 pub record Spot : Type 0 where
   pub offset : ℕ
   pub bound : ℕ
@@ -53,13 +53,16 @@ standing_at message spot =
 -- what stands at a place, none where it doesn't lie in the message
 unfoldable pub place_of : List ℕ → Spot → Option Standing
 place_of message spot =
-  if nat_le (length message) spot.offset then None else Some (standing_at message spot)
+    if nat_le (length message) spot.offset then None else Some (standing_at message spot)
 
 -- The fault with which a walk ends, none where it ends at the root. One that ends at no fault and
 -- no root ends before a place outside the message.
 unfoldable pub ending : List Visit → Option Fault
 ending [] = Some ShortMessage
 ending (last ∷ visits) =
-  elim last.standing
-    [ at_root ↦ None | at_label size ↦ ending visits | at_pointer target ↦ ending visits
-      | at_fault fault ↦ Some fault ]
+    elim last.standing [
+      | at_root ↦ None
+      | at_label size ↦ ending visits
+      | at_pointer target ↦ ending visits
+      | at_fault fault ↦ Some fault
+    ]

@@ -9,9 +9,12 @@ use Rattle.zone_wire.specs.Walk.{at_root, at_label, at_pointer, at_fault, Visit,
 -- from a fault
 abbrev pub next_offset : Visit → Option ℕ
 next_offset visit =
-  elim visit.standing
-    [ at_root ↦ None | at_label size ↦ Some (visit.offset + 1 + size)
-      | at_pointer target ↦ Some target | at_fault fault ↦ None ]
+    elim visit.standing [
+      | at_root ↦ None
+      | at_label size ↦ Some (visit.offset + 1 + size)
+      | at_pointer target ↦ Some target
+      | at_fault fault ↦ None
+    ]
 
 -- where the last of these places leads; the offset that is given, where there is no place
 abbrev pub led_to : Option ℕ → List Visit → Option ℕ
@@ -23,22 +26,29 @@ led_to offset (visit ∷ visits) = led_to (next_offset visit) visits
 abbrev pub run_start : ℕ → List Visit → ℕ
 run_start start [] = start
 run_start start (visit ∷ visits) =
-  run_start
-    (elim visit.standing
-      [ at_root ↦ start | at_label size ↦ start | at_pointer target ↦ target
-        | at_fault fault ↦ start ]) visits
+    run_start
+    (elim visit.standing [
+      | at_root ↦ start
+      | at_label size ↦ start
+      | at_pointer target ↦ target
+      | at_fault fault ↦ start
+    ]) visits
 
 -- a label's octets with its length
 abbrev pub octets_at : Visit → ℕ
 octets_at visit =
-  elim visit.standing
+    elim visit.standing
     [ at_root ↦ 0 | at_label size ↦ 1 + size | at_pointer target ↦ 0 | at_fault fault ↦ 0 ]
 
 -- the place at an offset after the places before it
 abbrev pub spot_behind : ℕ → List Visit → ℕ → Spot
 spot_behind start before offset =
-  record { offset = offset; bound = run_start start before; pointers = pointers_in before;
-      octets = sum_by octets_at before }
+    record {
+      offset = offset;
+      bound = run_start start before;
+      pointers = pointers_in before;
+      octets = sum_by octets_at before;
+    }
 
 -- a place to which those before it lead, with what stands there
 pub record IsNext (message : List ℕ) (start : ℕ) (before : List Visit)

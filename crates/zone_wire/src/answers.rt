@@ -90,7 +90,7 @@ impl<'m> RawRr<'m> {
     }
 }
 
-/// The answers of a message that are still to come, in order (RFC 1035 4.1). Contracts see their
+/// The answers of a message that are left, in order (RFC 1035 4.1). Contracts see their
 /// list.
 #[derive(Debug, Drop)]
 pub struct Answers<'m> {
@@ -98,7 +98,7 @@ pub struct Answers<'m> {
     pub(crate) message: &'m [u8],
     /// The offset at which the next answer begins.
     pub(crate) offset: usize,
-    /// How many answers are still to come.
+    /// How many answers are left.
     pub(crate) left: u16,
 }
 

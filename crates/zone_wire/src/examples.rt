@@ -78,8 +78,7 @@ pub fn transfers_without_a_fault()
 pub fn streams_cut_short()
     ensures empty { StreamReads [] [] (Some (NoClosingSoa, Message 1 0)) }
     ensures no_answers { StreamReads (frame (0 ∷ 1 ∷ 132 ∷ 0 ∷ 0 ∷ 0 ∷ 0 ∷ 0 ∷ 0 ∷ 0 ∷ 0 ∷ 0 ∷ []))
-        []
-        (Some (NoClosingSoa, Message 2 0)) }
+        [] (Some (NoClosingSoa, Message 2 0)) }
     ensures first_of_two { StreamReads (frame first_message) small_records
         (Some (NoClosingSoa, Message 2 0)) }
     ensures one_octet_more { StreamReads (frame small_message ++ 0 ∷ []) small_records

@@ -64,7 +64,7 @@ impl Transfer {
         }
     }
 
-    /// What is still to be handed on.
+    /// What is left to hand on.
     pub(crate) fn into_decided(self) -> Reading
         ensures { result ≡ self.decided }
     {

@@ -49,7 +49,7 @@ abbrev pub WritesPrefix : Input → Option (List ℕ) → Option (List ℕ) → 
 WritesPrefix input old new =
     Keeps old new ⊎ ((z : Zone) × InputDenotes input z × AppendsPart old new (canon z))
 
--- the known octets of a reader lost a front of at most so many
+-- the known octets of a reader lost a prefix of at most so many
 abbrev pub ConsumesAtMost : ℕ → Option (List ℕ) → Option (List ℕ) → Type 0
 ConsumesAtMost most old new = (given : List ℕ) × (length given ≤ most) × Consumes old new given
 

@@ -36,14 +36,14 @@ AppendsThisLine line old new = Appends old new (line ++ 10 ∷ [])
 -- nothing was written, or a part of one such line with its line feed, but not all of it
 abbrev pub TellsPart : (List ℕ → Type 0) → Option (List ℕ) → Option (List ℕ) → Type 0
 TellsPart IsLine old new =
-  Keeps old new ⊎ ((line : List ℕ) × IsLine line × AppendsPart old new (line ++ 10 ∷ []))
+    Keeps old new ⊎ ((line : List ℕ) × IsLine line × AppendsPart old new (line ++ 10 ∷ []))
 
 -- known octets denote a zone of so many records
 abbrev pub HasRecords : InputForm → Option (List ℕ) → ℕ → Type 0
 HasRecords form known count =
     IfSome known
-        (λ octets. (z : Zone) × InputDenotes (input_of form octets) z
-          × (count ≡ min (length z.records) (2 ^ 64 - 1)))
+    (λ octets. (z : Zone) × InputDenotes (input_of form octets) z
+    × (count ≡ min (length z.records) (2 ^ 64 - 1)))
 
 -- the line on an input that is accepted: how many records its zone has
 abbrev pub records_line : ℕ → List ℕ
@@ -52,14 +52,14 @@ records_line count = codes "accepted, records: " ++ decimal count
 -- that line was written on known octets, and nothing else
 abbrev pub TellsRecords : InputForm → Option (List ℕ) → Option (List ℕ) → Option (List ℕ) → Type 0
 TellsRecords form known old new =
-  (count : ℕ) × HasRecords form known count × AppendsThisLine (records_line count) old new
+    (count : ℕ) × HasRecords form known count × AppendsThisLine (records_line count) old new
 
 -- a line that explains an input of known octets: that on its records, or any line where it is
 -- refused
 abbrev pub IsExplanation : InputForm → Option (List ℕ) → List ℕ → Type 0
 IsExplanation form known line =
     ((count : ℕ) × HasRecords form known count × (line ≡ records_line count))
-        ⊎ AreRefused form known
+    ⊎ AreRefused form known
 
 -- what explaining an input answers and writes: 0 and how many records its zone has, or 3 and why it
 -- is refused
@@ -104,27 +104,27 @@ pub record Devices : Type 0 where
 
 abbrev pub devices : Option (List ℕ) → Option (List ℕ) → Option (List ℕ) → Option (List ℕ) → Devices
 devices first second output errors =
-  record { first = first; second = second; output = output; errors = errors }
+    record { first = first; second = second; output = output; errors = errors }
 
 -- known octets denote a zone, and its canonical text was written
 abbrev pub WritesZone : InputForm → Option (List ℕ) → Option (List ℕ) → Option (List ℕ) → Type 0
 WritesZone form known old new =
-  IfSome known (λ octets. (count : ℕ) × Normalises (input_of form octets) old new count)
+    IfSome known (λ octets. (count : ℕ) × Normalises (input_of form octets) old new count)
 
 -- this is the verdict on two inputs of known octets
 abbrev pub AreCompared : InputForm → Option (List ℕ) → InputForm → Option (List ℕ) → Verdict
     → Type 0
 AreCompared form known other_form other verdict =
     IfSome known
-        (λ octets. IfSome other
-          (λ others. Compares (input_of form octets) (input_of other_form others) verdict))
+    (λ octets. IfSome other
+    (λ others. Compares (input_of form octets) (input_of other_form others) verdict))
 
 -- the line of the verdict on two inputs of known octets
 abbrev pub IsVerdictLine : InputForm → Option (List ℕ) → InputForm → Option (List ℕ) → List ℕ
     → Type 0
 IsVerdictLine form known other_form other line =
     (verdict : Verdict) × AreCompared form known other_form other verdict
-        × (line ≡ verdict_line verdict)
+    × (line ≡ verdict_line verdict)
 
 -- What a run leaves that carried its order out with this status: the canonical text of the zone,
 -- how many records it has, or the verdict on two zones.
@@ -135,7 +135,7 @@ CarriesOut (Explain origin) old new status =
     (status ≡ 0) × TellsRecords (form_with origin) old.first old.output new.output
 CarriesOut (Compare first second) old new status =
     (verdict : Verdict) × (status ≡ verdict_status verdict)
-        × AppendsThisLine (verdict_line verdict) old.output new.output
+    × AppendsThisLine (verdict_line verdict) old.output new.output
     × AreCompared (form_with first.origin) old.first (form_with second.origin) old.second verdict
 
 -- the first input is refused and the second is not read, or the first is accepted and the second is
@@ -143,36 +143,36 @@ CarriesOut (Compare first second) old new status =
 abbrev pub RefusesOne : Source → Source → Devices → Devices → Type 0
 RefusesOne first second old new =
     (AppendsLine (codes "first: ") old.errors new.errors
-          × AreRefused (form_with first.origin) old.first
+    × AreRefused (form_with first.origin) old.first
     × Keeps old.second new.second)
     ⊎ (AppendsLine (codes "second: ") old.errors new.errors
-          × IsAccepted (form_with first.origin) old.first
+    × IsAccepted (form_with first.origin) old.first
     × AreRefused (form_with second.origin) old.second)
 
 -- What a run leaves whose input is refused: a line that tells why, on standard output where that
 -- was asked for.
 abbrev pub Refuses : Order → Devices → Devices → Type 0
 Refuses (Normalise origin) old new =
-    Keeps old.output new.output × AppendsLine
-        [] old.errors new.errors × AreRefused (form_with origin) old.first
+    Keeps old.output new.output × AppendsLine [] old.errors new.errors
+    × AreRefused (form_with origin) old.first
 Refuses (Explain origin) old new =
-    Keeps old.errors new.errors × AppendsLine
-        [] old.output new.output × AreRefused (form_with origin) old.first
+    Keeps old.errors new.errors × AppendsLine [] old.output new.output
+    × AreRefused (form_with origin) old.first
 Refuses (Compare first second) old new =
-  Keeps old.output new.output × RefusesOne first second old new
+    Keeps old.output new.output × RefusesOne first second old new
 
 -- What a run leaves that failed: nothing was written, or of the canonical text a prefix, or of the
 -- line that the order tells a part.
 abbrev pub Fails : Order → Devices → Devices → Type 0
 Fails (Normalise origin) old new =
     IfSome old.first
-        (λ octets. WritesPrefix (input_of (form_with origin) octets) old.output new.output)
+    (λ octets. WritesPrefix (input_of (form_with origin) octets) old.output new.output)
 Fails (Explain origin) old new =
-  TellsPart (IsExplanation (form_with origin) old.first) old.output new.output
+    TellsPart (IsExplanation (form_with origin) old.first) old.output new.output
 Fails (Compare first second) old new =
     TellsPart
-        (IsVerdictLine (form_with first.origin) old.first
-          (form_with second.origin) old.second) old.output new.output
+    (IsVerdictLine (form_with first.origin) old.first
+    (form_with second.origin) old.second) old.output new.output
 
 -- What a run of an order leaves, with its exit status. Status 4 tells neither which device failed
 -- nor that memory was wanting, since no contract of std says when they do, so of standard error

@@ -13,7 +13,7 @@ use zone_wire::TransferSource;
 
 /// A source of records that is fed an input in pieces.
 pub(crate) trait FedSource: RrSource {
-    /// What else it holds than what is pending.
+    /// What it holds besides what is pending.
     ghost Held: { Type 0 };
 
     ghost held: { Self → Held };

@@ -51,7 +51,7 @@ pub(crate) fn read_zone<S: FedSource, R: OctetReader>(
     read_in_pieces(alloc, source, reader, &mut piece, limit)
 }
 
-/// So many octets 0. The length is a parameter, so that no proof counts up to it.
+/// So many zero octets. The length is a parameter, so that no proof counts up to it.
 fn zeros(alloc: Global, len: usize) -> Result<Vec<u8>, AllocError>
     ensures { IfOk result (λ octets. length octets.items ≡ len) }
 {

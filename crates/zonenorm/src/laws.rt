@@ -99,7 +99,7 @@ pub fn refusal_or_zone()
     zone_wire::laws::a_transfer_is_read();
 }
 
-/// What refuses a front of an input refuses the input.
+/// What refuses a prefix of an input refuses the input.
 pub(crate) fn what_is_decided_refuses()
     ensures { (form : InputForm) (octets front more : Octets) (placed : List Placed)
         (ending : Option (Fault × Place)) (fault : Fault) (place : Place)

@@ -20,7 +20,7 @@ pub trait OctetReader {
     /// That its last call failed, and none before.
     ghost Failed: { Self → Type 0 };
 
-    /// Reads into a front of `piece` and answers its length, which is 0 at the end or for an empty
+    /// Reads into a prefix of `piece` and answers its length, which is 0 at the end or for an empty
     /// piece alone.
     ///
     /// # Errors

@@ -22,7 +22,7 @@ use zone_rdata::Stop;
 /// are the same; 1 where two zones differ; 3 where an input is refused; 4 where reading, writing or
 /// memory failed. Of 3 and 4 a line on the error writer tells why, of a comparison after the name
 /// of the input; `explain` tells of 3 on the writer. Where that can't be told the status is 4. With
-/// 4 the writer got nothing, or a front of the text or line that the order writes. No writer is
+/// 4 the writer got nothing, or a prefix of the text or line that the order writes. No writer is
 /// flushed.
 #[tactic(auto, using(crate::proofs::Running::normalised, crate::proofs::Running::normalise_stopped, crate::proofs::Running::explained, crate::proofs::Running::explain_stopped, crate::proofs::Running::compared, crate::proofs::Running::compare_stopped))]
 pub fn run<R1: OctetReader, R2: OctetReader, W: OctetWriter, E: OctetWriter>(

@@ -17,4 +17,4 @@ fitted_twice room a b c x y first second fits =
     let both = length-append (a ++ x) y in
     let front : b ≡ a ++ x = first (omega (arith, whole, length-append a x)) in
     appended_twice a b c x y front
-        (second (rw front (omega (arith, whole, both, length-append a x))))
+    (second (rw front (omega (arith, whole, both, length-append a x))))

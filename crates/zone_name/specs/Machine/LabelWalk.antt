@@ -34,9 +34,9 @@ step_at labels [] at_end = done labels true
 step_at labels (c ∷ open_label) at_end = done (labels ++ folded_label (c ∷ open_label) ∷ []) false
 step_at labels [] (at_dot rest) = failed EmptyLabel
 step_at labels (c ∷ open_label) (at_dot rest) =
-  goes (labels ++ folded_label (c ∷ open_label) ∷ []) [] rest
+    goes (labels ++ folded_label (c ∷ open_label) ∷ []) [] rest
 step_at labels open_label (at_octet c rest) =
-  if nat_le 63 (length open_label) then failed LabelTooLong
+    if nat_le 63 (length open_label) then failed LabelTooLong
     else goes labels (open_label ++ c ∷ []) rest
 step_at labels open_label at_fault = failed BadEscape
 
@@ -45,9 +45,11 @@ step_at labels open_label at_fault = failed BadEscape
 abbrev pub read : ℕ → List (List ℕ) → List ℕ → List ℕ → Result (List (List ℕ) × Bool) NameFault
 read zero labels open_label rest = Err BadEscape
 read (suc n) labels open_label rest =
-  elim (step_at labels open_label (ahead_in rest))
-    [ done found whole ↦ Ok (found, whole) | failed fault ↦ Err fault
-      | goes more open_next left ↦ read n more open_next left ]
+    elim (step_at labels open_label (ahead_in rest)) [
+      | done found whole ↦ Ok (found, whole)
+      | failed fault ↦ Err fault
+      | goes more open_next left ↦ read n more open_next left
+    ]
 
 unfoldable pub reading : List ℕ → Result (List (List ℕ) × Bool) NameFault
 reading [] = Err EmptyLabel

@@ -24,7 +24,7 @@ unfolded_labels octets = labels_of (map folded_octet octets)
 -- a label is added after others, or left out where it makes them too long
 abbrev pub Joins : List (List ℕ) → List ℕ → Bool → List (List ℕ) → Type 0
 Joins before label true after =
-  (after ≡ before) × (255 < length (wire (before ++ folded_label label ∷ [])))
+    (after ≡ before) × (255 < length (wire (before ++ folded_label label ∷ [])))
 Joins before label false after = after ≡ before ++ folded_label label ∷ []
 
 -- a label of 1 to 63 octets is closed
@@ -42,13 +42,13 @@ pub data RefusesLabel (label : List ℕ) : NameFault → Type 0 where
 -- the reading of a text goes on, with a label open, to what is left
 abbrev pub Goes : List ℕ → List ℕ → List ℕ → Type 0
 Goes text open_label rest =
-  (labels : List (List ℕ)) (n : ℕ) → length text < n
+    (labels : List (List ℕ)) (n : ℕ) → length text < n
     → (m : ℕ) × (length rest < m) × (read n labels [] text ≡ read m labels open_label rest)
 
 -- the reading of a text ends with a fault, whatever labels are before it
 abbrev pub Refuses : List ℕ → NameFault → Type 0
 Refuses text fault =
-  (labels : List (List ℕ)) (n : ℕ) → length text < n → read n labels [] text ≡ Err fault
+    (labels : List (List ℕ)) (n : ℕ) → length text < n → read n labels [] text ≡ Err fault
 
 -- the label that a text begins with, and what is left from its dot or the end on
 pub record EndsLabelAt (text label rest : List ℕ) : Type 0 where

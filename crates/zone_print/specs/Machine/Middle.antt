@@ -6,4 +6,4 @@ use Rattle.zone_rdata.specs.Record.{Record}
 -- TTL, class and type between spaces, after the owner and before the data
 abbrev pub line_middle : Record → List ℕ
 line_middle r =
-  32 ∷ decimal r.ttl ++ 32 ∷ class_text r.class ++ 32 ∷ kind_text r.class r.kind ++ 32 ∷ []
+    32 ∷ decimal r.ttl ++ 32 ∷ class_text r.class ++ 32 ∷ kind_text r.class r.kind ++ 32 ∷ []

@@ -25,7 +25,7 @@ strings_of octets = strings_by (length octets) octets
 abbrev pub SpellEachString : List RawItem → List (List ℕ) → Type 0
 SpellEachString [] [] = ⊤
 SpellEachString (item ∷ items) (octets ∷ many) =
-  SpellsString item octets × SpellEachString items many
+    SpellsString item octets × SpellEachString items many
 SpellEachString items many = ⊥
 
 -- one item or more spell the strings
@@ -37,7 +37,7 @@ pub record SpellsStrings (items : List RawItem) (many : List (List ℕ)) : Type 
 abbrev pub FirstStringFault : List RawItem → Fault → Type 0
 FirstStringFault [] fault = ⊥
 FirstStringFault (item ∷ items) fault =
-  StringFault item fault
+    StringFault item fault
     ⊎ ((octets : List ℕ) × SpellsString item octets × FirstStringFault items fault)
 
 -- why items spell no strings: there is no item, or the leftmost that spells none

@@ -16,7 +16,7 @@ pub record Appends {V : Type 0} (Stated : V → Type 0) (octets : V → List ℕ
 -- the octets of the value that items spell for a field are appended
 abbrev pub AppendsField : List (List ℕ) → Field → List RawItem → List ℕ → List ℕ → Type 0
 AppendsField origin field items old new =
-  Appends (SpellsField origin field items) field_octets old new
+    Appends (SpellsField origin field items) field_octets old new
 
 -- likewise for the field that the items begin with; `rest` is what follows it
 pub record AppendsFirst (origin : List (List ℕ)) (field : Field) (items rest : List RawItem)
@@ -49,7 +49,7 @@ pub record AppendsValue (field : Field) (octets rest old new : List ℕ) : Type 
 -- octets that begin with no value of the field
 abbrev pub BeginsWithNone : Field → List ℕ → Type 0
 BeginsWithNone field octets =
-  (value : FieldValue) (rest : List ℕ) → BeginsWithValue field octets value rest → ⊥
+    (value : FieldValue) (rest : List ℕ) → BeginsWithValue field octets value rest → ⊥
 
 -- the first `count` octets are appended; `rest` is what follows them
 pub record AppendsPrefix (count : ℕ) (octets rest old new : List ℕ) : Type 0 where

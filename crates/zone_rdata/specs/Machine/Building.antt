@@ -40,7 +40,7 @@ abbrev pub ArePushedParts : Option (List Field) → ℕ → List ℕ → Type 0
 ArePushedParts None zero octets = octets ≡ []
 ArePushedParts None (suc n) octets = n ≡ 0
 ArePushedParts (Some fields) n octets =
-  (length (part_fields fields n) ≡ n) × AreLaidOut (part_fields fields n) octets
+    (length (part_fields fields n) ≡ n) × AreLaidOut (part_fields fields n) octets
 
 pub record IsBuilt (class kind count : ℕ) (octets : List ℕ) : Type 0 where
   pub is_class : IsClass class

@@ -27,4 +27,4 @@ pub record HoldsStrings (octets : List ℕ) : Type 0 where
 -- octets that are one string or more, each after its length
 abbrev pub AreWithLengths : List ℕ → Type 0
 AreWithLengths octets =
-  (many : List (List ℕ)) × AreStrings many × (octets ≡ flat_map with_length many)
+    (many : List (List ℕ)) × AreStrings many × (octets ≡ flat_map with_length many)

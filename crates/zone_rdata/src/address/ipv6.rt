@@ -5,7 +5,7 @@ ghost use Rattle.zone_rdata.specs.Machine.AddressReading.{HasGapAt};
 
 use super::groups::octets_of_parts;
 
-/// The place of the first two colons in a row.
+/// The offset of the first two colons in a row.
 fn gap_in(text: &[u8]) -> Option<usize>
     ensures found { IfSome result (λ at. HasGapAt text.now at
         × ((k : ℕ) → k < at → HasGapAt text.now k → ⊥)) }

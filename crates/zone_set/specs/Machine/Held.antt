@@ -27,7 +27,7 @@ pub record AreDatums (octets : List (List ℕ)) : Type 0 where
 abbrev pub with_datum : Option SetData → ℕ → ℕ → List ℕ → SetData
 with_datum None ttl kind octets = record { ttl = ttl; kind = kind; rdatas = octets ∷ [] }
 with_datum (Some d) ttl kind octets =
-  record { ttl = d.ttl; kind = d.kind; rdatas = insert_key (slice_cmp nat_cmp) d.rdatas octets }
+    record { ttl = d.ttl; kind = d.kind; rdatas = insert_key (slice_cmp nat_cmp) d.rdatas octets }
 
 -- the data of a set, if it has any, are more with this one
 abbrev pub IsNew : Option SetData → List ℕ → Type 0
@@ -37,7 +37,7 @@ IsNew (Some d) octets = length d.rdatas < length (insert_key (slice_cmp nat_cmp)
 -- the record of a set and class with these octets
 abbrev pub set_record : ℕ → RecordSet → SetData → List ℕ → Record
 set_record class s d octets =
-  record { owner = s.owner; class = class; kind = d.kind; ttl = d.ttl; octets = octets }
+    record { owner = s.owner; class = class; kind = d.kind; ttl = d.ttl; octets = octets }
 
 -- the records of an entry of the map
 abbrev pub entry_records : ℕ → RecordSet × SetData → List Record
@@ -56,7 +56,7 @@ pub record IsKept (e : RecordSet × SetData) : Type 0 where
   pub datums : AreDatums e.1.rdatas
   pub set : AllByRecursion
       (λ octets. set_for e.0.owner (record { class = 0; kind = e.1.kind; octets = octets })
-        ≡ e.0) e.1.rdatas
+      ≡ e.0) e.1.rdatas
 
 -- sets whose records stand together; there are none where no class is known, and some where one is
 pub record HoldsSets (class : Option ℕ) (entries : List (RecordSet × SetData)) : Type 0 where

@@ -34,9 +34,9 @@ set_rank s = if s.kind == 6 then 0 else 1
 -- the order of sets: the SOA first, then by owner, type number and type covered
 abbrev pub set_cmp : RecordSet → RecordSet → Ordering
 set_cmp =
-  then_cmp (on set_rank nat_cmp)
+    then_cmp (on set_rank nat_cmp)
     (then_cmp (on (λ s. s.owner) name_cmp)
-      (then_cmp (on (λ s. s.kind) nat_cmp) (on (λ s. s.covered) (slice_cmp nat_cmp))))
+    (then_cmp (on (λ s. s.kind) nat_cmp) (on (λ s. s.covered) (slice_cmp nat_cmp))))
 
 -- it is total
 pub names_total : IsTotalOrder name_cmp
@@ -45,8 +45,8 @@ names_total = on_total (reverse {A = List ℕ}) (lists_total nat_list_cmp_total)
 pub sets_total : IsTotalOrder set_cmp
 sets_total =
     then_total (on_total set_rank nat_cmp_total)
-        (then_total (on_total (λ s. s.owner) names_total)
-          (then_total (on_total (λ s. s.kind) nat_cmp_total)
+    (then_total (on_total (λ s. s.owner) names_total)
+    (then_total (on_total (λ s. s.kind) nat_cmp_total)
     (on_total (λ s. s.covered) nat_list_cmp_total)))
 
 -- an octet of a label, so that no octet is 0: a 1 stands before 0 and 1
@@ -78,9 +78,9 @@ owner_tail owner = wire owner ++ length (wire owner) ∷ []
 -- what orders the sets, and after it the owner as the key lends it
 abbrev pub set_octets : RecordSet → List ℕ
 set_octets s =
-  set_rank s ∷
+    set_rank s ∷
     (owner_key s.owner
-      ++ (s.kind / 256 ∷ s.kind % 256 ∷ (covered_key s.covered ++ owner_tail s.owner)))
+    ++ (s.kind / 256 ∷ s.kind % 256 ∷ (covered_key s.covered ++ owner_tail s.owner)))
 
 -- all octets but the last, and what the last one counts from its end
 abbrev pub last_part : List ℕ → ℕ → List ℕ
@@ -89,7 +89,7 @@ last_part front count = drop (length front - count) front
 -- the owner's octets in a key
 abbrev pub wire_part : List ℕ → List ℕ
 wire_part octets =
-  last_part (take (length octets - 1) octets) (slice_index octets (length octets - 1))
+    last_part (take (length octets - 1) octets) (slice_index octets (length octets - 1))
 
 -- the octets that stand after a 1
 abbrev pub covered_read : List ℕ → List ℕ
@@ -103,12 +103,12 @@ abbrev pub set_behind : List (List ℕ) → List ℕ → RecordSet
 set_behind owner [] = record { owner = owner; kind = 0; covered = [] }
 set_behind owner (high ∷ []) = record { owner = owner; kind = 0; covered = [] }
 set_behind owner (high ∷ low ∷ rest) =
-  record { owner = owner; kind = high * 256 + low; covered = covered_read rest }
+    record { owner = owner; kind = high * 256 + low; covered = covered_read rest }
 
 -- the set whose key it is
 unfoldable pub set_of : List ℕ → RecordSet
 set_of octets =
-  set_behind (labels_of (wire_part octets))
+    set_behind (labels_of (wire_part octets))
     (drop (1 + length (owner_key (labels_of (wire_part octets)))) octets)
 
 -- octets that are the key of their set

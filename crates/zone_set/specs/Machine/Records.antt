@@ -14,7 +14,7 @@ told_records class (Some t) = map (set_record class t.key.now t.held.now) (left_
 
 abbrev pub records_to_come : Option ℕ → Option Told → List (RecordSet × SetData) → List Record
 records_to_come class told entries =
-  told_records (class_or_none class) told ++ all_records (class_or_none class) entries
+    told_records (class_or_none class) told ++ all_records (class_or_none class) entries
 
 -- each is a record, each set to come has one, and where no class is known there is none
 pub record AreToCome (class : Option ℕ) (told : Option Told)

@@ -1,5 +1,5 @@
--- How a master file is cut from the left: what stands at its front, and what the rest makes of it
--- (RFC 1035 5.1).
+-- How a master file is cut from the left: what stands at its beginning, and what the rest makes of
+-- it (RFC 1035 5.1).
 use Rattle.std.specs.Prelude.{ℕ, zero, suc, ◌-◌, List, [], ◌∷◌, length, ◌==◌, if◌then◌else◌, Option, Some, None}
 use Rattle.zone_name.specs.Spelling.{Written}
 use Rattle.zone_name.specs.Machine.Units.{Units, units_first}
@@ -49,7 +49,7 @@ pub data Front : Type 0 where
 abbrev pub quoted_front : List Written → List ℕ → Front
 quoted_front units [] = stops (Some UnclosedQuote)
 quoted_front units (c ∷ rest) =
-  if is_quote c then takes (quoted units) rest else stops (Some BadEscape)
+    if is_quote c then takes (quoted units) rest else stops (Some BadEscape)
 
 -- after the units of a bare item
 abbrev pub bare_front : List Written → List ℕ → Front
@@ -65,9 +65,9 @@ front_by zero c rest a_closing = stops (Some UnbalancedParenthesis)
 front_by (suc depth) c rest a_closing = takes closing rest
 front_by depth c rest a_semicolon = takes (comment (before_line_feed rest)) (from_line_feed rest)
 front_by depth c rest a_quote =
-  let found : Units = units_first is_quote rest in quoted_front found.units found.rest
+    let found : Units = units_first is_quote rest in quoted_front found.units found.rest
 front_by depth c rest of_item =
-  let found : Units = units_first ends_item (c ∷ rest) in bare_front found.units found.rest
+    let found : Units = units_first ends_item (c ∷ rest) in bare_front found.units found.rest
 
 -- where the text ends
 abbrev pub end_front : ℕ → Front
@@ -94,7 +94,7 @@ pub record Cutting : Type 0 where
 abbrev pub cut_on : (ℕ → List ℕ → Cutting) → ℕ → Front → Cutting
 cut_on go_on depth (stops fault) = record { pieces = []; broken = fault }
 cut_on go_on depth (takes p rest) =
-  let more : Cutting = go_on (depth_behind depth p) rest in
+    let more : Cutting = go_on (depth_behind depth p) rest in
     record { pieces = p ∷ more.pieces; broken = more.broken }
 
 -- at most n tokens

@@ -24,7 +24,7 @@ use Rattle.zone_text.specs.declared.defaults.Defaults.{Defaults}
 -- an entry that states no record, and what is left to those after it
 abbrev pub LeavesNoRecord : Labels → List Entry → Entry → Defaults → Type 0
 LeavesNoRecord origin before entry next =
-  StatesNothing origin before (form_of entry) × AreDefaults origin (entry ∷ before) next
+    StatesNothing origin before (form_of entry) × AreDefaults origin (entry ∷ before) next
 
 -- What an entry at a place decides after what was decided, and what is left to those after it:
 -- nothing; the record that it states; or its fault, after which nothing is said of what is left
@@ -34,8 +34,8 @@ pub data DecidesEntry (origin : Labels) (before : List Entry) (entry : Entry) (p
       → DecidesEntry origin before entry place old new next
   decides_one : (r : Record) → StatesRecord origin before entry r
       → AreDefaults origin (entry ∷ before) next
-      → new.placed.items ≡ old.placed.items ++ (record { rr = r; place = place }) ∷
-      [] → new.ending ≡ old.ending → DecidesEntry origin before entry place old new next
+      → new.placed.items ≡ old.placed.items ++ (record { rr = r; place = place }) ∷ []
+      → new.ending ≡ old.ending → DecidesEntry origin before entry place old new next
   decides_fault : (fault : Fault) → EntryFault origin before entry fault
       → new.placed.items ≡ old.placed.items → new.ending ≡ Some (fault, place)
       → DecidesEntry origin before entry place old new next
@@ -43,7 +43,7 @@ pub data DecidesEntry (origin : Labels) (before : List Entry) (entry : Entry) (p
 -- the fault is decided, and nothing after it
 abbrev pub Refuses : Failing → Place → Reading → Reading → Type 0
 Refuses (failings.Fault fault) place old new =
-  (new.placed.items ≡ old.placed.items) × (new.ending ≡ Some (fault, place))
+    (new.placed.items ≡ old.placed.items) × (new.ending ≡ Some (fault, place))
 Refuses failings.Memory place old new = ⊥
 
 abbrev pub with_owner : Option Labels → Defaults → Defaults
@@ -69,8 +69,8 @@ pub record IsRecordEntry (origin : Labels) (before : List Entry) (entry : Entry)
 abbrev pub HasOwnerOrNone : Labels → List Entry → Entry → Defaults → List RawItem → Type 0
 HasOwnerOrNone origin before entry d items =
     MatchOption d.owner (EntryFault origin before entry NoOwner)
-        (λ name. IsRecordEntry origin before entry d name items
-          × IsLastOwner origin (entry ∷ before) name)
+    (λ name. IsRecordEntry origin before entry d name items
+    × IsLastOwner origin (entry ∷ before) name)
 
 -- a record entry up to its data, and the TTL that is looked for
 pub record IsReadTo (origin : Labels) (before : List Entry) (entry : Entry) (d : Defaults)

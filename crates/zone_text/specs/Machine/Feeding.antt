@@ -63,15 +63,15 @@ reach s = s.ended.line + length s.unfinished.items
 abbrev pub FollowOn : Intake → List ℕ → Intake → Type 0
 FollowOn old part new =
     (origin : Labels) (fed : List ℕ) (given : List Placed)
-        → Follow origin old.ended old.unfinished.items fed given
-        → Follow origin new.ended new.unfinished.items (fed ++ part) given
+    → Follow origin old.ended old.unfinished.items fed given
+    → Follow origin new.ended new.unfinished.items (fed ++ part) given
 
 -- what is read of a file that ends there
 abbrev pub ReadsAll : Intake → Intake → Type 0
 ReadsAll old new =
     (origin : Labels) (fed : List ℕ) (given : List Placed)
-        → Follow origin old.ended old.unfinished.items fed given
-        → FileReads origin fed (given ++ new.ended.decided.placed.items) new.ended.decided.ending
+    → Follow origin old.ended old.unfinished.items fed given
+    → FileReads origin fed (given ++ new.ended.decided.placed.items) new.ended.decided.ending
 
 abbrev pub is_failed : Status → Bool
 is_failed Open = false
@@ -87,11 +87,19 @@ is_finished OutOfMemory = false
 abbrev pub state_of : Status → ℕ → EndedEntries → List ℕ → SourceState
 state_of status fed ended unfinished = record {
   pending =
-    record { failed = is_failed status; records = ended.decided.placed.items;
-        ending = ended.decided.ending };
+      record {
+        failed = is_failed status;
+        records = ended.decided.placed.items;
+        ending = ended.decided.ending;
+      };
   held =
-    record { finished = is_finished status; fed = fed; defaults = ended.defaults; line = ended.line;
-        unfinished = unfinished };
+      record {
+        finished = is_finished status;
+        fed = fed;
+        defaults = ended.defaults;
+        line = ended.line;
+        unfinished = unfinished;
+      };
 }
 
 -- what a source holds: nothing of the unfinished entry once it has failed or the file has ended,

@@ -23,7 +23,7 @@ unfoldable pub item_len : (ℕ → Bool) → Bool → List ℕ → ℕ
 item_len ends is_escaped [] = 0
 item_len ends true (c ∷ rest) = suc (item_len ends false rest)
 item_len ends false (c ∷ rest) =
-  if c == 92 then suc (item_len ends true rest)
+    if c == 92 then suc (item_len ends true rest)
     else (if ends c then 0 else suc (item_len ends false rest))
 
 -- the text ends, or begins with an octet that ends what is before it

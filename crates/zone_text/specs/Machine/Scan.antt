@@ -65,7 +65,7 @@ ends_number x y c = is_digit c && nat_le (octet_of (decimal x y c)) 255
 
 abbrev pub behind_backslash : Escape → ℕ → Behind
 behind_backslash Begun c =
-  if is_digit c then Inside (One c) else (if c == 10 || c == 13 then Lost else Whole)
+    if is_digit c then Inside (One c) else (if c == 10 || c == 13 then Lost else Whole)
 behind_backslash (One x) c = if is_digit c then Inside (Two x c) else Lost
 behind_backslash (Two x y) c = if ends_number x y c then Whole else Lost
 
@@ -80,9 +80,9 @@ step_in Open depth c = open_step depth c
 step_in Quoted depth c = quoted_step depth c
 step_in Comment depth c = comment_step depth c
 step_in (Escaped escape) depth c =
-  escape_step (λ e. Escaped e) Open depth (behind_backslash escape c)
+    escape_step (λ e. Escaped e) Open depth (behind_backslash escape c)
 step_in (QuotedEscaped escape) depth c =
-  escape_step (λ e. QuotedEscaped e) Quoted depth (behind_backslash escape c)
+    escape_step (λ e. QuotedEscaped e) Quoted depth (behind_backslash escape c)
 
 abbrev pub step_of : ScanState → ℕ → Step
 step_of at c = step_in at.mode at.depth c
@@ -110,7 +110,7 @@ open_at depth = record { mode = Open; depth = depth }
 -- there, the first n octets lead nowhere else
 abbrev pub AreQuiet : List ℕ → ℕ → Type 0
 AreQuiet octets n =
-  (depth : ℕ) → scan_of (open_at depth) octets ≡ further n (scan_of (open_at depth) (drop n octets))
+    (depth : ℕ) → scan_of (open_at depth) octets ≡ further n (scan_of (open_at depth) (drop n octets))
 
 -- ---- the end of the input
 

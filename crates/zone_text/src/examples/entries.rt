@@ -8,22 +8,22 @@ use zone_rdata::laws::word::kind_word_is_unique;
 
 /// A TTL and a class stand in either order, each once: a second one is the type's word.
 pub fn words_before_the_type()
-    ensures class_first { parts_behind
-        [] (bare (codes "IN") ∷ bare (codes "60") ∷ bare (codes "A") ∷ [])
+    ensures class_first { parts_behind []
+        (bare (codes "IN") ∷ bare (codes "60") ∷ bare (codes "A") ∷ [])
         ≡ record {
           words = class (codes "IN") ∷ ttl (codes "60") ∷ [];
           rest = bare (codes "A")
               ∷ [];
         } }
-    ensures second_ttl { parts_behind
-        [] (bare (codes "60") ∷ bare (codes "6x") ∷ bare (codes "A") ∷ [])
+    ensures second_ttl { parts_behind []
+        (bare (codes "60") ∷ bare (codes "6x") ∷ bare (codes "A") ∷ [])
         ≡ record {
           words = ttl (codes "60") ∷ [];
           rest = bare (codes "6x") ∷ bare (codes "A")
               ∷ [];
         } }
-    ensures second_class { parts_behind
-        [] (bare (codes "IN") ∷ bare (codes "CLASS0") ∷ bare (codes "A") ∷ [])
+    ensures second_class { parts_behind []
+        (bare (codes "IN") ∷ bare (codes "CLASS0") ∷ bare (codes "A") ∷ [])
         ≡ record {
           words = class (codes "IN") ∷ [];
           rest = bare (codes "CLASS0") ∷ bare (codes "A")

@@ -73,8 +73,8 @@ pub fn a_file_states_what_is_read()
         → FileStates origin octets placed ↔ FileReads origin octets placed None }
 {}
 
-/// What is decided of a file by its front stays for every longer prefix and for the whole file: the
-/// records are the first ones, and nothing follows a fault.
+/// What is decided of a file by a prefix of it stays for every longer prefix and for the whole
+/// file: the records are the first ones, and nothing follows a fault.
 pub fn what_is_decided_stays()
     ensures longer { (origin : List (List ℕ)) (octets more : List ℕ) (placed later : List Placed)
         (ending last : Ending) → Decided origin octets placed ending

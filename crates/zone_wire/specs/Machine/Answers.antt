@@ -22,7 +22,7 @@ same_name n m = pointwise (pointwise nat_eq) n m
 
 abbrev pub same_record : Record → Record → Bool
 same_record r s =
-  same_name r.owner s.owner && r.class == s.class && r.kind == s.kind && r.ttl == s.ttl
+    same_name r.owner s.owner && r.class == s.class && r.kind == s.kind && r.ttl == s.ttl
     && pointwise nat_eq r.octets s.octets
 
 -- a number of 16 bits that is none of a class that can hold zone data: the test for `IsClass`
@@ -37,9 +37,14 @@ record_of octets a =
     else if is_meta a.kind then Err MetaType
     else if list_any (nat_eq a.kind) compressible then Err CompressibleType
     else and_then (data_at octets a)
-        (λ canonical. Ok
-          (record { owner = a.owner; class = a.class; kind = a.kind; ttl = ttl_of a.ttl;
-              octets = canonical }))
+    (λ canonical. Ok
+    (record {
+      owner = a.owner;
+      class = a.class;
+      kind = a.kind;
+      ttl = ttl_of a.ttl;
+      octets = canonical;
+    }))
 
 -- a name and a class are those of the zone, if it is fixed
 abbrev pub agrees : Option ZoneAsked → List (List ℕ) → ℕ → Bool
@@ -61,7 +66,7 @@ order_fault questions (opening ∷ others) r =
 -- the record of an answer after questions and records, or its first fault
 unfoldable pub answer_of : List ℕ → List QuestionAt → List Placed → RecordAt → Result Record Fault
 answer_of octets questions before a =
-  and_then (record_of octets a)
+    and_then (record_of octets a)
     (λ r. elim (order_fault questions before r) [ Some fault ↦ Err fault | None ↦ Ok r ])
 
 -- records, and the fault after them
@@ -78,10 +83,11 @@ before_others number offset (Ok r) next =
     let others = next p in
     record others { placed = p ∷ others.placed }
 
--- the records of the answers of the message of this number, each at its answer's offset, and the first fault after them
+-- the records of the answers of the message of this number, each at its answer's offset, and the
+-- first fault after them
 abbrev pub answers_of : ℕ → List ℕ → List QuestionAt → List Placed → List RecordAt
     → Answered (Fault × ℕ)
 answers_of number octets questions before [] = record { placed = []; fault = None }
 answers_of number octets questions before (a ∷ answers) =
-  before_others number a.offset (answer_of octets questions before a)
+    before_others number a.offset (answer_of octets questions before a)
     (λ p. answers_of number octets questions (before ++ p ∷ []) answers)

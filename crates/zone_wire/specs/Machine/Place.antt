@@ -12,8 +12,12 @@ use Rattle.zone_wire.specs.declared.place.Standing.TheVariants.{Outside, Root, L
 -- the place that is held
 abbrev pub spot_of : held.Spot → Spot
 spot_of spot =
-  record { offset = spot.offset; bound = spot.bound; pointers = spot.pointers;
-      octets = spot.octets }
+    record {
+      offset = spot.offset;
+      bound = spot.bound;
+      pointers = spot.pointers;
+      octets = spot.octets;
+    }
 
 -- the fault that is found
 abbrev pub fault_here : PlaceFault → Fault

@@ -30,15 +30,15 @@ header_fault octets =
 abbrev pub inside : {X : Type 0} → List ℕ → (Found → X) → (X → ℕ) → Outcome → Result X Fault
 inside octets by end (refused fault steps) = Err fault
 inside octets by end (named found) =
-  if nat_le (end (by found)) (length octets) then Ok (by found) else Err ShortMessage
+    if nat_le (end (by found)) (length octets) then Ok (by found) else Err ShortMessage
 
 unfoldable pub question_at : List ℕ → ℕ → Result QuestionAt Fault
 question_at octets offset =
-  inside octets (question_by octets) (λ q. q.end) (outcome octets (walk octets offset))
+    inside octets (question_by octets) (λ q. q.end) (outcome octets (walk octets offset))
 
 unfoldable pub record_at : List ℕ → ℕ → Result RecordAt Fault
 record_at octets offset =
-  inside octets (record_by octets offset) (λ r. r.end) (outcome octets (walk octets offset))
+    inside octets (record_by octets offset) (λ r. r.end) (outcome octets (walk octets offset))
 
 abbrev pub at_offset : {X : Type 0} → ℕ → Result X Fault → Result X (Fault × ℕ)
 at_offset offset (Err fault) = Err (fault, offset)
@@ -63,7 +63,7 @@ records_from octets count offset = each_from (record_at octets) (λ r. r.end) co
 -- nothing stands after the last record
 abbrev pub to_the_end : List ℕ → ℕ → Sections → Result Sections (Fault × ℕ)
 to_the_end octets end sections =
-  if end == length octets then Ok sections else Err (TrailingOctets, 0)
+    if end == length octets then Ok sections else Err (TrailingOctets, 0)
 
 -- as many questions, answers and additional records as the header counts, in this order, and
 -- nothing after them
@@ -73,9 +73,13 @@ behind_header octets =
     and_then (records_from octets (u16_at octets 6) questions.1) (λ answers.
     and_then (records_from octets (u16_at octets 10) answers.1) (λ additional.
     to_the_end octets additional.1
-        (record { id = u16_at octets 0; questions = questions.0; answers = answers.0;
-            additional = additional.0 }))))
+    (record {
+      id = u16_at octets 0;
+      questions = questions.0;
+      answers = answers.0;
+      additional = additional.0;
+    }))))
 
 unfoldable pub sections_of : List ℕ → Result Sections (Fault × ℕ)
 sections_of octets =
-  elim (header_fault octets) [ Some fault ↦ Err (fault, 0) | None ↦ behind_header octets ]
+    elim (header_fault octets) [ Some fault ↦ Err (fault, 0) | None ↦ behind_header octets ]

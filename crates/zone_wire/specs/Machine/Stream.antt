@@ -23,7 +23,7 @@ abbrev pub ask_for_zone : List QuestionAt → List Placed → Sections → List 
     → Result Sections (Fault × ℕ)
 ask_for_zone before placed s [] = Ok s
 ask_for_zone before placed s (q ∷ questions) =
-  if q.kind == 252 && agrees (zone_of before placed) q.name q.class
+    if q.kind == 252 && agrees (zone_of before placed) q.name q.class
     then ask_for_zone before placed s questions else Err (BadQuestion, 12)
 
 -- The sections of a message after others, whose records are these, or its first fault that comes
@@ -41,10 +41,11 @@ at_message number e = (e.0, Message number e.1)
 abbrev pub followed_by : ℕ → Answered (Fault × ℕ) → (List Placed → Answered (Fault × Place))
     → Answered (Fault × Place)
 followed_by number answered next =
-  elim answered.fault
-    [ Some e ↦ record { placed = answered.placed; fault = Some (at_message number e) }
+    elim answered.fault [
+      | Some e ↦ record { placed = answered.placed; fault = Some (at_message number e) }
       | None ↦ let rest = next answered.placed in
-      record rest { placed = answered.placed ++ rest.placed } ]
+          record rest { placed = answered.placed ++ rest.placed }
+    ]
 
 -- a fault of the whole message comes before its answers
 abbrev pub unless_refused : ℕ → Result Sections (Fault × ℕ) → (Sections → Answered (Fault × Place))
@@ -60,18 +61,18 @@ records_of before placed (octets ∷ messages) =
     let number : ℕ = length before + 1 in
     unless_refused number (message_of before placed octets) (λ s.
     followed_by number (answers_of number octets (questions_of (before ++ s ∷ [])) placed s.answers)
-        (λ here.
+    (λ here.
     records_of (before ++ s ∷ []) (placed ++ here) messages))
 
 -- the fault of the stream's end, where no message has one: in a frame, or before the closing SOA
 abbrev pub end_fault : ℕ → List Placed → List ℕ → Option (Fault × Place)
 end_fault number placed (c ∷ rest) = Some (ShortFrame, Message number 0)
 end_fault number placed [] =
-  if is_closed placed then None else Some (NoClosingSoa, Message number 0)
+    if is_closed placed then None else Some (NoClosingSoa, Message number 0)
 
 abbrev pub ending_of : ℕ → Answered (Fault × Place) → List ℕ → Option (Fault × Place)
 ending_of number answered rest =
-  elim answered.fault [ Some e ↦ Some e | None ↦ end_fault number answered.placed rest ]
+    elim answered.fault [ Some e ↦ Some e | None ↦ end_fault number answered.placed rest ]
 
 -- what is found in a stream: the records before its first fault, and that fault with its place
 pub record FindsReading (stream : List ℕ) (placed : List Placed)

@@ -36,10 +36,10 @@ pub record Behind (before : List StatedMessage) (t : Transfer) : Type 0 where
   pub id : t.id ≡ first_id before
   pub among : Among (asked_in before) (placed_in before) t
 
--- what is still to be handed on is the rest of these records, whatever was given
+-- what is left to hand on is the rest of these records, whatever was given
 abbrev pub Hands : List Placed → List Placed → Transfer → Transfer → Type 0
 Hands placed later old new =
-  (given : List Placed) → given ++ old.decided.placed.items ≡ handed_on placed
+    (given : List Placed) → given ++ old.decided.placed.items ≡ handed_on placed
     → given ++ new.decided.placed.items ≡ handed_on later
 
 -- records came after others, and those of them that are handed on are held
@@ -64,15 +64,15 @@ pub record Takes (octets : List ℕ) (a : RecordAt) (questions : List QuestionAt
 abbrev pub IfNoMemory : (Option (Fault × ℕ) → Type 0) → Result (Unit {0}) (Failing × ℕ) → Type 0
 IfNoMemory Is (Ok done) = Is None
 IfNoMemory Is (Err e) =
-  elim e.0 [ failings.Fault fault ↦ Is (Some (fault, e.1)) | failings.Memory ↦ ⊤ ]
+    elim e.0 [ failings.Fault fault ↦ Is (Some (fault, e.1)) | failings.Memory ↦ ⊤ ]
 
 -- what answers give: the records of all of them, or those before the first fault
 abbrev pub AnswersGive : ℕ → List ℕ → List QuestionAt → List Placed → List RecordAt → List Placed
     → Option (Fault × ℕ) → Type 0
 AnswersGive number octets questions placed answers here None =
-  StateEach number octets answers here × StandInOrder questions placed here
+    StateEach number octets answers here × StandInOrder questions placed here
 AnswersGive number octets questions placed answers here (Some e) =
-  FirstAnswerFault number octets questions placed answers here e.0 e.1
+    FirstAnswerFault number octets questions placed answers here e.0 e.1
 
 -- the records of answers came after others, up to a fault
 pub record TakesUpTo (octets : List ℕ) (answers : List RecordAt) (questions : List QuestionAt)
@@ -84,7 +84,7 @@ pub record TakesUpTo (octets : List ℕ) (answers : List RecordAt) (questions : 
 abbrev pub TakesEach : List ℕ → List RecordAt → List QuestionAt → List Placed
     → Result (Unit {0}) (Failing × ℕ) → Transfer → Transfer → Type 0
 TakesEach octets answers questions placed result old new =
-  IfNoMemory (TakesUpTo octets answers questions placed old new) result
+    IfNoMemory (TakesUpTo octets answers questions placed old new) result
 
 -- the ID and the questions of a message fit those of others, and the transfer holds what they fix
 pub record TakesHead (before : List StatedMessage) (s : Sections)
@@ -124,11 +124,11 @@ TakesMessageUpTo octets before old new (Some e) = StopsIn octets before old new 
 abbrev pub TakesMessage : List ℕ → List StatedMessage → Result (Unit {0}) (Failing × ℕ) → Transfer
     → Transfer → Type 0
 TakesMessage octets before result old new =
-  IfNoMemory (TakesMessageUpTo octets before old new) result
+    IfNoMemory (TakesMessageUpTo octets before old new) result
 
 -- one message more: it came after others, or its fault at its place was decided
 abbrev pub ReadsNext : List ℕ → List StatedMessage → Transfer → Transfer → Type 0
 ReadsNext octets before old new =
-  MatchOption new.decided.ending (TakesWhole octets before old new)
+    MatchOption new.decided.ending (TakesWhole octets before old new)
     (λ e. (offset : ℕ)
-      × (StopsIn octets before old new (e.0, offset) × (e.1 ≡ Message (length before + 1) offset)))
+    × (StopsIn octets before old new (e.0, offset) × (e.1 ≡ Message (length before + 1) offset)))

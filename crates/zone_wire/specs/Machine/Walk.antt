@@ -9,11 +9,11 @@ outset offset = record { offset = offset; bound = offset; pointers = 0; octets =
 
 abbrev pub past_label : Spot → ℕ → Spot
 past_label spot size =
-  record spot { offset = spot.offset + 1 + size; octets = spot.octets + 1 + size }
+    record spot { offset = spot.offset + 1 + size; octets = spot.octets + 1 + size }
 
 abbrev pub past_pointer : Spot → ℕ → Spot
 past_pointer spot target =
-  record spot { offset = target; bound = target; pointers = spot.pointers + 1 }
+    record spot { offset = target; bound = target; pointers = spot.pointers + 1 }
 
 abbrev pub visit : Spot → Standing → Visit
 visit spot standing = record { offset = spot.offset; standing = standing }
@@ -24,10 +24,10 @@ walk_on rest spot None = []
 walk_on rest spot (Some at_root) = visit spot at_root ∷ []
 walk_on rest spot (Some (at_label size)) = visit spot (at_label size) ∷ rest (past_label spot size)
 walk_on rest spot (Some (at_pointer target)) =
-  visit spot (at_pointer target) ∷ rest (past_pointer spot target)
+    visit spot (at_pointer target) ∷ rest (past_pointer spot target)
 walk_on rest spot (Some (at_fault fault)) = visit spot (at_fault fault) ∷ []
 
--- n places at the most
+-- at most n places
 unfoldable pub walk_by : ℕ → List ℕ → Spot → List Visit
 walk_by zero message spot = []
 walk_by (suc n) message spot = walk_on (walk_by n message) spot (place_of message spot)

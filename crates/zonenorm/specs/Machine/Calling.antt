@@ -13,7 +13,7 @@ abbrev pub texts_of : code.Call → Call
 texts_of (calls.Normalise origin) = normalise origin.now
 texts_of (calls.Explain origin) = explain origin.now
 texts_of (calls.Compare first second) =
-  compare first.origin.now first.path.now second.origin.now second.path.now
+    compare first.origin.now first.path.now second.origin.now second.path.now
 
 -- a fault that the texts of a command make: a bad origin, where this says so, or want of memory
 abbrev pub IsOfCall : Type 0 → LineFault → Type 0
@@ -30,5 +30,5 @@ IsOfClap Memory = Unit {0}
 -- the command is added to another one as it stands
 abbrev pub IsAddedAs : App → Command → Type 0
 IsAddedAs app command =
-  (above new : Command) → AddsSubcommand above command new
+    (above new : Command) → AddsSubcommand above command new
     → app_of new ≡ with_subcommand (app_of above) app.top

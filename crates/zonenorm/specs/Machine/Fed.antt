@@ -17,7 +17,7 @@ use Rattle.zonenorm.specs.Machine.Input.{Decides}
 -- it stands for a master file under the origin with which it was made
 abbrev pub FileStands : InputForm → Pending → text.Held → Octets → List Placed → Type 0
 FileStands (as_file origin) pending inside octets given =
-  text.Stands origin (record { pending = pending; held = inside }) octets given
+    text.Stands origin (record { pending = pending; held = inside }) octets given
 FileStands as_transfer pending inside octets given = ⊥
 
 pub file_decides : (form : InputForm) (pending : Pending) (inside : text.Held) (octets : Octets)
@@ -38,15 +38,15 @@ pub file_gives : (form : InputForm) (pending : Pending) (inside : text.Held) (oc
     → FileStands form (leaves pending others) inside octets (given ++ taken)
 file_gives (as_file origin) pending inside octets given taken others stands parts =
     let moved : given ++ pending.records ≡ (given ++ taken) ++ others = ap (λ rs. given ++ rs) parts
-        ∙ sym (append_assoc given taken others) in
+    ∙ sym (append_assoc given taken others) in
     record {
       works = stands.works;
       count = stands.count;
       decided =
-        λ going. subst (λ rs. Decided origin octets rs pending.ending) moved (stands.decided going);
+          λ going. subst (λ rs. Decided origin octets rs pending.ending) moved (stands.decided going);
       leave = stands.leave;
       read =
-        λ ended. subst (λ rs. FileReads origin octets rs pending.ending) moved (stands.read ended);
+          λ ended. subst (λ rs. FileReads origin octets rs pending.ending) moved (stands.read ended);
     }
 file_gives as_transfer pending inside octets given taken others never parts = absurd never
 
@@ -54,7 +54,7 @@ file_gives as_transfer pending inside octets given taken others never parts = ab
 abbrev pub TransferStands : InputForm → Pending → wire.Held → Octets → List Placed → Type 0
 TransferStands (as_file origin) pending inside octets given = ⊥
 TransferStands as_transfer pending inside octets given =
-  wire.Stands (record { pending = pending; held = inside }) octets given
+    wire.Stands (record { pending = pending; held = inside }) octets given
 
 pub transfer_decides : (form : InputForm) (pending : Pending) (inside : wire.Held) (octets : Octets)
     (given : List Placed) → TransferStands form pending inside octets given
@@ -76,13 +76,13 @@ pub transfer_gives : (form : InputForm) (pending : Pending) (inside : wire.Held)
 transfer_gives (as_file origin) pending inside octets given taken others never parts = absurd never
 transfer_gives as_transfer pending inside octets given taken others stands parts =
     let moved : given ++ pending.records ≡ (given ++ taken) ++ others = ap (λ rs. given ++ rs) parts
-        ∙ sym (append_assoc given taken others) in
+    ∙ sym (append_assoc given taken others) in
     record {
       works = stands.works;
       octets = stands.octets;
       count = stands.count;
       decided =
-        λ going. subst (λ rs. streams.Decided octets rs pending.ending) moved
+          λ going. subst (λ rs. streams.Decided octets rs pending.ending) moved
           (stands.decided going);
       leave = stands.leave;
       read = λ ended. subst (λ rs. StreamReads octets rs pending.ending) moved (stands.read ended);

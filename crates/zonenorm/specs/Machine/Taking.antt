@@ -30,12 +30,12 @@ abbrev pub nothing_pending : Pending
 nothing_pending = record { failed = false; records = []; ending = None }
 
 -- What was taken of octets that were fed: all records that the source gave, with nothing left; or
--- the input is refused by what a front of the octets decides
+-- the input is refused by what a prefix of the octets decides
 pub data IsTaken (Stands : Octets → List Placed → Type 0) (form : InputForm) (pending : Pending)
     (held : List Record) (refusal : Option (Fault × Place)) (octets : Octets) : Type 0 where
   all_taken : (given : List Placed) → refusal ≡ None → Stands octets given
-      → pending ≡ nothing_pending → AddsEach
-      [] given held → IsTaken Stands form pending held refusal octets
+      → pending ≡ nothing_pending → AddsEach [] given held
+      → IsTaken Stands form pending held refusal octets
   front_refuses : (front more : Octets) (placed : List Placed) (ending : Option (Fault × Place))
       (fault : Fault) (place : Place) → refusal ≡ Some (fault, place) → octets ≡ front ++ more
       → Decides (input_of form front) placed ending → RefusesFront placed ending fault place
@@ -46,7 +46,7 @@ abbrev pub IsTakenOf : {Held : Type 0}
     → (InputForm → Pending → Held → Octets → List Placed → Type 0) → Pending → Held → List Record
     → Option (Fault × Place) → InputForm → Octets → Type 0
 IsTakenOf Stands pending inside held refusal form octets =
-  IsTaken (Stands form pending inside) form pending held refusal octets
+    IsTaken (Stands form pending inside) form pending held refusal octets
 
 -- the records that the input is read as are those of the zone, whatever the length of its text
 pub record ReadsZone (input : Input) (z : Zone) : Type 0 where
@@ -83,11 +83,11 @@ BeginsAs Stands pending beside form = Begins (Stands form) pending beside
 -- the zone of octets that are known, as inputs of these forms
 abbrev pub ReadsKnown : (InputForm → Type 0) → ℕ → Option Octets → Zone → Type 0
 ReadsKnown Of limit known z =
-  (form : InputForm) → Of form
+    (form : InputForm) → Of form
     → IfSome known (λ octets. ReadsZoneWithin limit (input_of form octets) z)
 
 -- such octets are refused for the fault that stops, if it is one
 abbrev pub RefusesKnown : (InputForm → Type 0) → ℕ → Option Octets → Stop → Type 0
 RefusesKnown Of limit known stop =
-  (form : InputForm) → IsForm form → Of form
+    (form : InputForm) → IsForm form → Of form
     → IfSome known (λ octets. IfRefused stop (IsRefusalWithin limit (input_of form octets)))

@@ -26,7 +26,7 @@ status_of Memory = 4
 -- why a run stopped was told after these words, with its status, or the answer is 4
 abbrev pub TellsStop : List ℕ → Stop → Option (List ℕ) → Option (List ℕ) → ℕ → Type 0
 TellsStop words stop old new answer =
-  (answer ≡ 4) ⊎ ((answer ≡ status_of stop) × AppendsLine words old new)
+    (answer ≡ 4) ⊎ ((answer ≡ status_of stop) × AppendsLine words old new)
 
 -- the verdict of a comparison was told, with its status and nothing on standard error, or not
 -- whole, and the answer is 4
@@ -34,7 +34,7 @@ abbrev pub TellsVerdict : Verdict → Option (List ℕ) → Option (List ℕ) �
     → Option (List ℕ) → ℕ → Type 0
 TellsVerdict verdict old new errors errors' answer =
     ((answer ≡ verdict_status verdict) × AppendsThisLine (verdict_line verdict) old new
-          × Keeps errors errors')
+    × Keeps errors errors')
     ⊎ ((answer ≡ 4) × AppendsPart old new (verdict_line verdict ++ 10 ∷ []))
 
 -- the text of a fault of the command line was told whole, with its status, or not whole, and the
