@@ -203,7 +203,11 @@ fn fault_row(fault: &Fault) -> FaultRow
         ),
         Fault::TrailingOctets => row(34, "TrailingOctets", "octets follow the last record"),
         Fault::NoOpeningSoa => row(35, "NoOpeningSoa", "the transfer doesn't begin with an SOA"),
-        Fault::SoaMismatch => row(36, "SoaMismatch", "a later SOA differs from the opening one"),
+        Fault::SoaMismatch => row(
+            36,
+            "SoaMismatch",
+            "a later SOA differs from the opening one",
+        ),
         Fault::AfterClosing => row(37, "AfterClosing", "a record follows the closing SOA"),
         Fault::NoClosingSoa => row(38, "NoClosingSoa", "the transfer has no closing SOA"),
         Fault::ClassMismatch => row(39, "ClassMismatch", "the class differs from the zone's"),

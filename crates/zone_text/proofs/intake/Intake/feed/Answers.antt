@@ -25,10 +25,10 @@ pub loop-self-preserved : goal.loop-self-preserved
 loop-self-preserved c =
     record {
       fed = fed_more c.args.self.now c.loop-self.self c.take_part.new.self c.args.piece.now c.loop-self.rest.now c.split_at-in-loop-self.result.0.now c.split_at-in-loop-self.result.1.now c.loop-self.invariant.fed
-      (none_found c.loop-self.self.ended.decided.ending c.if-is_none.ensures)
-      (rw (c.split_at-in-loop-self.ensures.front, c.split_at-in-loop-self.ensures.back) (sym (take-append-drop c.scan-found.result.taken c.loop-self.rest.now)))
-      (let h : length c.loop-self.rest.now ≡ length c.split_at-in-loop-self.result.0.now + length c.split_at-in-loop-self.result.1.now = omega (arith, c.split_at-in-loop-self.ensures.front_len, c.split_at-in-loop-self.ensures.back_len, c.scan-found.ensures.within) in h)
-      c.in_ok-take_part.ensures.is c.in_ok-take_part.ensures.near c.in_ok-take_part.ensures.follow;
+          (none_found c.loop-self.self.ended.decided.ending c.if-is_none.ensures)
+          (rw (c.split_at-in-loop-self.ensures.front, c.split_at-in-loop-self.ensures.back) (sym (take-append-drop c.scan-found.result.taken c.loop-self.rest.now)))
+          (let h : length c.loop-self.rest.now ≡ length c.split_at-in-loop-self.result.0.now + length c.split_at-in-loop-self.result.1.now = omega (arith, c.split_at-in-loop-self.ensures.front_len, c.split_at-in-loop-self.ensures.back_len, c.scan-found.ensures.within) in h)
+          c.in_ok-take_part.ensures.is c.in_ok-take_part.ensures.near c.in_ok-take_part.ensures.follow;
       nothing = λ none. absurd (not_empty c.loop-self.rest.now c.loop-self-test.ensures (c.loop-self.invariant.nothing none).1);
     }
 
@@ -37,9 +37,9 @@ loop-self-preserved-then-blank-gt0 c =
     let mid = c.loop-self.self in
     record {
       fed = fed_lines c.args.self.now mid _ c.args.piece.now c.loop-self.rest.now c.blank_lines-blank.result.rest.now c.blank_lines-blank.result.count c.loop-self.invariant.fed
-      (none_found mid.ended.decided.ending c.if-is_none.ensures)
-      (none_left mid.unfinished.items mid.unfinished.len c.is_empty-in-loop-self.result mid.unfinished.ok.0 c.is_empty-in-loop-self.ensures c.if-is_empty.true)
-      c.blank_lines-blank.ensures.are c.blank_lines-blank.ensures.few refl refl refl;
+          (none_found mid.ended.decided.ending c.if-is_none.ensures)
+          (none_left mid.unfinished.items mid.unfinished.len c.is_empty-in-loop-self.result mid.unfinished.ok.0 c.is_empty-in-loop-self.ensures c.if-is_empty.true)
+          c.blank_lines-blank.ensures.are c.blank_lines-blank.ensures.few refl refl refl;
       nothing = λ none. absurd (not_empty c.loop-self.rest.now c.loop-self-test.ensures (c.loop-self.invariant.nothing none).1);
     }
 
@@ -49,10 +49,10 @@ loop-self-preserved-in-Some c =
     let first = rw c.in-Some.is at c.in_ok-taken.ensures in
     record {
       fed = fed_entry c.args.self.now mid _ c.args.piece.now c.loop-self.rest.now c.split_at.result.0.now c.split_at.result.1.now c.in-Some.taken _ c.loop-self.invariant.fed
-      (none_found mid.ended.decided.ending c.if-is_none.ensures)
-      (none_left mid.unfinished.items mid.unfinished.len c.is_empty-in-loop-self.result mid.unfinished.ok.0 c.is_empty-in-loop-self.ensures c.if-is_empty.true)
-      first c.split_at.ensures.front c.split_at.ensures.back
-      (c.in_ok-read_cut.ensures (rw c.deref.ensures.value (are_items _ _ _ _ first c.split_at.ensures.front))) refl refl;
+          (none_found mid.ended.decided.ending c.if-is_none.ensures)
+          (none_left mid.unfinished.items mid.unfinished.len c.is_empty-in-loop-self.result mid.unfinished.ok.0 c.is_empty-in-loop-self.ensures c.if-is_empty.true)
+          first c.split_at.ensures.front c.split_at.ensures.back
+          (c.in_ok-read_cut.ensures (rw c.deref.ensures.value (are_items _ _ _ _ first c.split_at.ensures.front))) refl refl;
       nothing = λ none. absurd (not_empty c.loop-self.rest.now c.loop-self-test.ensures (c.loop-self.invariant.nothing none).1);
     }
 

@@ -10,9 +10,9 @@ loop-self-preserved c =
     let rest = c.loop-self.rest.now in
     record {
       fed = subst (λ r. FedSoFar c.args.piece.now r c.args.self.now c.take_front.new.self) (sym (rest_taken c.in_ok-taken.taken rest))
-      (fed_more c.args.piece.now rest c.in_ok-taken.taken c.args.self.now c.loop-self.self c.take_front.new.self (λ i. omega (arith, c.type_inv.piece i)) c.loop-self.invariant.fed
-      (none_of c.loop-self.self.transfer.decided.ending c.if-is_none.ensures)
-      c.in_ok-taken.ensures.within.0 c.in_ok-taken.ensures.within.1 c.in_ok-taken.ensures.cut c.in_ok-taken.ensures.dropped c.in_ok-taken.ensures.count c.in_ok-taken.ensures.follow);
+          (fed_more c.args.piece.now rest c.in_ok-taken.taken c.args.self.now c.loop-self.self c.take_front.new.self (λ i. omega (arith, c.type_inv.piece i)) c.loop-self.invariant.fed
+          (none_of c.loop-self.self.transfer.decided.ending c.if-is_none.ensures)
+          c.in_ok-taken.ensures.within.0 c.in_ok-taken.ensures.within.1 c.in_ok-taken.ensures.cut c.in_ok-taken.ensures.dropped c.in_ok-taken.ensures.count c.in_ok-taken.ensures.follow);
       nothing = λ none.
           let empty : length rest ≡ 0 = ap length (c.loop-self.invariant.nothing none).1 in
           absurd (omega (arith, empty, c.in_ok-taken.ensures.within.0, c.in_ok-taken.ensures.within.1));
