@@ -118,8 +118,8 @@ fn a_failing_reader_is_told(rt: HostRuntime) -> Result<(), Fail> {
     Ok(())
 }
 
-/// A writer that takes `each` octets a call and `room` in all, and then answers an error or takes nothing. It can't
-/// be flushed.
+/// A writer that takes `each` octets a call and `room` in all, and then answers an error or takes
+/// nothing. It can't be flushed.
 #[derive(Drop)]
 struct Narrow {
     taken: Vec<u8>,
@@ -156,8 +156,8 @@ impl Write for Narrow {
     }
 }
 
-/// How many octets a writer takes a call and in all, whether it answers an error then, and what it has taken of the
-/// text.
+/// How many octets a writer takes a call and in all, whether it answers an error then, and what it
+/// has taken of the text.
 struct Narrowed(usize, usize, bool, &'static [u8]);
 
 impl Narrowed {
@@ -216,8 +216,9 @@ fn a_narrow_writer_has_a_front(rt: HostRuntime) -> Result<(), Fail> {
     Ok(())
 }
 
-/// The words of a command over inputs of the origin `x.`, what each input gives, and the status and the line where
-/// nothing can be written on standard output; none where nothing can be written on standard error.
+/// The words of a command over inputs of the origin `x.`, what each input gives, and the status and
+/// the line where nothing can be written on standard output; none where nothing can be written on
+/// standard error.
 struct Mute(
     &'static [&'static str],
     &'static [u8],

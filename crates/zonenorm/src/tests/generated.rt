@@ -13,7 +13,7 @@ use zone_text::TextSource;
 /// How many owners a file has.
 const OWNERS: u64 = 1000;
 
-/// Appends the line of an address whose owner is `a` with this number and what is behind it.
+/// Appends the line of an address whose owner is `a` with this number and what follows it.
 fn push_address(
     alloc: Global,
     file: &mut Vec<u8>,
@@ -24,7 +24,7 @@ fn push_address(
     file.extend_from_slice(line.as_bytes())
 }
 
-/// The owners from the highest number down, behind the SOA.
+/// The owners from the highest number down, after the SOA.
 fn descending(alloc: Global) -> Result<Vec<u8>, AllocError> {
     let mut file = Vec::new(alloc);
     file.extend_from_slice(b"@ 60 SOA n h 1 2 3 4 5\n")?;
@@ -44,7 +44,8 @@ fn ascending(alloc: Global) -> Result<Vec<u8>, AllocError> {
     Ok(file)
 }
 
-/// The number below 1000 whose digits are the next in the order of texts, in which 1, 10 and 100 come before 11.
+/// The number below 1000 whose digits are the next in the order of texts, in which 1, 10 and 100
+/// come before 11.
 fn after(number: u64) -> u64 {
     if number == 0 {
         return 1;

@@ -122,7 +122,8 @@ fn is_run(alloc: Global, vector: &Vector, ran: &Run) -> Result<bool, Fail> {
     }
 }
 
-/// What `run` does, over a reader that gives all at once and over one that gives an octet at a time.
+/// What `run` does, over a reader that gives all at once and over one that gives an octet at a
+/// time.
 struct Runs;
 
 impl Question for Runs {
@@ -148,8 +149,8 @@ fn is_broken<R: Read>(alloc: Global, origin: Option<Name>, reader: &mut R) -> Re
     Ok(ran.status == 4 && ran.output.is_empty() && is_told)
 }
 
-/// Whether a run over a stream does so where its reader, which gives an octet at a time, fails at once, behind half of the
-/// stream, and in place of its end.
+/// Whether a run over a stream does so where its reader, which gives an octet at a time, fails at
+/// once, after half of the stream, and in place of its end.
 pub(super) fn is_broken_anywhere(alloc: Global, stream: &[u8]) -> Result<bool, Fail> {
     for count in [0, stream.len() / 2, stream.len()] {
         let (left, _) = stream.split_at(count);
@@ -160,8 +161,9 @@ pub(super) fn is_broken_anywhere(alloc: Global, stream: &[u8]) -> Result<bool, F
     Ok(true)
 }
 
-/// What `run` does where the reader fails at once, behind half of the file, and in place of its end, whatever was wrong
-/// before: one that gives all at once before that, and one that gives an octet at a time.
+/// What `run` does where the reader fails at once, after half of the file, and in place of its end,
+/// whatever was wrong before: one that gives all at once before that, and one that gives an octet at
+/// a time.
 struct BrokenRuns;
 
 impl Question for BrokenRuns {
@@ -204,7 +206,8 @@ fn is_kept_under(
     }
 }
 
-/// Whether the canonical text that an input is answered is read back under other origins and its own.
+/// Whether the canonical text that an input is answered is read back under other origins and its
+/// own.
 pub(super) fn is_kept(
     alloc: Global,
     form: Form<'_>,

@@ -1,4 +1,5 @@
-//! Zone transfers: what `normalise` and `normalise_bytes` answer to a stream, and what is read of it in pieces.
+//! Zone transfers: what `normalise` and `normalise_bytes` answer to a stream, and what is read of
+//! it in pieces.
 use crate::form::Form;
 use crate::order::Order;
 use crate::run::run;
@@ -36,7 +37,8 @@ fn written(alloc: Global, octets: &[u8]) -> Result<Result<Vec<u8>, Stop>, Fail> 
     }
 }
 
-/// Whether a run over the stream has the status of this answer, writes what it says and tells what it says.
+/// Whether a run over the stream has the status of this answer, writes what it says and tells what
+/// it says.
 fn is_ran(alloc: Global, answer: &Answer, octets: &[u8]) -> Result<bool, Fail> {
     let mut reader = octets;
     let (mut output, mut told) = (roomy(alloc)?, roomy(alloc)?);
@@ -80,8 +82,8 @@ impl Named for Stream {
     }
 }
 
-/// The message of a transfer behind its flags.
-const BEHIND_FLAGS: &str =
+/// The rest of a transfer's message after its flags.
+const AFTER_FLAGS: &str =
     "000100030000000001780000fc0001c00c0006000100000e10001c016ec00c0168c00c0000000100000002000000030000000400000005c00c0002000100000e100002c01fc00c0006000100000e100018c01fc0230000000100000002000000030000000400000005";
 
 /// A message with this error code (RFC 1035 4.1.1).
@@ -91,7 +93,7 @@ impl Case for Coded {
     fn is_right(&self, alloc: Global) -> Result<bool, Fail> {
         let mut stream = octets_of(alloc, "006d000184")?;
         stream.push(self.0)?;
-        stream.extend_from_slice(&octets_of(alloc, BEHIND_FLAGS)?)?;
+        stream.extend_from_slice(&octets_of(alloc, AFTER_FLAGS)?)?;
         let answered = normalise_bytes(alloc, Form::Transfer, &stream);
         let front = format!(in alloc; "F26 ErrorCode {} at message 1 offset 0", self.0)?;
         is_explained(alloc, &answered.err().ok_or("accepted")?, front.as_str())
@@ -182,7 +184,8 @@ impl Fed for TransferSource {
     }
 }
 
-/// The name of the first stream that gives other records or another fault, where it is fed in pieces.
+/// The name of the first stream that gives other records or another fault, where it is fed in
+/// pieces.
 fn first_miscut(alloc: Global, streams: &[Stream]) -> Result<Option<&'static str>, Fail> {
     let root = Name::root();
     for stream in streams {

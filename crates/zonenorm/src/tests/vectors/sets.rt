@@ -1,4 +1,5 @@
-//! Equal records, the TTLs of a set, two SOA records, and owners outside the zone (RFC 2181 5, RFC 1035 5.2).
+//! Equal records, the TTLs of a set, two SOA records, and owners outside the zone (RFC 2181 5, RFC
+//! 1035 5.2).
 use crate::tests::vectors::{Answer, Vector};
 
 pub(super) static FILES: [Vector; 17] = [
