@@ -64,6 +64,26 @@ impl Read for Sparing {
     }
 }
 
+/// A reader that gives its octets one at a time, and answers an error after them.
+#[derive(Drop)]
+pub(super) struct Ailing<'o> {
+    pub(super) left: &'o [u8],
+}
+
+impl Read for Ailing<'_> {
+    fn read(&mut self, buf: &mut [u8]) -> io::Result<usize> {
+        if self.left.is_empty() {
+            return Err(ErrorKind::Other.into());
+        }
+        let (mut first, rest) = self.left.split_at(1);
+        let count = first.read(buf)?;
+        if count > 0 {
+            self.left = rest;
+        }
+        Ok(count)
+    }
+}
+
 /// What a reader gives before its error, and that error.
 struct Broken(&'static [u8], ErrorKind);
 
