@@ -1,0 +1,133 @@
+-- Where the elements that pass a test end, from where they end among the first elements of the chunks and in one chunk.
+use Rattle.std.proofs.Common.{◌≡◌, ℕ, ◌+◌, ◌<◌, ◌≤◌, Bool, true, false, List, [], ◌∷◌, ◌++◌, length, take, drop, get_or, zero, suc, sym, ap, subst, ◌∙◌, refl, arith, true≢false}
+use Rattle.std.specs.Fn.{AlwaysReturns, Called, Mut}
+use Rattle.std.specs.List.{All, AllWithin}
+use Rattle.std.specs.List.Sorted.{IsPartitionedBy}
+use Rattle.std.proofs.lemmas.List.{append_assoc, get_or-append-add, get_or_append_left, get_or-drop, get_or-take, length-append, length-drop, length-take-le, get_or_at, get_or_default, take-append-drop}
+use Rattle.std.proofs.lemmas.List.Elements.{All-append, All-cons, All-drop, All-from_get_or, All-get_or, All-head, All-nil, All-same, All-tail}
+use Rattle.sorted_chunks.specs.Chunks.{after, before, joined, AreChunks, IsChunk}
+use Rattle.sorted_chunks.specs.Starts.{starts}
+use Rattle.sorted_chunks.proofs.Placing.{joined_about, joined-append}
+
+-- the answer of one call
+pub answers : {F X R : Type 0} (g : Mut F X R) (P : X → R → Type 0) (f : F) (a : X) (r : R) (f' : F) → Called g f a r f' → AlwaysReturns g P f → P a r
+answers g P f a r f' called always = (always.at (a ∷ []) r f' called).0
+
+module _ {X : Type 0} (p : X → Bool) where
+  pub part_right : (a b : List X) → IsPartitionedBy p (a ++ b) → IsPartitionedBy p b
+  part_right a b parts = λ i j d le lt passes.
+      let n = length a in
+      let at_j : p (get_or (a ++ b) (n + j) d) ≡ true = ap p (get_or-append-add a b j d) ∙ passes in
+      let whole = length-append a b in
+      sym (ap p (get_or-append-add a b i d)) ∙ parts (n + i) (n + j) d (omega arith) (omega (arith, whole)) at_j
+
+  pub part_left : (a b : List X) → IsPartitionedBy p (a ++ b) → IsPartitionedBy p a
+  part_left a b parts = λ i j d le lt passes.
+      let whole = length-append a b in
+      let at_j : p (get_or (a ++ b) j d) ≡ true = ap p (get_or_append_left a b d j lt) ∙ passes in
+      sym (ap p (get_or_append_left a b d i (omega arith))) ∙ parts i j d le (omega (arith, whole)) at_j
+
+  -- what stands before an element that passes
+  pub passes_before : (a z : List X) (x : X) → IsPartitionedBy p (a ++ x ∷ z) → p x ≡ true → All (λ y. p y ≡ true) a
+  passes_before a z x parts passes =
+      let whole = length-append a (x ∷ z) in
+      All-from_get_or (λ y. p y ≡ true) a x (λ k lt.
+      let at_x : p (get_or (a ++ x ∷ z) (length a) x) ≡ true = ap p (get_or_at a x z x (length a) refl) ∙ passes in
+      sym (ap p (get_or_append_left a (x ∷ z) x k lt)) ∙ parts k (length a) x (omega arith) (omega (arith, whole)) at_x)
+
+  not_true : (b : Bool) → (b ≡ true → ⊥) → b ≡ false
+  not_true true never = absurd (never refl)
+  not_true false never = refl
+
+  true_false : (b : Bool) → b ≡ true → b ≡ false → ⊥
+  true_false true passes fails = true≢false fails
+  true_false false passes fails = true≢false (sym passes)
+
+  -- what stands after an element that fails
+  pub fails_after : (a z : List X) (x : X) → IsPartitionedBy p (a ++ x ∷ z) → p x ≡ false → All (λ y. p y ≡ false) z
+  fails_after a z x parts fails =
+      let whole = length-append a (x ∷ z) in
+      let n = length a in
+      All-from_get_or (λ y. p y ≡ false) z x (λ k lt. not_true (p (get_or z k x)) (λ passes.
+      let there : p (get_or (a ++ x ∷ z) (n + suc k) x) ≡ true = ap p (get_or-append-add a (x ∷ z) (suc k) x) ∙ passes in
+      true_false (p x) (sym (ap p (get_or_at a x z x n refl)) ∙ parts n (n + suc k) x (omega arith) (omega (arith, whole)) there) fails))
+
+  -- what stands before a chunk whose first element passes
+  passes_before_chunk : (a c z : List X) → 0 < length c → IsPartitionedBy p (a ++ (c ++ z)) → starts p c ≡ true → All (λ y. p y ≡ true) a
+  passes_before_chunk a [] z some parts passes = absurd (omega arith)
+  passes_before_chunk a (x ∷ c) z some parts passes = passes_before a (c ++ z) x parts passes
+
+  first_passes : (c a : List X) → All (λ y. p y ≡ true) (c ++ a) → starts p c ≡ true
+  first_passes [] a all = refl
+  first_passes (x ∷ c) a all = All-head (λ y. p y ≡ true) x (c ++ a) all
+
+  -- the chunks by their first elements
+  pub chunks_parted : (limit : ℕ) (cs : List (List X)) → AreChunks limit cs → IsPartitionedBy p (joined cs) → (i j : ℕ) (d : List X) → i ≤ j → j < length cs → starts p (get_or cs j d) ≡ true → starts p (get_or cs i d) ≡ true
+  chunks_parted limit [] all parts i j d le lt passes = absurd (omega arith)
+  chunks_parted limit (c ∷ cs) all parts zero zero d le lt passes = passes
+  chunks_parted limit (c ∷ cs) all parts (suc i) zero d le lt passes = absurd (omega arith)
+  chunks_parted limit (c ∷ cs) all parts zero (suc j) d le lt passes =
+      let within : j < length cs = omega arith in
+      let chunk = get_or cs j [] in
+      let filled = All-get_or (IsChunk {X = X} limit) cs j [] within (All-tail (IsChunk {X = X} limit) c cs all) in
+      let a = joined (take j cs) in
+      let z = joined (drop (j + 1) cs) in
+      let about : c ++ joined cs ≡ (c ++ a) ++ (chunk ++ z) = ap (λ l. c ++ l) (joined_about cs j within) ∙ sym (append_assoc c a (chunk ++ z)) in
+      let same : get_or cs j d ≡ chunk = get_or_default cs j d [] within in
+      first_passes c a (passes_before_chunk (c ++ a) chunk z filled.0 (subst (λ l. IsPartitionedBy p l) about parts) (sym (ap (starts p) same) ∙ passes))
+  chunks_parted limit (c ∷ cs) all parts (suc i) (suc j) d le lt passes =
+      chunks_parted limit cs (All-tail (IsChunk {X = X} limit) c cs all) (part_right c (joined cs) parts) i j d (omega arith) (omega arith) passes
+
+  fails_joined : (limit : ℕ) (a : List X) (ds : List (List X)) → AreChunks limit ds → IsPartitionedBy p (a ++ joined ds) → (0 < length ds → starts p (get_or ds 0 []) ≡ false) → All (λ y. p y ≡ false) (joined ds)
+  fails_joined limit a [] all parts fails = All-nil (λ y. p y ≡ false)
+  fails_joined limit a ([] ∷ ds) all parts fails =
+      let filled = All-head (IsChunk {X = X} limit) [] ds all in
+      let none : 0 < 0 = filled.0 in
+      absurd (omega arith)
+  fails_joined limit a ((x ∷ c) ∷ ds) all parts fails =
+      let first : p x ≡ false = fails (omega arith) in
+      All-cons (λ y. p y ≡ false) x (c ++ joined ds) first (fails_after a (c ++ joined ds) x parts first)
+
+  -- all elements of the chunks from one on whose first elements fail
+  pub fails_from : (limit : ℕ) (cs : List (List X)) (n : ℕ) → AreChunks limit cs → IsPartitionedBy p (joined cs) → AllWithin (λ c. starts p c ≡ false) cs n (length cs) → All (λ y. p y ≡ false) (joined (drop n cs))
+  fails_from limit cs n all parts fails =
+      let cut : joined cs ≡ joined (take n cs) ++ joined (drop n cs) = ap joined (sym (take-append-drop n cs)) ∙ joined-append (take n cs) (drop n cs) in
+      let left = length-drop n cs in
+      fails_joined limit (joined (take n cs)) (drop n cs) (All-drop (IsChunk {X = X} limit) n cs all) (subst (λ l. IsPartitionedBy p l) cut parts)
+      (λ some.
+      let at : n + 0 ≡ n = omega arith in
+      ap (starts p) (get_or-drop n cs 0 [] ∙ ap (λ k. get_or cs k []) at) ∙ fails n [] (omega arith) (omega (arith, left)))
+
+  pub after_start : (cs : List (List X)) → joined (drop 0 cs) ≡ after cs (record { chunk = 0; offset = 0 })
+  after_start [] = refl
+  after_start (c ∷ cs) = refl
+
+  module _ (limit : ℕ) (cs : List (List X)) (i : ℕ) (x : X) (rest : List X) (chunk : x ∷ rest ≡ get_or cs i []) (within : i < length cs) (parts : IsPartitionedBy p (joined cs)) where
+    about : joined cs ≡ joined (take i cs) ++ (x ∷ (rest ++ joined (drop (i + 1) cs)))
+    about = joined_about cs i within ∙ ap (λ c. joined (take i cs) ++ (c ++ joined (drop (i + 1) cs))) (sym chunk)
+
+    parts_about : IsPartitionedBy p (joined (take i cs) ++ (x ∷ (rest ++ joined (drop (i + 1) cs))))
+    parts_about = subst (λ l. IsPartitionedBy p l) about parts
+
+    pub rest_parted : IsPartitionedBy p rest
+    rest_parted = part_left rest (joined (drop (i + 1) cs)) (part_right (x ∷ []) (rest ++ joined (drop (i + 1) cs)) (part_right (joined (take i cs)) (x ∷ (rest ++ joined (drop (i + 1) cs))) parts_about))
+
+    pub before_passes : (k : ℕ) → p x ≡ true → k ≤ length rest → AllWithin (λ y. p y ≡ true) rest 0 k → All (λ y. p y ≡ true) (before cs (record { chunk = i; offset = k + 1 }))
+    before_passes k first le all =
+        let next : k + 1 ≡ suc k = omega arith in
+        let size : length (take k rest) ≡ k = length-take-le k rest le in
+        let some : All (λ y. p y ≡ true) (take k rest) = All-from_get_or (λ y. p y ≡ true) (take k rest) x (λ n lt. let below : n < k = omega (arith, size) in ap p (get_or-take k rest n x below) ∙ all n x (omega arith) below) in
+        let own : take (k + 1) (get_or cs i []) ≡ x ∷ take k rest = ap (λ c. take (k + 1) c) (sym chunk) ∙ ap (λ n. take n (x ∷ rest)) next in
+        All-append (λ y. p y ≡ true) (joined (take i cs)) (take (k + 1) (get_or cs i []))
+        (passes_before (joined (take i cs)) (rest ++ joined (drop (i + 1) cs)) x parts_about first)
+        (All-same (λ y. p y ≡ true) (take (k + 1) (get_or cs i [])) (x ∷ take k rest) own (All-cons (λ y. p y ≡ true) x (take k rest) first some))
+
+    pub after_fails : (k : ℕ) → AreChunks limit cs → AllWithin (λ c. starts p c ≡ false) cs (i + 1) (length cs) → AllWithin (λ y. p y ≡ false) rest k (length rest) → All (λ y. p y ≡ false) (after cs (record { chunk = i; offset = k + 1 }))
+    after_fails k chunks later all =
+        let next : k + 1 ≡ suc k = omega arith in
+        let size = length-drop k rest in
+        let some : All (λ y. p y ≡ false) (drop k rest) = All-from_get_or (λ y. p y ≡ false) (drop k rest) x (λ n lt. ap p (get_or-drop k rest n x) ∙ all (k + n) x (omega arith) (omega (arith, size))) in
+        let own : drop (k + 1) (get_or cs i []) ≡ drop k rest = ap (λ c. drop (k + 1) c) (sym chunk) ∙ ap (λ n. drop n (x ∷ rest)) next in
+        All-append (λ y. p y ≡ false) (drop (k + 1) (get_or cs i [])) (joined (drop (i + 1) cs))
+        (All-same (λ y. p y ≡ false) (drop (k + 1) (get_or cs i [])) (drop k rest) own some)
+        (fails_from limit cs (i + 1) chunks parts later)

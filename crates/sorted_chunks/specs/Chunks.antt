@@ -1,0 +1,27 @@
+-- A list that is kept in chunks, and the places in it.
+use Rattle.std.specs.Prelude.{ℕ, ◌+◌, ◌<◌, ◌≤◌, List, [], ◌++◌, length, take, drop, flat_map, slice_index_or}
+use Rattle.std.specs.List.{All}
+use Rattle.sorted_chunks.specs.declared.position.Position.{Position}
+
+-- the whole list
+abbrev pub joined : {X : Type 0} → List (List X) → List X
+joined chunks = flat_map (λ chunk. chunk) chunks
+
+-- what stands before a place: the chunks before its own, and the elements of its own before it
+abbrev pub before : {X : Type 0} → List (List X) → Position → List X
+before chunks p = joined (take p.chunk chunks) ++ take p.offset (slice_index_or chunks p.chunk [])
+
+-- what stands from a place on
+abbrev pub after : {X : Type 0} → List (List X) → Position → List X
+after chunks p = drop p.offset (slice_index_or chunks p.chunk []) ++ joined (drop (p.chunk + 1) chunks)
+
+-- a place in a chunk or at its end, or the place after all chunks
+abbrev pub IsPlace : {X : Type 0} → List (List X) → Position → Type 0
+IsPlace chunks p = (p.chunk ≤ length chunks) × (p.offset ≤ length (slice_index_or chunks p.chunk []))
+
+-- not empty, and no longer than the limit
+abbrev pub IsChunk : {X : Type 0} → ℕ → List X → Type 0
+IsChunk limit chunk = (0 < length chunk) × (length chunk ≤ limit)
+
+abbrev pub AreChunks : {X : Type 0} → ℕ → List (List X) → Type 0
+AreChunks {X} limit chunks = All (IsChunk {X = X} limit) chunks

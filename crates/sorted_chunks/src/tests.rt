@@ -1,0 +1,61 @@
+use crate::SortedChunks;
+use std::alloc::{AllocError, Global};
+use std::test::Fail;
+
+/// The numbers as a list holds them in which each was put before all that aren't less; at most four stand in a chunk.
+fn listed(alloc: Global, numbers: &[u32]) -> Result<Vec<u32>, AllocError> {
+    let mut list = SortedChunks::<u32, 4>::new(alloc);
+    for number in numbers {
+        let place = list.partition_point(|held| *held < *number);
+        list.insert(place, *number)?;
+    }
+    let mut elements = Vec::new(alloc);
+    let mut left = list.iter();
+    while let Some(element) = left.next() {
+        elements.push(*element)?;
+    }
+    Ok(elements)
+}
+
+#[test]
+fn a_new_list_is_empty(rt: HostRuntime) -> Result<(), Fail> {
+    let mut list = SortedChunks::<u32, 4>::new(rt.alloc());
+    assert!(rt; list.is_empty());
+    let place = list.partition_point(|_| true);
+    list.insert(place, 7)?;
+    assert!(rt; !list.is_empty());
+    Ok(())
+}
+
+#[test]
+fn numbers_in_order_fill_chunk_after_chunk(rt: HostRuntime) -> Result<(), Fail> {
+    let numbers = [1, 2, 3, 4, 5, 6, 7, 8, 9];
+    let list = listed(rt.alloc(), &numbers)?;
+    assert_eq!(rt; list.as_slice(), [1, 2, 3, 4, 5, 6, 7, 8, 9].as_slice());
+    Ok(())
+}
+
+#[test]
+fn numbers_in_falling_order_split_the_first_chunk(rt: HostRuntime) -> Result<(), Fail> {
+    let numbers = [9, 8, 7, 6, 5, 4, 3, 2, 1];
+    let list = listed(rt.alloc(), &numbers)?;
+    assert_eq!(rt; list.as_slice(), [1, 2, 3, 4, 5, 6, 7, 8, 9].as_slice());
+    Ok(())
+}
+
+#[test]
+fn numbers_in_no_order_split_chunks_in_the_middle(rt: HostRuntime) -> Result<(), Fail> {
+    let numbers = [50, 10, 90, 30, 70, 20, 80, 40, 60, 45, 44, 43, 42, 41, 95];
+    let list = listed(rt.alloc(), &numbers)?;
+    let wanted = [10, 20, 30, 40, 41, 42, 43, 44, 45, 50, 60, 70, 80, 90, 95];
+    assert_eq!(rt; list.as_slice(), wanted.as_slice());
+    Ok(())
+}
+
+#[test]
+fn equal_numbers_stand_together(rt: HostRuntime) -> Result<(), Fail> {
+    let numbers = [2, 1, 2, 3, 2, 1, 2, 3, 2];
+    let list = listed(rt.alloc(), &numbers)?;
+    assert_eq!(rt; list.as_slice(), [1, 1, 2, 2, 2, 2, 2, 3, 3].as_slice());
+    Ok(())
+}
