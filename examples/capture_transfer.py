@@ -3,14 +3,17 @@
 
     capture_transfer.py [--port N] [--timeout SECONDS] SERVER ZONE FILE
 
-FILE is written anew: the messages as they came over TCP, each behind its length, up to the one with the closing SOA or
-to where the stream stopped. `zonenorm normalise transfer` reads it, and judges it: this script looks only for the end.
+FILE is written anew, or is standard output where it is `-`: the messages as they came over TCP, each after its length,
+up to the one with the closing SOA or to where the stream stopped. `zonenorm normalise transfer` reads it, and judges it:
+this script looks only for the end.
 
-Status 0: the closing SOA came. 1: the stream stopped before it; FILE has what came. 2: the command line is wrong. 4: the
-server can't be reached or FILE can't be written.
+Status 0: the closing SOA came. 1: the stream stopped before it, or the server answered with an error code; FILE has what
+came. 2: the command line is wrong. 4: the server can't be reached or FILE can't be written.
 
 It signs nothing (no TSIG) and checks no signature. ZONE is written without escapes."""
 import argparse
+import contextlib
+import math
 import secrets
 import socket
 import struct
@@ -25,7 +28,7 @@ class Stopped(Exception):
 
 
 def wire_name(text):
-    """The octets of a name: each label behind its length, and the root (RFC 1035 3.1)."""
+    """The octets of a name: each label after its length, and the root (RFC 1035 3.1)."""
     labels = text.removesuffix(".").split(".") if text != "." else []
     if not text.isascii() or "\\" in text or not all(1 <= len(label) <= 63 for label in labels):
         raise ValueError(f"not a name in ASCII without escapes: {text}")
@@ -36,14 +39,14 @@ def wire_name(text):
 
 
 def query(zone):
-    """The query, behind its length. Only the question is in it (RFC 5936 2.1)."""
+    """The query, after its length. Only the question is in it (RFC 5936 2.1)."""
     header = struct.pack("!HHHHHH", secrets.randbelow(65536), 0, 1, 0, 0, 0)
     message = header + wire_name(zone) + struct.pack("!HH", AXFR, IN)
     return struct.pack("!H", len(message)) + message
 
 
 def after_name(message, offset):
-    """The offset behind a name: behind its root, or behind its first pointer (RFC 1035 4.1.4)."""
+    """The offset after a name: after its root, or after its first pointer (RFC 1035 4.1.4)."""
     while True:
         octet = message[offset]
         if octet == 0:
@@ -74,7 +77,7 @@ def soas_among_answers(message):
 
 def take(server, file, count):
     """The next octets of the stream, each piece written to the file as it comes."""
-    octets = b""
+    octets = bytearray()
     while len(octets) < count:
         try:
             piece = server.recv(count - len(octets))
@@ -84,7 +87,7 @@ def take(server, file, count):
             raise Stopped("the connection ended before the closing SOA")
         file.write(piece)
         octets += piece
-    return octets
+    return bytes(octets)
 
 
 def capture(server, file):
@@ -102,10 +105,36 @@ def capture(server, file):
             raise Stopped("a message ends too early") from None
 
 
+def port(text):
+    """A TCP port."""
+    number = int(text)
+    if not 1 <= number <= 65535:
+        raise ValueError
+    return number
+
+
+def seconds(text):
+    """A time to wait."""
+    number = float(text)
+    if not (math.isfinite(number) and 0 < number <= 86400):
+        raise ValueError
+    return number
+
+
+def opened(path):
+    """The file to write, or standard output, which stays open."""
+    return contextlib.nullcontext(sys.stdout.buffer) if path == "-" else open(path, "wb")
+
+
 def main():
-    words = argparse.ArgumentParser(description=__doc__, formatter_class=argparse.RawDescriptionHelpFormatter)
-    words.add_argument("--port", type=int, default=53)
-    words.add_argument("--timeout", type=float, default=30, help="seconds without an octet after which to give up")
+    words = argparse.ArgumentParser(
+        description=__doc__, formatter_class=argparse.RawDescriptionHelpFormatter
+    )
+    words.add_argument("--port", type=port, default=53, help="1 to 65535 (default: 53)")
+    words.add_argument(
+        "--timeout", type=seconds, default=30, metavar="SECONDS",
+        help="how long to wait for an octet, over 0 and up to 86400 (default: 30)",
+    )
     words.add_argument("server", metavar="SERVER")
     words.add_argument("zone", metavar="ZONE")
     words.add_argument("file", metavar="FILE")
@@ -114,10 +143,14 @@ def main():
         asked = query(given.zone)
     except ValueError as error:
         words.error(str(error))
+    address = (given.server, given.port)
     try:
-        with socket.create_connection((given.server, given.port), given.timeout) as server, open(given.file, "wb") as file:
+        with socket.create_connection(address, given.timeout) as server, opened(given.file) as file:
             server.sendall(asked)
-            capture(server, file)
+            try:
+                capture(server, file)
+            finally:
+                file.flush()
     except Stopped as reason:
         print(f"capture_transfer: {reason}", file=sys.stderr)
         return 1

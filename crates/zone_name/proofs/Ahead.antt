@@ -27,7 +27,7 @@ ahead_is [] = refl
 ahead_is (c ∷ rest) =
     cond_both (is_dot c) (at_dot rest) (unit_ahead (unit_first is_dot (c ∷ rest))) (IsAhead (c ∷ rest)) (λ e. ap (λ t. t ∷ rest) (eqb-true c 46 e)) (λ e. unit_is c rest (unit_first is_dot (c ∷ rest)) e (first_is is_dot (c ∷ rest)))
 
--- what is behind it is shorter
+-- what follows it is shorter
 abbrev pub Shrinks : List ℕ → Ahead → Type 0
 Shrinks rest at_end = Unit {0}
 Shrinks rest (at_dot after) = length after < length rest
@@ -64,7 +64,7 @@ ahead-bad rest bad = bad_by rest (ahead_in rest) bad (ahead_is rest)
 
 -- ---- what the code finds
 
--- the test of a dot at the front
+-- the test of a dot at the beginning
 abbrev pub has_dot : List ℕ → Bool
 has_dot rest = pointwise nat_eq (46 ∷ []) (take 1 rest)
 

@@ -18,7 +18,8 @@ is_bare c = c == 46 || (not (is_special c) && is_printed c)
 abbrev pub not_bare : ℕ → Bool
 not_bare c = not (is_bare c)
 
--- a text that stands outside quotes: one written octet or more, where none but those stands by itself
+-- a text that stands outside quotes: one written octet or more, where none but those stands by
+-- itself
 pub record StandsBare (text : List ℕ) : Type 0 where
   pub units : List Written
   pub some : 0 < length units

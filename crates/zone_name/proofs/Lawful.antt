@@ -26,7 +26,7 @@ pub name_cmp-total : IsTotalOrder name_cmp
 name_cmp-total = on_total reverse (lists_total (lists_total nat_cmp_total))
 
 -- ---- what is printed spells the name
--- an octet as it is printed, behind a backslash, by itself or by its value
+-- an octet as it is printed: after a backslash, by itself or by its value
 unfoldable pub written_by : (special printed : Bool) → ℕ → Written
 written_by true printed c = escaped c
 written_by false true c = plain c

@@ -4,7 +4,7 @@ use Rattle.std.specs.List.{flat_map, AllByRecursion}
 use Rattle.std.proofs.lemmas.List.{take_at, drop_at, append-nil, take-append-drop}
 use Rattle.zone_name.specs.Name.{IsLabel, IsName, with_length, wire, labels_by, labels_of, BeginsWithName, HoldsName}
 
--- one label cut off the front
+-- one label cut off the beginning
 labels_by-cut : (k m : ℕ) (text label more : List ℕ) → text ≡ label ++ more → length label ≡ suc k → labels_by (suc m) (suc k ∷ text) ≡ label ∷ labels_by m more
 labels_by-cut k m text label more e count = rw (e, take_at label more (suc k) count, drop_at label more (suc k) count) refl
 
@@ -31,12 +31,12 @@ labels_of-frames labels rest each =
     let fuel : length (flat_map with_length labels ++ rest) ≡ length labels + n = omega (arith, length-frames labels, length-append (flat_map with_length labels) rest) in
     (n, labels_by-frames labels rest (length (flat_map with_length labels ++ rest)) n fuel each)
 
--- no label is behind the root
+-- no label follows the root
 pub labels_by-root : (n : ℕ) (rest : List ℕ) → labels_by n (0 ∷ rest) ≡ []
 labels_by-root zero rest = refl
 labels_by-root (suc n) rest = refl
 
--- no label is in no octets
+-- no octets hold no label
 pub labels_by-nil : (n : ℕ) → labels_by n [] ≡ []
 labels_by-nil zero = refl
 labels_by-nil (suc n) = refl
@@ -52,7 +52,7 @@ labels_of-wire labels each =
     let found = labels_of-frames labels (0 ∷ []) each in
     rw (found.1, labels_by-root found.0 []) (append-nil labels)
 
--- frames with no root behind them
+-- frames with no root after them
 pub labels_of-open : (labels : List (List ℕ)) → AllByRecursion IsLabel labels → labels_of (flat_map with_length labels) ≡ labels
 labels_of-open labels each =
     let found = labels_of-frames labels [] each in
@@ -121,7 +121,7 @@ HoldsName-root octets e = subst HoldsName (sym e) (HoldsName-wire [] (record { e
 pub labels_of-root : (octets : List ℕ) → octets ≡ [] ++ 0 ∷ [] → labels_of octets ≡ []
 labels_of-root octets e = ap labels_of e ∙ labels_of-wire [] tt
 
--- the front that is cut out at the length of the name is the name
+-- the octets that are cut out at the length of the name are the name
 pub HoldsName-front : (octets : List ℕ) (len : ℕ) → BeginsWithName octets → len ≡ length (wire (labels_of octets)) → HoldsName (take len octets)
 HoldsName-front octets len begins e = subst HoldsName (sym (ap (λ n. take n octets) e ∙ begins.front)) (HoldsName-wire (labels_of octets) begins.name)
 

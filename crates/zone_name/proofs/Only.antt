@@ -31,7 +31,7 @@ label_reads (w ∷ label) tail open_label labels (suc n) each room enough =
     let next = label_reads label tail open_next labels n each.1 (omega (arith, length-append open_label (octet_of w ∷ []))) left in
     (next.0, next.1, ap (read (suc n) labels open_label) shape ∙ octet_reads w rest open_label labels n each.0 (omega arith) ∙ next.2 ∙ ap (λ t. read next.0 labels t tail) (append_assoc open_label (octet_of w ∷ []) (written_octets label)))
 
--- a written label and the dot behind it
+-- a written label and the dot after it
 dot_reads : (label : List Written) (rest : List ℕ) (labels : List (List ℕ)) (n : ℕ) → IsWrittenLabel label → length label ≤ 63 → length (written_text label ++ (46 ∷ rest)) < n → (m : ℕ) × (length rest < m) × (read n labels [] (written_text label ++ (46 ∷ rest)) ≡ read m (labels ++ folded_label (written_octets label) ∷ []) [] rest)
 dot_reads [] rest labels n is short enough = absurd (omega (arith, is.some))
 dot_reads (w ∷ label) rest labels n is short enough =
@@ -45,7 +45,7 @@ dot_reads (w ∷ label) rest labels n is short enough =
 regroup : (a rest : List ℕ) → (a ++ 46 ∷ []) ++ rest ≡ a ++ (46 ∷ rest)
 regroup a rest = append_assoc a (46 ∷ []) rest
 
--- labels with dots behind them are read
+-- labels with dots after them are read
 dots_read : (written : List (List Written)) (rest : List ℕ) (labels : List (List ℕ)) (n : ℕ) → AllByRecursion IsWrittenLabel written → AreShort written → length (dotted written ++ rest) < n → (m : ℕ) × (length rest < m) × (read n labels [] (dotted written ++ rest) ≡ read m (labels ++ named written) [] rest)
 dots_read [] rest labels n each short enough = (n, enough, ap (λ t. read n t [] rest) (sym (append-nil labels)))
 dots_read (label ∷ written) rest labels n each short enough =
@@ -55,7 +55,7 @@ dots_read (label ∷ written) rest labels n each short enough =
     let next = dots_read written rest (labels ++ folded_label (written_octets label) ∷ []) found.0 each.1 short.1 found.1 in
     (next.0, next.1, ap (read n labels []) shape ∙ found.2 ∙ next.2 ∙ ap (λ t. read next.0 t [] rest) (append_assoc labels (folded_label (written_octets label) ∷ []) (named written)))
 
--- labels with dots behind them and no more
+-- labels with dots after them and no more
 dotted_reads : (written : List (List Written)) (labels : List (List ℕ)) (n : ℕ) → AllByRecursion IsWrittenLabel written → AreShort written → length (dotted written) < n → read n labels [] (dotted written) ≡ Ok (labels ++ named written, true)
 dotted_reads written labels n each short enough =
     let none = append-nil (dotted written) in
@@ -114,7 +114,7 @@ reading-parted (label ∷ written) are short =
     ∙ parted_reads written label [] (suc (length (parted (label ∷ written)))) are.each short (omega arith)
 
 -- ---- the faults
--- a walk that has come to a ahead leads from there to what the whole text leads to
+-- a walk that has come to a place leads from there to what the whole text leads to
 reached : (text : List ℕ) (before : List (List Written)) (open_label : List Written) (rest : List ℕ) → 0 < length rest → Reaches text before open_label rest → (n : ℕ) × (length rest < n) × (reading text ≡ read n (named before) (written_octets open_label) rest)
 reached text before open_label rest some r =
     let tail = written_text open_label ++ rest in

@@ -1,4 +1,4 @@
--- A label that is put behind others.
+-- A label that is added after others.
 use Rattle.std.proofs.Common.{◌≡◌, ℕ, suc, ◌+◌, ◌<◌, ◌≤◌, Bool, true, false, Option, Result, IfOk, IfErr, Ok, Err, refl, ap₂, List, [], ◌∷◌, ◌++◌, length, take, drop, get_or, if◌then◌else◌, sym, ap, ◌∙◌, subst, arith, append_assoc, length-append}
 use Rattle.std.specs.Prelude.{map}
 use Rattle.std.specs.List.{flat_map, AllByRecursion, refill}
@@ -56,11 +56,11 @@ IsLabel-folded label some short each = record {
   each = folded_each label each;
 }
 
--- frames, with one more behind them
+-- frames, with one more after them
 frames_push : (labels : List (List ℕ)) (label : List ℕ) → flat_map with_length (labels ++ label ∷ []) ≡ flat_map with_length labels ++ with_length label
 frames_push labels label = flat_map-append with_length labels (label ∷ []) ∙ ap (λ t. flat_map with_length labels ++ t) (append-nil (with_length label))
 
--- labels with one more behind them, where there is room
+-- labels with one more after them, where there is room
 IsName-push : (labels : List (List ℕ)) (label : List ℕ) → IsName labels → IsLabel label → length (flat_map with_length labels) + length label + 2 ≤ 255 → IsName (labels ++ label ∷ [])
 IsName-push labels label name is room = record {
   each = AllByRecursion-append IsLabel labels (label ∷ []) name.each (is, tt);
@@ -71,7 +71,7 @@ pub record Pushed (octets label new : List ℕ) : Type 0 where
   pub holds : HoldsLabels new
   pub gives : labels_of new ≡ labels_of octets ++ label ∷ []
 
--- the octets of one more label behind those that are held
+-- the octets of one more label after those that are held
 pub push_frame : (octets label new : List ℕ) → HoldsLabels octets → IsLabel label → length octets + length label + 2 ≤ 255 → new ≡ octets ++ with_length label → Pushed octets label new
 push_frame octets label new holds is room e =
     let name = IsName-push (labels_of octets) label holds.name is (rw holds.whole room) in
@@ -124,7 +124,7 @@ HoldsUnfolded-nil octets e = HoldsLabels-nil (map folded_octet octets) (ap (map 
 pub unfolded_labels-none : (octets : List ℕ) → octets ≡ [] → unfolded_labels octets ≡ []
 unfolded_labels-none octets e = labels_of-none (map folded_octet octets) (ap (map folded_octet) e)
 
--- the labels of two names, one behind the other
+-- the labels of two names, one after the other
 pub record Joined (left right : List (List ℕ)) (new : List ℕ) : Type 0 where
   pub holds : HoldsName new
   pub gives : labels_of new ≡ left ++ right
@@ -162,7 +162,7 @@ lowered (c ∷ octets) = let same : to_ascii_lowercase c ≡ folded_octet c = gr
 pub folded_again : (octets lower : List ℕ) → lower ≡ map to_ascii_lowercase octets → refill (length octets) octets lower ≡ map folded_octet octets
 folded_again octets lower e = take_at lower (drop (length lower) octets) (length octets) (ap length e ∙ length-map octets to_ascii_lowercase) ∙ e ∙ lowered octets
 
--- the octets of a name behind labels that are folded now
+-- the octets of a name after labels that are now folded
 pub ended_with : (octets lower ending new : List ℕ) → HoldsUnfolded octets → HoldsName ending → lower ≡ map folded_octet octets → new ≡ lower ++ ending → length lower + length ending ≤ 255 → HoldsName new × (sized (unfolded_labels octets ++ labels_of ending) ≡ Ok (labels_of new))
 ended_with octets lower ending new holds name is e room =
     let space : length (map folded_octet octets) + length ending ≤ 255 = omega (arith, room, ap length is) in
@@ -174,7 +174,7 @@ pub taken : {T E P : Type 0} (result : Result T E) → IsOk result → OnOk resu
 taken (Ok x) is holds = holds
 taken (Err e) is holds = absurd (false≢true is)
 
--- nothing is behind the labels of an absolute text
+-- nothing follows the labels of an absolute text
 under_root : (origin : Option (List (List ℕ))) (spelled : Spelled) (held labels : List (List ℕ)) (result : Result (List (List ℕ)) NameFault) → spelled.is_absolute ≡ true → spelled.is_too_long ≡ false → sized (held ++ labels_of (0 ∷ [])) ≡ result → Collects held spelled.is_too_long labels → under origin (Ok (labels, spelled.is_absolute)) ≡ result
 under_root origin spelled held labels result absolute short e collects =
     let same : held ≡ labels = subst (λ b. Collects held b labels) short collects in

@@ -6,11 +6,11 @@ use Rattle.zone_name.specs.Sink.{TakesSome}
 abbrev pub Joins : {S : Type 0} → (S → List ℕ → S → Type 0) → Type 0
 Joins {S = S} takes = (a b c : S) (x y : List ℕ) → takes a x b → takes b y c → takes a (x ++ y) c
 
--- two texts, one behind the other, are a third
+-- two texts, one after the other, are a third
 pub takes_both : {S : Type 0} (takes : S → List ℕ → S → Type 0) → Joins takes → (a b c : S) (x y z : List ℕ) → takes a x b → takes b y c → x ++ y ≡ z → takes a z c
 takes_both takes joins a b c x y z first second is = subst (λ t. takes a t c) is (joins a b c x y first second)
 
--- a printer that stops behind a text that was taken
+-- a printer that stops after a text that was taken
 pub stops_behind : {S T E : Type 0} (answer : Result T E) (takes : S → List ℕ → S → Type 0) → Joins takes → (a b c : S) (x : List ℕ) → takes a x b → TakesSome takes b c → OnErr answer (TakesSome takes a c)
 stops_behind (Ok r) takes joins a b c x first some = tt
 stops_behind (Err e) takes joins a b c x first some = (x ++ some.0, joins a b c x some.0 first some.1)
@@ -26,6 +26,6 @@ pub record Took {S : Type 0} (takes : S → List ℕ → S → Type 0) (start ou
   pub known : Known text
   pub taken : takes start text out
 
--- a text behind it
+-- a text after it
 pub Took-more : {S : Type 0} (takes : S → List ℕ → S → Type 0) → Joins takes → (start out next : S) (Known Next : List ℕ → Type 0) (more : List ℕ) (took : Took takes start out Known) → takes out more next → Next (took.text ++ more) → Took takes start next Next
 Took-more takes joins start out next Known Next more took second is = record { text = took.text ++ more; known = is; taken = joins start out next took.text more took.taken second }

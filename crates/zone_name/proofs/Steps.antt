@@ -95,11 +95,11 @@ Refuses-label text label rest RelativeName at short x = elim x [ ]
 
 -- ---- a label of plain octets
 
--- each of the octets at the front is plain
+-- each of the octets at the beginning is plain
 abbrev pub ArePlain : List ℕ → ℕ → Type 0
 ArePlain text len = (k : ℕ) → k < len → IsUnit is_dot (plain (get_or text k 0))
 
--- what is behind them ends a label where it is no backslash
+-- what follows them ends a label where it is no backslash
 abbrev pub begins_with : ℕ → List ℕ → Bool
 begins_with c rest = pointwise nat_eq (c ∷ []) (take 1 rest)
 

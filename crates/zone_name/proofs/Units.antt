@@ -1,4 +1,4 @@
--- Written octets at the front of a text: what is read is so, and what is so is read.
+-- Written octets at the beginning of a text: what is read is so, and what is so is read.
 use Rattle.std.proofs.Common.{◌≡◌, ◌≢◌, ℕ, zero, suc, ◌≤◌, ◌<◌, Bool, true, false, ◌&&◌, ◌||◌, ◌==◌, nat_le, if◌then◌else◌, List, [], ◌∷◌, ◌++◌, length, Option, Some, None, refl, sym, ap, ◌∙◌, subst, inl, inr, arith, append_assoc, length-append}
 use Rattle.std.specs.Prelude.{IfSome, option_map}
 use Rattle.std.specs.List.{AllByRecursion}
@@ -6,7 +6,7 @@ use Rattle.std.proofs.lemmas.Bool.{and_parts, or_parts, or_cases, eqb-true, eqb-
 use Rattle.zone_name.specs.Spelling.{Written, plain, escaped, decimal, text_of, octet_of, written_text, IsEscape, IsUnit, IsBadEscape, BeginsWithEscape, BeginsWithUnit, is_digit, no_octet}
 use Rattle.zone_name.specs.Machine.Units.{decimal_first, digits_first, escape_first, unit_first, Units, units_then, units_by, units_first, valued}
 
--- no written octet stands at the front
+-- no written octet stands at the beginning
 pub data NoUnit (left_out : ℕ → Bool) (octets : List ℕ) : Type 0 where
   at_end : octets ≡ [] → NoUnit left_out octets
   at_octet : (c : ℕ) (rest : List ℕ) → octets ≡ c ∷ rest → left_out c ≡ true → NoUnit left_out octets
@@ -25,7 +25,7 @@ unit_of_escape left_out (plain c) is = absurd is
 unit_of_escape left_out (escaped c) is = is
 unit_of_escape left_out (decimal x y z) is = is
 
--- and so is a written octet behind a backslash
+-- and so is a written octet after a backslash
 pub escape_of_unit : (left_out : ℕ → Bool) (w : Written) (rest more : List ℕ) → IsUnit left_out w → text_of w ++ rest ≡ 92 ∷ more → IsEscape w
 escape_of_unit left_out (plain c) rest more is e = absurd (is.1 (cc))
 escape_of_unit left_out (escaped c) rest more is e = is
@@ -76,7 +76,7 @@ no_escaped x rest d t (escaped c) after is e =
     elim (or_cases (x == 10) (x == 13) t) as (λ s. ⊥) [ inl h ↦ is.1 (same ∙ eqb-true x 10 h) | inr h ↦ is.2 (same ∙ eqb-true x 13 h) ]
 no_escaped x rest d t (decimal u v w) after is e = let same : u ≡ x = cc in both_ways (is_digit u) (ap is_digit same ∙ d) is.0
 
--- ---- what is read at the front is so
+-- ---- what is read at the beginning is so
 
 -- what the reading of an escape says of the text from its backslash on
 abbrev pub SaysEscape : List ℕ → Option (Written × List ℕ) → Type 0
@@ -217,7 +217,7 @@ valued_escape f (Some a) x rest text e d h = by (digits_first x rest) (digits_ar
 pub escaped_found : (x : ℕ) (rest text : List ℕ) → text ≡ x ∷ rest → is_digit x ≡ false → x ≢ 10 → x ≢ 13 → BeginsWithEscape (92 ∷ text) x rest
 escaped_found x rest text e d n m = record { escape = escaped x; is_escape = (d, n, m); value = refl; parts = ap (λ t. 92 ∷ t) e }
 
--- ---- what the code finds at the front of a text
+-- ---- what the code finds at the beginning of a text
 
 pub plain_found : (c : ℕ) (rest text : List ℕ) → text ≡ c ∷ rest → c ≢ 92 → BeginsWithUnit no_octet text c rest
 plain_found c rest text e other = record { unit = plain c; is_unit = (refl, other); value = refl; parts = e }

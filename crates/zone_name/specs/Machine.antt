@@ -1,4 +1,5 @@
--- How a text is read from the left. Private functions and proofs cite this, and no public clause does.
+-- How a text is read from the left. Private functions and proofs cite this, and no public clause
+-- does.
 pub mod Units
 pub mod LabelWalk
 pub mod Seen

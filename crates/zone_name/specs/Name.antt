@@ -36,7 +36,7 @@ pub record IsName (labels : List (List ℕ)) : Type 0 where
   pub each : AllByRecursion IsLabel labels
   pub short : length (wire labels) ≤ 255
 
--- the labels at the front of octets, one after another up to the root, n at the most
+-- the labels at the beginning of octets, one after another up to the root, at most n of them
 abbrev pub labels_by : ℕ → List ℕ → List (List ℕ)
 labels_by zero octets = []
 labels_by (suc n) [] = []
@@ -52,7 +52,7 @@ pub record HoldsName (octets : List ℕ) : Type 0 where
   pub whole : wire (labels_of octets) ≡ octets
   pub name : IsName (labels_of octets)
 
--- the octets of labels, each behind its length, to which the root's octet makes a name
+-- the octets of labels, each after its length, which the root's octet makes a name
 pub record HoldsLabels (octets : List ℕ) : Type 0 where
   pub whole : flat_map with_length (labels_of octets) ≡ octets
   pub name : IsName (labels_of octets)

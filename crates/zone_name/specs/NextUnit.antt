@@ -1,4 +1,4 @@
--- The written octet at the front of a text (RFC 1035 5.1).
+-- The written octet that a text begins with (RFC 1035 5.1).
 use Rattle.std.specs.Prelude.{◌≡◌, ℕ, List, []}
 use Rattle.zone_name.specs.Spelling.{no_octet, BeginsWithUnit, IsBadEscape}
 use Rattle.zone_name.specs.declared.escape.NextUnit.{NextUnit}

@@ -5,7 +5,7 @@ use Rattle.zone_name.specs.Name.{folded, wire, IsName}
 use Rattle.zone_name.specs.declared.fault.NameFault.{NameFault}
 use Rattle.zone_name.specs.declared.fault.NameFault.TheVariants.{EmptyLabel, LabelTooLong, NameTooLong, BadEscape, RelativeName}
 
--- the faults of a label that is put behind others
+-- the faults of a label that is added after others
 abbrev pub IsLabelFault : NameFault → Type 0
 IsLabelFault EmptyLabel = Unit {0}
 IsLabelFault LabelTooLong = Unit {0}
@@ -16,7 +16,8 @@ IsLabelFault RelativeName = ⊥
 abbrev pub is_digit : ℕ → Bool
 is_digit c = nat_le 48 c && nat_le c 57
 
--- one octet of a label as it is written: by itself, behind a backslash, or by a backslash and three digits
+-- one octet of a label as it is written: by itself, after a backslash, or by a backslash and three
+-- digits
 pub data Written : Type 0 where
   plain : ℕ → Written
   escaped : ℕ → Written
@@ -32,14 +33,16 @@ octet_of (plain c) = c
 octet_of (escaped c) = c
 octet_of (decimal x y z) = 100 * (x - 48) + 10 * (y - 48) + (z - 48)
 
--- a backslash before any octet but a digit, a line feed and a carriage return, or before three digits of at most 255
+-- a backslash before any octet but a digit, a line feed and a carriage return, or before three
+-- digits of at most 255
 abbrev pub IsEscape : Written → Type 0
 IsEscape (plain c) = ⊥
 IsEscape (escaped c) = (is_digit c ≡ false) × (c ≢ 10) × (c ≢ 13)
-IsEscape (decimal x y z) = (is_digit x ≡ true) × (is_digit y ≡ true) × (is_digit z ≡ true) × (octet_of (decimal x y z) ≤ 255)
+IsEscape (decimal x y z) =
+    (is_digit x ≡ true) × (is_digit y ≡ true) × (is_digit z ≡ true) × (octet_of (decimal x y z) ≤ 255)
 
--- a written octet where some octets mean something else: an octet by itself that is none of them and no backslash, or an
--- escape
+-- a written octet where some octets mean something else: an octet by itself that is none of them
+-- and no backslash, or an escape
 abbrev pub IsUnit : (ℕ → Bool) → Written → Type 0
 IsUnit left_out (plain c) = (left_out c ≡ false) × (c ≢ 92)
 IsUnit left_out (escaped c) = IsEscape (escaped c)
@@ -64,7 +67,7 @@ written_text label = flat_map text_of label
 abbrev pub written_octets : List Written → List ℕ
 written_octets label = map octet_of label
 
--- each label with a dot behind it, as an absolute name is written
+-- each label with a dot after it, as an absolute name is written
 abbrev pub dotted : List (List Written) → List ℕ
 dotted labels = flat_map (λ label. written_text label ++ 46 ∷ []) labels
 
@@ -82,14 +85,19 @@ pub record AreWrittenLabels (labels : List (List Written)) : Type 0 where
   pub each : AllByRecursion IsWrittenLabel labels
 
 -- how a text spells labels under an origin, whatever their length
-pub data Writes (origin : Option (List (List ℕ))) (text : List ℕ) (labels : List (List ℕ)) : Type 0 where
+pub data Writes (origin : Option (List (List ℕ))) (text : List ℕ)
+    (labels : List (List ℕ)) : Type 0 where
   root : text ≡ codes "." → labels ≡ [] → Writes origin text labels
   at_origin : text ≡ codes "@" → origin ≡ Some labels → Writes origin text labels
-  absolute : (written : List (List Written)) → AreWrittenLabels written → text ≡ dotted written → labels ≡ named written → Writes origin text labels
-  relative : (written : List (List Written)) (above : List (List ℕ)) → AreWrittenLabels written → text ≢ codes "@" → text ≡ parted written → origin ≡ Some above → labels ≡ named written ++ above → Writes origin text labels
+  absolute : (written : List (List Written)) → AreWrittenLabels written → text ≡ dotted written
+      → labels ≡ named written → Writes origin text labels
+  relative : (written : List (List Written)) (above : List (List ℕ)) → AreWrittenLabels written
+      → text ≢ codes "@" → text ≡ parted written → origin ≡ Some above
+      → labels ≡ named written ++ above → Writes origin text labels
 
 -- the text spells the name under the origin
-pub record Spells (origin : Option (List (List ℕ))) (text : List ℕ) (labels : List (List ℕ)) : Type 0 where
+pub record Spells (origin : Option (List (List ℕ))) (text : List ℕ)
+    (labels : List (List ℕ)) : Type 0 where
   pub written : Writes origin text labels
   pub name : IsName labels
 
@@ -99,7 +107,9 @@ EndsLabel rest = (rest ≡ []) ⊎ ((more : List ℕ) × (rest ≡ 46 ∷ more))
 
 -- a backslash that begins no escape
 abbrev pub IsBadEscape : List ℕ → Type 0
-IsBadEscape rest = (more : List ℕ) × (rest ≡ 92 ∷ more) × ((w : Written) (after : List ℕ) → IsEscape w → rest ≢ text_of w ++ after)
+IsBadEscape rest =
+    (more : List ℕ) × (rest ≡ 92 ∷ more)
+    × ((w : Written) (after : List ℕ) → IsEscape w → rest ≢ text_of w ++ after)
 
 -- a text from a backslash on: an escape, which stands for the octet, and the rest
 pub record BeginsWithEscape (text : List ℕ) (octet : ℕ) (rest : List ℕ) : Type 0 where
@@ -109,33 +119,45 @@ pub record BeginsWithEscape (text : List ℕ) (octet : ℕ) (rest : List ℕ) : 
   pub parts : text ≡ text_of escape ++ rest
 
 -- a text from a written octet on, which stands for the octet, and the rest
-pub record BeginsWithUnit (left_out : ℕ → Bool) (text : List ℕ) (octet : ℕ) (rest : List ℕ) : Type 0 where
+pub record BeginsWithUnit (left_out : ℕ → Bool) (text : List ℕ) (octet : ℕ)
+    (rest : List ℕ) : Type 0 where
   pub unit : Written
   pub is_unit : IsUnit left_out unit
   pub value : octet_of unit ≡ octet
   pub parts : text ≡ text_of unit ++ rest
 
--- A text up to a place: labels of at most 63 octets with their dots, and the octets of the label that is open
-pub record Reaches (text : List ℕ) (before : List (List Written)) (open_label : List Written) (rest : List ℕ) : Type 0 where
+-- A text up to a place: labels of at most 63 octets with their dots, and the octets of the label
+-- that is open
+pub record Reaches (text : List ℕ) (before : List (List Written)) (open_label : List Written)
+    (rest : List ℕ) : Type 0 where
   pub labels : AllByRecursion IsWrittenLabel before
   pub short : AllByRecursion (λ label. length label ≤ 63) before
   pub octets : AllByRecursion (IsUnit is_dot) open_label
   pub room : length open_label ≤ 63
   pub parts : text ≡ dotted before ++ written_text open_label ++ rest
 
--- The leftmost fault of a text itself: at the dot or end that closes an empty label, at the 64th octet of a
--- label, or at a backslash that begins no escape
+-- The leftmost fault of a text itself: at the dot or end that closes an empty label, at the 64th
+-- octet of a label, or at a backslash that begins no escape
 pub data FaultAt (text : List ℕ) : NameFault → Type 0 where
-  empty_label : (before : List (List Written)) (rest : List ℕ) → Reaches text before [] rest → EndsLabel rest → (rest ≡ [] → before ≡ []) → text ≢ codes "." → FaultAt text EmptyLabel
-  long_label : (before : List (List Written)) (open_label : List Written) (w : Written) (rest : List ℕ) → Reaches text before open_label (text_of w ++ rest) → length open_label ≡ 63 → IsUnit is_dot w → FaultAt text LabelTooLong
-  bad_escape : (before : List (List Written)) (open_label : List Written) (rest : List ℕ) → Reaches text before open_label rest → IsBadEscape rest → FaultAt text BadEscape
+  empty_label : (before : List (List Written)) (rest : List ℕ) → Reaches text before [] rest
+      → EndsLabel rest → (rest ≡ [] → before ≡ []) → text ≢ codes "." → FaultAt text EmptyLabel
+  long_label : (before : List (List Written)) (open_label : List Written) (w : Written)
+      (rest : List ℕ) → Reaches text before open_label (text_of w ++ rest) → length open_label ≡ 63
+      → IsUnit is_dot w → FaultAt text LabelTooLong
+  bad_escape : (before : List (List Written)) (open_label : List Written) (rest : List ℕ)
+      → Reaches text before open_label rest → IsBadEscape rest → FaultAt text BadEscape
 
 -- a relative text of labels of at most 63 octets, `@` among them
 abbrev pub IsRelative : List ℕ → Type 0
-IsRelative text = (written : List (List Written)) × AreWrittenLabels written × AllByRecursion (λ label. length label ≤ 63) written × (text ≡ parted written)
+IsRelative text =
+    (written : List (List Written)) × AreWrittenLabels written
+    × AllByRecursion (λ label. length label ≤ 63) written × (text ≡ parted written)
 
--- The first fault: one of the text itself, then a relative text without an origin, then a name that is too long
+-- The first fault: one of the text itself, then a relative text without an origin, then a name that
+-- is too long
 pub data FirstFault (origin : Option (List (List ℕ))) (text : List ℕ) : NameFault → Type 0 where
   within : (fault : NameFault) → FaultAt text fault → FirstFault origin text fault
   unfounded : origin ≡ None → IsRelative text → FirstFault origin text RelativeName
-  long_name : (labels : List (List ℕ)) → Writes origin text labels → AllByRecursion (λ label. length label ≤ 63) labels → 255 < length (wire labels) → FirstFault origin text NameTooLong
+  long_name : (labels : List (List ℕ)) → Writes origin text labels
+      → AllByRecursion (λ label. length label ≤ 63) labels → 255 < length (wire labels)
+      → FirstFault origin text NameTooLong

@@ -1,4 +1,5 @@
--- The canonical spelling of a name (RFC 1035 5.1; which octets take a backslash is this project's choice).
+-- The canonical spelling of a name (RFC 1035 5.1; which octets take a backslash is this project's
+-- choice).
 use Rattle.std.specs.Prelude.{ℕ, ◌+◌, ◌/◌, ◌%◌, List, [], ◌∷◌, ◌++◌, nat_le, ◌==◌, ◌&&◌, ◌||◌, Bool, if◌then◌else◌}
 use Rattle.std.specs.List.{flat_map}
 
@@ -15,9 +16,10 @@ abbrev pub decimal_escape : ℕ → List ℕ
 decimal_escape c = 92 ∷ (48 + c / 100) ∷ (48 + c / 10 % 10) ∷ (48 + c % 10) ∷ []
 
 abbrev pub octet_text : ℕ → List ℕ
-octet_text c = if is_special c then 92 ∷ c ∷ [] else (if is_printed c then c ∷ [] else decimal_escape c)
+octet_text c =
+    if is_special c then 92 ∷ c ∷ [] else (if is_printed c then c ∷ [] else decimal_escape c)
 
--- a label's octets, and the dot behind it
+-- a label's octets, and the dot after it
 abbrev pub label_text : List ℕ → List ℕ
 label_text label = flat_map octet_text label ++ 46 ∷ []
 

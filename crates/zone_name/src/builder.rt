@@ -12,7 +12,7 @@ use std::marker::Model;
 /// A name that is made label by label. Contracts see the labels that were pushed.
 #[derive(Debug, Drop)]
 pub struct NameBuilder {
-    /// Each label behind its length, without the root's octet.
+    /// Each label after its length, without the root's octet.
     octets: ArrayVec<u8, MAX_NAME_LEN>,
 }
 
@@ -36,12 +36,13 @@ impl NameBuilder {
         NameBuilder { octets }
     }
 
-    /// Puts a label, with its letters in lower case (RFC 4343 3), behind those that were pushed before.
+    /// Appends a label, with its letters in lower case (RFC 4343 3), to those that were pushed
+    /// before.
     ///
     /// # Errors
     ///
-    /// `EmptyLabel` for no octets, `LabelTooLong` for more than 63, and `NameTooLong` where the name would
-    /// take more than 255 octets. The builder then has what it had.
+    /// `EmptyLabel` for no octets, `LabelTooLong` for more than 63, and `NameTooLong` where the
+    /// name would take more than 255 octets. The builder is then unchanged.
     pub fn push_label(&mut self, label: &[u8]) -> Result<(), NameFault>
         ensures ok { OnOk result (self.new ≡ self.old ++ folded_label label.now ∷ []) }
         ensures empty { (result ≡ Err EmptyLabel) ↔ (length label.now ≡ 0) }

@@ -4,19 +4,19 @@ ghost use Rattle.zone_name.specs.NextUnit.{IsNextUnit};
 ghost use Rattle.zone_name.specs.Spelling.{BeginsWithEscape, IsBadEscape, is_digit};
 ghost use Rattle.zone_name.specs.Text.{decimal_escape};
 
-/// The written octet at the front of a text (RFC 1035 5.1).
+/// The written octet that a text begins with (RFC 1035 5.1).
 #[derive(Drop)]
 pub enum NextUnit<'t> {
     /// The text ends.
     End,
-    /// An octet, by itself or by an escape, and what stands behind it.
+    /// An octet, by itself or by an escape, and the rest of the text.
     Octet(u8, &'t [u8]),
     /// A backslash that begins no escape.
     BadEscape,
 }
 
-/// The octet at the front of a text, by itself or by an escape (RFC 1035 5.1). Only a backslash does not stand for
-/// itself.
+/// The octet that a text begins with, by itself or by an escape (RFC 1035 5.1). Only a backslash
+/// does not stand for itself.
 pub fn next_unit(text: &[u8]) -> NextUnit<'_>
     ensures { IsNextUnit text.now result }
 {
@@ -32,8 +32,8 @@ pub fn next_unit(text: &[u8]) -> NextUnit<'_>
     }
 }
 
-/// The octet that an escape stands for, and what stands behind the escape (RFC 1035 5.1), from what stands behind its
-/// backslash. `None`: the backslash begins no escape.
+/// The octet that an escape stands for, and what follows the escape (RFC 1035 5.1), of a text that
+/// follows its backslash. `None`: the backslash begins no escape.
 pub fn escape_at(after: &[u8]) -> Option<(u8, &[u8])>
     ensures found { IfSome result (λ read. BeginsWithEscape (92 ∷ after.now) read.0 read.1.now) }
     ensures none { IfNone result (IsBadEscape (92 ∷ after.now)) }
@@ -48,7 +48,7 @@ pub fn escape_at(after: &[u8]) -> Option<(u8, &[u8])>
     }
 }
 
-/// The octet of three digits, of which the first was read, and what stands behind them.
+/// The octet of three digits, of which the first was read, and what follows them.
 fn digits_at(first: u8, after: &[u8]) -> Option<(u8, &[u8])>
     requires { is_digit first ≡ true }
     ensures { option_map (λ read. (read.0, read.1.now)) result

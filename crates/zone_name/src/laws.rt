@@ -23,7 +23,8 @@ pub fn spelling_is_unique()
     ensures { (origin : Option Labels) (text : Octets) → AtMostOneIs (Spells origin text) }
 {}
 
-/// A text of octets spells a name under an origin or has a first fault, never both, and one first fault at most.
+/// A text of octets spells a name under an origin or has a first fault, never both, and one first
+/// fault at most.
 pub fn texts_have_one_verdict()
     ensures verdict { (origin : Option Labels) (text : Octets) → IfSome origin IsName
         → AreOctets text
@@ -43,7 +44,7 @@ pub fn printed_names_are_spelled()
         → Spells origin (name_text labels) labels }
 {}
 
-/// The octets of a name hold its labels, whatever stands behind them.
+/// The octets of a name hold its labels, whatever follows them.
 pub fn octets_hold_labels()
     ensures labels { (labels : Labels) (rest : Octets) → IsName labels
         → labels_of (wire labels ++ rest) ≡ labels }

@@ -12,7 +12,8 @@ use crate::sink::Sink;
 use crate::text::is_special_octet;
 use std::marker::Model;
 
-/// A domain name in octets that are lent: uncompressed (RFC 1035 3.1) and in lower case. Contracts see its labels.
+/// A domain name in borrowed octets: uncompressed (RFC 1035 3.1) and in lower case. Contracts
+/// see its labels.
 #[derive(Debug, Drop)]
 pub struct NameRef<'a> {
     octets: &'a [u8],
@@ -38,7 +39,8 @@ impl<'a> NameRef<'a> {
         NameRef { octets }
     }
 
-    /// The name at the front of uncompressed octets that were judged before, and the octets after it.
+    /// The name at the beginning of uncompressed octets that were judged before, and the octets
+    /// after it.
     pub fn split_front(octets: &'a [u8]) -> (NameRef<'a>, &'a [u8])
         requires { BeginsWithName octets.now }
         ensures name { result.0 ≡ labels_of octets.now }
@@ -61,7 +63,7 @@ impl<'a> NameRef<'a> {
         self.octets
     }
 
-    /// An equal name of its own.
+    /// A copy of the name that owns its octets.
     pub fn to_name(&self) -> Name
         ensures { result ≡ self.now }
     {
@@ -88,7 +90,7 @@ impl<'a> NameRef<'a> {
     ///
     /// # Errors
     ///
-    /// `out` refuses octets. A front of the spelling may have been appended.
+    /// `out` refuses octets. A prefix of the spelling may have been appended.
     pub fn print<S: Sink>(&self, out: &mut S) -> Result<(), S::Error>
         ensures ok { OnOk result (S.takes out.old (name_text self.now) out.new) }
         ensures err { OnErr result (TakesSome S.takes out.old out.new) }
@@ -105,7 +107,7 @@ impl<'a> NameRef<'a> {
     }
 }
 
-/// Appends a label's spelling and the dot behind it.
+/// Appends a label's spelling and the dot after it.
 fn push_label<S: Sink>(label: &[u8], out: &mut S) -> Result<(), S::Error>
     ensures ok { OnOk result (S.takes out.old (label_text label.now) out.new) }
     ensures err { OnErr result (TakesSome S.takes out.old out.new) }
@@ -135,7 +137,7 @@ fn is_shown(label: &[u8]) -> bool
     label.iter().all(|octet| octet_is_shown(*octet))
 }
 
-/// Whether the octet spells itself. Letters and digits are told first, as most octets are one.
+/// Whether the octet spells itself. Letters and digits are tested first, as most octets are one.
 fn octet_is_shown(octet: u8) -> bool
     ensures { IsTrue result ↔ IsShown octet }
 {

@@ -1,4 +1,5 @@
-//! Domain names: read from text, compared, ordered, taken apart and printed (RFC 1035, RFC 4034, RFC 4343).
+//! Domain names: read from text, compared, ordered, taken apart and printed (RFC 1035, RFC 4034,
+//! RFC 4343).
 #![tactic(auto)]
 
 mod builder;

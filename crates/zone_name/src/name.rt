@@ -13,7 +13,8 @@ use std::marker::Model;
 /// The most octets that a label has (RFC 1035 2.3.4).
 pub const MAX_LABEL_LEN: usize = 63;
 
-/// The most octets that a name has, with the octet that each label's length takes and the root's (RFC 1035 2.3.4).
+/// The most octets that a name has, with the octet that each label's length takes and the root's
+/// (RFC 1035 2.3.4).
 pub const MAX_NAME_LEN: usize = 255;
 
 /// A domain name: its uncompressed octets (RFC 1035 3.1) in lower case. Contracts see its labels.
@@ -34,12 +35,13 @@ impl Model for Name {
 }
 
 impl Name {
-    /// The name that the text spells under the origin (RFC 1035 5.1). An absolute text needs no origin.
+    /// The name that the text spells under the origin (RFC 1035 5.1). An absolute text needs no
+    /// origin.
     ///
     /// # Errors
     ///
-    /// The first of: the leftmost `EmptyLabel`, `LabelTooLong` or `BadEscape`; then `RelativeName`; then
-    /// `NameTooLong`.
+    /// The first of: the leftmost `EmptyLabel`, `LabelTooLong` or `BadEscape`; then `RelativeName`;
+    /// then `NameTooLong`.
     pub fn from_text(text: &[u8], origin: Option<&Name>) -> Result<Name, NameFault>
         ensures found { IfOk result (λ name. Spells (option_copied origin.entry) text.now name) }
         ensures only { (name : List Octets) → Spells (option_copied origin.entry) text.now name
@@ -76,7 +78,7 @@ impl Name {
         self.octets.as_slice()
     }
 
-    /// An equal name.
+    /// A copy of the name.
     pub fn copy(&self) -> Name
         ensures { result ≡ self.now }
     {
@@ -108,7 +110,7 @@ impl Name {
         }
     }
 
-    /// The same name in octets that are lent.
+    /// The same name, borrowed.
     pub(crate) fn lend(&self) -> NameRef<'_>
         ensures value { result ≡ self.now }
         ensures name { IsName self.now }
@@ -116,7 +118,7 @@ impl Name {
         NameRef::of_wire(self.octets.as_slice())
     }
 
-    /// The name of these octets, which are copied.
+    /// The name of these octets, which it copies.
     pub(crate) fn holding(octets: &[u8]) -> Name
         requires { HoldsName octets.now }
         ensures { result ≡ labels_of octets.now }
@@ -134,7 +136,7 @@ impl Name {
         Name { octets }
     }
 
-    /// The name at the front of uncompressed octets that were judged before.
+    /// The name at the beginning of uncompressed octets that were judged before.
     pub fn from_front(octets: &[u8]) -> Name
         requires { BeginsWithName octets.now }
         ensures { result ≡ labels_of octets.now }

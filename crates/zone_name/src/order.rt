@@ -36,7 +36,8 @@ impl Eq for Name {
 impl PartialOrd for Name {
     ghost partial_cmp = { as_partial_cmp (on reverse (slice_cmp (slice_cmp nat_cmp))) };
 
-    ghost laws = { partial_order_from_own_ties (Prim.search (comparing, rules)) (λ x y. lists_ties (slice_cmp nat_cmp) texts_ties (reverse x) (reverse y)) };
+    ghost laws = { partial_order_from_own_ties (Prim.search (comparing, rules))
+        (λ x y. lists_ties (slice_cmp nat_cmp) texts_ties (reverse x) (reverse y)) };
 
     fn partial_cmp(&self, other: &Name) -> Option<Ordering> {
         Some(self.cmp(other))

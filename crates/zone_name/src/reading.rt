@@ -51,7 +51,7 @@ fn is_plain(octet: u8) -> bool
     octet != b'.' && octet != b'\\'
 }
 
-/// How many octets at the front of a text are plain.
+/// How many octets at the beginning of a text are plain.
 fn plain_len(text: &[u8]) -> usize
     ensures short { result ≤ length text.now }
     ensures each { (k : ℕ) → k < result → IsUnit is_dot (plain (slice_index text.now k)) }
@@ -65,7 +65,8 @@ fn plain_len(text: &[u8]) -> usize
     len
 }
 
-/// Puts a label behind the others, its letters as they are, and tells whether there was no room for it.
+/// Appends a label to the others, its letters as they are, and tells whether there was no room for
+/// it.
 fn close(octets: &mut ArrayVec<u8, MAX_NAME_LEN>, label: &[u8]) -> Result<bool, NameFault>
     requires { HoldsUnfolded octets.old.items }
     ensures holds { HoldsUnfolded octets.new.items }
@@ -82,16 +83,16 @@ fn close(octets: &mut ArrayVec<u8, MAX_NAME_LEN>, label: &[u8]) -> Result<bool, 
     Ok(false)
 }
 
-/// A label that was read at the front of a text.
+/// A label that was read at the beginning of a text.
 #[derive(Drop)]
 struct ReadLabel<'t> {
     /// There was no room for it, and it was not kept.
     is_left_out: bool,
-    /// What stands behind it: nothing, or a dot and more.
+    /// What follows it: nothing, or a dot and more.
     behind: &'t [u8],
 }
 
-/// Puts the label at the front of a text in place.
+/// Puts the label that a text begins with in place.
 fn read_label<'t>(
     octets: &mut ArrayVec<u8, MAX_NAME_LEN>,
     text: &'t [u8],
@@ -139,7 +140,7 @@ fn read_escaped_label<'t>(
     })
 }
 
-/// Reads the octets of the label at the front of a text, and returns what stands behind it.
+/// Reads the octets of the label that a text begins with, and returns what follows it.
 fn open_label<'t>(
     label: &mut ArrayVec<u8, MAX_LABEL_LEN>,
     text: &'t [u8],
@@ -168,7 +169,8 @@ fn open_label<'t>(
     }
 }
 
-/// Puts the labels of a text that is neither `.` nor `@` in place, their letters as they are (RFC 1035 5.1).
+/// Puts the labels of a text that is neither `.` nor `@` in place, their letters as they are (RFC
+/// 1035 5.1).
 fn read_labels(octets: &mut ArrayVec<u8, MAX_NAME_LEN>, text: &[u8]) -> Result<Spelled, NameFault>
     requires { octets.old.items ≡ [] }
     ensures holds { HoldsUnfolded octets.new.items }
@@ -209,7 +211,7 @@ fn fold(octets: &mut ArrayVec<u8, MAX_NAME_LEN>)
     octets.as_mut_slice().make_ascii_lowercase();
 }
 
-/// Puts the labels in lower case, and the octets of a name behind them.
+/// Turns the labels to lower case, and appends the octets of a name to them.
 fn end_with(octets: &mut ArrayVec<u8, MAX_NAME_LEN>, ending: &[u8]) -> Result<(), NameFault>
     requires holds { HoldsUnfolded octets.old.items }
     requires name { HoldsName ending.now }
@@ -225,7 +227,7 @@ fn end_with(octets: &mut ArrayVec<u8, MAX_NAME_LEN>, ending: &[u8]) -> Result<()
         .map_err(|_| NameFault::NameTooLong)
 }
 
-/// Ends the name of the labels, with the origin's behind them where the text is relative.
+/// Ends the name of the labels, followed by the origin's where the text is relative.
 fn finish(
     octets: &mut ArrayVec<u8, MAX_NAME_LEN>,
     spelled: Spelled,

@@ -6,7 +6,7 @@ ghost use Rattle.zone_name.specs.Machine.Joined.{appended_twice, counted_twice};
 use std::alloc::AllocError;
 use std::convert::Infallible;
 
-/// What takes octets, one piece behind the other: a vector that grows by them, or a count of them.
+/// What takes octets, one slice after another: a vector that grows by them, or a count of them.
 pub trait Sink {
     // Between two states of the sink it took these octets.
     ghost takes: { Self → List ℕ → Self → Type 0 };
@@ -18,7 +18,7 @@ pub trait Sink {
     ///
     /// # Errors
     ///
-    /// The sink refuses them, and is as it was.
+    /// The sink refuses them, and is unchanged.
     fn push(&mut self, octets: &[u8]) -> Result<(), Self::Error>
         ensures ok { OnOk result (takes self.old octets.now self.new) }
         ensures err { OnErr result (takes self.old [] self.new) };
@@ -26,7 +26,7 @@ pub trait Sink {
     // A sink that is left alone took nothing.
     ghost nothing: { (a : Self) → takes a [] a };
 
-    // Octets that were taken one after the other were taken as one list.
+    // Octets that were taken in two calls were taken as one list.
     ghost joins: { (a b c : Self) (x y : List ℕ) → takes a x b → takes b y c → takes a (x ++ y) c };
 }
 
@@ -44,10 +44,11 @@ impl Sink for Vec<u8> {
     ghost joins = { λ a b c x y. appended_twice a.items b.items c.items x y };
 }
 
-/// A count of octets, from a limit down to none, where it stays. It keeps no octet and takes no memory.
+/// A count of octets, from a limit down to none, where it stays. It keeps no octet and takes no
+/// memory.
 #[derive(Clone, Copy, Debug)]
 pub struct Room {
-    /// How many more octets may come.
+    /// How many more octets it takes.
     pub left: u64,
 }
 

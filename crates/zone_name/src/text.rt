@@ -17,7 +17,7 @@ impl Name {
     ///
     /// # Errors
     ///
-    /// `out` refuses the octets, and holds what it held.
+    /// `out` refuses the octets, and is unchanged.
     pub fn push_text<S: Sink>(&self, out: &mut S) -> Result<(), S::Error>
         ensures ok { OnOk result (S.takes out.old (name_text self.now) out.new) }
         ensures err { OnErr result (S.takes out.old [] out.new) }
@@ -61,7 +61,8 @@ impl Sink for Spelling {
     ghost joins = { λ a b c x y. fitted_twice 1021 a.octets.items b.octets.items c.octets.items x y };
 }
 
-/// Whether the octet means something else inside a master file, and takes a backslash (RFC 1035 5.1).
+/// Whether the octet means something else inside a master file, and takes a backslash (RFC 1035
+/// 5.1).
 pub(crate) fn is_special_octet(octet: u8) -> bool
     ensures { result ≡ is_special octet }
 {

@@ -1,9 +1,9 @@
 -- A front of a text that a writer has taken.
-use Rattle.std.proofs.Common.{◌≡◌, ℕ, List, [], ◌++◌, sym, ap, subst, ◌∙◌, append_assoc, take, drop, take-append-drop, Option}
+use Rattle.std.proofs.Common.{◌≡◌, ◌≢◌, ℕ, List, [], ◌∷◌, ◌++◌, refl, sym, ap, subst, ◌∙◌, append_assoc, take, drop, take-append-drop, Option}
 use Rattle.std.proofs.lemmas.List.{append-nil}
 use Rattle.std.specs.Io.KnownBytes.{Appends}
 use Rattle.std.proofs.KnownBytes.{Appends-trans}
-use Rattle.zone_print.specs.Writing.{AppendsPrefix}
+use Rattle.zone_print.specs.Writing.{AppendsPart}
 
 -- the writer took the text but for this rest
 pub record Left (old new : Option (List ℕ)) (text rest : List ℕ) : Type 0 where
@@ -19,17 +19,31 @@ left_less old mid new text rest part others left e taken = record {
   taken = Appends-trans old mid new left.front part left.taken taken;
 }
 
--- the front of n octets of the rest is taken
+-- the first n octets of the rest are taken
 pub left_after : (old mid new : Option (List ℕ)) (text rest : List ℕ) (n : ℕ) → Left old mid text rest → Appends mid new (take n rest) → Left old new text (drop n rest)
 left_after old mid new text rest n left taken = left_less old mid new text rest (take n rest) (drop n rest) left (sym (take-append-drop n rest)) taken
 
--- a prefix of a part of the rest is taken
-pub front_more : (old mid new : Option (List ℕ)) (text rest part others : List ℕ) → Left old mid text rest → rest ≡ part ++ others → AppendsPrefix mid new part → AppendsPrefix old new text
-front_more old mid new text rest part others left e (front, back, split, taken) = (
-  left.front ++ front,
+-- octets before or behind others are some
+pub some_more : (rest more : List ℕ) → rest ≢ [] → rest ++ more ≢ []
+some_more [] more some e = some refl
+some_more (c ∷ rest) more some e = cc
+
+pub some_behind : (front rest : List ℕ) → rest ≢ [] → front ++ rest ≢ []
+some_behind [] rest some e = some e
+some_behind (c ∷ front) rest some e = cc
+
+-- nothing of the rest is taken
+pub part_left : (old new : Option (List ℕ)) (text rest : List ℕ) → Left old new text rest → rest ≢ [] → AppendsPart old new text
+part_left old new text rest left some = (left.front, rest, some, left.split, left.taken)
+
+-- a part of a front of the rest is taken
+pub part_more : (old mid new : Option (List ℕ)) (text rest front others : List ℕ) → Left old mid text rest → rest ≡ front ++ others → AppendsPart mid new front → AppendsPart old new text
+part_more old mid new text rest front others left e (part, back, some, split, taken) = (
+  left.front ++ part,
   back ++ others,
-  left.split ∙ ap (λ l. left.front ++ l) (e ∙ ap (λ l. l ++ others) split ∙ append_assoc front back others) ∙ sym (append_assoc left.front front (back ++ others)),
-  Appends-trans old mid new left.front front left.taken taken,
+  some_more back others some,
+  left.split ∙ ap (λ l. left.front ++ l) (e ∙ ap (λ l. l ++ others) split ∙ append_assoc part back others) ∙ sym (append_assoc left.front part (back ++ others)),
+  Appends-trans old mid new left.front part left.taken taken,
 )
 
 -- all of the rest is taken

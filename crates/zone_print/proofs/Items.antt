@@ -20,8 +20,8 @@ use Rattle.zone_text.proofs.StandingItems.{BeginsOwner, pieces_of, text_begins}
 use Rattle.zone_print.specs.Canonical.{line}
 use Rattle.zone_print.proofs.Lines.{line_parts}
 
--- A printed line as a line of items: owner, TTL, class, type and the items of the data. It begins with neither a blank nor
--- `$`
+-- A printed line as a line of items: owner, TTL, class, type and the items of the data. It begins
+-- with neither a blank nor `$`
 pub record LineItems (r : Record) : Type 0 where
   pub pieces : List Piece
   pub items : AllByRecursion IsItem pieces

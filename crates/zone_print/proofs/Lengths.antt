@@ -18,7 +18,8 @@ parts_length : (owner ttl class kind rdata : List ℕ) → length (owner ++ 32 �
 parts_length owner ttl class kind rdata =
     omega (arith, length-append (owner ++ 32 ∷ ttl ++ 32 ∷ class ++ 32 ∷ kind ++ 32 ∷ rdata) (10 ∷ []), length-append (owner ++ 32 ∷ ttl ++ 32 ∷ class ++ 32 ∷ kind) (32 ∷ rdata), length-append (owner ++ 32 ∷ ttl ++ 32 ∷ class) (32 ∷ kind), length-append (owner ++ 32 ∷ ttl) (32 ∷ class), length-append owner (32 ∷ ttl))
 
--- the TTL, the class and the type have at most ten octets each, and four times theirs in a message are forty
+-- the TTL, the class and the type have at most ten octets each, and four times theirs in a message
+-- are forty
 line_length : (r : Record) → IsRecord r → length (line r) ≤ 4 * message_len r
 line_length r is =
     let ttl = length-decimal-le 10 r.ttl (omega arith) (let low = is.ttl in omega arith) (let low = is.ttl in omega arith) in

@@ -1,11 +1,13 @@
 -- What a line is made of, and the lines to come.
-use Rattle.std.proofs.Common.{◌≡◌, ℕ, List, [], ◌∷◌, ◌++◌, decimal, ap, sym, ◌∙◌, append_assoc}
+use Rattle.std.proofs.Common.{◌≡◌, ◌≢◌, subst, ℕ, List, [], ◌∷◌, ◌++◌, decimal, ap, sym, ◌∙◌, append_assoc}
 use Rattle.zone_name.specs.Text.{name_text}
 use Rattle.zone_rdata.specs.Record.{Record, data_of}
 use Rattle.zone_rdata.specs.Text.{data_text}
 use Rattle.zone_rdata.specs.Words.{class_text, kind_text}
 use Rattle.zone_print.specs.Canonical.{line, lines}
 use Rattle.zone_print.specs.Machine.Middle.{line_middle}
+use Rattle.zone_print.proofs.Feeds.{line_ends_with_feed}
+use Rattle.zone_print.proofs.Front.{some_behind, some_more}
 
 -- data of equal classes, types and octets has equal texts
 pub same_text : (class class' kind kind' : ℕ) (octets : List ℕ) → class ≡ class' → kind ≡ kind'
@@ -16,7 +18,7 @@ same_text class class' kind kind' octets e f =
 regroup : (a b c d e f : List ℕ) → a ++ b ++ c ++ d ++ e ++ f ≡ a ++ (b ++ (c ++ (d ++ (e ++ f))))
 regroup a b c d e f = simp append_assoc
 
--- the spaces and the line feed, each in front of what stands behind it
+-- the spaces and the line feed, each before what follows it
 pub line_parts : (owner ttl class kind rdata : List ℕ) → owner ++ 32 ∷ ttl ++ 32 ∷ class ++ 32 ∷ kind ++ 32 ∷ rdata ++ 10 ∷ [] ≡ owner ++ (32 ∷ (ttl ++ (32 ∷ (class ++ (32 ∷ (kind ++ (32 ∷ (rdata ++ 10 ∷ []))))))))
 line_parts owner ttl class kind rdata = regroup owner (32 ∷ ttl) (32 ∷ class) (32 ∷ kind) (32 ∷ rdata) (10 ∷ [])
 
@@ -27,7 +29,7 @@ line_split r =
     line_parts (name_text r.owner) (decimal r.ttl) (class_text r.class) (kind_text r.class r.kind) value
     ∙ ap (λ l. name_text r.owner ++ l) (sym (regroup [] (32 ∷ decimal r.ttl) (32 ∷ class_text r.class) (32 ∷ kind_text r.class r.kind) (32 ∷ []) (value ++ 10 ∷ [])))
 
--- owner, middle and what stands behind them were pushed
+-- owner, middle and what follows them were pushed
 pub line_pushed : (old named numbered new owner middle : List ℕ) (r : Record) → owner ≡ name_text r.owner → middle ≡ line_middle r
     → named ≡ old ++ owner → numbered ≡ named ++ middle → new ≡ numbered ++ (data_text (data_of r) ++ 10 ∷ []) → new ≡ old ++ line r
 line_pushed old named numbered new owner middle r e f g h i =
@@ -42,3 +44,11 @@ line_moves buffer grown records others r e pushed =
 -- no record is to come
 pub line_ends : (buffer : List ℕ) (records : List Record) → records ≡ [] → buffer ++ lines records ≡ buffer ++ []
 line_ends buffer records e = ap (λ rs. buffer ++ lines rs) e
+
+-- while a record is to come, octets are
+pub line_to_come : (buffer : List ℕ) (records others : List Record) (r : Record) → records ≡ r ∷ others → buffer ++ lines records ≢ []
+line_to_come buffer records others r e none =
+    let ends = line_ends_with_feed r in
+    some_behind buffer (lines (r ∷ others))
+    (some_more (line r) (lines others) (subst (λ l. l ≢ []) (sym ends.split) (some_behind ends.front (10 ∷ []) (λ f. cc))))
+    (sym (ap (λ rs. buffer ++ lines rs) e) ∙ none)

@@ -63,7 +63,7 @@ same_first r s records others up up_others same =
     ((same s).1 (inl refl)))
     ((same r).0 (inl refl))
 
--- what stands behind the first of one list stands behind the first of the other
+-- what follows the first of one list follows the first of the other
 behind : (r s : Record) (records others : List Record) → Ascends (r ∷ records) → r ≡ s → ((t : Record) → Has (r ∷ records) t → Has (s ∷ others) t) → (t : Record) → Has records t → Has others t
 behind r s records others up first same t has =
     ⊎_elim (λ is. absurd (not_itself r t (first ∙ sym is) (each_Has (λ u. canonical_cmp r u ≡ Less) records t up.0 has))) (λ later. later) (same t (inr has))

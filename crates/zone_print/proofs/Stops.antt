@@ -1,25 +1,29 @@
--- Why a text was not written, or was not made.
+-- Why a text was not written.
 use Rattle.std.proofs.Common.{ℕ, ◌≤◌, List, length, Option, Result, Ok, Err, IfErr, OnErr}
 use Rattle.zone_rdata.specs.declared.fault.Stop.{Stop}
 use Rattle.zone_rdata.specs.declared.fault.Stop.TheVariants.{Refused, Read, Write, Memory}
 use Rattle.zone_print.specs.Machine.Writing.{IsOfWriting}
-use Rattle.zone_print.specs.Writing.{AppendsPrefix, StopsPush, StopsWrite}
-
--- want of memory alone stops a writer that never fails
-pub of_memory : (limit : ℕ) (text : List ℕ) (stop : Stop) → IsOfWriting ⊥ stop → StopsPush limit text stop
-of_memory limit text (Refused fault place) is = absurd is
-of_memory limit text Read is = absurd is
-of_memory limit text Write is = absurd is
-of_memory limit text Memory is = StopsPush.memory
+use Rattle.zone_print.specs.Writing.{AppendsPart, StopsWrite, TellsWrite}
 
 -- a text within the limit was written in part
-stop_within : (failed : Type 0) (limit : ℕ) (text : List ℕ) (old new : Option (List ℕ)) (stop : Stop) → length text ≤ limit → IsOfWriting failed stop → AppendsPrefix old new text → StopsWrite limit text old new stop
-stop_within failed limit text old new (Refused fault place) short is front = absurd is
-stop_within failed limit text old new Read short is front = absurd is
-stop_within failed limit text old new Write short is front = StopsWrite.write short front
-stop_within failed limit text old new Memory short is front = StopsWrite.memory short front
+stop_within : (works failed : Type 0) (limit : ℕ) (text : List ℕ) (old new : Option (List ℕ)) (stop : Stop) → length text ≤ limit → IsOfWriting works failed stop → AppendsPart old new text → StopsWrite limit text old new stop
+stop_within works failed limit text old new (Refused fault place) short is part = absurd is
+stop_within works failed limit text old new Read short is part = absurd is
+stop_within works failed limit text old new Write short is part = StopsWrite.write short part
+stop_within works failed limit text old new Memory short is part = StopsWrite.memory short part
 
 -- the same of an answer
-pub stops_within : {T : Type 0} (failed : Type 0) (limit : ℕ) (text : List ℕ) (old new : Option (List ℕ)) (answer : Result T Stop) → length text ≤ limit → IfErr answer (IsOfWriting failed) → OnErr answer (AppendsPrefix old new text) → IfErr answer (StopsWrite limit text old new)
-stops_within failed limit text old new (Ok x) short is front = tt
-stops_within failed limit text old new (Err stop) short is front = stop_within failed limit text old new stop short is front
+pub stops_within : {T : Type 0} (works failed : Type 0) (limit : ℕ) (text : List ℕ) (old new : Option (List ℕ)) (answer : Result T Stop) → length text ≤ limit → IfErr answer (IsOfWriting works failed) → OnErr answer (AppendsPart old new text) → IfErr answer (StopsWrite limit text old new)
+stops_within works failed limit text old new (Ok x) short is part = tt
+stops_within works failed limit text old new (Err stop) short is part = stop_within works failed limit text old new stop short is part
+
+-- what stops the writing tells of the writer
+tells_stop : (works failed : Type 0) (stop : Stop) → IsOfWriting works failed stop → TellsWrite works failed stop
+tells_stop works failed (Refused fault place) is = absurd is
+tells_stop works failed Read is = absurd is
+tells_stop works failed Write is = is
+tells_stop works failed Memory is = is
+
+pub tells_writing : {T : Type 0} (works failed : Type 0) (answer : Result T Stop) → IfErr answer (IsOfWriting works failed) → IfErr answer (TellsWrite works failed)
+tells_writing works failed (Ok x) is = tt
+tells_writing works failed (Err stop) is = tells_stop works failed stop is

@@ -9,7 +9,9 @@ use Rattle.zone_set.specs.Zone.{Zone}
 
 -- owner, TTL, class, type and data, parted by single spaces, and a line feed
 abbrev pub line : Record → List ℕ
-line r = name_text r.owner ++ 32 ∷ decimal r.ttl ++ 32 ∷ class_text r.class ++ 32 ∷ kind_text r.class r.kind ++ 32 ∷ data_text (data_of r) ++ 10 ∷ []
+line r =
+    name_text r.owner ++ 32 ∷ decimal r.ttl ++ 32 ∷ class_text r.class
+    ++ 32 ∷ kind_text r.class r.kind ++ 32 ∷ data_text (data_of r) ++ 10 ∷ []
 
 -- the lines of records in their order
 abbrev pub lines : List Record → List ℕ

@@ -6,8 +6,8 @@ use Rattle.zone_set.specs.Refusal.{records_of}
 use Rattle.zone_set.specs.Zone.{Zone, IsZone, SameRecords}
 use Rattle.zone_print.specs.Canonical.{canon, text_limit}
 
--- Octets denote a zone by the records that they state: they are no longer than the limit, the records are those of the
--- zone, as a set, and the zone's canonical text is within the limit.
+-- Octets denote a zone by the records that they state: they are no longer than the limit, the
+-- records are those of the zone, as a set, and the zone's canonical text is within the limit.
 pub record DenotesBy (States : List Placed → Type 0) (octets : List ℕ) (z : Zone) : Type 0 where
   pub short : length octets ≤ text_limit
   pub placed : List Placed

@@ -1,4 +1,5 @@
--- What holds of every canonical line, and what canonical lines state as a master file (RFC 1035 5.1).
+-- What holds of every canonical line, and what canonical lines state as a master file (RFC 1035
+-- 5.1).
 use Rattle.std.specs.Prelude.{◌≡◌, ◌≢◌, ℕ, zero, ◌+◌, List, [], ◌∷◌, ◌++◌}
 use Rattle.std.specs.List.{AllByRecursion}
 use Rattle.zone_rdata.specs.Record.{Record}
@@ -23,8 +24,8 @@ pub record EndsWithItsFeed (octets : List ℕ) : Type 0 where
 abbrev pub EachLineEnds : Type 0
 EachLineEnds = (r : Record) → EndsWithItsFeed (line r)
 
--- The octets are one line of a master file for the record: they are cut into pieces, these are one entry that a line feed
--- ends, and it states every part of the record itself
+-- The octets are one line of a master file for the record: they are cut into tokens, these are one
+-- entry that a line feed ends, and it states every part of the record itself
 pub record IsLineOf (r : Record) (octets : List ℕ) : Type 0 where
   pub pieces : List Piece
   pub cut : Cuts octets pieces
@@ -34,4 +35,5 @@ pub record IsLineOf (r : Record) (octets : List ℕ) : Type 0 where
 -- records at lines one after another, the first at this one
 abbrev pub placed_from : ℕ → List Record → List Placed
 placed_from number [] = []
-placed_from number (r ∷ records) = record { rr = r; place = Line number } ∷ placed_from (number + 1) records
+placed_from number (r ∷ records) =
+    record { rr = r; place = Line number } ∷ placed_from (number + 1) records

@@ -1,4 +1,5 @@
-//! Laws of zones and their canonical text. The functions only call other laws: their contracts are the laws.
+//! Laws of zones and their canonical text. The functions only call other laws: their contracts are
+//! the laws.
 ghost use Rattle.std.specs.Prelude.{◌≡◌, ◌*◌, ◌≤◌, ◌↔◌, List, length};
 ghost use Rattle.std.specs.Cmp.{IsTotalOrder};
 ghost use Rattle.std.specs.List.{AllByRecursion};
@@ -28,7 +29,8 @@ pub fn each_line_ends()
     ensures { EachLineEnds }
 {}
 
-/// The canonical order is total, and records that it doesn't tell apart have one owner and one data.
+/// The canonical order is total, and records that it doesn't tell apart have one owner and one
+/// data.
 #[tactic(auto, using(crate::proofs::OneZone::canonical_total, crate::proofs::OneZone::canonical_exact))]
 pub fn canonical_order_is_total()
     ensures total { IsTotalOrder canonical_cmp }
@@ -73,8 +75,8 @@ pub fn equal_lines_are_equal_records()
     an_entry_states_one_record();
 }
 
-/// The lines of records are a master file that states these records in their order, under every origin: the first at
-/// line 1, the next at line 2 and so on.
+/// The lines of records are a master file that states these records in their order, under every
+/// origin: the first at line 1, the next at line 2 and so on.
 pub fn lines_read_back()
     ensures { (origin : Labels) (records : List Record) → AllByRecursion IsRecord records
         → FileStates origin (lines records) (placed_from 1 records) }
@@ -104,8 +106,8 @@ pub fn equal_texts_are_equal_zones()
     one_zone_of_records();
 }
 
-/// The canonical text of a zone has at most four times as many octets as its records take in messages where no name is
-/// compressed (RFC 1035 3.2.1).
+/// The canonical text of a zone has at most four times as many octets as its records take in
+/// messages where no name is compressed (RFC 1035 3.2.1).
 #[tactic(auto, using(crate::proofs::Lengths::canon_length))]
 pub fn a_text_is_at_most_four_times_its_messages()
     ensures { (z : Zone) → IsZone z → length (canon z) ≤ 4 * message_octets z.records }

@@ -8,3 +8,4 @@ mod print;
 mod write;
 
 pub use print::{TEXT_LIMIT, canon_len, push_zone, text_fits, write_zone};
+pub use write::{OctetWriter, write_octets};

@@ -13,7 +13,7 @@ use zone_set::{RrRef, Zone};
 ///
 /// # Errors
 ///
-/// `out` refuses octets. A front of the text may have been appended.
+/// `out` refuses octets. A prefix of the text may have been appended.
 pub(crate) fn push_middle<S: Sink>(out: &mut S, rr: &RrRef) -> Result<(), S::Error>
     ensures { OnOk result (S.takes out.old (line_middle (record_of rr.now)) out.new) }
 {
@@ -27,11 +27,11 @@ pub(crate) fn push_middle<S: Sink>(out: &mut S, rr: &RrRef) -> Result<(), S::Err
     out.push(b" ")
 }
 
-/// Appends the record's data and the line feed behind it.
+/// Appends the record's data and the line feed after it.
 ///
 /// # Errors
 ///
-/// `out` refuses octets. A front of the text may have been appended.
+/// `out` refuses octets. A prefix of the text may have been appended.
 pub(crate) fn push_data<S: Sink>(out: &mut S, rr: &RrRef) -> Result<(), S::Error>
     ensures { OnOk result
         (S.takes out.old (data_text (data_of (record_of rr.now)) ++ 10 ∷ []) out.new) }
@@ -44,7 +44,7 @@ pub(crate) fn push_data<S: Sink>(out: &mut S, rr: &RrRef) -> Result<(), S::Error
 ///
 /// # Errors
 ///
-/// `out` refuses octets. A front of the line may have been appended.
+/// `out` refuses octets. A prefix of the line may have been appended.
 pub(crate) fn push_line<S: Sink>(out: &mut S, rr: &RrRef) -> Result<(), S::Error>
     ensures { OnOk result (S.takes out.old (line (record_of rr.now)) out.new) }
 {
@@ -57,7 +57,7 @@ pub(crate) fn push_line<S: Sink>(out: &mut S, rr: &RrRef) -> Result<(), S::Error
 ///
 /// # Errors
 ///
-/// `out` refuses octets. A front of the text may have been appended.
+/// `out` refuses octets. A prefix of the text may have been appended.
 pub(crate) fn push_lines<S: Sink>(out: &mut S, zone: &Zone) -> Result<(), S::Error>
     ensures { OnOk result (S.takes out.old (canon zone.now) out.new) }
 {

@@ -1,4 +1,4 @@
-ghost use Rattle.std.specs.Prelude.{◌≡◌, [], ◌++◌, length, IfSome, OnOk};
+ghost use Rattle.std.specs.Prelude.{◌≡◌, [], ◌++◌, length, IfOk, IfSome, OnOk};
 ghost use Rattle.zone_name.specs.Text.{name_text};
 ghost use Rattle.zone_print.specs.Canonical.{line};
 ghost use Rattle.zone_print.specs.Machine.Middle.{line_middle};
@@ -48,6 +48,29 @@ impl<'z> LineBuffer<'z> {
         }
     }
 
+    /// No line, with room for lines of so many octets.
+    ///
+    /// # Errors
+    ///
+    /// Want of memory.
+    pub(crate) fn with_capacity(alloc: Global, len: usize) -> Result<LineBuffer<'z>, AllocError>
+        ensures { IfOk result (λ buffer. buffer ≡ []) }
+    {
+        Ok(LineBuffer {
+            octets: Vec::with_capacity(alloc, len)?,
+            last: None,
+            owner: Vec::new(alloc),
+            middle: Vec::new(alloc),
+        })
+    }
+
+    /// The lines, which are owned from then on.
+    pub(crate) fn into_octets(self) -> Vec<u8>
+        ensures { result.items ≡ self.entry }
+    {
+        self.octets
+    }
+
     /// The lines.
     pub(crate) fn as_slice(&self) -> &[u8]
         ensures value { result.now ≡ self.now }
@@ -73,7 +96,7 @@ impl<'z> LineBuffer<'z> {
     ///
     /// # Errors
     ///
-    /// Want of memory. A front of the line may have been appended.
+    /// Want of memory. A prefix of the line may have been appended.
     pub(crate) fn push_record(&mut self, rr: RrRef<'z>) -> Result<(), AllocError>
         ensures { OnOk result (self.new ≡ self.old ++ line (record_of rr.entry)) }
     {
@@ -103,7 +126,8 @@ fn hold_owner(text: &mut Vec<u8>, last: &Option<RrRef>, rr: &RrRef) -> Result<()
     rr.owner.print(text)
 }
 
-/// Makes the text what stands between the record's owner and its data, where it isn't already the last one's.
+/// Makes the text what stands between the record's owner and its data, where it isn't already the
+/// last one's.
 fn hold_middle(text: &mut Vec<u8>, last: &Option<RrRef>, rr: &RrRef) -> Result<(), AllocError>
     requires { IfSome last.now (λ last. text.old.items ≡ line_middle (record_of last)) }
     ensures { OnOk result (text.new.items ≡ line_middle (record_of rr.now)) }

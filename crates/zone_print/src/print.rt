@@ -1,15 +1,14 @@
 ghost use Rattle.std.specs.Prelude.{◌≡◌, ◌+◌, ◌≤◌, ◌↔◌, length, min, IfOk, IfErr, OnOk, OnErr, IsTrue};
 ghost use Rattle.std.specs.Io.KnownBytes.{Appends};
 ghost use Rattle.zone_print.specs.Canonical.{canon, text_limit};
-ghost use Rattle.zone_print.specs.Machine.Writing.{IsOfWriting, TellsWrite};
-ghost use Rattle.zone_print.specs.Writing.{AppendsPrefix, StopsPush, StopsWrite};
+ghost use Rattle.zone_print.specs.Machine.Writing.{IsOfWriting};
+ghost use Rattle.zone_print.specs.Writing.{AppendsPart, StopsPush, StopsWrite, TellsWrite};
 
 use crate::laws::a_text_is_at_most_four_times_its_messages;
 use crate::line::push_lines;
 use crate::line_buffer::LineBuffer;
-use crate::write::{OctetWriter, Text, write_octets};
+use crate::write::{OctetWriter, write_octets};
 use std::alloc::Global;
-use std::io::Write;
 use zone_name::Room;
 use zone_rdata::{Fault, Place, Stop};
 use zone_set::Zone;
@@ -20,7 +19,8 @@ pub const TEXT_LIMIT: u64 = 1_073_741_824;
 /// How many octets of lines are gathered before they are written.
 const WRITE_LEN: usize = 65_536;
 
-/// The length of the canonical text in octets, or one more than [`TEXT_LIMIT`] where it is longer. Takes no memory.
+/// The length of the canonical text in octets, or one more than [`TEXT_LIMIT`] where it is longer.
+/// Takes no memory.
 pub fn canon_len(zone: &Zone) -> u64
     ensures { result ≡ min (length (canon zone.now)) (text_limit + 1) }
 {
@@ -38,7 +38,8 @@ pub fn text_fits(zone: &Zone) -> bool
 ///
 /// # Errors
 ///
-/// `ZoneTooLarge` at the input as a whole where the text has more than [`TEXT_LIMIT`] octets; `Memory`.
+/// `ZoneTooLarge` at the input as a whole where the text has more than [`TEXT_LIMIT`] octets;
+/// `Memory`.
 pub fn push_zone(alloc: Global, zone: &Zone) -> Result<Vec<u8>, Stop>
     ensures text { IfOk result (λ text. text.items ≡ canon zone.now) }
     ensures short { OnOk result (length (canon zone.now) ≤ text_limit) }
@@ -52,13 +53,16 @@ pub fn push_zone(alloc: Global, zone: &Zone) -> Result<Vec<u8>, Stop>
 /// # Errors
 ///
 /// `ZoneTooLarge` at the input as a whole where the text has more than [`TEXT_LIMIT`] octets, before the first octet;
-/// `Write` where the writer answered an error or took no octet; `Memory`. After the last two a front of the text was
-/// written.
-pub fn write_zone<W: Write>(alloc: Global, zone: &Zone, writer: &mut W) -> Result<(), Stop>
+/// `Write` where the writer failed, as one of std does that answers an error or takes no octet; `Memory`. After the last
+/// two a proper prefix of the text was written.
+pub fn write_zone<W: OctetWriter>(alloc: Global, zone: &Zone, writer: &mut W) -> Result<(), Stop>
     ensures text { OnOk result (Appends (W.contents writer.old) (W.contents writer.new) (canon zone.now)) }
     ensures short { OnOk result (length (canon zone.now) ≤ text_limit) }
     ensures stopped { IfErr result
         (StopsWrite text_limit (canon zone.now) (W.contents writer.old) (W.contents writer.new)) }
+    ensures works { OnOk result (W.Works writer.old → W.Works writer.new) }
+    ensures failed { IfErr result (TellsWrite
+        (W.Works writer.old → W.Works writer.new) (W.Works writer.old → W.Failed writer.new)) }
 {
     write_within(alloc, zone, writer, TEXT_LIMIT)
 }
@@ -73,8 +77,8 @@ pub(crate) fn len_within(zone: &Zone, limit: u64) -> u64
     limit + 1 - room.left
 }
 
-/// Whether the canonical text has at most so many octets. It is counted only where four times the octets of the records
-/// in messages are more.
+/// Whether the canonical text has at most so many octets. It is counted only where four times the
+/// octets of the records in messages are more.
 fn text_fits_within(zone: &Zone, limit: u64) -> bool
     requires { limit ≤ text_limit }
     ensures { IsTrue result ↔ length (canon zone.now) ≤ limit }
@@ -94,11 +98,11 @@ pub(crate) fn push_within(alloc: Global, zone: &Zone, limit: u64) -> Result<Vec<
     if text_len > limit {
         return Err(Stop::Refused(Fault::ZoneTooLarge, Place::Whole));
     }
-    let mut text = Text {
-        octets: Vec::with_capacity(alloc, text_len as usize)?,
-    };
-    write_lines(alloc, zone, &mut text)?;
-    Ok(text.octets)
+    let mut text = LineBuffer::with_capacity(alloc, text_len as usize)?;
+    for rr in zone.records() {
+        text.push_record(rr)?;
+    }
+    Ok(text.into_octets())
 }
 
 /// `write_zone` under a limit.
@@ -109,11 +113,14 @@ pub(crate) fn write_within<W: OctetWriter>(
     limit: u64,
 ) -> Result<(), Stop>
     requires { limit ≤ text_limit }
-    ensures text { OnOk result (Appends (W.contents writer.old) (W.contents writer.new) (canon zone.now)) }
+    ensures text { OnOk result
+        (Appends (W.contents writer.old) (W.contents writer.new) (canon zone.now)) }
     ensures short { OnOk result (length (canon zone.now) ≤ limit) }
     ensures stopped { IfErr result
         (StopsWrite limit (canon zone.now) (W.contents writer.old) (W.contents writer.new)) }
-    ensures failed { IfErr result (TellsWrite (W.Failed writer.new)) }
+    ensures works { OnOk result (W.Works writer.old → W.Works writer.new) }
+    ensures failed { IfErr result (TellsWrite
+        (W.Works writer.old → W.Works writer.new) (W.Works writer.old → W.Failed writer.new)) }
 {
     if !text_fits_within(zone, limit) {
         return Err(Stop::Refused(Fault::ZoneTooLarge, Place::Whole));
@@ -125,12 +132,14 @@ pub(crate) fn write_within<W: OctetWriter>(
 ///
 /// # Errors
 ///
-/// `Write` where the writer failed, and `Memory`. A front of the text was written.
+/// `Write` where the writer failed, and `Memory`. A proper prefix of the text was written.
 fn write_lines<W: OctetWriter>(alloc: Global, zone: &Zone, writer: &mut W) -> Result<(), Stop>
     ensures text { OnOk result (Appends (W.contents writer.old) (W.contents writer.new) (canon zone.now)) }
-    ensures stopped { IfErr result (IsOfWriting (W.Failed writer.new)) }
-    ensures front { OnErr result
-        (AppendsPrefix (W.contents writer.old) (W.contents writer.new) (canon zone.now)) }
+    ensures part { OnErr result
+        (AppendsPart (W.contents writer.old) (W.contents writer.new) (canon zone.now)) }
+    ensures works { OnOk result (W.Works writer.old → W.Works writer.new) }
+    ensures stopped { IfErr result (IsOfWriting
+        (W.Works writer.old → W.Works writer.new) (W.Works writer.old → W.Failed writer.new)) }
 {
     let mut buffer = LineBuffer::new(alloc);
     for rr in zone.records() {

@@ -8,7 +8,7 @@ use Rattle.zone_rdata.specs.Machine.AddressReading.{Lacks, HasGapAt}
 use Rattle.zone_rdata.proofs.Addresses.{group_lacks, last_lacks}
 use Rattle.zone_rdata.proofs.AddressParts.{parts_unique}
 
--- no two colons in a row, from the front
+-- no two colons in a row, from the first octet on
 abbrev NoGaps : List ℕ → Type 0
 NoGaps [] = Unit {0}
 NoGaps (c ∷ []) = Unit {0}
@@ -33,7 +33,7 @@ no_gaps_colon : (text : List ℕ) → Lacks 58 text → NoGaps (58 ∷ text)
 no_gaps_colon [] lacks = tt
 no_gaps_colon (c ∷ text) lacks = (λ e f. lacks.0 f, no_gaps_lacks (c ∷ text) lacks)
 
--- a part with a colon behind it
+-- a part with a colon after it
 no_gaps_part : (text rest : List ℕ) → Lacks 58 text → NoGaps (58 ∷ rest) → NoGaps (text ++ 58 ∷ rest)
 no_gaps_part [] rest lacks none = none
 no_gaps_part (c ∷ []) rest lacks none = (λ e f. lacks.0 e, none)
@@ -52,7 +52,7 @@ last_before : (p : AddressPart) → IsLastPart false p → NoGaps (58 ∷ p.text
 last_before p (inl is) = no_gaps_between p.text [] is.some (group_lacks 58 p refl is) tt
 last_before p (inr are) = absurd cc
 
--- groups with a colon behind them all
+-- groups with a colon after all of them
 no_gaps_groups : (p : AddressPart) (parts : List AddressPart) → AreParts false (p ∷ parts) → NoGaps (58 ∷ parts_text (p ∷ parts) ++ 58 ∷ [])
 no_gaps_groups p [] are = last_before p are
 no_gaps_groups p (q ∷ parts) are =

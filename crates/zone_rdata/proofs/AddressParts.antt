@@ -84,7 +84,7 @@ only_part ends text octets (p ∷ []) lacks some each parted value =
     subst (λ t. IsLastPart ends (record { text = t; octets = octets })) (sym parted) (subst (λ o. IsLastPart ends (record { text = p.text; octets = o })) (sym own) each)
 only_part ends text octets (p ∷ q ∷ parts) lacks some each parted value = absurd (not_cut 58 text p.text (parts_text (q ∷ parts)) lacks parted)
 
--- groups, each with its colon, and what stands behind them
+-- groups, each with its colon, and what follows them
 pub behind : List AddressPart → List ℕ → List ℕ
 behind [] rest = rest
 behind (p ∷ parts) rest = p.text ++ 58 ∷ behind parts rest

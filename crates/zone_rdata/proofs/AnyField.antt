@@ -53,14 +53,15 @@ each_spelt origin f k P own items v h =
 
 -- ---- its octets
 
--- the field at the front of its octets is the value that was written
+-- the field at the beginning of its octets is the value that was written
 pub field_back : (f : Field) (v : FieldValue) (rest : List ℕ) → Holds f v → (f ≡ Strings → rest ≡ []) → field_at f (field_octets v ++ rest) ≡ v
 field_back f v rest h last = let k = kind_of f in each f k (λ w. field_at f (field_octets w ++ rest) ≡ w) (λ x held. k.laws.back x rest held last) v h
 
 pub field_low : (f : Field) (v : FieldValue) → Holds f v → AreLow (field_octets v)
 field_low f v h = let k = kind_of f in each f k (λ w. AreLow (field_octets w)) k.laws.low v h
 
--- a field that is no strings takes at most 256 octets: a name at most 255, a string its length and at most 255
+-- a field that is no strings takes at most 256 octets: a name at most 255, a string its length and
+-- at most 255
 pub field_short : (f : Field) (v : FieldValue) → f ≢ Strings → IsSized f → Holds f v → length (field_octets v) ≤ 256
 field_short f v many sized h = let k = kind_of f in each f k (λ w. length (field_octets w) ≤ 256) (λ x held. k.laws.short x many sized held) v h
 

@@ -95,7 +95,8 @@ pub record FieldLaws {X I : Type 0} (f : Field) (value : X → FieldValue) (item
   pub once : NamesOnce → (origin : List (List ℕ)) (i : I) (x y : X) → SpellsField origin f (items i) (value x) → SpellsField origin f (items i) (value y) → x ≡ y
   pub never : NamesNever → (origin : List (List ℕ)) (i : I) (x : X) (fault : Fault) → SpellsField origin f (items i) (value x) → IsFieldFault origin f (items i) fault → ⊥
   pub or_fault : NameOrFault → (origin : List (List ℕ)) → IsName origin → (all : List RawItem) → AreLowItems all → FieldChoice origin f (own_items f all)
-  -- the items that are printed spell the value, stand in a file as they are, and are not in the generic form
+  -- the items that are printed spell the value, stand in a file as they are, and are not in the
+  -- generic form
   pub printed : NamesPrinted → (origin : List (List ℕ)) (x : X) (rest : List RawItem) → IsSized f → Holds f (value x) → (f ≡ Strings → rest ≡ []) → SpellsField origin f (own_items f (field_items (value x) ++ rest)) (value x) × (items_behind f (field_items (value x) ++ rest) ≡ rest)
   pub stands : (x : X) → IsSized f → Holds f (value x) → AllByRecursion Stands (field_items (value x))
   pub unmarked : (x : X) (rest : List RawItem) → IsSized f → Holds f (value x) → IsGeneric (field_items (value x) ++ rest) → ⊥
@@ -147,7 +148,7 @@ plain_sent Name v front other h s = absurd (other refl)
 plain_sent f (name labels) front other h s = absurd h
 plain_sent f v front other h s = s
 
--- so many octets at the front of octets are a value, and appended
+-- so many octets at the beginning of octets are a value, and appended
 pub appends_plain : (f : Field) (octets rest old new : List ℕ) (count : ℕ) (v : FieldValue) → f ≢ Name → Holds f v → take count octets ≡ field_octets v → (f ≡ Strings → rest ≡ []) → AppendsPrefix count octets rest old new → AppendsValue f octets rest old new
 appends_plain f octets rest old new count v other held is last grows = record {
   value = v;

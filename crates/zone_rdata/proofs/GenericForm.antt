@@ -26,7 +26,7 @@ JoinTo-once (bare text ∷ items) a b x y =
     x.3 ∙ ap (λ t. t ++ x.1) fronts ∙ ap (λ t. y.0 ++ t) rests ∙ sym y.3
 JoinTo-once (quoted text ∷ items) a b x y = absurd x
 
--- the items up to a place join to the octets, and those behind it to what follows
+-- the items up to a place join to the octets, and those from it on to what follows
 pub record HaveJoined (items : List RawItem) (rest : List RawItem) (octets : List ℕ) : Type 0 where
   pub leads : (more : List ℕ) → JoinTo rest more → JoinTo items (octets ++ more)
   pub back : (whole : List ℕ) → JoinTo items whole → (more : List ℕ) × JoinTo rest more × (whole ≡ octets ++ more)
@@ -115,6 +115,6 @@ form_parts (a ∷ b ∷ items) d two marked = let same : raw a ≡ generic_mark 
 pub length_beyond : (item : Item) (text : List ℕ) (number most : ℕ) → raw item ≡ bare text → (m : ℕ) × (IsDecimal text m × (number ≡ min most m)) → 65535 < number → LengthFault (raw item) RdataTooLong
 length_beyond item text number most is found over = beyond found.0 (subst (λ r. StatesLength r found.0) (sym is) found.1.0) (let e = found.1.1 in omega arith)
 
--- the rest of a list behind its first two
+-- the rest of a list after its first two
 pub behind_two : (items : List Item) → take (length items - 2) (drop 2 items) ≡ drop 2 items
 behind_two items = take_all (length items - 2) (drop 2 items) (omega (arith, length-drop 2 items))

@@ -15,7 +15,8 @@ use Rattle.zone_rdata.specs.Machine.Appending.{AppendsFirst, AreSpelt}
 use Rattle.zone_rdata.specs.Spelling.{SpellEach}
 use Rattle.zone_rdata.proofs.Lists.{from_place}
 
--- some fields were read, and what the items that are left are for the other fields, all items are for all fields
+-- some fields were read, and what the items that are left are for the other fields, all items are
+-- for all fields
 pub record HaveRead (origin : List (List ℕ)) (row : List Field) (items : List RawItem) (later : List Field) (left : List RawItem) (octets : List ℕ) : Type 0 where
   pub leads : (values : List FieldValue) → SpellEach origin later left values → AreSpelt origin row items (octets ++ octets_of values)
   pub fault : (fault : Fault) → FirstFieldFault origin later left fault → FirstFieldFault origin row items fault

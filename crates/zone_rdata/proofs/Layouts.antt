@@ -14,7 +14,7 @@ use Rattle.zone_rdata.specs.declared.field.Field.TheVariants.{Strings}
 use Rattle.zone_name.proofs.Pushing.{AllByRecursion-append}
 use Rattle.zone_rdata.proofs.FieldLaws.{AreLow}
 
--- the first field of octets, and the fields behind it
+-- the first field of octets, and the fields after it
 values_next : (f : Field) (row : List Field) (v : FieldValue) (octets : List ℕ) → Holds f v → (f ≡ Strings → octets ≡ []) → values_of (f ∷ row) (field_octets v ++ octets) ≡ v ∷ values_of row octets
 values_next f row v octets h last =
     let first : field_at f (field_octets v ++ octets) ≡ v = field_back f v octets h last in

@@ -3,7 +3,7 @@ use Rattle.std.proofs.Common.{◌≡◌, ℕ, zero, suc, ◌+◌, ◌<◌, List,
 use Rattle.std.specs.List.{AllByRecursion}
 use Rattle.std.proofs.lemmas.List.{drop_more}
 
--- the element at a place, and those behind it
+-- the element at an index, and those after it
 pub from_place : {A : Type 0} (xs : List A) (i : ℕ) (x d : A) → i < length xs → x ≡ get_or xs i d → drop i xs ≡ x ∷ drop (i + 1) xs
 from_place xs i x d lt found = drop_more xs i d lt ∙ ap (λ y. y ∷ drop (i + 1) xs) (sym found)
 

@@ -8,7 +8,8 @@ use Rattle.zone_rdata.specs.Machine.Printing.{after_field}
 use Rattle.zone_rdata.proofs.Lists.{from_place}
 use Rattle.zone_rdata.proofs.Texts.{first_field}
 
--- the fields up to a place are passed: the rest is laid out, and leads to the last number of the whole
+-- the fields up to a place are passed: the rest is laid out, and leads to the last number of the
+-- whole
 pub record HaveWalked (row : List Field) (whole : List ℕ) (i : ℕ) (rest : List ℕ) (last : Option ℕ) : Type 0 where
   pub laid : AreLaidOut (drop i row) rest
   pub left : last_number last (values_of (drop i row) rest) ≡ last_number None (values_of row whole)

@@ -14,7 +14,7 @@ use Rattle.zone_rdata.specs.declared.fault.Fault.{Fault}
 use Rattle.zone_rdata.specs.declared.fault.Fault.TheVariants.{UnknownType, MetaType}
 use Rattle.zone_rdata.proofs.Tables.{each_mnemonic}
 
--- a name and a number right behind it
+-- a name and a number right after it
 
 numbered_once : (name word : List ℕ) (a b : ℕ) → IsNumbered name word a → IsNumbered name word b → a ≡ b
 numbered_once name word a b x y =

@@ -11,7 +11,7 @@ use Rattle.zone_name.specs.declared.fault.NameFault.TheVariants.{EmptyLabel, Lab
 use Rattle.zone_rdata.specs.Machine.Fronts.{BeginsWithSent}
 use Rattle.zone_name.proofs.Pushing.{AllByRecursion-append, AllByRecursion-back}
 
--- ---- lists one behind another
+-- ---- lists one after another
 -- lists of one length are cut off alike
 pub append_same : (x y a b : List ℕ) → length x ≡ length y → x ++ a ≡ y ++ b → (x ≡ y) × (a ≡ b)
 append_same [] [] a b count e = (refl, e)
@@ -23,7 +23,7 @@ append_same (c ∷ x) (d ∷ y) a b count e =
     let rest = append_same x y a b (omega arith) tails in
     (ap (λ h. h ∷ x) heads ∙ ap (λ t. d ∷ t) rest.0, rest.1)
 
--- what stands behind its length is cut off alike
+-- what stands after its length is cut off alike
 pub frame_same : (x y a b : List ℕ) → with_length x ++ a ≡ with_length y ++ b → (x ≡ y) × (a ≡ b)
 frame_same x y a b e =
     let counts : length x ≡ length y = cc in
@@ -150,7 +150,7 @@ no_label octets rest labels c behind label fault r cut e some fits same is only 
     let count : 0 < length label = omega (arith, length-take c behind, ap length same) in
     refused_by fault labels label r is only empty long too_long count (subst (λ l. Fits labels l) (sym same) (next_fits octets rest labels c behind cut e some fits name tail b))
 
--- ---- a name at the front is one name
+-- ---- a name at the beginning is one name
 pub name_by : (more : List (List ℕ)) (rest tail : List ℕ) → AreSome more → 0 ∷ rest ≡ wire more ++ tail → (more ≡ []) × (rest ≡ tail)
 name_by [] rest tail some e = (refl, (cc))
 name_by ([] ∷ more) rest tail some e = absurd (omega (arith, some.0))

@@ -1,4 +1,4 @@
--- Octets that are strings, each behind its length.
+-- Octets that are strings, each after its length.
 use Rattle.std.proofs.Common.{◌≡◌, ℕ, zero, suc, ◌+◌, ◌<◌, ◌≤◌, List, [], ◌∷◌, ◌++◌, length, take, drop, refl, sym, ap, ◌∙◌, subst, arith, length-append}
 use Rattle.std.specs.List.{flat_map, AllByRecursion}
 use Rattle.std.proofs.lemmas.List.{take_at, drop_at, take_all, drop_all, take-append-drop}
@@ -12,7 +12,7 @@ use Rattle.zone_rdata.specs.declared.field.Field.{Field}
 use Rattle.zone_rdata.specs.declared.field.Field.TheVariants as fields
 use Rattle.zone_name.proofs.Octets.{length-frames}
 
--- one string cut off the front
+-- one string cut off the beginning
 string_cut : (text more : List ℕ) (m : ℕ) → strings_by (suc m) (with_length text ++ more) ≡ text ∷ strings_by m more
 string_cut text more m = rw (take_at text more (length text) refl, drop_at text more (length text) refl) refl
 
@@ -27,7 +27,7 @@ pub strings_back : (many : List (List ℕ)) → strings_of (flat_map with_length
 unfolding strings_of
 strings_back many = strings_by_back many (length (flat_map with_length many)) (length-frames many)
 
--- nothing is left behind the strings
+-- nothing is left after the strings
 strings_by_len : (m : ℕ) (octets : List ℕ) → length octets ≤ m → length (flat_map with_length (strings_by m octets)) ≡ length octets
 strings_by_len zero [] fuel = refl
 strings_by_len zero (c ∷ octets) fuel = absurd (omega arith)
@@ -58,7 +58,7 @@ strings_next c octets =
     let parts : length (take c octets) + length (drop c octets) ≡ length octets = sym (length-append (take c octets) (drop c octets)) ∙ ap length (take-append-drop c octets) in
     ap (λ t. take c octets ∷ t) (fuel_same (length octets) (length (drop c octets)) (drop c octets) (omega (arith, parts)) (omega arith))
 
--- strings begin with a string, and what is behind it is strings
+-- strings begin with a string, and the rest is strings
 pub first_string : (octets : List ℕ) → 0 < length octets → HoldsStrings octets → BeginsWithString octets × HoldsStrings (drop (length (with_length (string_at octets))) octets) × (strings_of octets ≡ string_at octets ∷ strings_of (drop (length (with_length (string_at octets))) octets))
 first_string [] some held = absurd (omega arith)
 first_string (c ∷ octets) some held =
@@ -83,7 +83,7 @@ pub no_strings : strings_of [] ≡ []
 unfolding strings_of
 no_strings = refl
 
--- a field of strings at the front of octets is all of them
+-- a field of strings at the beginning of octets is all of them
 pub all_strings : (octets : List ℕ) → AreStrings (strings_of octets) → take (length (flat_map with_length (strings_of octets))) octets ≡ flat_map with_length (strings_of octets) → HoldsStrings octets
 all_strings octets are front =
     let len = strings_len octets in

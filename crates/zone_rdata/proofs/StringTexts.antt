@@ -1,4 +1,4 @@
--- The text of strings, one behind another.
+-- The text of strings, one after another.
 use Rattle.std.proofs.Common.{◌≡◌, ℕ, ◌<◌, ◌≤◌, List, [], ◌∷◌, ◌++◌, length, drop, map, sym, ap, ◌∙◌, subst, arith, append_assoc}
 use Rattle.std.specs.List.{flat_map, join_with_byte}
 use Rattle.std.proofs.lemmas.List.{append-nil}
@@ -10,7 +10,7 @@ use Rattle.zone_rdata.specs.Strings.{string_text}
 use Rattle.zone_rdata.proofs.StringFields.{first_string, no_strings}
 use Rattle.zone_rdata.proofs.Texts.{joined_more}
 
--- the octets behind the first string
+-- the octets after the first string
 abbrev pub behind : List ℕ → List ℕ
 behind octets = drop (length (with_length (string_at octets))) octets
 

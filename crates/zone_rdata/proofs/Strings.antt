@@ -1,4 +1,5 @@
--- The string of an item, or its first fault, as an answer on lists: of the units at the front of its text.
+-- The string of an item, or its first fault, as an answer on lists: of the units at the beginning
+-- of its text.
 use Rattle.std.proofs.Common.{◌≡◌, ℕ, zero, suc, ◌<◌, ◌≤◌, Bool, nat_le, if◌then◌else◌, List, [], ◌∷◌, ◌++◌, length, Result, Ok, Err, ◌⊎◌, inl, inr, refl, sym, ap, ◌∙◌, subst, arith, append_assoc, length-append}
 use Rattle.std.specs.List.{AllByRecursion}
 use Rattle.std.proofs.lemmas.Bool.{cases_Bool, false≢true, le-leb, lt-leb, leb-true, leb-false}
@@ -13,7 +14,7 @@ use Rattle.zone_rdata.specs.Strings.{SpellsString, StringFault, bad_escape, long
 use Rattle.zone_name.proofs.Pushing.{AllByRecursion-append, AllByRecursion-front, AllByRecursion-back}
 use Rattle.zone_name.proofs.Units.{NoUnit, at_end, at_octet, at_backslash, UnitsAre, units_first_are, units_first_only}
 
--- what is behind the last unit is nothing, or a backslash that begins no escape
+-- what follows the last unit is nothing, or a backslash that begins no escape
 abbrev ended : List Written → List ℕ → Result (List ℕ) Fault
 ended units [] = Ok (written_octets units)
 ended units (c ∷ rest) = Err BadEscape
@@ -57,7 +58,7 @@ octets_each (plain c ∷ units) each low = (low.0, octets_each units each.1 low.
 octets_each (escaped c ∷ units) each low = (low.1.0, octets_each units each.1 low.1.1)
 octets_each (decimal x y z ∷ units) each low = (omega (arith, each.0.3), octets_each units each.1 low.1.1.1.1)
 
--- the unit behind the first ones
+-- the unit after the first n
 record IsSplit (n : ℕ) (units : List Written) : Type 0 where
   pub before : List Written
   pub unit : Written

@@ -15,7 +15,7 @@ use Rattle.zone_rdata.proofs.FieldLaws.{AreLow, FrontChoice}
 use Rattle.std.specs.List.{flat_map}
 use Rattle.zone_name.specs.Name.{folded_octet, folded_label, folded, with_length}
 
--- octets that are a value for each field, one behind another, and their canonical octets
+-- octets that are a value for each field, one after another, and their canonical octets
 abbrev pub Reads : List Field → List ℕ → List ℕ → Type 0
 Reads [] octets canonical = (octets ≡ []) × (canonical ≡ [])
 Reads (f ∷ row) octets canonical = (value : FieldValue) × ((rest more : List ℕ) × BeginsWithValue f octets value rest × (canonical ≡ field_octets value ++ more) × Reads row rest more)

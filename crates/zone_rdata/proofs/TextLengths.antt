@@ -21,7 +21,7 @@ use Rattle.zone_rdata.proofs.Texts.{joined_more}
 
 -- ---- words
 
--- a name of at most five octets with a number behind it
+-- a name of at most five octets and a number after it
 numbered_length : (name : List ℕ) (n : ℕ) → length name ≤ 5 → n < 65536 → length (name ++ decimal n) ≤ 10
 numbered_length name n few short = omega (arith, length-append name (decimal n), length-decimal-le 5 n (omega arith) (omega arith) (omega arith))
 

@@ -21,7 +21,8 @@ first_field f row octets laid =
       record { held = laid.held.1; whole = sym cut },
     )
 
--- what is still to print: the texts behind one another, each but the very first with a space before it
+-- what is left to print: the texts one after another, each but the very first with a space before
+-- it
 abbrev pub still : ℕ → List (List ℕ) → List ℕ
 still zero texts = join_with_byte 32 texts
 still (suc i) texts = flat_map (λ t. 32 ∷ t) texts
@@ -34,12 +35,13 @@ still_more : (i : ℕ) (text : List ℕ) (texts : List (List ℕ)) → still i (
 still_more zero text texts = joined_more text texts
 still_more (suc i) text texts = refl
 
--- a space, and the text behind it
+-- a space, and the text after it
 spaced_text : (i : ℕ) (text : List ℕ) → spaced i [] ++ text ≡ spaced i text
 spaced_text zero text = refl
 spaced_text (suc i) text = refl
 
--- the fields up to a place are printed: the rest is laid out, and its text is what is left of the whole
+-- the fields up to a place are printed: the rest is laid out, and its text is what is left of the
+-- whole
 pub record HavePrinted (row : List Field) (whole : List ℕ) (i : ℕ) (rest text : List ℕ) : Type 0 where
   pub laid : AreLaidOut (drop i row) rest
   pub left : laid_out_text (Some row) whole ≡ text ++ still i (map field_text (values_of (drop i row) rest))

@@ -19,7 +19,7 @@ record AreGroups (text : List ℕ) : Type 0 where
 first_text : (g : Group) (groups : List Group) → flat_map group_text (g ∷ groups) ≡ g.digits ++ g.letter ∷ flat_map group_text groups
 first_text g groups = append_assoc g.digits (g.letter ∷ []) (flat_map group_text groups)
 
--- digits without a unit behind them
+-- digits without a unit after them
 no_unit_by : (digits : List ℕ) (groups : List Group) → AreDigits digits → 0 < length digits → AllByRecursion IsTimeGroup groups → digits ≡ flat_map group_text groups → ⊥
 no_unit_by digits [] all some each e = omega (arith, ap length e)
 no_unit_by digits (g ∷ groups) all some each e = no_run g.digits g.letter (flat_map group_text groups) digits all (unit_no_digit g.letter g.unit each.0.lasts) (sym (e ∙ first_text g groups))

@@ -64,7 +64,7 @@ groups_open (g ∷ groups) (h ∷ other) a x y digits some e =
     let cut = run_split g.digits h.digits g.letter h.letter (flat_map group_text groups ++ a) (flat_map group_text other) x.0.each y.0.each (unit_no_digit g.letter g.unit x.0.lasts) (unit_no_digit h.letter h.unit y.0.lasts) (sym left ∙ e ∙ append_assoc h.digits (h.letter ∷ []) (flat_map group_text other)) in
     groups_open groups other a x.1 y.1 digits some cut.2
 
--- an octet that is neither a digit nor a unit behind digits goes on to no time
+-- no time goes on with an octet that is neither a digit nor, after digits, a unit
 pub stops : (text rest : List ℕ) (c n : ℕ) (p : Progress) → is_digit c ≡ false → (0 < length text → IsTrue p.open → (u : ℕ) → unit_seconds c ≡ Some u → ⊥) → Reads text p → IsTime (text ++ c ∷ rest) n → ⊥
 stops text rest c n p no_digit none reads (plain h) = no_run text c rest (text ++ c ∷ rest) h.digits no_digit refl
 stops text rest c n p no_digit none reads (grouped groups some each parts sums) =
@@ -121,7 +121,7 @@ ends_grouped text p groups closed reads =
     let none : reads.digits ≡ [] = no_digits reads.digits (λ some. cc (sym closed ∙ reads.opened.1 some)) in
     (sum_by group_seconds reads.groups, (grouped reads.groups (reads.grouped.0 groups) reads.each (reads.parts ∙ ap (λ t. flat_map group_text reads.groups ++ t) none ∙ append-nil (flat_map group_text reads.groups)) refl, reads.total))
 
--- groups with digits behind them are no time
+-- groups and digits after them are no time
 pub ends_both : (text : List ℕ) (n : ℕ) (p : Progress) → p.grouped ≡ true → p.open ≡ true → Reads text p → IsTime text n → ⊥
 ends_both text n p groups opens reads (plain h) = first_unit reads.groups reads.digits text reads.each (reads.grouped.0 groups) h.digits reads.parts
 ends_both text n p groups opens reads (grouped others some each parts sums) = groups_open reads.groups others reads.digits reads.each each reads.last (reads.opened.0 opens) (sym reads.parts ∙ parts)

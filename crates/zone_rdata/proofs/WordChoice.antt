@@ -23,7 +23,7 @@ mnemonic_by : (rows : List Named) → ascend 0 rows ≡ true → (word : List �
 mnemonic_by rows up word None e = inr (no_row rows word e)
 mnemonic_by rows up word (Some row) e = inl (row.number, row_is rows up word row e)
 
--- ---- a name and a number right behind it
+-- ---- a name and a number right after it
 front_is : (name word : List ℕ) (n : ℕ) (x : IsNumbered name word n) → length x.front ≡ length name
 front_is name word n x = sym (length-map x.front folded_octet) ∙ ap length x.named ∙ length-map name folded_octet
 

@@ -48,7 +48,7 @@ word_of_row names rows name word row n up e number short =
     find_mapped names (λ row. bytes_eq (folded_label word) (folded_label row.mnemonic)) rows ∙ ap (option_map names) (sym e) in
     ((names row).number, (by_mnemonic (row_is (map names rows) up word (names row) found), omega arith))
 
--- a word that finds no row is that of a number behind the name, or none
+-- a word of no row is that of a number after the name, or none
 pub no_word : {R : Type 0} (names : R → Named) (rows : List R) (name word : List ℕ) → None ≡ find (λ row. bytes_eq (folded_label word) (folded_label (names row).mnemonic)) rows → ((n : ℕ) → IsNumbered name word n → ⊥) → (n : ℕ) → IsWordAmong (map names rows) name word n → ⊥
 no_word names rows name word e none n (by_mnemonic is) =
     no_row (map names rows) word (find_mapped names (λ row. bytes_eq (folded_label word) (folded_label row.mnemonic)) rows ∙ ap (option_map names) (sym e)) n is

@@ -1,4 +1,5 @@
--- Addresses in text: of four octets (RFC 1035 3.4.1), and of sixteen (RFC 3596 2, RFC 4291 2.2, RFC 5952 4).
+-- Addresses in text: of four octets (RFC 1035 3.4.1), and of sixteen (RFC 3596 2, RFC 4291 2.2, RFC
+-- 5952 4).
 use Rattle.std.specs.Prelude.{◌≡◌, ℕ, ◌+◌, ◌-◌, ◌<◌, ◌≤◌, ◌⊎◌, Bool, true, false, IsTrue, List, [], ◌∷◌, ◌++◌, length, map, take, drop, replicate, codes, Ok}
 use Rattle.std.specs.List.{AllZip, flat_map, join_with_byte}
 use Rattle.std.specs.Net.Addr.{segments_of}
@@ -27,8 +28,8 @@ pub record AddressPart : Type 0 where
   pub text : List ℕ
   pub octets : List ℕ
 
--- a group, one to four hexadecimal digits in any case: with zeros before them to make four, the digits of two
--- octets, the higher first
+-- a group, one to four hexadecimal digits in any case: with zeros before them to make four, the
+-- digits of two octets, the higher first
 pub record IsGroup (p : AddressPart) : Type 0 where
   pub some : 0 < length p.text
   pub few : length p.text ≤ 4
@@ -49,14 +50,16 @@ parts_text parts = join_with_byte 58 (map (λ (p : AddressPart). p.text) parts)
 abbrev pub parts_octets : List AddressPart → List ℕ
 parts_octets parts = flat_map (λ (p : AddressPart). p.octets) parts
 
--- parts with colons between them, none at all too, and their octets; at an address's end or before it
+-- parts with colons between them, none at all too, and their octets; at an address's end or before
+-- it
 pub record ArePartsOf (ends : Bool) (text octets : List ℕ) : Type 0 where
   pub parts : List AddressPart
   pub each : AreParts ends parts
   pub parted : text ≡ parts_text parts
   pub value : octets ≡ parts_octets parts
 
--- groups before and after `::`, and the octets of them and of the zero groups between them, at least one
+-- groups before and after `::`, and the octets of them and of the zero groups between them, at
+-- least one
 pub record AreAround (front back octets : List ℕ) : Type 0 where
   pub before : List ℕ
   pub after : List ℕ
@@ -68,7 +71,8 @@ pub record AreAround (front back octets : List ℕ) : Type 0 where
 -- an address of sixteen octets: eight groups, or fewer with `::` in one place (RFC 4291 2.2)
 pub data IsIpv6Address (text octets : List ℕ) : Type 0 where
   eight : ArePartsOf true text octets → length octets ≡ 16 → IsIpv6Address text octets
-  fewer : (front back : List ℕ) → text ≡ front ++ (codes "::" ++ back) → AreAround front back octets → IsIpv6Address text octets
+  fewer : (front back : List ℕ) → text ≡ front ++ (codes "::" ++ back) → AreAround front back octets
+      → IsIpv6Address text octets
 
 -- the canonical text of four octets: decimal numbers without leading zeros
 abbrev pub ipv4_text : List ℕ → List ℕ
@@ -80,18 +84,23 @@ parted_groups groups = std_text.groups_text groups
 
 -- the groups with `::` for `len` of them from `start` on
 abbrev pub shortened_groups : List ℕ → ℕ → ℕ → List ℕ
-shortened_groups groups start len = parted_groups (take start groups) ++ codes "::" ++ parted_groups (drop (start + len) groups)
+shortened_groups groups start len =
+    parted_groups (take start groups) ++ codes "::" ++ parted_groups (drop (start + len) groups)
 
--- The canonical text of sixteen octets (RFC 5952 4): `::` stands for the longest run of zero groups, the first of
--- equal ones, if it has two groups or more.
+-- The canonical text of sixteen octets (RFC 5952 4): `::` stands for the longest run of zero
+-- groups, the first of equal ones, if it has two groups or more.
 abbrev pub ipv6_text : List ℕ → List ℕ
-ipv6_text octets = let groups = segments_of octets in std_text.compressed_text groups (std_text.longest_zero_run groups)
+ipv6_text octets =
+    let groups = segments_of octets in
+    std_text.compressed_text groups (std_text.longest_zero_run groups)
 
 -- so many zero groups in a row
 abbrev pub IsZeroRun : List ℕ → ℕ → ℕ → Type 0
-IsZeroRun groups start len = (start + len ≤ length groups) × (take len (drop start groups) ≡ replicate len 0)
+IsZeroRun groups start len =
+    (start + len ≤ length groups) × (take len (drop start groups) ≡ replicate len 0)
 
--- the run that `::` stands for (RFC 5952 4.2): of two groups or more, none longer, none as long before it
+-- the run that `::` stands for (RFC 5952 4.2): of two groups or more, none longer, none as long
+-- before it
 pub record IsShortenedRun (groups : List ℕ) (start len : ℕ) : Type 0 where
   pub zeros : IsZeroRun groups start len
   pub two : 2 ≤ len

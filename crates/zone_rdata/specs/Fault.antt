@@ -1,5 +1,5 @@
--- The faults of names among those of an input, and what is said of a fault. That a refusal is one fault is this
--- project's own choice.
+-- The faults of names among those of an input, and what is said of a fault. That a refusal is one
+-- fault is this project's own choice.
 use Rattle.std.specs.Prelude.{◌≡◌, ⊤}
 use Rattle.zone_name.specs.declared.fault.NameFault.{NameFault}
 use Rattle.zone_name.specs.declared.fault.NameFault.TheVariants as names
@@ -15,7 +15,7 @@ fault_of names.NameTooLong = NameTooLong
 fault_of names.BadEscape = BadEscape
 fault_of names.RelativeName = RelativeName
 
--- the fault, if it is one and not want of memory, is as said
+-- what is said of the fault holds, where it is a fault and not want of memory
 abbrev pub IfFault : (Fault → Type 0) → Failing → Type 0
 IfFault Is (failings.Fault fault) = Is fault
 IfFault Is failings.Memory = ⊤

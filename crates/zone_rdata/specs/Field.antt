@@ -1,5 +1,6 @@
--- What the fields of record data hold (RFC 1035 3.3): for each kind of field its values, their octets, the items that
--- spell them and the fault of items that don't. What is said of a kind stands in `Fields`, a file each.
+-- What the fields of record data hold (RFC 1035 3.3): for each kind of field its values, their
+-- octets, the items that spell them and the fault of items that don't. What is said of a kind
+-- stands in `Fields`, a file each.
 use Rattle.std.specs.Prelude.{◌≡◌, ℕ, ◌<◌, List, [], ◌∷◌, length, take, drop, map, decimal, Bool, true, false, ⊤, Option, Some}
 use Rattle.std.specs.List.{flat_map}
 use Rattle.zone_name.specs.Name.{with_length, wire, labels_of, IsName}
@@ -20,7 +21,8 @@ use Rattle.zone_rdata.specs.Fields.U16.{IsU16, SpellsU16, u16_at, u16_octets}
 use Rattle.zone_rdata.specs.Item.{RawItem, bare, quoted}
 use Rattle.zone_rdata.specs.Strings.{IsString, SpellsString, StringFault, string_text}
 
--- the value of one field: a name, a number of 32 or of 16 bits, octets of a fixed number, a string, or strings
+-- the value of one field: a name, a number of 32 or of 16 bits, octets of a fixed number, a string,
+-- or strings
 pub data FieldValue : Type 0 where
   name : List (List ℕ) → FieldValue
   u32_value : ℕ → FieldValue
@@ -29,7 +31,7 @@ pub data FieldValue : Type 0 where
   string : List ℕ → FieldValue
   strings : List (List ℕ) → FieldValue
 
--- its octets: a name uncompressed, a number with the highest octet first, a string behind its length
+-- its octets: a name uncompressed, a number with the highest octet first, a string after its length
 abbrev pub field_octets : FieldValue → List ℕ
 field_octets (name labels) = wire labels
 field_octets (u32_value n) = serial_octets n
@@ -59,7 +61,7 @@ HoldEach [] (v ∷ values) = ⊥
 HoldEach (f ∷ fields) [] = ⊥
 HoldEach (f ∷ fields) (v ∷ values) = Holds f v × HoldEach fields values
 
--- the value of a field at the front of octets; strings are all that is left
+-- the value of a field at the beginning of octets; strings are all that is left
 abbrev pub field_at : Field → List ℕ → FieldValue
 field_at Name octets = name (labels_of octets)
 field_at Serial octets = u32_value (serial_at octets)
@@ -72,15 +74,17 @@ field_at Strings octets = strings (strings_of octets)
 -- the values that octets hold, field after field: the inverse of `octets_of`
 abbrev pub values_of : List Field → List ℕ → List FieldValue
 values_of [] octets = []
-values_of (f ∷ fields) octets = field_at f octets ∷ values_of fields (drop (length (field_octets (field_at f octets))) octets)
+values_of (f ∷ fields) octets =
+    field_at f octets ∷ values_of fields (drop (length (field_octets (field_at f octets))) octets)
 
--- the octets of a value as they are sent: a name's labels in any letter case, all else as it is kept
+-- the octets of a value as they are sent: a name's labels in any letter case, all else as it is
+-- kept
 abbrev pub IsSent : FieldValue → List ℕ → Type 0
 IsSent (name labels) octets = IsSentName labels octets
 IsSent value octets = octets ≡ field_octets value
 
--- The items spell a value of a field: one bare item a name under the origin, a decimal number, a time or an address;
--- one item, bare or quoted, a string; one or more items strings, one each
+-- The items spell a value of a field: one bare item a name under the origin, a decimal number, a
+-- time or an address; one item, bare or quoted, a string; one or more items strings, one each
 abbrev pub SpellsField : List (List ℕ) → Field → List RawItem → FieldValue → Type 0
 SpellsField origin Name (bare text ∷ []) (name labels) = Spells (Some origin) text labels
 SpellsField origin Serial (bare text ∷ []) (u32_value n) = SpellsSerial text n
@@ -96,12 +100,13 @@ abbrev pub own_items : Field → List RawItem → List RawItem
 own_items Strings items = items
 own_items field items = take 1 items
 
--- the items behind them
+-- the items after them
 abbrev pub items_behind : Field → List RawItem → List RawItem
 items_behind Strings items = []
 items_behind field items = drop 1 items
 
--- why the items of a field spell no value of it: none is there, one is quoted that has to be bare, or its text
+-- why the items of a field spell no value of it: none is there, one is quoted that has to be bare,
+-- or its text
 abbrev pub IsFieldFault : List (List ℕ) → Field → List RawItem → Fault → Type 0
 IsFieldFault origin Strings items fault = StringsFault items fault
 IsFieldFault origin field [] fault = fault ≡ BadRdata
@@ -113,8 +118,8 @@ IsFieldFault origin Time (bare text ∷ items) fault = NoValue BadNumber (Spells
 IsFieldFault origin U16 (bare text ∷ items) fault = NoValue BadNumber (SpellsU16 text) fault
 IsFieldFault origin (Octets n) (bare text ∷ items) fault = NoValue BadRdata (IsAddress n text) fault
 
--- the canonical text of a value: a name absolute and in lower case, a number in decimal digits, an address, strings in
--- quotes
+-- the canonical text of a value: a name absolute and in lower case, a number in decimal digits, an
+-- address, strings in quotes
 abbrev pub field_text : FieldValue → List ℕ
 field_text (name labels) = name_text labels
 field_text (u32_value n) = decimal n

@@ -11,7 +11,7 @@ abbrev pub StatesLength : RawItem → ℕ → Type 0
 StatesLength (bare text) n = IsDecimal text n
 StatesLength (quoted text) n = ⊥
 
--- the mark, the number of octets in decimal, and items behind it
+-- the mark, the number of octets in decimal, and the items after it
 pub record IsGenericForm (items : List RawItem) (n : ℕ) (digits : List RawItem) : Type 0 where
   pub item : RawItem
   pub parts : items ≡ generic_mark ∷ item ∷ digits
@@ -20,7 +20,8 @@ pub record IsGenericForm (items : List RawItem) (n : ℕ) (digits : List RawItem
 -- bare items, each of two hexadecimal digits in any case for each octet, that join to the octets
 abbrev pub JoinTo : List RawItem → List ℕ → Type 0
 JoinTo [] octets = octets ≡ []
-JoinTo (bare text ∷ items) octets = (front rest : List ℕ) × (decode_of text ≡ Ok front) × (octets ≡ front ++ rest) × JoinTo items rest
+JoinTo (bare text ∷ items) octets =
+    (front rest : List ℕ) × (decode_of text ≡ Ok front) × (octets ≡ front ++ rest) × JoinTo items rest
 JoinTo (quoted text ∷ items) octets = ⊥
 
 -- the items state the octets in the generic form
@@ -30,14 +31,18 @@ pub record StatesGeneric (items : List RawItem) (octets : List ℕ) : Type 0 whe
   pub short : length octets ≤ 65535
   pub joined : JoinTo digits octets
 
--- The first fault of items that begin with the mark: no length in decimal, a length over 65,535, or digits that
--- aren't those of so many octets
+-- The first fault of items that begin with the mark: no length in decimal, a length over 65,535, or
+-- digits that aren't those of so many octets
 pub data GenericFault (items : List RawItem) : Fault → Type 0 where
-  no_length : IsGeneric items → ((n : ℕ) (digits : List RawItem) → IsGenericForm items n digits → ⊥) → GenericFault items BadGeneric
-  long_length : (n : ℕ) (digits : List RawItem) → IsGenericForm items n digits → 65535 < n → GenericFault items RdataTooLong
-  bad_digits : (n : ℕ) (digits : List RawItem) → IsGenericForm items n digits → n ≤ 65535 → ((octets : List ℕ) → JoinTo digits octets → length octets ≢ n) → GenericFault items BadGeneric
+  no_length : IsGeneric items → ((n : ℕ) (digits : List RawItem) → IsGenericForm items n digits → ⊥)
+      → GenericFault items BadGeneric
+  long_length : (n : ℕ) (digits : List RawItem) → IsGenericForm items n digits → 65535 < n
+      → GenericFault items RdataTooLong
+  bad_digits : (n : ℕ) (digits : List RawItem) → IsGenericForm items n digits → n ≤ 65535
+      → ((octets : List ℕ) → JoinTo digits octets → length octets ≢ n)
+      → GenericFault items BadGeneric
 
--- the digits behind the length, in one item where there are any
+-- the digits after the length, in one item where there are any
 abbrev pub digit_items : List ℕ → List RawItem
 digit_items [] = []
 digit_items (c ∷ octets) = bare (encode_lower (c ∷ octets)) ∷ []

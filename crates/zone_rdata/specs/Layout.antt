@@ -42,7 +42,8 @@ pub record AreLaidOut (fields : List Field) (octets : List ℕ) : Type 0 where
   pub held : HoldEach fields (values_of fields octets)
   pub whole : octets_of (values_of fields octets) ≡ octets
 
--- the canonical octets of record data: one value of the layout, or opaque octets where there is none
+-- the canonical octets of record data: one value of the layout, or opaque octets where there is
+-- none
 pub record IsData (class kind : ℕ) (octets : List ℕ) : Type 0 where
   pub short : length octets ≤ 65535
   pub each : AllByRecursion (λ c. c < 256) octets

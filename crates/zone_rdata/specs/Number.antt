@@ -8,7 +8,8 @@ use Rattle.zone_name.specs.Spelling.{is_digit}
 abbrev pub decimal_value : List ℕ → ℕ
 decimal_value digits = fold (λ n c. n * 10 + (c - 48)) 0 digits
 
--- a number of which so much is said, or 4294967296 where it is greater
+-- the least of 2 ^ 32 and a number for which `Is` holds: a number over 32 bits is still seen to be
+-- one
 abbrev pub IsCapped : (ℕ → Type 0) → ℕ → Type 0
 IsCapped Is n = (m : ℕ) × (Is m × (n ≡ min 4294967296 m))
 
@@ -28,7 +29,7 @@ unit_seconds c =
     else if c == 115 || c == 83 then Some 1
     else None
 
--- decimal digits and the unit behind them
+-- decimal digits and the unit after them
 pub record Group : Type 0 where
   pub digits : List ℕ
   pub letter : ℕ
@@ -48,4 +49,5 @@ group_seconds g = decimal_value g.digits * g.unit
 -- a number of seconds, or one or more groups that are summed
 pub data IsTime (text : List ℕ) (n : ℕ) : Type 0 where
   plain : IsDecimal text n → IsTime text n
-  grouped : (groups : List Group) → 0 < length groups → AllByRecursion IsTimeGroup groups → text ≡ flat_map group_text groups → n ≡ sum_by group_seconds groups → IsTime text n
+  grouped : (groups : List Group) → 0 < length groups → AllByRecursion IsTimeGroup groups
+      → text ≡ flat_map group_text groups → n ≡ sum_by group_seconds groups → IsTime text n

@@ -4,7 +4,8 @@ use Rattle.zone_name.specs.Name.{IsName}
 use Rattle.zone_rdata.specs.Words.{IsClass, IsKind}
 use Rattle.zone_rdata.specs.Layout.{IsData}
 
--- class, type and canonical octets of record data: in one class and type, equal octets are equal values
+-- class, type and canonical octets of record data: in one class and type, equal octets are equal
+-- values
 pub record Data : Type 0 where
   pub class : ℕ
   pub kind : ℕ

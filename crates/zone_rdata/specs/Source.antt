@@ -1,4 +1,5 @@
--- What a source of records still has to give. A list of records, then an end or a refusal, is this project's own choice.
+-- What a source of records still has to give. A list of records, then an end or a refusal, is this
+-- project's own choice.
 use Rattle.std.specs.Prelude.{Bool, true, false, List, [], ◌∷◌, Option, Some, None, Result, Ok, Err}
 use Rattle.zone_rdata.specs.declared.fault.Fault.{Fault}
 use Rattle.zone_rdata.specs.declared.fault.Place.{Place}
@@ -6,7 +7,8 @@ use Rattle.zone_rdata.specs.declared.fault.Stop.{Stop}
 use Rattle.zone_rdata.specs.declared.fault.Stop.TheVariants.{Refused, Memory}
 use Rattle.zone_rdata.specs.declared.record.Placed.{Placed}
 
--- whether it failed, the records still to come in order, and the fault after them, if one is decided
+-- whether it failed, the records still to come in order, and the fault after them, if one is
+-- decided
 pub record Pending : Type 0 where
   pub failed : Bool
   pub records : List Placed
@@ -23,7 +25,8 @@ first_answer (r ∷ records) ending = Ok (Some r)
 
 -- the next answer: want of memory where it failed, else the first record, else the fault
 abbrev pub answer_of : Pending → Result (Option Placed) Stop
-answer_of pending = elim pending.failed [ true ↦ Err Memory | false ↦ first_answer pending.records pending.ending ]
+answer_of pending =
+    elim pending.failed [ true ↦ Err Memory | false ↦ first_answer pending.records pending.ending ]
 
 abbrev pub others : List Placed → List Placed
 others [] = []
@@ -31,4 +34,6 @@ others (r ∷ records) = records
 
 -- what is left after an answer
 abbrev pub after : Pending → Pending
-after pending = elim pending.failed [ true ↦ pending | false ↦ record pending { records = others pending.records } ]
+after pending =
+    elim pending.failed
+    [ true ↦ pending | false ↦ record pending { records = others pending.records } ]

@@ -1,5 +1,5 @@
--- Character-strings (RFC 1035 3.3): the items that spell one (5.1), the first fault of an item that spells none, and
--- the text that is printed.
+-- Character-strings (RFC 1035 3.3): the items that spell one (5.1), the first fault of an item that
+-- spells none, and the text that is printed.
 use Rattle.std.specs.Prelude.{◌≡◌, ◌≢◌, ℕ, ◌<◌, ◌≤◌, List, [], ◌∷◌, ◌++◌, length, nat_le, ◌==◌, ◌&&◌, ◌||◌, Bool, if◌then◌else◌}
 use Rattle.std.specs.List.{flat_map, AllByRecursion}
 use Rattle.zone_name.specs.Spelling.{Written, text_of, IsUnit, no_octet, written_text, written_octets, IsBadEscape}
@@ -32,18 +32,24 @@ pub record ReachesUnit (text : List ℕ) (before : List Written) (rest : List �
   pub room : length before ≤ 255
   pub parts : text ≡ written_text before ++ rest
 
--- the leftmost fault of an item that spells no string: at a backslash that begins no escape, or at the 256th octet
+-- the leftmost fault of an item that spells no string: at a backslash that begins no escape, or at
+-- the 256th octet
 pub data StringFault (item : RawItem) : Fault → Type 0 where
-  bad_escape : (before : List Written) (rest : List ℕ) → ReachesUnit (item_text item) before rest → IsBadEscape rest → StringFault item BadEscape
-  long_string : (before : List Written) (w : Written) (rest : List ℕ) → ReachesUnit (item_text item) before (text_of w ++ rest) → length before ≡ 255 → IsUnit no_octet w → StringFault item StringTooLong
+  bad_escape : (before : List Written) (rest : List ℕ) → ReachesUnit (item_text item) before rest
+      → IsBadEscape rest → StringFault item BadEscape
+  long_string : (before : List Written) (w : Written) (rest : List ℕ)
+      → ReachesUnit (item_text item) before (text_of w ++ rest) → length before ≡ 255
+      → IsUnit no_octet w → StringFault item StringTooLong
 
 -- the octets that print as themselves inside quotes, a space and `!` to `~`
 abbrev pub is_shown : ℕ → Bool
 is_shown c = nat_le 32 c && nat_le c 126
 
--- an octet between quotes: a quote and a backslash behind a backslash, others by themselves or by their value
+-- an octet between quotes: a quote or a backslash after a backslash, any other by itself or by its
+-- value
 abbrev pub unit_text : ℕ → List ℕ
-unit_text c = if c == 34 || c == 92 then 92 ∷ c ∷ [] else (if is_shown c then c ∷ [] else decimal_escape c)
+unit_text c =
+    if c == 34 || c == 92 then 92 ∷ c ∷ [] else (if is_shown c then c ∷ [] else decimal_escape c)
 
 -- what is printed between the quotes
 abbrev pub inside_text : List ℕ → List ℕ

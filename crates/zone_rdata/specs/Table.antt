@@ -1,5 +1,5 @@
--- The types and the classes that have a mnemonic, a row each (RFC 1035 3.2.2, 3.2.4). Which ones are read is this
--- project's own choice.
+-- The types and the classes that have a mnemonic, a row each (RFC 1035 3.2.2, 3.2.4). Which ones
+-- are read is this project's own choice.
 use Rattle.std.specs.Prelude.{ℕ, List, [], ◌∷◌, Bool, true, false, ◌==◌, ◌&&◌, nat_lt, bytes_eq, codes, map, Option, option_map}
 use Rattle.std.specs.List.{find}
 use Rattle.zone_name.specs.Name.{folded_label}
@@ -15,7 +15,8 @@ pub record Named : Type 0 where
   pub number : ℕ
   pub mnemonic : List ℕ
 
--- a type: its number and mnemonic, whether its data has these fields in class IN alone, and the fields
+-- a type: its number and mnemonic, whether its data has these fields in class IN alone, and the
+-- fields
 pub record NamedType : Type 0 where
   pub named : Named
   pub in_only : Bool
@@ -32,11 +33,21 @@ classes =
 
 -- a type with the fields in every class
 abbrev pub in_every : ℕ → List ℕ → List Field → NamedType
-in_every number mnemonic fields = record { named = record { number = number; mnemonic = mnemonic }; in_only = false; fields = fields }
+in_every number mnemonic fields =
+    record {
+      named = record { number = number; mnemonic = mnemonic };
+      in_only = false;
+      fields = fields;
+    }
 
 -- a type with the fields in class IN alone
 abbrev pub in_one : ℕ → List ℕ → List Field → NamedType
-in_one number mnemonic fields = record { named = record { number = number; mnemonic = mnemonic }; in_only = true; fields = fields }
+in_one number mnemonic fields =
+    record {
+      named = record { number = number; mnemonic = mnemonic };
+      in_only = true;
+      fields = fields;
+    }
 
 -- the types, their numbers ascending (RFC 1035 3.3, 3.4.1, and as noted)
 abbrev pub types : List NamedType
@@ -50,7 +61,8 @@ types =
     ∷ in_every 16 (codes "TXT") (Strings ∷ [])
     ∷ in_one 28 (codes "AAAA") (Octets 16 ∷ [])  -- RFC 3596 2.2
     ∷ in_every 33 (codes "SRV") (U16 ∷ U16 ∷ U16 ∷ Name ∷ [])  -- RFC 2782
-    ∷ in_every 35 (codes "NAPTR") (U16 ∷ U16 ∷ OneString ∷ OneString ∷ OneString ∷ Name ∷ [])  -- RFC 3403 4.1
+    ∷ in_every 35 (codes "NAPTR")
+    (U16 ∷ U16 ∷ OneString ∷ OneString ∷ OneString ∷ Name ∷ [])  -- RFC 3403 4.1
     ∷ []
 
 -- the numbers and mnemonics of the types
@@ -63,7 +75,9 @@ mnemonic_among rows n = option_map (λ row. row.mnemonic) (find (λ row. n == ro
 
 -- the number of a mnemonic in any case
 abbrev pub number_among : List Named → List ℕ → Option ℕ
-number_among rows word = option_map (λ row. row.number) (find (λ row. bytes_eq (folded_label word) (folded_label row.mnemonic)) rows)
+number_among rows word =
+    option_map (λ row. row.number)
+    (find (λ row. bytes_eq (folded_label word) (folded_label row.mnemonic)) rows)
 
 -- the numbers ascend from above the first
 abbrev pub ascend : ℕ → List Named → Bool

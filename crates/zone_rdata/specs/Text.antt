@@ -28,4 +28,5 @@ data_text d = join_with_byte 32 (map written_item (data_items d))
 -- opaque octets in the generic form (RFC 3597 5)
 abbrev pub generic_text : List ℕ → List ℕ
 generic_text [] = codes "\\# 0"
-generic_text (c ∷ octets) = codes "\\# " ++ decimal (length (c ∷ octets)) ++ 32 ∷ encode_lower (c ∷ octets)
+generic_text (c ∷ octets) =
+    codes "\\# " ++ decimal (length (c ∷ octets)) ++ 32 ∷ encode_lower (c ∷ octets)

@@ -13,4 +13,6 @@ pub record IsWireData (laid : Option (List Field)) (octets canonical : List ℕ)
 -- more than 65,535 octets, or octets that aren't exactly one value of the layout
 pub data IsWireFault (laid : Option (List Field)) (octets : List ℕ) : Fault → Type 0 where
   beyond : 65535 < length octets → IsWireFault laid octets RdataTooLong
-  no_value : length octets ≤ 65535 → ((canonical : List ℕ) → IsCanonicalOf laid octets canonical → ⊥) → IsWireFault laid octets BadRdata
+  no_value : length octets ≤ 65535
+      → ((canonical : List ℕ) → IsCanonicalOf laid octets canonical → ⊥)
+      → IsWireFault laid octets BadRdata

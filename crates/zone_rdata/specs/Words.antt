@@ -1,4 +1,5 @@
--- The words of classes and types (RFC 1035 3.2.2, 3.2.4; RFC 3597 5), read in any case, and those that are printed.
+-- The words of classes and types (RFC 1035 3.2.2, 3.2.4; RFC 3597 5), read in any case, and those
+-- that are printed.
 use Rattle.std.specs.Prelude.{◌≡◌, ◌≢◌, ℕ, ◌<◌, ◌≤◌, List, codes, ◌++◌, decimal, ◌==◌, ◌&&◌, ◌||◌, nat_le, Bool, false, Option, Some, None}
 use Rattle.zone_name.specs.Name.{folded_label}
 use Rattle.zone_rdata.specs.declared.fault.Fault.{Fault}
@@ -24,7 +25,7 @@ pub record IsKind (n : ℕ) : Type 0 where
   pub short : n < 65536
   pub stored : is_meta n ≡ false
 
--- a word in any case, and a number in decimal digits right behind it
+-- a name in any letter case, and a number in decimal digits right after it
 pub record IsNumbered (name word : List ℕ) (n : ℕ) : Type 0 where
   pub front : List ℕ
   pub digits : List ℕ
@@ -46,7 +47,7 @@ pub record IsMnemonic (rows : List Named) (word : List ℕ) (n : ℕ) : Type 0 w
   pub row : mnemonic_among rows n ≡ Some name
   pub same : folded_label word ≡ folded_label name
 
--- the word of a number, however great it is: its mnemonic, or a name with the number behind it
+-- the word of a number, however great it is: its mnemonic, or a name and then the number
 pub data IsWordAmong (rows : List Named) (name word : List ℕ) (n : ℕ) : Type 0 where
   by_mnemonic : IsMnemonic rows word n → IsWordAmong rows name word n
   by_number : IsNumbered name word n → IsWordAmong rows name word n

@@ -1,4 +1,5 @@
-//! Addresses of hosts: what their texts say, and how they are printed (RFC 1035 3.4.1, RFC 4291 2.2, RFC 5952 4).
+//! Addresses of hosts: what their texts say, and how they are printed (RFC 1035 3.4.1, RFC 4291
+//! 2.2, RFC 5952 4).
 mod groups;
 mod ipv4;
 mod ipv6;

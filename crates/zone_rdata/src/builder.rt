@@ -10,6 +10,7 @@ use crate::class::Class;
 use crate::fault::{Failing, Fault};
 use crate::kind::Kind;
 use crate::layout::layout_of;
+use crate::narrow_failing::{Cause, NarrowFailing};
 use crate::rdata::Rdata;
 use crate::reading::are_octets;
 use crate::record::LONGEST_DATA;
@@ -35,7 +36,12 @@ impl Model for RdataBuilder {
 
     ghost Value = { Built };
 
-    ghost view = { λ b. record { class = b.class; kind = b.kind; parts = parts_of (layout b.class b.kind) b.count b.octets.items } };
+    ghost view = { λ b.
+        record {
+          class = b.class;
+          kind = b.kind;
+          parts = parts_of (layout b.class b.kind) b.count b.octets.items;
+        } };
 
     ghost invariant = { λ b. IsBuilt b.class b.kind b.count b.octets.items };
 }
@@ -65,82 +71,85 @@ impl RdataBuilder {
         }
     }
 
-    /// Pushes an address, or the octets of opaque data. Refused, the builder has what it had.
+    /// Pushes an address, or the octets of opaque data. On an error the builder is unchanged.
     ///
     /// # Errors
     ///
-    /// `BadRdata` where that isn't the next part or the octets are not as many as the field's, `RdataTooLong` where
-    /// the data would have more than 65,535 octets; and `Memory` where memory is refused.
+    /// `BadRdata` where that isn't the next part or the octets are not as many as the field's,
+    /// `RdataTooLong` where the data would have more than 65,535 octets; and `Memory` where memory
+    /// is refused.
     pub fn push_octets(&mut self, octets: &[u8]) -> Result<(), Failing>
         ensures ok { OnOk result (Pushes self.old (fixed octets.now) self.new) }
         ensures fault { IfErr result (IfFault (IsPushFault self.old (fixed octets.now))) }
         ensures err { OnErr result (self.new ≡ self.old) }
     {
-        self.push(Pushed::Octets(octets))
+        Ok(self.push(Pushed::Octets(octets))?)
     }
 
-    /// Pushes a number of 16 bits. Refused, the builder has what it had.
+    /// Pushes a number of 16 bits. On an error the builder is unchanged.
     ///
     /// # Errors
     ///
-    /// `BadRdata` where that isn't the next part, `RdataTooLong` where the data would have more than 65,535 octets; and
-    /// `Memory` where memory is refused.
+    /// `BadRdata` where that isn't the next part, `RdataTooLong` where the data would have more
+    /// than 65,535 octets; and `Memory` where memory is refused.
     pub fn push_u16(&mut self, number: u16) -> Result<(), Failing>
         ensures ok { OnOk result (Pushes self.old (u16_value number) self.new) }
         ensures fault { IfErr result (IfFault (IsPushFault self.old (u16_value number))) }
         ensures err { OnErr result (self.new ≡ self.old) }
     {
-        self.push(Pushed::U16(number))
+        Ok(self.push(Pushed::U16(number))?)
     }
 
-    /// Pushes a number of 32 bits, a serial or a time in seconds. Refused, the builder has what it had.
+    /// Pushes a number of 32 bits, a serial or a time in seconds. On an error the
+    /// builder is unchanged.
     ///
     /// # Errors
     ///
-    /// As `push_u16` has.
+    /// Those of `push_u16`.
     pub fn push_u32(&mut self, number: u32) -> Result<(), Failing>
         ensures ok { OnOk result (Pushes self.old (u32_value number) self.new) }
         ensures fault { IfErr result (IfFault (IsPushFault self.old (u32_value number))) }
         ensures err { OnErr result (self.new ≡ self.old) }
     {
-        self.push(Pushed::U32(number))
+        Ok(self.push(Pushed::U32(number))?)
     }
 
-    /// Pushes a name. Refused, the builder has what it had.
+    /// Pushes a name. On an error the builder is unchanged.
     ///
     /// # Errors
     ///
-    /// As `push_u16` has.
+    /// Those of `push_u16`.
     pub fn push_name(&mut self, target: &Name) -> Result<(), Failing>
         ensures ok { OnOk result (Pushes self.old (name target.now) self.new) }
         ensures fault { IfErr result (IfFault (IsPushFault self.old (name target.now))) }
         ensures err { OnErr result (self.new ≡ self.old) }
     {
-        self.push(Pushed::Name(target))
+        Ok(self.push(Pushed::Name(target))?)
     }
 
-    /// Pushes a string, the next field or one more of several. Refused, the builder has what it had.
+    /// Pushes a string, the next field or one more of several. On an error the
+    /// builder is unchanged.
     ///
     /// # Errors
     ///
-    /// `BadRdata` where that isn't the next part, `StringTooLong` over 255 octets, `RdataTooLong` where the data would
-    /// have more than 65,535 octets; and `Memory` where memory is refused.
+    /// `BadRdata` where that isn't the next part, `StringTooLong` over 255 octets, `RdataTooLong`
+    /// where the data would have more than 65,535 octets; and `Memory` where memory is refused.
     pub fn push_string(&mut self, octets: &[u8]) -> Result<(), Failing>
         ensures ok { OnOk result (Pushes self.old (string octets.now) self.new) }
         ensures fault { IfErr result (IfFault (IsPushFault self.old (string octets.now))) }
         ensures err { OnErr result (self.new ≡ self.old) }
     {
-        self.push(Pushed::String(octets))
+        Ok(self.push(Pushed::String(octets))?)
     }
 
     /// Pushes a part.
-    fn push(&mut self, part: Pushed) -> Result<(), Failing>
+    fn push(&mut self, part: Pushed) -> Result<(), NarrowFailing>
         ensures ok { OnOk result (Pushes self.old (value_of part.entry) self.new) }
         ensures fault { IfErr result (IfFault (IsPushFault self.old (value_of part.entry))) }
         ensures err { OnErr result (self.new ≡ self.old) }
     {
         if !is_next(self.class, self.kind, self.count, part) {
-            return Err(Failing::Fault(Fault::BadRdata));
+            return Err(NarrowFailing::of(Cause::BadRdata));
         }
         known(part);
         append(part, &mut self.octets)?;
@@ -181,7 +190,7 @@ fn least_parts(class: Class, kind: Kind) -> usize
     }
 }
 
-/// Whether the part is the next behind so many.
+/// Whether the part can be the next after `count` parts.
 fn is_next(class: Class, kind: Kind, count: usize, part: Pushed) -> bool
     ensures { IsTrue result ↔ IsNext (layout class kind) count (value_of part.entry) }
 {
@@ -205,8 +214,8 @@ fn known(part: Pushed)
     }
 }
 
-/// Appends the octets of a part. Refused, `out` holds what it held.
-fn append(part: Pushed, out: &mut Vec<u8>) -> Result<(), Failing>
+/// Appends the octets of a part. If it is refused, `out` is unchanged.
+fn append(part: Pushed, out: &mut Vec<u8>) -> Result<(), NarrowFailing>
     requires { length out.old.items ≤ LONGEST_DATA }
     ensures ok { OnOk result (Grows out.old.items (value_of part.entry) out.new.items) }
     ensures fault { IfErr result (IfFault (IsOver out.old.items (value_of part.entry))) }
@@ -221,32 +230,32 @@ fn append(part: Pushed, out: &mut Vec<u8>) -> Result<(), Failing>
     }
 }
 
-/// Appends octets. Refused, `out` holds what it held.
-fn append_octets(octets: &[u8], out: &mut Vec<u8>) -> Result<(), Failing>
+/// Appends octets. If they are refused, `out` is unchanged.
+fn append_octets(octets: &[u8], out: &mut Vec<u8>) -> Result<(), NarrowFailing>
     requires { length out.old.items ≤ LONGEST_DATA }
     ensures ok { OnOk result (Grows out.old.items (fixed octets.now) out.new.items) }
     ensures fault { IfErr result (IfFault (IsOver out.old.items (fixed octets.now))) }
     ensures err { OnErr result (out.new.items ≡ out.old.items) }
 {
     if octets.len() > LONGEST_DATA - out.len() {
-        return Err(Failing::Fault(Fault::RdataTooLong));
+        return Err(NarrowFailing::of(Cause::RdataTooLong));
     }
     out.extend_from_slice(octets)?;
     Ok(())
 }
 
-/// Appends a string behind its length. Refused, `out` holds what it held.
-fn append_string(octets: &[u8], out: &mut Vec<u8>) -> Result<(), Failing>
+/// Appends a string after its length. If it is refused, `out` is unchanged.
+fn append_string(octets: &[u8], out: &mut Vec<u8>) -> Result<(), NarrowFailing>
     requires { length out.old.items ≤ LONGEST_DATA }
     ensures ok { OnOk result (Grows out.old.items (string octets.now) out.new.items) }
     ensures fault { IfErr result (IfFault (IsOver out.old.items (string octets.now))) }
     ensures err { OnErr result (out.new.items ≡ out.old.items) }
 {
     if octets.len() > 255 {
-        return Err(Failing::Fault(Fault::StringTooLong));
+        return Err(NarrowFailing::of(Cause::StringTooLong));
     }
     if octets.len() + 1 > LONGEST_DATA - out.len() {
-        return Err(Failing::Fault(Fault::RdataTooLong));
+        return Err(NarrowFailing::of(Cause::RdataTooLong));
     }
     push_with_length(octets, out)?;
     Ok(())

@@ -43,7 +43,8 @@ impl Class {
         }
     }
 
-    /// The class of a word in any case: IN, CS, CH, HS or CLASS with a number. `None`: it is no such word.
+    /// The class of a word in any letter case: IN, CS, CH, HS or CLASS with a number. `None`: it is
+    /// no such word.
     ///
     /// # Errors
     ///
@@ -73,11 +74,11 @@ impl Class {
         self.number
     }
 
-    /// Appends the word that is printed.
+    /// Appends the word of the class as it is printed.
     ///
     /// # Errors
     ///
-    /// `out` refuses the octets, and holds what it held.
+    /// `out` refuses the octets, and is unchanged.
     pub fn push_word<S: Sink>(self, out: &mut S) -> Result<(), S::Error>
         ensures ok { OnOk result (S.takes out.old (class_text self) out.new) }
         ensures err { OnErr result (S.takes out.old [] out.new) }

@@ -13,20 +13,20 @@ pub enum Fault {
     LabelTooLong,
     /// A name has more than 255 octets, with those of its origin (RFC 1035 2.3.4).
     NameTooLong,
-    /// A backslash stands before a line feed, a carriage return, the end, fewer than three digits or a number over 255
-    /// (RFC 1035 5.1).
+    /// A backslash stands before a line feed, a carriage return, the end, fewer than three digits
+    /// or a number over 255 (RFC 1035 5.1).
     BadEscape,
     /// A name is relative and no origin was handed in (RFC 1035 5.1).
     RelativeName,
     /// The class is 0, NONE 254, ANY 255 or over 65535 (RFC 6895 3.2).
     BadClass,
-    /// The word of the type is missing or quoted, or is no mnemonic that is read and no TYPE with a number up to 65535
-    /// (RFC 3597 5).
+    /// The word of the type is missing or quoted, or is no mnemonic that is read and no TYPE with a
+    /// number up to 65535 (RFC 3597 5).
     UnknownType,
     /// The type is 0, OPT 41 or one of 128 to 255 (RFC 6895 3.1).
     MetaType,
-    /// The items or octets aren't exactly one value for each field of the type: one is missing, left over, quoted where
-    /// no string stands, or no address (RFC 1035 3.3, 5.1).
+    /// The items or octets aren't exactly one value for each field of the type: one is missing,
+    /// left over, quoted where no string stands, or no address (RFC 1035 3.3, 5.1).
     BadRdata,
     /// The generic form is malformed, or missing for a type that is read in no other (RFC 3597 5).
     BadGeneric,
@@ -34,7 +34,8 @@ pub enum Fault {
     StringTooLong,
     /// The data has more than 65,535 octets (RFC 1035 3.2.1).
     RdataTooLong,
-    /// A number or time of the data is malformed, or over 4294967295 in an SOA, over 65535 elsewhere (RFC 1035 3.3).
+    /// A number or time of the data is malformed, or over 4294967295 in an SOA, over 65535
+    /// elsewhere (RFC 1035 3.3).
     BadNumber,
     /// The input ends inside a quoted item (RFC 1035 5.1).
     UnclosedQuote,
@@ -42,17 +43,21 @@ pub enum Fault {
     UnbalancedParenthesis,
     /// The entry is an `$INCLUDE`, which isn't read (RFC 1035 5.1).
     IncludeDirective,
-    /// The entry's first word begins with `$` and is none of `$ORIGIN`, `$INCLUDE` and `$TTL` (RFC 1035 5.1; RFC 2308 4).
+    /// The entry's first word begins with `$` and is none of `$ORIGIN`, `$INCLUDE` and `$TTL` (RFC
+    /// 1035 5.1; RFC 2308 4).
     UnknownDirective,
-    /// What follows `$ORIGIN` (RFC 1035 5.1) or `$TTL` (RFC 2308 4) isn't exactly one item without quotes.
+    /// What follows `$ORIGIN` (RFC 1035 5.1) or `$TTL` (RFC 2308 4) isn't exactly one item without
+    /// quotes.
     BadDirective,
     /// An entry omits its owner and none was stated before, or the owner is quoted (RFC 1035 5.1).
     NoOwner,
-    /// A record omits its TTL, and neither `$TTL`, an earlier TTL nor an SOA gives one (RFC 1035 5.1; RFC 2308 4).
+    /// A record omits its TTL, and neither `$TTL`, an earlier TTL nor an SOA gives one (RFC 1035
+    /// 5.1; RFC 2308 4).
     NoTtl,
     /// A TTL is malformed or over 2147483647 seconds (RFC 2181 8).
     BadTtl,
-    /// The stream ends inside the two octets of a length or inside the message behind them (RFC 1035 4.2.2).
+    /// The stream ends inside the two octets of a length or inside the message after them (RFC 1035
+    /// 4.2.2).
     ShortFrame,
     /// The header, a question or a record runs past the end of the message (RFC 1035 4.1).
     ShortMessage,
@@ -66,17 +71,19 @@ pub enum Fault {
     BadCounts,
     /// The message's ID differs from the first message's (RFC 5936 2.2.1).
     IdMismatch,
-    /// A question's type isn't AXFR 252, or its name or class isn't that of the zone's SOA (RFC 5936 2.1.2, 2.2.2).
+    /// A question's type isn't AXFR 252, or its name or class isn't that of the zone's SOA (RFC
+    /// 5936 2.1.2, 2.2.2).
     BadQuestion,
     /// A label's two top bits are 01 or 10 (RFC 1035 4.1.4).
     ReservedLabel,
-    /// A compression pointer leads into the header, below octet 12, or not before the labels that it ends: to no prior
-    /// occurrence of a name (RFC 1035 4.1.4).
+    /// A compression pointer leads into the header, below octet 12, or not before the labels that
+    /// it ends: to no prior occurrence of a name (RFC 1035 4.1.4).
     BadPointer,
-    /// A name has more than 128 compression pointers, a limit of this project's own (RFC 1035 4.1.4 has none).
+    /// A name has more than 128 compression pointers, a limit of this project's own (RFC 1035 4.1.4
+    /// has none).
     TooManyPointers,
-    /// The type's data may hold compression pointers and isn't read: MD 3, MF 4, MB 7, MG 8, MR 9, MINFO 14, RP 17,
-    /// AFSDB 18, RT 21, SIG 24, PX 26 or NXT 30 (RFC 3597 4).
+    /// The type's data may hold compression pointers and isn't read: MD 3, MF 4, MB 7, MG 8, MR 9,
+    /// MINFO 14, RP 17, AFSDB 18, RT 21, SIG 24, PX 26 or NXT 30 (RFC 3597 4).
     CompressibleType,
     /// Octets follow the last record of the message (RFC 1035 4.1).
     TrailingOctets,
@@ -92,7 +99,8 @@ pub enum Fault {
     ClassMismatch,
     /// An SOA differs from an earlier one in owner or data (RFC 1035 5.2).
     MultipleSoa,
-    /// A TTL differs from that of its record set (RFC 2181 5.2); RRSIG records are one set for each type covered.
+    /// A TTL differs from that of its record set (RFC 2181 5.2); RRSIG records are one set for each
+    /// type covered.
     DifferingTtl,
     /// The zone has no SOA (RFC 1035 5.2).
     NoSoa,
@@ -105,7 +113,7 @@ pub enum Fault {
 }
 
 impl Fault {
-    /// An equal fault.
+    /// A copy of the fault.
     pub fn copy(&self) -> Fault
         ensures { result ≡ self.now }
     {
@@ -191,7 +199,7 @@ pub enum Stop {
     Refused(Fault, Place),
     /// The reader answered an error.
     Read,
-    /// The writer answered an error, or took nothing of a nonempty piece.
+    /// The writer answered an error, or took no octet of a nonempty buffer.
     Write,
     /// Memory was refused.
     Memory,

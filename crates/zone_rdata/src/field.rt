@@ -62,7 +62,8 @@ impl Field {
         matches!(self, Field::Strings)
     }
 
-    /// Appends the octets of the value that the field's items spell, and gives how many items these are.
+    /// Appends the octets of the value that the field's items spell, and gives how many items these
+    /// are.
     pub(crate) fn push_items(
         self,
         items: &[Item],
@@ -92,7 +93,8 @@ impl Field {
         Ok(1)
     }
 
-    /// Appends the canonical octets of the field's value at the front of octets, and gives the octets after it.
+    /// Appends the canonical octets of the field's value at the beginning of octets, and gives the
+    /// octets after it.
     pub(crate) fn push_sent<'o>(
         self,
         octets: &'o [u8],
@@ -113,7 +115,7 @@ impl Field {
         }
     }
 
-    /// The octets after the field at the front of octets.
+    /// The octets after the field at the beginning of octets.
     pub(crate) fn after(self, octets: &[u8]) -> &[u8]
         requires { BeginsWithField self octets.now }
         ensures { result.now ≡ after_field self octets.now }
@@ -128,7 +130,7 @@ impl Field {
         }
     }
 
-    /// The field at the front of octets, if it is a number of 32 bits.
+    /// The field at the beginning of octets, if it is a number of 32 bits.
     pub(crate) fn number_at(self, octets: &[u8]) -> Option<u32>
         requires { BeginsWithField self octets.now }
         ensures { result ≡ number_in (field_at self octets.now) }
@@ -139,7 +141,7 @@ impl Field {
         }
     }
 
-    /// Appends the text of the field at the front of octets, and gives the octets after it.
+    /// Appends the text of the field at the beginning of octets, and gives the octets after it.
     pub(crate) fn push_text<'o, S: Sink>(
         self,
         octets: &'o [u8],

@@ -14,12 +14,14 @@ use crate::record::LONGEST_DATA;
 use hex::decode_to_slice;
 use std::alloc::Global;
 
-/// The octets that items state in the generic form: `\#`, their number, and their hexadecimal digits (RFC 3597 5).
+/// The octets that items state in the generic form: `\#`, their number, and their hexadecimal
+/// digits (RFC 3597 5).
 ///
 /// # Errors
 ///
-/// The first of: `BadGeneric` for a length that is missing or no decimal number, `RdataTooLong` for one over 65,535,
-/// and `BadGeneric` for digits that aren't those of so many octets; and `Memory` where memory is refused.
+/// The first of: `BadGeneric` for a length that is missing or no decimal number, `RdataTooLong` for
+/// one over 65,535, and `BadGeneric` for digits that aren't those of so many octets; and `Memory`
+/// where memory is refused.
 pub(crate) fn octets_of_generic(alloc: Global, items: &[Item]) -> Result<Vec<u8>, Failing>
     requires { IsGeneric (map raw items.now) }
     ensures found { IfOk result (λ octets. StatesGeneric (map raw items.now) octets.items) }

@@ -1,4 +1,5 @@
-/// An item of a master file's entry: its raw octets, without the quotes of a quoted one (RFC 1035 5.1).
+/// An item of a master file's entry: its raw octets, without the quotes of a quoted one (RFC 1035
+/// 5.1).
 #[derive(Clone, Copy, Debug)]
 pub enum Item<'e> {
     /// One that no quotes enclose.

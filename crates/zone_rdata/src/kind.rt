@@ -36,7 +36,8 @@ impl Kind {
     ///
     /// # Errors
     ///
-    /// `UnknownType` from 65536 on, and `MetaType` where no record can have it: 0, 41 and 128 to 255.
+    /// `UnknownType` from 65536 on, and `MetaType` where no record can have it: 0, 41 and 128 to
+    /// 255.
     pub fn from_number(number: u64) -> Result<Kind, Fault>
         ensures ok { IfOk result (λ kind. kind ≡ number) }
         ensures err { IfErr result (λ fault. (number < 65536 → fault ≡ Fault.MetaType)
@@ -49,12 +50,12 @@ impl Kind {
         }
     }
 
-    /// The type of a word in any case: a mnemonic, or TYPE with a number.
+    /// The type of a word in any letter case: a mnemonic, or TYPE with a number.
     ///
     /// # Errors
     ///
-    /// `UnknownType` where it is no such word or the number is over 65535, and `MetaType` where no record can have
-    /// the type.
+    /// `UnknownType` where it is no such word or the number is over 65535, and `MetaType` where no
+    /// record can have the type.
     pub fn from_word(word: &[u8]) -> Result<Kind, Fault>
         ensures found { IfOk result (IsKindWord word.now) }
         ensures err { IfErr result (IsWordFault word.now) }
@@ -89,7 +90,7 @@ impl Kind {
     ///
     /// # Errors
     ///
-    /// `out` refuses the octets, and holds what it held.
+    /// `out` refuses the octets, and is unchanged.
     pub fn push_word<S: Sink>(self, class: Class, out: &mut S) -> Result<(), S::Error>
         ensures ok { OnOk result (S.takes out.old (kind_text class self) out.new) }
         ensures err { OnErr result (S.takes out.old [] out.new) }

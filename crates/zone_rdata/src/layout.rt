@@ -51,7 +51,7 @@ impl Layout {
         self.fields
     }
 
-    /// The field at a place from 0. `None` past the last.
+    /// The field at an index, from 0. `None` past the last.
     pub fn field(self, i: usize) -> Option<Field>
         ensures { result ≡ slice_get (fields_of self) i }
     {
@@ -68,7 +68,7 @@ impl Layout {
         }
     }
 
-    /// The field of the part at a place from 0. `None`: no part stands there.
+    /// The field of the part at an index, from 0. `None`: no part stands there.
     pub(crate) fn part_at(self, place: usize) -> Option<Field>
         ensures { result ≡ part_at (fields_of self) place }
     {

@@ -10,8 +10,8 @@ use crate::printing::push_data;
 use std::marker::Model;
 use zone_name::Sink;
 
-/// The data of a record in octets that are lent: class, type and canonical octets (RFC 1035 3.2.1). Contracts see these
-/// three.
+/// The data of a record in borrowed octets: class, type and canonical octets (RFC 1035 3.2.1).
+/// Contracts see these three.
 #[derive(Debug, Drop)]
 pub struct RdataRef<'a> {
     class: Class,
@@ -54,7 +54,7 @@ impl<'a> RdataRef<'a> {
     ///
     /// # Errors
     ///
-    /// `out` refuses octets. A front of the text may have been appended.
+    /// `out` refuses octets. A prefix of the text may have been appended.
     pub fn print<S: Sink>(&self, out: &mut S) -> Result<(), S::Error>
         ensures ok { OnOk result (S.takes out.old (data_text self.now) out.new) }
         ensures err { OnErr result (TakesSome S.takes out.old out.new) }

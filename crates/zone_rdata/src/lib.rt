@@ -1,4 +1,5 @@
-//! Record data: classes, types, layouts, the records themselves, and why an input is refused (RFC 1035 3, RFC 3597).
+//! Record data: classes, types, layouts, the records themselves, and why an input is refused (RFC
+//! 1035 3, RFC 3597).
 #![tactic(auto)]
 
 mod address;

@@ -6,7 +6,7 @@ use std::alloc::AllocError;
 use std::marker::Model;
 use zone_name::NameFault;
 
-/// What items can be refused for.
+/// What items and parts of data can be refused for.
 #[derive(Clone, Copy, Debug)]
 pub(crate) enum Cause {
     EmptyLabel,
@@ -21,7 +21,8 @@ pub(crate) enum Cause {
     Memory,
 }
 
-/// Why items state no data, in one octet: a `Failing` has room for a name. Contracts see the failing.
+/// Why items state no data, or a part isn't taken, in one octet: a `Failing` has room for a name.
+/// Contracts see the failing.
 #[derive(Debug, Drop)]
 pub(crate) struct NarrowFailing {
     cause: Cause,

@@ -28,10 +28,11 @@ pub(crate) fn decimal_of(text: &[u8]) -> Option<u64>
     Some(number)
 }
 
-/// A number that was read, where it is at most so great.
+/// The number that was read, where it is at most `most`.
 pub(crate) fn at_most(most: u32, number: Option<u64>) -> Result<u32, NarrowFailing>
     ensures found { IfOk result (λ n. (number ≡ Some n) × (n ≤ most)) }
-    ensures fault { IfErr result (λ e. (e ≡ Failing.Fault Fault.BadNumber) × IfSome number (λ n. most < n)) }
+    ensures fault { IfErr result
+        (λ e. (e ≡ Failing.Fault Fault.BadNumber) × IfSome number (λ n. most < n)) }
 {
     match number {
         Some(number) if number <= u64::from(most) => Ok(number as u32),

@@ -9,7 +9,8 @@ use crate::rdata::Rdata;
 use std::cmp::Ordering;
 
 impl PartialEq for Rdata {
-    ghost eq = { eq_of_both (on (λ d. d.class) nat_eq) (eq_of_both (on (λ d. d.kind) nat_eq) (on (λ d. d.octets) (pointwise nat_eq))) };
+    ghost eq = { eq_of_both (on (λ d. d.class) nat_eq)
+        (eq_of_both (on (λ d. d.kind) nat_eq) (on (λ d. d.octets) (pointwise nat_eq))) };
 
     ghost laws = { Prim.search (comparing, rules) };
 
@@ -25,9 +26,12 @@ impl Eq for Rdata {
 }
 
 impl PartialOrd for Rdata {
-    ghost partial_cmp = { as_partial_cmp (then_cmp (on (λ d. d.class) nat_cmp) (then_cmp (on (λ d. d.kind) nat_cmp) (on (λ d. d.octets) (slice_cmp nat_cmp)))) };
+    ghost partial_cmp = { as_partial_cmp
+        (then_cmp (on (λ d. d.class) nat_cmp)
+        (then_cmp (on (λ d. d.kind) nat_cmp) (on (λ d. d.octets) (slice_cmp nat_cmp)))) };
 
-    ghost laws = { partial_order_from_own_ties (Prim.search (comparing, rules)) (Prim.search (comparing, rules)) };
+    ghost laws = { partial_order_from_own_ties (Prim.search (comparing, rules))
+        (Prim.search (comparing, rules)) };
 
     fn partial_cmp(&self, other: &Rdata) -> Option<Ordering> {
         Some(self.cmp(other))
@@ -36,7 +40,8 @@ impl PartialOrd for Rdata {
 
 /// By class, by type number, then by canonical octets (RFC 4034 6.3).
 impl Ord for Rdata {
-    ghost cmp = { then_cmp (on (λ d. d.class) nat_cmp) (then_cmp (on (λ d. d.kind) nat_cmp) (on (λ d. d.octets) (slice_cmp nat_cmp))) };
+    ghost cmp = { then_cmp (on (λ d. d.class) nat_cmp)
+        (then_cmp (on (λ d. d.kind) nat_cmp) (on (λ d. d.octets) (slice_cmp nat_cmp))) };
 
     ghost total = { Prim.search (comparing, rules) };
 

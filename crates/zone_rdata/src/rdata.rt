@@ -27,7 +27,8 @@ use std::alloc::{AllocError, Global};
 use std::marker::Model;
 use zone_name::{Name, Sink};
 
-/// The data of a record: class, type and canonical octets (RFC 1035 3.2.1). Contracts see these three.
+/// The data of a record: class, type and canonical octets (RFC 1035 3.2.1). Contracts see these
+/// three.
 #[derive(Debug, Drop)]
 pub struct Rdata {
     class: Class,
@@ -89,8 +90,9 @@ impl Rdata {
     ///
     /// # Errors
     ///
-    /// The first fault of the items from the left, one of `EmptyLabel`, `LabelTooLong`, `NameTooLong`, `BadEscape`,
-    /// `StringTooLong`, `BadNumber`, `BadRdata`, `BadGeneric` and `RdataTooLong`; and `Memory` where memory is refused.
+    /// The first fault of the items from the left, one of `EmptyLabel`, `LabelTooLong`,
+    /// `NameTooLong`, `BadEscape`, `StringTooLong`, `BadNumber`, `BadRdata`, `BadGeneric` and
+    /// `RdataTooLong`; and `Memory` where memory is refused.
     pub fn from_items(
         alloc: Global,
         class: Class,
@@ -118,13 +120,13 @@ impl Rdata {
         })
     }
 
-    /// The data whose octets are these, names uncompressed and in any letter case (RFC 1035 3.3; RFC 4343 3). Data
-    /// without a layout takes any octets.
+    /// The data whose octets are these, names uncompressed and in any letter case (RFC 1035 3.3;
+    /// RFC 4343 3). Data without a layout takes any octets.
     ///
     /// # Errors
     ///
-    /// `RdataTooLong` over 65,535 octets, `BadRdata` where they aren't exactly one value of the layout; and `Memory` where
-    /// memory is refused.
+    /// `RdataTooLong` over 65,535 octets, `BadRdata` where they aren't exactly one value of the
+    /// layout; and `Memory` where memory is refused.
     pub fn from_wire(
         alloc: Global,
         class: Class,
@@ -200,7 +202,7 @@ impl Rdata {
         }
     }
 
-    /// Appends the canonical text. Where memory is refused, `out` holds what it held.
+    /// Appends the canonical text. Where memory is refused, `out` is unchanged.
     ///
     /// # Errors
     ///
@@ -221,7 +223,7 @@ impl Rdata {
     ///
     /// # Errors
     ///
-    /// `out` refuses octets. A front of the text may have been appended.
+    /// `out` refuses octets. A prefix of the text may have been appended.
     pub fn print<S: Sink>(&self, out: &mut S) -> Result<(), S::Error>
         ensures ok { OnOk result (S.takes out.old (data_text self.now) out.new) }
         ensures err { OnErr result (TakesSome S.takes out.old out.new) }

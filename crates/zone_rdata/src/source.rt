@@ -7,7 +7,7 @@ use std::collections::VecDeque;
 
 /// A source of records in order, and the fault after them.
 pub trait RrSource {
-    /// What else it holds.
+    /// What else the source holds.
     ghost Beside: { Type 0 };
 
     ghost beside: { Self → Beside };
@@ -15,7 +15,8 @@ pub trait RrSource {
     /// Whether it failed, the records still to come, and the fault after them, if one is decided.
     ghost pending: { Self → Pending };
 
-    /// The next record. With none left the fault, and the same again from then on; `None` where no fault is decided.
+    /// The next record. With none left the fault, and the same again from then on; `None` where no
+    /// fault is decided.
     ///
     /// # Errors
     ///

@@ -14,8 +14,8 @@ use arrayvec::ArrayVec;
 use std::alloc::AllocError;
 use zone_name::{NextUnit, Sink, decimal_escape, next_unit};
 
-/// Appends the string that the item spells, its octets behind their number (RFC 1035 3.3, 5.1). Refused, `out` holds
-/// what it held.
+/// Appends the string that the item spells, its octets after their number (RFC 1035 3.3, 5.1). If
+/// it is refused, `out` is unchanged.
 ///
 /// # Errors
 ///
@@ -32,7 +32,7 @@ pub(crate) fn push_string(item: Item, out: &mut Vec<u8>) -> Result<(), NarrowFai
     Ok(())
 }
 
-/// Appends a string's octets behind their number. Where memory is refused, `out` holds what it held.
+/// Appends a string's octets after their number. Where memory is refused, `out` is unchanged.
 pub(crate) fn push_with_length(octets: &[u8], out: &mut Vec<u8>) -> Result<(), AllocError>
     requires { length octets.now ≤ 255 }
     ensures ok { OnOk result (out.new.items ≡ out.old.items ++ with_length octets.now) }
@@ -85,7 +85,7 @@ fn string_of(item: Item<'_>) -> Result<ArrayVec<u8, 255>, NarrowFailing>
 ///
 /// # Errors
 ///
-/// `out` refuses octets. A front of the text may have been appended.
+/// `out` refuses octets. A prefix of the text may have been appended.
 pub(crate) fn push_string_text<S: Sink>(octets: &[u8], out: &mut S) -> Result<(), S::Error>
     ensures ok { OnOk result (S.takes out.old (string_text octets.now) out.new) }
     ensures err { OnErr result (TakesSome S.takes out.old out.new) }

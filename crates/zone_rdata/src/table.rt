@@ -75,7 +75,8 @@ pub(crate) static CLASSES: &[ClassRow] = &[
     },
 ];
 
-/// The types, their numbers ascending (RFC 1035 3.3, 3.4.1; AAAA RFC 3596 2.2, SRV RFC 2782, NAPTR RFC 3403 4.1).
+/// The types, their numbers ascending (RFC 1035 3.3, 3.4.1; AAAA RFC 3596 2.2, SRV RFC 2782, NAPTR
+/// RFC 3403 4.1).
 pub(crate) static TYPES: &[TypeRow] = &[
     TypeRow {
         number: 1,

@@ -4,7 +4,7 @@ ghost use Rattle.zone_rdata.specs.Number.{IsCapped, IsTime, unit_seconds};
 
 use crate::number::CAP;
 
-/// The seconds of a unit in any case: w, d, h, m or s.
+/// The seconds of a unit in any letter case: w, d, h, m or s.
 fn seconds_of_unit(octet: u8) -> Option<u64>
     ensures value { result ≡ unit_seconds octet }
     ensures some { IfSome result (λ n. (0 < n) × (n ≤ 604800)) }
@@ -19,7 +19,7 @@ fn seconds_of_unit(octet: u8) -> Option<u64>
     }
 }
 
-/// What was read of a time: the groups so far, and the digits behind the last of them.
+/// What was read of a time: the groups so far, and the digits after the last of them.
 #[derive(Clone, Copy, Debug)]
 pub(crate) struct Progress {
     total: u64,
@@ -31,7 +31,7 @@ pub(crate) struct Progress {
 impl Progress {
     ghost use Rattle.zone_rdata.specs.Machine.TimeProgress.{Reads};
 
-    /// What is read with one more octet. `None`: no time goes on so.
+    /// What is read with one more octet. `None`: no time begins with these octets.
     fn with(self, octet: u8) -> Option<Progress>
         requires { (self.total ≤ CAP) × (self.number ≤ CAP) }
         ensures found { IfSome result (λ next. (text : Octets)
@@ -58,7 +58,7 @@ impl Progress {
         }
     }
 
-    /// The time that is read where nothing more comes. `None`: it is none.
+    /// The time that was read if no octet follows. `None`: it is none.
     fn seconds(self) -> Option<u64>
         ensures found { IfSome result (λ n.
             (text : Octets) → Reads text self → IsCapped (IsTime text) n) }
@@ -73,8 +73,8 @@ impl Progress {
     }
 }
 
-/// The seconds that a text states, at most 4294967296: decimal digits, or one or more groups of digits and a unit w,
-/// d, h, m or s, summed. `None`: it is no time.
+/// The seconds that a text states, at most 4294967296: decimal digits, or one or more groups of
+/// digits and a unit w, d, h, m or s, summed. `None`: it is no time.
 pub fn seconds_of(text: &[u8]) -> Option<u64>
     ensures found { IfSome result (IsCapped (IsTime text.now)) }
     ensures none { IfNone result (NothingIs (IsTime text.now)) }

@@ -31,7 +31,8 @@ pub(crate) fn canonical_of(alloc: Global, layout: Layout, octets: &[u8]) -> Resu
     Ok(canonical)
 }
 
-/// The canonical octets of octets that are one value of a layout, or the octets themselves where there is none.
+/// The canonical octets of octets that are one value of a layout, or the octets themselves where
+/// there is none.
 ///
 /// # Errors
 ///

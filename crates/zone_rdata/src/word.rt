@@ -12,14 +12,15 @@ use arrayvec::ArrayVec;
 use itoa::Buffer;
 use zone_name::Sink;
 
-/// Whether two words are equal in any case of their letters.
+/// Whether two words are equal but for the case of their letters.
 pub(crate) fn is_word(word: &[u8], wanted: &[u8]) -> bool
     ensures { IsTrue result ↔ (folded_label word.now ≡ folded_label wanted.now) }
 {
     word.eq_ignore_ascii_case(wanted)
 }
 
-/// The number in decimal right behind a name in any case, at most `CAP`. `None`: the word is none.
+/// The decimal number right after the name in any letter case, at most `CAP`. `None`: it is no such
+/// word.
 pub(crate) fn numbered(name: &[u8], word: &[u8]) -> Option<u64>
     ensures found { IfSome result (IsCapped (IsNumbered name.now word.now)) }
     ensures none { IfNone result (NothingIs (IsNumbered name.now word.now)) }
@@ -34,7 +35,7 @@ pub(crate) fn numbered(name: &[u8], word: &[u8]) -> Option<u64>
     decimal_of(digits)
 }
 
-/// The row whose mnemonic a word is, in any case.
+/// The row whose mnemonic a word is, in any letter case.
 fn row_named<'r, R: Row>(rows: &'r [R], word: &[u8]) -> Option<&'r R>
     ensures { option_copied result
         ≡ find (λ row. bytes_eq (folded_label word.now) (folded_label (R.names row).mnemonic))
@@ -48,8 +49,8 @@ fn row_named<'r, R: Row>(rows: &'r [R], word: &[u8]) -> Option<&'r R>
     None
 }
 
-/// The number that a word stands for in any case, at most `CAP`: that of a mnemonic of the rows, or the one right behind
-/// the name. `None`: it is no such word.
+/// The number that a word stands for in any letter case, at most `CAP`: that of a mnemonic of the
+/// rows, or the one right after the name. `None`: it is no such word.
 pub(crate) fn number_of_word<R: Row>(rows: &[R], name: &[u8], word: &[u8]) -> Option<u64>
     requires { ascend 0 (map R.names rows.now) ≡ true }
     ensures found { IfSome result
@@ -70,7 +71,7 @@ const LONGEST: usize = 10;
 ///
 /// # Errors
 ///
-/// `out` refuses the octets, and holds what it held.
+/// `out` refuses the octets, and is unchanged.
 pub(crate) fn push_numbered<S: Sink>(word: &[u8], number: u16, out: &mut S) -> Result<(), S::Error>
     requires { length word.now ≤ 5 }
     ensures ok { OnOk result (S.takes out.old (word.now ++ decimal number) out.new) }

@@ -18,7 +18,7 @@ each_at P (x ∷ xs) (suc i) each h = each_at P xs i each.1 (omega (arith, h))
 greater_back : (x y : List ℕ) → slice_cmp nat_cmp x y ≡ Less → slice_cmp nat_cmp y x ≡ Greater
 greater_back x y h = nat_list_cmp_total.antisymm y x ∙ ap ordering_reverse h
 
--- the next of ascending data goes behind those before it
+-- the next of ascending data goes after those before it
 insert_next : (few : List (List ℕ)) (i : ℕ) → AscendingOctets few → i < length few → insert_key (slice_cmp nat_cmp) (take i few) (get_or few i []) ≡ take (suc i) few
 insert_next [] i ascending h = absurd (omega (arith, h))
 insert_next (x ∷ few) zero ascending h = refl

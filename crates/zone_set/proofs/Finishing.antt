@@ -66,7 +66,7 @@ by_owner false false Less p no_b no_c less other = refl
 by_owner false false Equal p no_b no_c less other = absurd (other refl)
 by_owner false false Greater p no_b no_c less other = cc
 
--- the first owner outside, behind the SOA, is the least
+-- the first owner outside, after the SOA, is the least
 pub IsLeastOutside-from_first : (soa : Record) (others : List Record) (owner : List (List ℕ)) → AreCompatible (soa ∷ others) → soa.kind ≡ 6 → IsFirstOutside others soa.owner owner → IsLeastOutside (soa ∷ others) owner
 IsLeastOutside-from_first soa others owner compatible is_soa found = record {
   soa = soa;

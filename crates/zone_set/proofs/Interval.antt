@@ -1,4 +1,4 @@
--- In the order of names those at or below an apex stand together, and so do the sets behind an SOA.
+-- In the order of names those at or below an apex stand together, and so do the sets after an SOA.
 use Rattle.std.proofs.Common.{◌≡◌, ◌≢◌, ℕ, Option, Some, None, Bor, Bool, true, false, ◌==◌, if◌then◌else◌, List, [], ◌∷◌, ◌++◌, reverse, Ordering, Less, Equal, Greater, nat_cmp, refl, sym, ap, ◌∙◌, subst, inl, inr, ne_eqb, eqb-true, eq-eqb}
 use Rattle.std.proofs.lemmas.Cmp.{nat_list_cmp_total, tied_itself}
 use Rattle.std.proofs.lemmas.List.{reverse-reverse, reverse-append}
@@ -58,7 +58,7 @@ within_between apex a b c in_a in_c low high =
     begins : (ls : List (List ℕ)) → IsWithin ls apex → Begins (reverse ls) (reverse apex)
     begins ls in_ls = (reverse in_ls.0, ap reverse in_ls.1 ∙ reverse-append in_ls.0 apex)
 
--- behind a set that is no SOA there is none, and the order is by owner
+-- after a set that is no SOA there is none, and the order is by owner
 by_owner : (x y : Bool) (o p : Ordering) → x ≡ false → ordering_then (nat_cmp (if x then 0 else 1) (if y then 0 else 1)) (ordering_then o p) ≡ Less → (y ≡ false) × (o ≢ Greater)
 by_owner true y o p no_x less = cc
 by_owner false true o p no_x less = cc

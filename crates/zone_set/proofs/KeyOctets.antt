@@ -131,7 +131,7 @@ set_embeds s t p q =
     ∙ without_tail ranks names (nat_cmp s.kind t.kind) covers tails
     (λ e. let same : s.owner ≡ t.owner = exact_names s.owner t.owner e in ap (λ o. slice_cmp nat_cmp (owner_tail s.owner) (owner_tail o)) (sym same) ∙ tied_itself nat_list_cmp_total (owner_tail s.owner))
 
--- what stands before the owner as it is lent
+-- what stands before the owner as the key lends it
 head_octets : RecordSet → List ℕ
 head_octets s = set_rank s ∷ (owner_key s.owner ++ (s.kind / 256 ∷ s.kind % 256 ∷ covered_key s.covered))
 

@@ -13,7 +13,7 @@ then_assoc Less p q = refl
 then_assoc Equal p q = refl
 then_assoc Greater p q = refl
 
--- the number of octets behind another
+-- the number of octets that go on from another
 abbrev number_on : ℕ → List ℕ → ℕ
 number_on n [] = n
 number_on n (c ∷ octets) = number_on (n * 256 + c) octets
@@ -42,7 +42,7 @@ numbers_compare m n (c ∷ x) (d ∷ y) same p q =
     ∙ ap (λ o. ordering_then o (slice_cmp nat_cmp x y)) (digits_compare m n c d p.0 q.0)
     ∙ then_assoc (nat_cmp m n) (nat_cmp c d) (slice_cmp nat_cmp x y)
 
--- lists of one length and what is behind them
+-- lists of one length and what follows them
 pub fronts_compare : (x y more others : List ℕ) → length x ≡ length y → slice_cmp nat_cmp (x ++ more) (y ++ others) ≡ ordering_then (slice_cmp nat_cmp x y) (slice_cmp nat_cmp more others)
 fronts_compare [] [] more others same = refl
 fronts_compare [] (d ∷ y) more others same = absurd (omega (arith, same))
@@ -67,7 +67,7 @@ number_of_eight (a ∷ b ∷ c ∷ d ∷ e ∷ f ∷ g ∷ h ∷ i ∷ more) sam
 pub eights_compare : (x y : List ℕ) → length x ≡ 8 → length y ≡ 8 → AreLow x → AreLow y → nat_cmp (from_be_bytes w64 x) (from_be_bytes w64 y) ≡ slice_cmp nat_cmp x y
 eights_compare x y p q low high = ap₂ nat_cmp (number_of_eight x p) (number_of_eight y q) ∙ numbers_compare 0 0 x y (p ∙ sym q) low high
 
--- what lies behind numbers that differ decides nothing, and numbers that are the same leave it to decide
+-- what follows numbers that differ decides nothing, and what follows equal numbers decides
 pub then_apart : (m n : ℕ) (p : Ordering) → (m ≡ n → ⊥) → ordering_then (nat_cmp m n) p ≡ nat_cmp m n
 then_apart m n p apart = by (nat_cmp m n) (ranked m n _ refl)
   where
@@ -79,7 +79,7 @@ then_apart m n p apart = by (nat_cmp m n) (ranked m n _ refl)
 pub then_same : (m n : ℕ) (p : Ordering) → m ≡ n → ordering_then (nat_cmp m n) p ≡ p
 then_same m n p same = ap (λ o. ordering_then o p) (sym (nat_cmp_is m n Equal same))
 
--- the first eight octets of both, and what is behind them
+-- the first eight octets of both, and what follows them
 pub eights_first : (m n : ℕ) (a b x y more others : List ℕ) → m ≡ from_be_bytes w64 x → n ≡ from_be_bytes w64 y → AreLow a → AreLow b → (x ≡ take 8 a) × (more ≡ drop 8 a) × (length more + 8 ≡ length a) → (y ≡ take 8 b) × (others ≡ drop 8 b) × (length others + 8 ≡ length b)
     → slice_cmp nat_cmp a b ≡ ordering_then (nat_cmp m n) (slice_cmp nat_cmp more others)
 eights_first m n a b x y more others is_m is_n low high p q =

@@ -14,7 +14,8 @@ Has (s ∷ records) r = (r ≡ s) ⊎ Has records r
 abbrev pub SameRecords : List Record → List Record → Type 0
 SameRecords records others = (r : Record) → Has records r ↔ Has others r
 
--- the type that an RRSIG covers, the first two octets of its data (RFC 4034 3); of other types nothing
+-- the type that an RRSIG covers, the first two octets of its data (RFC 4034 3); of other types
+-- nothing
 abbrev pub covered_octets : Data → List ℕ
 covered_octets d = if d.kind == 46 then take 2 d.octets else []
 
@@ -24,8 +25,8 @@ pub record InOneSet (r s : Record) : Type 0 where
   pub kind : r.kind ≡ s.kind
   pub covers : covered_octets (data_of r) ≡ covered_octets (data_of s)
 
--- what records have in common that stand together: one class, one TTL in each set, one SOA at the most.
--- A set of records is kept as its one strictly ascending list.
+-- what records have in common that stand together: one class, one TTL in each set, one SOA at
+-- most. A set of records is kept as its one strictly ascending list.
 pub record AreCompatible (records : List Record) : Type 0 where
   pub each : AllByRecursion IsRecord records
   pub ascend : Ascends records
@@ -38,8 +39,8 @@ pub record Zone : Type 0 where
   pub class : ℕ
   pub records : List Record
 
--- The records are of the zone's class, exactly one is an SOA and its owner is the apex, and every owner lies at or
--- below the apex.
+-- The records are of the zone's class, exactly one is an SOA and its owner is the apex, and every
+-- owner lies at or below the apex.
 pub record IsZone (z : Zone) : Type 0 where
   pub compatible : AreCompatible z.records
   pub class : AllByRecursion (λ r. r.class ≡ z.class) z.records

@@ -41,10 +41,10 @@ impl ZoneBuilder {
     ///
     /// # Errors
     ///
-    /// `Refused` at the record's place: `ClassMismatch` where its class isn't that of the records held;
-    /// `MultipleSoa` where it is an SOA and one is held that differs in owner or data; `DifferingTtl` where a record
-    /// of its set has another TTL. `Memory` where memory was refused. The builder is unchanged, and the record
-    /// comes back.
+    /// `Refused` at the record's place: `ClassMismatch` where its class isn't that of the records
+    /// held; `MultipleSoa` where it is an SOA and one is held that differs in owner or data;
+    /// `DifferingTtl` where a record of its set has another TTL. `Memory` where memory was refused.
+    /// The builder is unchanged, and the record comes back.
     pub fn add(&mut self, placed: Placed) -> Result<(), (Stop, Placed)>
         ensures accepted { OnOk result (Accepts self.old placed.rr) }
         ensures taken { OnOk result (Adds self.old placed.rr self.new) }
@@ -58,25 +58,27 @@ impl ZoneBuilder {
         }
     }
 
-    /// `add` for a record that is lent, which answers without handing it back.
+    /// `add` for a borrowed record, which is not handed back.
     fn hold(&mut self, placed: &Placed) -> Result<(), Refusal>
         ensures accepted { OnOk result (Accepts self.old placed.now.rr) }
         ensures taken { OnOk result (Adds self.old placed.now.rr self.new) }
-        ensures refused { IfErr result (λ e. StopsAdd self.old placed.now (stop_for e placed.now.place)) }
+        ensures refused { IfErr result
+            (λ e. StopsAdd self.old placed.now (stop_for e placed.now.place)) }
         ensures unchanged { OnErr result (self.new ≡ self.old) }
     {
         self.sets.add(self.alloc, &placed.rr)
     }
 
-    /// Takes all that a source still has to give.
+    /// Takes all that a source has left to give.
     ///
     /// # Errors
     ///
-    /// The first refusal of `add`, or the fault at the source's end; `Memory` where memory was refused or the source
-    /// has failed. The records before it are held, and the one that was refused is dropped: the source has those behind it
-    /// left. Nothing else of the source changes.
+    /// The first refusal of `add`, or the fault at the source's end; `Memory` where memory was
+    /// refused or the source has failed. The records before it are held, and the one that was
+    /// refused is dropped: the source has those after it left. Nothing else of the source changes.
     pub fn take_all<S: RrSource>(&mut self, source: &mut S) -> Result<(), Stop>
-        ensures taken { OnOk result (TakesAll self.old (S.pending source.old) self.new (S.pending source.new)) }
+        ensures taken { OnOk result
+            (TakesAll self.old (S.pending source.old) self.new (S.pending source.new)) }
         ensures stopped { IfErr result
             (StopsTaking self.old (S.pending source.old) self.new (S.pending source.new)) }
         ensures beside { S.beside source.new ≡ S.beside source.old }
@@ -98,8 +100,8 @@ impl ZoneBuilder {
     ///
     /// # Errors
     ///
-    /// `Refused` at the input as a whole: `NoSoa` where no SOA is held, `OutOfZone` with the least owner that lies
-    /// outside the zone.
+    /// `Refused` at the input as a whole: `NoSoa` where no SOA is held, `OutOfZone` with the least
+    /// owner that lies outside the zone.
     #[tactic(auto, using(crate::proofs::Finishing::stops_with_none, crate::proofs::Finishing::stops_outside))]
     pub fn finish(self) -> Result<Zone, Stop>
         ensures compatible { AreCompatible self }

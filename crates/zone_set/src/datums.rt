@@ -11,7 +11,7 @@ use std::alloc::{AllocError, AllocFailed, Global};
 use std::cmp::Ordering;
 use std::collections::{BTreeSet, btree_set};
 
-/// How many data a list holds at most: to go over so many costs no more than to go down a tree.
+/// How many data a list holds at most: to go over so many costs no more than a look-up in a tree.
 const FEW: usize = 15;
 
 /// The data of a set in ascending order: without a block of their own, in a list, or in a tree.
@@ -22,7 +22,7 @@ pub(crate) enum Datums {
     Many(BTreeSet<Datum>),
 }
 
-/// The data of a set that are still to come, in ascending order.
+/// The data of a set that are left, in ascending order.
 #[derive(Drop)]
 pub(crate) enum DatumIter<'z> {
     One(&'z Datum),
@@ -136,7 +136,7 @@ fn place_of(few: &[Datum], datum: &Datum) -> Option<usize>
     Some(few.len())
 }
 
-/// A list with a datum at a place.
+/// A list with a datum inserted at an index.
 ///
 /// # Errors
 ///

@@ -43,7 +43,8 @@ impl Held {
         }
     }
 
-    /// Takes the datum of a record with this TTL, and tells whether it is new. An equal one is dropped.
+    /// Takes the datum of a record with this TTL, and tells whether it is new. An equal one is
+    /// dropped.
     ///
     /// # Errors
     ///
@@ -51,7 +52,8 @@ impl Held {
     pub(crate) fn add(&mut self, alloc: Global, ttl: u32, datum: Datum) -> Result<bool, Refusal>
         ensures told { IfOk result (λ is_new. IsTrue is_new ↔ IsNew (Some self.old) datum) }
         ensures one_ttl { OnOk result (self.old.ttl ≡ ttl) }
-        ensures taken { OnOk result (self.new ≡ with_datum (Some self.old) ttl self.old.kind datum) }
+        ensures taken { OnOk result
+            (self.new ≡ with_datum (Some self.old) ttl self.old.kind datum) }
         ensures refused { IfErr result (IsSetRefusal (Some self.old) ttl) }
         ensures unchanged { OnErr result (self.new ≡ self.old) }
     {

@@ -15,8 +15,8 @@ use zone_rdata::{Kind, Rdata};
 /// The type number of RRSIG (RFC 4034 3).
 const RRSIG: u16 = 46;
 
-/// The key of a set of records (RFC 2181 5, RFC 4034 3): octets whose plain order is the order of sets. Contracts see
-/// the set.
+/// The key of a set of records (RFC 2181 5, RFC 4034 3): octets whose plain order is the order of
+/// sets. Contracts see the set.
 #[derive(Drop)]
 pub(crate) struct SetKey {
     octets: Vec<u8>,
@@ -178,7 +178,7 @@ fn push_escaped(octet: u8, out: &mut Vec<u8>) -> Result<(), AllocError>
     Ok(())
 }
 
-/// Appends the octets of a type covered, each behind a 1, and their end.
+/// Appends the octets of a type covered, each after a 1, and their end.
 fn push_covered(octets: &[u8], out: &mut Vec<u8>) -> Result<(), AllocError>
     ensures { OnOk result (out.new.items ≡ out.old.items ++ covered_key octets.now) }
 {

@@ -5,7 +5,8 @@ ghost use Rattle.std.specs.Ordering.{nat_cmp};
 
 use std::cmp::Ordering;
 
-/// How octets lie as unsigned strings, a missing octet first. Mostly the first eight tell, which are compared as numbers.
+/// How octets lie as unsigned strings, a missing octet first. Mostly the first eight tell, which
+/// are compared as numbers.
 pub(crate) fn octet_order(a: &[u8], b: &[u8]) -> Ordering
     ensures { result ≡ slice_cmp nat_cmp a.now b.now }
 {

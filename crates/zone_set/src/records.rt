@@ -20,7 +20,7 @@ pub(crate) struct Told<'z> {
     pub(crate) left: DatumIter<'z>,
 }
 
-/// The records of a zone that are still to come, in canonical order.
+/// The records of a zone that are left, in canonical order.
 #[derive(Drop)]
 pub struct Records<'z> {
     pub(crate) class: Option<Class>,

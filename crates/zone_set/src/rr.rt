@@ -3,7 +3,7 @@ ghost use Rattle.std.specs.Prelude.{◌≡◌};
 use zone_name::NameRef;
 use zone_rdata::{Class, Kind, RdataRef};
 
-/// A record of a zone, lent (RFC 1035 3.2.1).
+/// A borrowed record of a zone (RFC 1035 3.2.1).
 #[derive(Drop)]
 pub struct RrRef<'z> {
     /// The name at which the record stands.

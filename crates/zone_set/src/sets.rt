@@ -81,7 +81,8 @@ impl Sets {
         len
     }
 
-    /// The octets that the records take in messages where no name is compressed, or 2^64 - 1 where they are more.
+    /// The octets that the records take in messages where no name is compressed, or 2^64 - 1 where
+    /// they are more.
     pub(crate) fn message_len(&self) -> u64
         ensures { result ≡ min (message_octets self.now) (2 ^ 64 - 1) }
     {
@@ -105,8 +106,9 @@ impl Sets {
         None
     }
 
-    /// Whether the first owner, the least behind it and the greatest show that all lie within the zone of an apex: in
-    /// the order of names those at or below an apex stand together, and behind an SOA sets are in that order.
+    /// Whether the first owner, the least after it and the greatest show that all lie within the
+    /// zone of an apex: in the order of names those at or below an apex stand together, and after
+    /// an SOA sets are in that order.
     fn lies_within(&self, apex: &Name) -> bool
         ensures { IsTrue result → AllByRecursion (λ r. IsWithin r.owner apex.now) self.now }
     {
@@ -121,7 +123,8 @@ impl Sets {
     ///
     /// # Errors
     ///
-    /// The first reason against it: class, then SOA, then TTL; or want of memory. Nothing is changed.
+    /// The first reason against it: class, then SOA, then TTL; or want of memory. Nothing is
+    /// changed.
     pub(crate) fn add(&mut self, alloc: Global, rr: &Rr) -> Result<(), Refusal>
         ensures accepted { OnOk result (Accepts self.old rr.now) }
         ensures taken { OnOk result (Adds self.old rr.now self.new) }
@@ -208,7 +211,7 @@ fn len_in_messages(rr: &Rr) -> u64
 {
     let owner = rr.owner();
     owner.known();
-    // Behind the owner type, class, TTL and the length of the data.
+    // After the owner type, class, TTL and the length of the data.
     owner.wire().len() as u64 + 10 + rr.rdata().octets().len() as u64
 }
 
@@ -226,7 +229,8 @@ fn put(
     kind: Kind,
     datum: Datum,
 ) -> Result<bool, Refusal>
-    ensures told { IfOk result (λ is_new. IsTrue is_new ↔ IsNew (get set_cmp by_key.old key) datum) }
+    ensures told { IfOk result
+        (λ is_new. IsTrue is_new ↔ IsNew (get set_cmp by_key.old key) datum) }
     ensures taken { OnOk result (by_key.new.entries
         ≡ insert_entry set_cmp by_key.old.entries key
         (with_datum (get set_cmp by_key.old key) ttl kind datum)) }

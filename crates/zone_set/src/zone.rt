@@ -48,8 +48,8 @@ impl Zone {
         self.sets.len()
     }
 
-    /// The octets that its records take in messages where no name is compressed (RFC 1035 3.2.1), or 2^64 - 1 where
-    /// they are more.
+    /// The octets that its records take in messages where no name is compressed (RFC 1035 3.2.1),
+    /// or 2^64 - 1 where they are more.
     pub fn message_len(&self) -> u64
         ensures len { result ≡ min (message_octets self.now.records) (2 ^ 64 - 1) }
         ensures zone { IsZone self.now }

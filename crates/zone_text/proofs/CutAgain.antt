@@ -1,4 +1,4 @@
--- The entries that line feeds have ended, cut out of their pieces again, whatever comes behind them.
+-- The entries that line feeds have ended, cut out of their tokens again, whatever follows them.
 use Rattle.std.proofs.Common.{◌≡◌, ℕ, zero, suc, ◌+◌, ◌<◌, List, [], ◌∷◌, ◌++◌, length, ◌==◌, Some, refl, ap, ◌∙◌, arith, append_assoc}
 use Rattle.std.specs.List.{flat_map, AllByRecursion, count_by}
 use Rattle.zone_text.specs.Pieces.{Piece, blank, opening, closing, line_feed, comment, bare, quoted, text, depth_after}
@@ -8,7 +8,7 @@ use Rattle.zone_text.specs.Entries.{Entry, entry_of, in_front, in_front_of, endi
 abbrev pub joined : List (List Piece) → List Piece
 joined entries = flat_map (λ (e : List Piece). e) entries
 
--- ---- the ended entries and the open pieces are all pieces
+-- ---- the ended entries and the open tokens are all tokens
 
 front_whole : (p : Piece) (ended : List (List Piece)) (others pieces : List Piece) → joined ended ++ others ≡ pieces → joined (in_front p ended others).ended ++ (in_front p ended others).open_pieces ≡ p ∷ pieces
 front_whole p [] others pieces e = ap (λ t. p ∷ t) e
@@ -32,12 +32,13 @@ cut_whole (suc depth) (bare u ∷ pieces) = front_whole (bare u) (cut_from (suc 
 cut_whole zero (quoted u ∷ pieces) = front_whole (quoted u) (cut_from zero pieces).ended _ _ (cut_whole zero pieces)
 cut_whole (suc depth) (quoted u ∷ pieces) = front_whole (quoted u) (cut_from (suc depth) pieces).ended _ _ (cut_whole (suc depth) pieces)
 
--- ---- ended entries: cut again with more behind them they are the first, they end in a line feed, at depth zero
+-- ---- ended entries: cut again with more after them they are the first, they end in a line feed,
+-- at depth zero
 
 abbrev EachSome : List (List Piece) → Type 0
 EachSome ended = AllByRecursion (λ entry. 0 < length entry) ended
 
--- entries, the first of them from a depth on, that stay the same whatever comes behind them
+-- entries, the first of them from a depth on, that stay the same whatever follows them
 pub record AreEnded (depth : ℕ) (ended : List (List Piece)) : Type 0 where
   pub each : EachSome ended
   pub ends : EndInLineFeed (joined ended)
@@ -97,7 +98,7 @@ cut_ended (suc depth) (bare u ∷ pieces) = front_ended (suc depth) (suc depth) 
 cut_ended zero (quoted u ∷ pieces) = front_ended zero zero (quoted u) (cut_from zero pieces).ended _ (λ ps. refl) (cut_ended zero pieces)
 cut_ended (suc depth) (quoted u ∷ pieces) = front_ended (suc depth) (suc depth) (quoted u) (cut_from (suc depth) pieces).ended _ (λ ps. refl) (cut_ended (suc depth) pieces)
 
--- the ended entries of pieces are the first where others stand behind them
+-- the ended entries of tokens are the first where others follow them
 pub cut_again : (pieces more : List Piece) → cut_from zero (joined (cut_from zero pieces).ended ++ more) ≡ record { ended = (cut_from zero pieces).ended ++ (cut_from zero more).ended; open_pieces = (cut_from zero more).open_pieces }
 cut_again pieces more = again_zero (cut_from zero pieces).ended more (cut_ended zero pieces)
 
@@ -138,7 +139,7 @@ pub and_last_behind : (ended more : List (List Piece)) (others : List Piece) →
 and_last_behind ended more [] = refl
 and_last_behind ended more (p ∷ others) = append_assoc ended more ((p ∷ others) ∷ [])
 
--- entries with others behind them have the lines that they have by themselves
+-- entries with others after them have the lines that they have by themselves
 pub numbered_front : (line : ℕ) (ended more : List (List Piece)) → (others : List Entry) × (numbered line (ended ++ more) ≡ numbered line ended ++ others)
 numbered_front line [] more = (numbered line more, refl)
 numbered_front line (entry ∷ ended) more =

@@ -11,9 +11,9 @@ use Rattle.zone_text.specs.Machine.Cutting.{Front, takes, stops, front_of, depth
 use Rattle.zone_name.proofs.Units.{NoUnit, at_end, at_octet, at_backslash, first_of_unit, first_of_none}
 use Rattle.zone_text.proofs.Fronts.{EndsComment, Stops, HasRoom, Takes, Ends, IsFront, front_is, front_takes, front_stops}
 
--- ---- which piece may stand behind which, by the octets
+-- ---- which token may follow which, by the octets
 
--- a written octet stands at the front
+-- a written octet stands at the beginning
 unit_stands : (units : List Written) (rest : List ℕ) → IsPiece (bare units) → NoUnit ends_item (written_text units ++ rest) → ⊥
 unit_stands [] rest is none = omega (arith, is.0)
 unit_stands (w ∷ units) rest is none =
@@ -85,7 +85,7 @@ behind (comment octets) q rest is may = behind_comment octets q rest may
 behind (bare units) q rest is may = behind_bare units q rest is may
 behind (quoted units) q rest is may = tt
 
--- ---- what may stand behind the last piece
+-- ---- what may follow the last token
 
 ends_bare : (depth : ℕ) (rest : List ℕ) (fault : Fault) → IsBroken depth rest fault → NoUnit ends_item rest
 ends_bare depth rest fault (closes_nothing after e whole) = at_octet 41 after whole refl
@@ -150,7 +150,7 @@ room_of depth at (quoted units) pieces e = tt
 
 -- ---- the whole text
 
--- from a depth on, the text is these pieces, and behind them it ends or breaks
+-- from a depth on, the text is these tokens, and after them it ends or breaks
 pub record IsCut (depth : ℕ) (octets : List ℕ) (pieces : List Piece) (fault : Option Fault) : Type 0 where
   pub rest : List ℕ
   pub at : ℕ
@@ -181,7 +181,7 @@ follow_on p [] rest after stop whole each follow = tt
 follow_on p (q ∷ pieces) rest after stop whole each follow =
     (follows p q (text pieces ++ after) each.0 (subst (Stops p) (whole ∙ append_assoc (piece_text q) (text pieces) after) stop), follow)
 
--- only the last piece matters
+-- only the last token matters
 pub last_same : (p q : Piece) (pieces : List Piece) (after : List ℕ) → MayEndBefore (p ∷ q ∷ pieces) after ≡ MayEndBefore (q ∷ pieces) after
 last_same (blank c) q pieces after = refl
 last_same line_feed q pieces after = refl
@@ -235,7 +235,7 @@ unfolding cut_by
 cut_is zero depth octets enough = absurd (omega arith)
 cut_is (suc n) depth octets enough = cut_by_front depth octets (cut_by n) (front_of depth octets) (front_is depth octets) (λ at rest less. cut_is n at rest (omega arith))
 
--- what stands behind a piece ends it
+-- what follows a token ends it
 stop_of : (p : Piece) (pieces : List Piece) (depth : ℕ) (after : List ℕ) (fault : Option Fault) → AllByRecursion IsPiece pieces → AllFollow (p ∷ pieces) → MayEndBefore (p ∷ pieces) after → Ends depth after fault → Stops p (text pieces ++ after)
 stop_of p [] depth after fault each follow last ends = stops_at_end p depth after fault ends last
 stop_of p (q ∷ pieces) depth after fault each follow last ends =

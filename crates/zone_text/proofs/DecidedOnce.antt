@@ -45,7 +45,7 @@ unfinished_once octets a b x y =
     let same : y.pieces ≡ x.pieces = pieces_of octets y.pieces x.pieces y.are x.are in
     append_cancel_left (flat_map text (cut_from zero x.pieces).ended) a b (sym x.whole ∙ y.whole ∙ ap (λ p. flat_map text (cut_from zero p).ended ++ b) same)
 
--- ---- the entries of pieces one behind the other
+-- ---- the entries of tokens one after the other
 
 all_ended : (pieces : List Piece) → (cut_from zero pieces).open_pieces ≡ [] → pieces ≡ joined (cut_from zero pieces).ended
 all_ended pieces none = sym (cut_whole zero pieces) ∙ ap (λ t. joined (cut_from zero pieces).ended ++ t) none ∙ append-nil (joined (cut_from zero pieces).ended)

@@ -1,4 +1,4 @@
--- What is decided of a prefix stays, whatever octets come behind it.
+-- What is decided of a prefix stays, whatever octets follow it.
 use Rattle.std.proofs.Common.{◌≡◌, ℕ, zero, List, [], ◌∷◌, ◌++◌, Some, None, inl, inr, sym, ◌∙◌, ap, subst, append_assoc}
 use Rattle.std.proofs.lemmas.List.{append-nil}
 use Rattle.zone_rdata.specs.declared.fault.Fault.{Fault}
@@ -18,7 +18,7 @@ use Rattle.zone_text.proofs.CutAgain.{joined, cut_whole, cut_ended, cut_again, e
 use Rattle.zone_text.proofs.Entered.{record_once, fault_once, record_or_fault, nothing_or_record, nothing_or_fault}
 use Rattle.zone_text.proofs.Files.{reads_once, one_more}
 
--- ---- the readings of entries and of the same with others behind them
+-- ---- the readings of entries and of the same with others after them
 
 one_front : (p q : Placed) (a b more others rest : List Placed) → p.rr ≡ q.rr → p.place ≡ q.place → a ≡ p ∷ more → b ≡ q ∷ others → others ≡ more ++ rest → b ≡ a ++ rest
 one_front p q a b more others rest rr place x y e =
@@ -56,7 +56,7 @@ reads_on lower origin behind before (entry ∷ entries) others a b e f (refused 
   fault = λ found is. (s ∙ sym u, same_end fault other entry.line e f (fault_once lower origin before entry fault other h k) v t);
 }
 
--- ---- the pieces of a prefix and of a text that goes on
+-- ---- the tokens of a prefix and of a text that goes on
 
 -- the ended entries of a prefix stand by themselves before what is left of it
 pub record IsParted (octets : List ℕ) (pieces : List Piece) : Type 0 where
@@ -80,7 +80,7 @@ pub parted : (octets : List ℕ) (pieces : List Piece) → ArePieces octets piec
 parted octets pieces (inl cut) = parted_cut octets pieces cut
 parted octets pieces (inr (fault, breaks)) = parted_break octets pieces fault breaks
 
--- the pieces of a text that goes on are those of the ended entries of its front, and others
+-- the tokens of a text that goes on are those of the ended entries of its beginning, and others
 abbrev pub GoesOn : List Piece → List Piece → Type 0
 GoesOn pieces all = (others : List Piece) × (all ≡ joined (cut_from zero pieces).ended ++ others)
 
@@ -104,7 +104,7 @@ goes_on octets more pieces all x y =
     let split : octets ++ more ≡ text (joined (cut_from zero pieces).ended) ++ (front.rest ++ more) = ap (λ t. t ++ more) front.parted ∙ append_assoc (text (joined (cut_from zero pieces).ended)) front.rest more in
     (behind.0, pieces_of (octets ++ more) all (joined (cut_from zero pieces).ended ++ behind.0) y (rw split (behind.1)))
 
--- so its entries are the ended ones of the front, and others
+-- so its entries are the ended ones of the beginning, and others
 pub ended_on : (pieces all : List Piece) → GoesOn pieces all → (others : List Entry) × (ended_entries all ≡ ended_entries pieces ++ others)
 ended_on pieces all (others, e) =
     let more = numbered_front 1 (cut_from zero pieces).ended (cut_from zero others).ended in

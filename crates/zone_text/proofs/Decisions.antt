@@ -1,4 +1,5 @@
--- What is decided of octets by what those before them left, and what is read of a file that ends there.
+-- What is decided of octets by what those before them left, and what is read of a file that ends
+-- there.
 use Rattle.std.proofs.Common.{◌≡◌, ℕ, zero, ◌+◌, List, [], ◌∷◌, ◌++◌, Some, None, refl, sym, ap, ◌∙◌, subst, inl, inr}
 use Rattle.std.specs.List.{flat_map}
 use Rattle.std.specs.Prelude.{reverse}
@@ -27,13 +28,13 @@ use Rattle.zone_text.proofs.Left.{line_feeds, reads_then, refused_before, reads_
 abbrev pub ReadsEnded : List (List ℕ) → Ending → List (List Piece) → List Placed → Ending → Type 0
 ReadsEnded origin behind ended placed ending = ReadEach origin behind [] (numbered 1 ended) placed ending
 
--- the line behind ended entries
+-- the line after ended entries
 abbrev pub line_behind : List (List Piece) → ℕ
 line_behind ended = 1 + line_feeds (flat_map text ended)
 
 -- ---- no fault is decided so far
 
--- what comes behind entries without a fault is the end
+-- what follows entries without a fault is the end
 no_fault_behind : (origin : List (List ℕ)) (behind : Ending) (before entries : List Entry) (placed : List Placed) → ReadEach origin behind before entries placed None → behind ≡ None
 no_fault_behind origin behind before [] placed read = sym read.1
 no_fault_behind origin behind before (entry ∷ entries) placed (gives_none n read) = no_fault_behind origin behind (entry ∷ before) entries placed read
@@ -110,7 +111,7 @@ fault_is_read origin octets placed found (undecided pieces (inl cut) none read) 
     let on = ended_entries_first pieces in
     whole pieces cut (subst (λ t. ReadEach origin None [] t placed (Some found)) (sym on.1) (refused_before origin None [] (ended_entries pieces) on.0 placed found read))
 
--- the octets behind the ended entries are the last entry
+-- the octets after the ended entries are the last entry
 open_alone : (pieces : List Piece) → (cut_from zero pieces).ended ≡ [] → (cut_from zero pieces).open_pieces ≡ pieces
 open_alone pieces none = sym (ap (λ t. joined t ++ (cut_from zero pieces).open_pieces) none) ∙ cut_whole zero pieces
 

@@ -1,4 +1,4 @@
--- `$ORIGIN` and `$TTL` read behind known defaults.
+-- `$ORIGIN` and `$TTL` read after known defaults.
 use Rattle.std.proofs.Common.{◌≡◌, ℕ, List, [], ◌∷◌, Some, refl, sym, ap, ◌∙◌, subst}
 use Rattle.zone_name.specs.Common.{Labels}
 use Rattle.zone_rdata.specs.Item.{RawItem, bare, quoted}

@@ -1,4 +1,5 @@
--- An entry behind others that state nothing or a record states nothing or a record itself, or has a first fault.
+-- An entry after others that state nothing or a record states nothing or a record itself, or has a
+-- first fault.
 use Rattle.std.proofs.Common.{◌≡◌, ℕ, ◌<◌, Bool, true, false, if◌then◌else◌, List, [], ◌∷◌, ◌++◌, Option, Some, None, MatchOption, ◌⊎◌, inl, inr, refl, sym, ◌∙◌, subst, arith}
 use Rattle.std.specs.List.{AllByRecursion}
 use Rattle.std.proofs.lemmas.Bool.{cases_lt, cases_eq}

@@ -1,4 +1,4 @@
--- An entry read behind others: what it states, or its fault.
+-- An entry read after others: what it states, or its fault.
 use Rattle.std.proofs.Common.{◌≡◌, ℕ, ◌+◌, ◌≤◌, List, [], ◌∷◌, length, None, Result, Ok, Err, refl, sym, ap, ◌∙◌, arith}
 use Rattle.std.proofs.lemmas.List.{append-nil}
 use Rattle.zone_name.specs.Common.{Labels}
@@ -21,12 +21,12 @@ use Rattle.zone_text.specs.Machine.Feeding.{ReadsEntry, ReadsOctets}
 use Rattle.zone_text.specs.Pieces.{Piece, Cuts, text}
 use Rattle.zone_text.proofs.Left.{line_feeds}
 
--- what octets decide as the entry behind others, whatever these are
+-- what octets decide as the entry after others, whatever these are
 abbrev pub DecidesOctets : List ℕ → Place → Defaults → Reading → Reading → Defaults → Type 0
 DecidesOctets octets place d old new next =
     (origin : Labels) (before : List Entry) (line : ℕ) (pieces : List Piece) → AreDefaults origin before d → Cuts octets pieces → DecidesEntry origin before (entry_of line pieces) place old new next
 
--- the line behind octets
+-- the line after octets
 pub record IsLineBehind (octets : List ℕ) (old new : EndedEntries) : Type 0 where
   pub count : new.line ≡ old.line + line_feeds octets
   pub few : line_feeds octets ≤ length octets

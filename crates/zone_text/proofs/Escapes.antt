@@ -1,4 +1,4 @@
--- Backslashes that begin no escape, by what stands behind them.
+-- Backslashes that begin no escape, by what follows them.
 use Rattle.std.proofs.Common.{◌≡◌, ℕ, true, false, List, [], ◌∷◌, ◌++◌, refl, sym, ◌∙◌, subst, ◌⊎◌, inl, inr}
 use Rattle.std.proofs.lemmas.Bool.{cases_Bool, cases_eq, cases_lt}
 use Rattle.std.proofs.lemmas.List.{append-nil}
@@ -14,7 +14,7 @@ use Rattle.zone_text.proofs.Lasting.{lost_escape}
 abbrev Malformed : List ℕ → Type 0
 Malformed rest = IsLostEscape rest ⊎ IsCutOff rest
 
--- no written octet stands at the front
+-- no written octet stands at the beginning
 abbrev NoneWritten : List ℕ → Type 0
 NoneWritten rest = (w : Written) (after : List ℕ) → IsEscape w → rest ≡ text_of w ++ after → ⊥
 

@@ -98,7 +98,7 @@ ns_fits owner class ttl good is short = record {
   };
 }
 
--- an entry of `NS` and a text for `n.x.`, behind words and an owner
+-- an entry of `NS` and a text for `n.x.`, after words and an owner
 pub states_server_by : (text : List ℕ) (origin : List (List ℕ)) (before : List Entry) (entry : Entry) (owner above : List (List ℕ)) (class ttl : ℕ) (words : List Word) → text ≢ codes "\\#" → Spells (Some above) text (under 110 x) → parts_of entry ≡ Some (record { words = words; rest = bare (codes "NS") ∷ bare text ∷ [] }) → IsOwner origin before (form_of entry) owner → AllByRecursion HasValue words → HasClass before entry class → IsOrigin origin before above → HasTtl origin before entry ttl → IsName owner → IsClass class → ttl ≤ 2147483647 → StatesRecord origin before entry (ns owner class ttl)
 states_server_by text origin before entry owner above class ttl words not_mark spells split owns values has under_it lasts good is short = record {
   items = bare text ∷ [];

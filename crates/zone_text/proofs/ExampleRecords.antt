@@ -40,7 +40,7 @@ is_soa = by_mnemonic (record { name = codes "SOA"; row = refl; same = refl })
 soa_kind : IsKind 6
 soa_kind = record { short = lit< tt; stored = refl }
 
--- the items behind the type's word, the last of them the MINIMUM, and what they spell
+-- the items after the type's word, the last of them the MINIMUM, and what they spell
 abbrev pub soa_items : List ℕ → List RawItem
 soa_items text = bare (codes "n") ∷ bare (codes "h") ∷ bare (codes "1") ∷ bare (codes "2") ∷ bare (codes "3") ∷ bare (codes "4") ∷ bare text ∷ []
 
@@ -157,7 +157,7 @@ address_fits owner ttl good short = record {
   };
 }
 
--- an entry of the items `A 10.0.0.1` behind words and an owner
+-- an entry of the items `A 10.0.0.1` after words and an owner
 pub states_address : (before : List Entry) (entry : Entry) (owner : List (List ℕ)) (ttl : ℕ) (words : List Word) → parts_of entry ≡ Some (record { words = words; rest = bare (codes "A") ∷ bare (codes "10.0.0.1") ∷ [] }) → IsOwner x before (form_of entry) owner → AllByRecursion HasValue words → HasClass before entry 1 → IsOrigin x before x → HasTtl x before entry ttl → IsName owner → ttl ≤ 2147483647 → StatesRecord x before entry (address owner ttl)
 states_address before entry owner ttl words split owns values has under_it lasts good short = record {
   items = bare (codes "10.0.0.1") ∷ [];

@@ -13,7 +13,7 @@ use Rattle.zone_text.proofs.Followed.{follow_fault}
 use Rattle.zone_text.proofs.PartTaken.{FollowsOn}
 use Rattle.zone_text.proofs.Scanned.{stops_at, takes_front, unfinished_depth}
 
--- so far a front of the piece was taken
+-- so far the beginning of the piece was taken
 pub record HasFed (old new : Intake) (piece rest : List ℕ) : Type 0 where
   pub front : List ℕ
   pub whole : piece ≡ front ++ rest
@@ -38,7 +38,7 @@ pub fed_all : (old new : Intake) (piece rest : List ℕ) → HasFed old new piec
 fed_all old new piece rest before none origin fed given f =
     subst (λ t. Follow origin new.ended new.unfinished.items (fed ++ t) given) (sym (append-nil before.front) ∙ ap (λ t. before.front ++ t) (sym none) ∙ sym before.whole) (before.follow origin fed given f)
 
--- or a front behind which a fault is decided
+-- or the beginning of it, after which a fault is decided
 pub fed_fault : (old new : Intake) (piece rest : List ℕ) (found : Fault × Place) → HasFed old new piece rest → new.ended.decided.ending ≡ Some found → FollowsOn old.ended old.unfinished.items new.ended new.unfinished.items piece
 fed_fault old new piece rest found before ending origin fed given f =
     subst (λ t. Follow origin new.ended new.unfinished.items t given) (append_assoc fed before.front rest ∙ ap (λ t. fed ++ t) (sym before.whole))

@@ -31,7 +31,7 @@ use Rattle.zone_text.proofs.Scanned.{goes_on, ends_entry, stays_open, loses_esca
 
 -- ---- what is left of the octets fed so far, entry by entry
 
--- the ended entries, the octets behind them, what they leave, and the records that they state
+-- the ended entries, the octets after them, what they leave, and the records that they state
 pub record IsRead (origin : Labels) (ended : List (List Piece)) (entries : EndedEntries) (unfinished fed : List ℕ) (given : List Placed) : Type 0 where
   pub parts : IsSplit fed ended unfinished
   pub defaults : AreDefaults origin (reverse (numbered 1 ended)) entries.defaults
@@ -51,7 +51,7 @@ is_read origin entries unfinished fed given none follow =
       },
     )
 
--- ---- the octets of the unfinished entry and others behind them
+-- ---- the octets of the unfinished entry and others after them
 
 pub scans_on : (at : ScanState) (unfinished part : List ℕ) (step : Step) → ScansTo beginning unfinished (On at) → ScansTo at part step → ScansTo beginning (unfinished ++ part) step
 scans_on at unfinished part step before behind =
@@ -86,7 +86,7 @@ follow_on origin entries at unfinished part fed given scanned none follow =
 reverse_more : (entries : List Entry) (entry : Entry) → reverse (entries ++ entry ∷ []) ≡ entry ∷ reverse entries
 reverse_more entries entry = reverse-append entries (entry ∷ [])
 
--- the entries behind one more
+-- the entries after one more
 numbered_more : (ended : List (List Piece)) (pieces : List Piece) → reverse (numbered 1 (ended ++ pieces ∷ [])) ≡ entry_of (line_behind ended) pieces ∷ reverse (numbered 1 ended)
 numbered_more ended pieces =
     ap reverse (numbered_then 1 ended (pieces ∷ [])) ∙ reverse_more (numbered 1 ended) (entry_of (line_behind ended) pieces)
@@ -116,19 +116,23 @@ left_behind origin ended old new unfinished part fed given pieces is one read no
       numbered = read.line none ∙ ap (λ n. n + line_feeds (text pieces)) is.line ∙ sym (line_more ended pieces) ∙ ap line_behind (sym all);
     }
 
-pub follow_entry : (origin : Labels) (old new : EndedEntries) (unfinished part fed : List ℕ) (given : List Placed) → ScansTo beginning (unfinished ++ part) Ends → old.decided.ending ≡ None → ReadsOctets (unfinished ++ part) old new → Follow origin old unfinished fed given → Follow origin new [] (fed ++ part) given
-follow_entry origin old new unfinished part fed given scanned none reads follow =
+pub follow_one : (origin : Labels) (old new : EndedEntries) (unfinished part fed : List ℕ) (given : List Placed) (pieces : List Piece) → IsOneEntry (unfinished ++ part) pieces → old.decided.ending ≡ None → ReadsOctets (unfinished ++ part) old new → Follow origin old unfinished fed given → Follow origin new [] (fed ++ part) given
+follow_one origin old new unfinished part fed given pieces one none reads follow =
     let found = is_read origin old unfinished fed given none follow in
     let ended : List (List Piece) = found.0 in
     let is : IsRead origin ended old unfinished fed given = found.1 in
-    let entry = ends_entry (unfinished ++ part) scanned in
-    let read : ReadsEntry origin (reverse (numbered 1 ended)) entry.0 old new = reads.reads origin (reverse (numbered 1 ended)) entry.0 is.defaults entry.1.cut in
-    let next : ReadEach origin None (reverse (numbered 1 ended)) (entry_of (line_behind ended) entry.0 ∷ []) read.others new.decided.ending = subst (λ n. ReadEach origin None (reverse (numbered 1 ended)) (entry_of n entry.0 ∷ []) read.others new.decided.ending) is.line read.read in
+    let read : ReadsEntry origin (reverse (numbered 1 ended)) pieces old new = reads.reads origin (reverse (numbered 1 ended)) pieces is.defaults one.cut in
+    let next : ReadEach origin None (reverse (numbered 1 ended)) (entry_of (line_behind ended) pieces ∷ []) read.others new.decided.ending = subst (λ n. ReadEach origin None (reverse (numbered 1 ended)) (entry_of n pieces ∷ []) read.others new.decided.ending) is.line read.read in
     let records : (given ++ old.decided.placed.items) ++ read.others ≡ given ++ new.decided.placed.items = append_assoc given old.decided.placed.items read.others ∙ ap (λ t. given ++ t) (sym read.records) in
     record {
-      decided = subst (λ t. Decided origin (fed ++ part) t new.decided.ending) records (one_entry_more origin fed part ended unfinished entry.0 (given ++ old.decided.placed.items) read.others new.decided.ending is.parts entry.1.cut entry.1.ended is.read next);
-      leave = left_behind origin ended old new unfinished part fed given entry.0 is entry.1 read;
+      decided = subst (λ t. Decided origin (fed ++ part) t new.decided.ending) records (one_entry_more origin fed part ended unfinished pieces (given ++ old.decided.placed.items) read.others new.decided.ending is.parts one.cut one.ended is.read next);
+      leave = left_behind origin ended old new unfinished part fed given pieces is one read;
     }
+
+pub follow_entry : (origin : Labels) (old new : EndedEntries) (unfinished part fed : List ℕ) (given : List Placed) → ScansTo beginning (unfinished ++ part) Ends → old.decided.ending ≡ None → ReadsOctets (unfinished ++ part) old new → Follow origin old unfinished fed given → Follow origin new [] (fed ++ part) given
+follow_entry origin old new unfinished part fed given scanned none reads follow =
+    let entry = ends_entry (unfinished ++ part) scanned in
+    follow_one origin old new unfinished part fed given entry.0 entry.1 none reads follow
 
 -- ---- the octets break for good
 

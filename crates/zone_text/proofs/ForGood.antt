@@ -37,7 +37,7 @@ lost_not_cut rest (too_great x y z more e is too all great) (behind_backslash f)
 lost_not_cut rest (too_great x y z more e is too all great) (behind_digit u f du) = cc
 lost_not_cut rest (too_great x y z more e is too all great) (behind_two_digits u v f du dv) = cc
 
--- what stands behind the quoted units of a text is one thing
+-- what follows the quoted units of a text is one thing
 behind_units : (units other : List Written) (after rest : List ℕ) → AllByRecursion (IsUnit is_quote) units → AllByRecursion (IsUnit is_quote) other → NoUnit is_quote after → NoUnit is_quote rest → written_text units ++ after ≡ written_text other ++ rest → after ≡ rest
 behind_units units other after rest each another none no_more e =
     ap (λ (found : Units). found.rest) (
@@ -89,7 +89,7 @@ stays_or_ends_alone rest (quoted_escape_stays other after another e lost) (quote
     let at : after ≡ more = behind_units other units after more another each (lost_begins_none after lost) (cut_off_begins_none more cut) same in
     lost_not_cut after lost (subst IsCutOff (sym at) cut)
 
--- ---- a break of a text whose rest behind its pieces is known
+-- ---- a break of a text whose rest after its tokens is known
 
 rest_is : (octets : List ℕ) (pieces : List Piece) (fault : Fault) (breaks : Breaks octets pieces fault) (rest : List ℕ) → octets ≡ text pieces ++ rest → rest ≡ breaks.rest
 rest_is octets pieces fault breaks rest e = append_cancel_left (text pieces) rest breaks.rest (sym e ∙ breaks.whole)

@@ -1,4 +1,4 @@
--- The piece at the front of a text: what is read is so, and what is so is read.
+-- The first token of a text: what is read is so, and what is so is read.
 use Rattle.std.proofs.Common.{◌≡◌, ◌≢◌, ℕ, zero, suc, ◌<◌, Bool, true, false, ◌||◌, ◌==◌, if◌then◌else◌, List, [], ◌∷◌, ◌++◌, Option, Some, None, refl, sym, ap, ◌∙◌, subst, arith, append_assoc}
 use Rattle.std.specs.List.{AllByRecursion}
 use Rattle.std.proofs.lemmas.Bool.{or_parts, eqb-true, eqb-false, ne_eqb, both_ways, cond_both}
@@ -85,9 +85,9 @@ sign_of_item c e =
     let p1 = or_parts (is_blank c) (c == 10) p2.0 in
     rw (p1.0, p1.1, p2.1, p3.1, p4.1, p5.1) refl
 
--- ---- the front of a text
+-- ---- the beginning of a text
 
--- a piece ends before what is behind it
+-- a token ends before what follows it
 abbrev pub Stops : Piece → List ℕ → Type 0
 Stops (bare units) rest = NoUnit ends_item rest
 Stops (comment octets) rest = EndsComment rest
@@ -171,7 +171,7 @@ end_is : (depth : ℕ) → IsFront depth [] (end_front depth)
 end_is zero = (refl, refl)
 end_is (suc depth) = not_closed (omega arith) refl
 
--- what is read at the front is so
+-- what is read at the beginning is so
 pub front_is : (depth : ℕ) (octets : List ℕ) → IsFront depth octets (front_of depth octets)
 unfolding front_of
 front_is depth [] = end_is depth

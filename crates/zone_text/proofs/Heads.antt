@@ -1,4 +1,4 @@
--- What a record states in front of its data, where the defaults are known.
+-- What a record states before its data, where the defaults are known.
 use Rattle.std.proofs.Common.{◌≡◌, ℕ, List, [], ◌∷◌, drop, map, Option, Some, None, MatchOption, refl, sym, ap, ◌∙◌, subst}
 use Rattle.std.specs.Prelude.{IsSomeAnd, unwrap_or}
 use Rattle.std.proofs.lemmas.List.{drop-map}

@@ -1,4 +1,5 @@
--- Running defaults are what the look back over the entries finds: one entry more, and the TTL that a record inherits.
+-- Running defaults are what the look back over the entries finds: one entry more, and the TTL that
+-- a record inherits.
 use Rattle.std.proofs.Common.{◌≡◌, ℕ, List, ◌∷◌, Option, Some, None, MatchOption, inl, inr, refl, sym, ap, ◌∙◌, subst}
 use Rattle.std.specs.Option.{option_or}
 use Rattle.std.specs.Prelude.{IsSomeAnd}

@@ -1,4 +1,5 @@
--- The items of pieces, gathered from the left: the piece at the front of a text, and the items of those behind it.
+-- The items of tokens, gathered from the left: the first token of a text, and the items of those
+-- after it.
 use Rattle.std.proofs.Common.{◌≡◌, ◌≢◌, ℕ, suc, ◌-◌, ◌<◌, ◌≤◌, min, if◌then◌else◌, Bool, true, false, ◌==◌, List, [], ◌∷◌, ◌++◌, length, take, drop, refl, sym, ap, ◌∙◌, subst, arith, append_assoc}
 use Rattle.std.specs.List.{flat_map, AllByRecursion}
 use Rattle.std.proofs.Math.Seq.{take-append_seam, drop-append_seam}
@@ -15,7 +16,7 @@ use Rattle.zone_text.specs.Pieces.{Piece, blank, opening, closing, line_feed, co
 use Rattle.zone_text.proofs.Cuttings.{follow_behind}
 use Rattle.zone_text.proofs.PieceEnds.{bare_ends, quoted_ends, item_len_of, comment_len_of}
 
--- ---- the first octet of a piece
+-- ---- the first octet of a token
 
 abbrev IsFirstOf : Piece → ℕ → Type 0
 IsFirstOf (blank d) c = is_blank c ≡ true
@@ -50,7 +51,7 @@ bare_text_some (plain d ∷ units) rest is e = cc
 bare_text_some (escaped d ∷ units) rest is e = cc
 bare_text_some (decimal x y z ∷ units) rest is e = cc
 
--- a piece has octets
+-- a token has octets
 piece_some : (p : Piece) (rest : List ℕ) → IsPiece p → [] ≡ piece_text p ++ rest → ⊥
 piece_some (blank d) rest is e = cc
 piece_some opening rest is e = cc
@@ -60,16 +61,16 @@ piece_some (comment octets) rest is e = cc
 piece_some (bare units) rest is e = bare_text_some units rest is e
 piece_some (quoted units) rest is e = cc
 
--- ---- the piece at the front by its first octet
+-- ---- the first token by its first octet
 
 tails : (c d : ℕ) (xs ys : List ℕ) → c ∷ xs ≡ d ∷ ys → xs ≡ ys
 tails c d xs ys e = cc
 
--- an item and what is behind the piece
+-- an item and what follows the token
 abbrev Front : List RawItem → List ℕ → Piece → List ℕ → Type 0
 Front raws left p rest = (raws ≡ item_of p) × (left ≡ rest)
 
--- a piece found at the front of a text, whichever it is
+-- a token found at the beginning of a text, whichever it is
 abbrev pub FrontIs : List ℕ → List RawItem → List ℕ → Type 0
 FrontIs octets raws left = (p : Piece) (rest : List ℕ) → IsPiece p → EndsBefore p rest → octets ≡ piece_text p ++ rest → (raws ≡ item_of p) × (left ≡ rest)
 
@@ -153,9 +154,9 @@ bare_takes octets after left c n whole goes_on len within back =
     let less : length left ≡ length octets - n = ap length back ∙ length-drop n octets in
     omega arith
 
--- ---- all pieces of a text
+-- ---- all tokens of a text
 
--- a piece ends before those behind it
+-- a token ends before those after it
 ends_behind : (p : Piece) (pieces : List Piece) → AllByRecursion IsPiece pieces → AllFollow (p ∷ pieces) → EndsBefore p (text pieces)
 ends_behind (blank c) pieces each follow = tt
 ends_behind opening pieces each follow = tt
@@ -179,7 +180,7 @@ ends_behind (comment octets) (comment more ∷ pieces) each follow = absurd foll
 ends_behind (comment octets) (bare more ∷ pieces) each follow = absurd follow.0
 ends_behind (comment octets) (quoted more ∷ pieces) each follow = absurd follow.0
 
--- the pieces that are left, and with their items all items
+-- the tokens that are left, and with their items all items
 pub record IsLeft (rest : List ℕ) (raws : List RawItem) (pieces : List Piece) : Type 0 where
   pub more : List Piece
   pub whole : rest ≡ text more

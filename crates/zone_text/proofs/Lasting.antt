@@ -14,7 +14,7 @@ use Rattle.zone_text.specs.Machine.Cutting.{stops, depth_behind}
 use Rattle.zone_text.proofs.Fronts.{front_stops}
 use Rattle.zone_text.proofs.Cuttings.{IsCut, is_cut, cuts, is_broken, breaks, last_behind, last_in_front, follow_behind, depth_on, room_of}
 
--- ---- pieces behind pieces
+-- ---- tokens after tokens
 
 line_feed_then : (more : List Piece) → AllFollow more → AllFollow (line_feed ∷ more)
 line_feed_then [] follow = tt
@@ -71,7 +71,7 @@ depth_append depth at (p ∷ pieces) more e =
     let room = room_of depth at p pieces e in
     depth_on depth p (pieces ++ more) room ∙ depth_append (depth_behind depth p) at pieces more (sym (depth_on depth p pieces room) ∙ e)
 
--- ---- what stands behind a line feed outside parentheses is cut by itself
+-- ---- what stands after a line feed outside parentheses is cut by itself
 
 pub both_cut : (front rest : List ℕ) (pieces more : List Piece) (fault : Option Fault) → Cuts front pieces → EndInLineFeed pieces → IsCut zero rest more fault → IsCut zero (front ++ rest) (pieces ++ more) fault
 both_cut front rest pieces more fault cut ends others = record {
@@ -91,7 +91,7 @@ cut_joined front rest pieces more cut ends others = cuts (front ++ rest) (pieces
 pub break_joined : (front rest : List ℕ) (pieces more : List Piece) (fault : Fault) → Cuts front pieces → EndInLineFeed pieces → Breaks rest more fault → Breaks (front ++ rest) (pieces ++ more) fault
 break_joined front rest pieces more fault cut ends others = breaks (front ++ rest) (pieces ++ more) fault (both_cut front rest pieces more (Some fault) cut ends (is_broken rest more fault others))
 
--- the text behind pieces
+-- the text after tokens
 pub record IsParted (octets : List ℕ) (pieces more : List Piece) (fault : Option Fault) : Type 0 where
   pub rest : List ℕ
   pub whole : octets ≡ text pieces ++ rest
@@ -239,7 +239,7 @@ stays_some rest (closing_stays after e) none = cc
 stays_some rest (escape_stays lost) none = let begins : rest ≡ 92 ∷ (begins_backslash rest lost).0 = (begins_backslash rest lost).1 in cc
 stays_some rest (quoted_escape_stays units after each whole lost) none = cc
 
--- no comment is the last piece before what breaks a text as it stands
+-- no comment is the last token before what breaks a text as it stands
 last_before : (pieces : List Piece) (rest after : List ℕ) → (rest ≡ [] → ⊥) → MayEndBefore pieces rest → MayEndBefore pieces after
 last_before [] rest after some last = tt
 last_before (blank c ∷ []) rest after some last = tt

@@ -1,4 +1,4 @@
--- What octets leave of a file: the entries that line feeds have ended, and the octets behind them.
+-- What octets leave of a file: the entries that line feeds have ended, and the octets after them.
 use Rattle.std.proofs.Common.{◌≡◌, ℕ, zero, ◌+◌, List, [], ◌∷◌, ◌++◌, ◌==◌, Some, None, refl, sym, ap, ◌∙◌, subst, append_assoc, add_assoc, add-zero, ◌⊎◌, inl, inr}
 use Rattle.std.specs.List.{flat_map, count_by}
 use Rattle.std.specs.Prelude.{reverse}
@@ -24,7 +24,7 @@ use Rattle.zone_text.proofs.Ending.{text_of_entries}
 use Rattle.zone_text.proofs.Escapes.{break_stays_or_ends}
 use Rattle.zone_text.proofs.ForGood.{stays_for_good, ends_not_for_good}
 
--- ---- readings of entries one behind the other
+-- ---- readings of entries one after the other
 
 abbrev pub line_feeds : List ℕ → ℕ
 line_feeds octets = count_by (λ c. c == 10) octets
@@ -40,7 +40,7 @@ pub turned : (entry : Entry) (entries before : List Entry) → reverse (entry �
 turned entry entries before =
     ap (λ t. t ++ before) (reverse-append (entry ∷ []) entries) ∙ append_assoc (reverse entries) (entry ∷ []) before
 
--- entries of which none is refused, and others behind them
+-- entries of which none is refused, and others after them
 pub reads_then : (origin : List (List ℕ)) (behind : Ending) (before entries more : List Entry) (placed others : List Placed) (ending : Ending) → ReadEach origin None before entries placed None → ReadEach origin behind (reverse entries ++ before) more others ending → ReadEach origin behind before (entries ++ more) (placed ++ others) ending
 reads_then origin behind before [] more placed others ending read next =
     subst (λ t. ReadEach origin behind before more t ending) (ap (λ t. t ++ others) (sym read.0)) next
@@ -50,14 +50,14 @@ reads_then origin behind before (entry ∷ entries) more placed others ending (g
     gives_one p (rest ++ others) states place (more_records p placed rest others e) (reads_then origin behind (entry ∷ before) entries more rest others ending read (subst (λ t. ReadEach origin behind t more others ending) (turned entry entries before) next))
 reads_then origin behind before (entry ∷ entries) more placed others ending (refused fault h e f) next = absurd (none_is_some (fault, Line entry.line) f)
 
--- entries of which one is refused, whatever stands behind them
+-- entries of which one is refused, whatever follows them
 pub refused_before : (origin : List (List ℕ)) (behind : Ending) (before entries more : List Entry) (placed : List Placed) (found : Fault × Place) → ReadEach origin None before entries placed (Some found) → ReadEach origin behind before (entries ++ more) placed (Some found)
 refused_before origin behind before [] more placed found read = absurd (none_is_some found (sym read.1))
 refused_before origin behind before (entry ∷ entries) more placed found (gives_none n read) = gives_none n (refused_before origin behind (entry ∷ before) entries more placed found read)
 refused_before origin behind before (entry ∷ entries) more placed found (gives_one p rest states place e read) = gives_one p rest states place e (refused_before origin behind (entry ∷ before) entries more rest found read)
 refused_before origin behind before (entry ∷ entries) more placed found (refused fault h e f) = refused fault h e f
 
--- the same entries, and what comes behind them
+-- the same entries, and what follows them
 pub reads_behind : (origin : List (List ℕ)) (behind : Ending) (before entries : List Entry) (placed : List Placed) → ReadEach origin None before entries placed None → ReadEach origin behind before entries placed behind
 reads_behind origin behind before [] placed read = (read.0, refl)
 reads_behind origin behind before (entry ∷ entries) placed (gives_none n read) = gives_none n (reads_behind origin behind (entry ∷ before) entries placed read)
@@ -72,9 +72,9 @@ numbered_then line (first ∷ entries) more =
     ap (λ t. entry_of line first ∷ t) (numbered_then (line + line_feeds (text first)) entries more)
     ∙ ap (λ n. entry_of line first ∷ (numbered (line + line_feeds (text first)) entries ++ numbered n more)) (add_assoc line (line_feeds (text first)) (line_feeds (flat_map text entries)) ∙ ap (λ n. line + n) (sym (sum_by-append _ (text first) (flat_map text entries))))
 
--- ---- the pieces of octets, their ended entries, and the octets behind these
+-- ---- the tokens of octets, their ended entries, and the octets after these
 
--- octets are ended entries and the octets behind them
+-- octets are ended entries and the octets after them
 pub record IsSplit (fed : List ℕ) (ended : List (List Piece)) (unfinished : List ℕ) : Type 0 where
   pub whole : fed ≡ text (joined ended) ++ unfinished
   pub front : Cuts (text (joined ended)) (joined ended)
@@ -87,7 +87,7 @@ split fed pieces unfinished are rest = record {
   stays = cut_ended zero pieces;
 }
 
--- other octets behind them
+-- other octets after them
 longer : (fed more : List ℕ) (ended : List (List Piece)) (unfinished : List ℕ) → IsSplit fed ended unfinished → fed ++ more ≡ text (joined ended) ++ (unfinished ++ more)
 longer fed more ended unfinished is = ap (λ t. t ++ more) is.whole ∙ append_assoc (text (joined ended)) unfinished more
 
@@ -106,7 +106,7 @@ pub pieces_more : (fed more : List ℕ) (ended : List (List Piece)) (unfinished 
 pieces_more fed more ended unfinished pieces is (inl cut) = inl (cut_more fed more ended unfinished pieces is cut)
 pieces_more fed more ended unfinished pieces is (inr found) = inr (found.0, break_more fed more ended unfinished pieces found.0 is found.1)
 
--- what breaks the octets behind the ended entries, as the octets so far show, breaks all
+-- what breaks the octets after the ended entries, as the octets so far show, breaks all
 behind_pieces : (fed more : List ℕ) (ended : List (List Piece)) (unfinished : List ℕ) (pieces : List Piece) (rest : List ℕ) → IsSplit fed ended unfinished → unfinished ++ more ≡ text pieces ++ rest → fed ++ more ≡ text (joined ended ++ pieces) ++ rest
 behind_pieces fed more ended unfinished pieces rest is e =
     longer fed more ended unfinished is
@@ -137,7 +137,7 @@ none_more fed more ended unfinished pieces is (inl cut) none fault good =
 none_more fed more ended unfinished pieces is (inr found) none fault good =
     none_broken fed more ended unfinished pieces found.0 found.1 is none (break_stays_or_ends (unfinished ++ more) pieces found.0 found.1) fault good
 
--- ---- the entries of those pieces
+-- ---- the entries of those tokens
 
 -- no entry more
 pub ended_as_before : (ended : List (List Piece)) (more : List Piece) → AreEnded zero ended → (cut_from zero more).ended ≡ [] → (cut_from zero (joined ended ++ more)).ended ≡ ended

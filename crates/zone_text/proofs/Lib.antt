@@ -25,6 +25,8 @@ pub mod EntryTaken
 pub mod Begun
 pub mod PartTaken
 pub mod FedPieces
+pub mod BlankLines
+pub mod FirstEntries
 pub mod Standing
 pub mod DecidedOnce
 pub mod ScanSteps

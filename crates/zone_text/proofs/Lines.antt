@@ -85,7 +85,7 @@ owned_form : (first : Option ℕ) (item : RawItem) (items : List RawItem) → If
 owned_form None item items plain = refl
 owned_form (Some c) item items plain = rw (not_equal c 36 plain.1, plain.0) refl
 
--- behind a TTL and a class stands no further word
+-- after a TTL and a class stands no further word
 no_third : (ttl_word class_word word : List ℕ) → word_behind (ttl ttl_word ∷ class class_word ∷ []) (raw.bare word) ≡ None
 no_third ttl_word class_word word =
     elim (begins_with_digit word) as (λ b. cond {A = Option Word} b None (cond {A = Option Word} (is_class_word word) None None) ≡ None) [

@@ -1,4 +1,5 @@
--- A record entry as steps one after the other, each with a value or a fault, and that it has one outcome at most.
+-- A record entry as steps one after the other, each with a value or a fault, and that it has one
+-- outcome at most.
 use Rattle.std.proofs.Common.{◌≡◌, ℕ, ◌≤◌, List, [], ◌∷◌, Some, Result, Ok, Err, inl, inr, refl, sym, ◌∙◌, ap, subst, arith}
 use Rattle.std.specs.List.{AllByRecursion}
 use Rattle.zone_name.specs.Spelling.{FirstFault}

@@ -1,4 +1,4 @@
--- A record entry whose parts are read behind known defaults: what it states, or why it is refused.
+-- A record entry whose parts are read after known defaults: what it states, or why it is refused.
 use Rattle.std.proofs.Common.{◌≡◌, ℕ, ◌<◌, List, ◌∷◌, Option, Some, None, MatchOption, refl, sym, ap, ◌∙◌, subst}
 use Rattle.std.specs.Option.{option_or}
 use Rattle.zone_name.specs.Common.{Labels}

@@ -1,4 +1,4 @@
--- The pieces that a scan reads, as the definitions of pieces, breaks and entries have them.
+-- The tokens that a scan reads, as the definitions of tokens, breaks and entries have them.
 use Rattle.std.proofs.Common.{◌≡◌, ◌≢◌, ℕ, zero, suc, ◌-◌, ◌==◌, List, [], ◌∷◌, ◌++◌, Option, Some, None, refl, sym, ap, ◌∙◌, subst, arith}
 use Rattle.std.proofs.lemmas.Bool.{cond_both, eqb-true, eqb-false}
 use Rattle.zone_rdata.specs.declared.fault.Fault.{Fault}
@@ -23,7 +23,7 @@ fault_of Ends = None
 fault_of LostEscape = Some BadEscape
 fault_of ClosesNothing = Some UnbalancedParenthesis
 
--- what is left behind the pieces
+-- what is left after the tokens
 abbrev pub Left : Step → List ℕ → Type 0
 Left (On at) rest = BreaksAtEnd rest
 Left Ends rest = rest ≡ []
@@ -75,7 +75,7 @@ no_entry (suc depth) = refl
 
 -- ---- what is read
 
--- no piece
+-- no token
 stop_read : (step : Step) (depth : ℕ) (octets : List ℕ) → EndsAt depth octets (fault_of step) → Left step octets → entry_by step [] ≡ record { ended = []; open_pieces = [] } → IsRead step depth octets
 stop_read step depth octets stop left e = record {
   pieces = [];

@@ -1,4 +1,4 @@
--- The pieces of octets as a scan leaves them: one after the other, and what is open at the end.
+-- The tokens of octets as a scan leaves them: one after another, and what is open at the end.
 use Rattle.std.proofs.Common.{◌≡◌, ◌≢◌, ℕ, suc, ◌+◌, ◌-◌, true, false, ◌||◌, ◌==◌, nat_le, List, [], ◌∷◌, ◌++◌, take, Option, Some, refl, sym, ap, ◌∙◌, subst, arith, append_assoc, inl, inr}
 use Rattle.std.specs.List.{AllByRecursion}
 use Rattle.std.proofs.lemmas.Bool.{cond_both, cases_Bool, and_parts, and_cases, or_cases, or_parts, eqb-true, eqb-false, leb-true, leb-false}
@@ -27,7 +27,7 @@ use Rattle.zone_text.proofs.Escapes.{malformed_is_bad}
 use Rattle.zone_text.proofs.Fronts.{Takes}
 use Rattle.zone_text.proofs.Lasting.{begins_backslash}
 
--- ---- pieces and what is open behind them
+-- ---- tokens and what is open after them
 
 -- an escape that the octets lost, or that they cut off
 abbrev pub EscapeAt : Step → List ℕ → Type 0
@@ -43,7 +43,7 @@ RanOut fault Ends = ⊥
 RanOut fault LostEscape = ⊥
 RanOut fault ClosesNothing = ⊥
 
--- the piece ends no entry
+-- the token ends no entry
 abbrev pub EndsNone : ℕ → Piece → Type 0
 EndsNone depth line_feed = depth ≢ 0
 EndsNone depth p = Unit {0}
@@ -60,7 +60,7 @@ pub data Reads (step : Step) : ℕ → List ℕ → Type 0 where
 
 -- ---- first octets
 
--- an octet that begins the piece
+-- an octet that begins the token
 abbrev Begins : ℕ → Piece → Type 0
 Begins c (blank d) = is_blank c ≡ true
 Begins c line_feed = c ≡ 10
@@ -118,7 +118,7 @@ none_begins c octets text e f = let both : c ∷ octets ≡ [] = sym e ∙ f in 
 rest_behind : (c : ℕ) (octets more text : List ℕ) → text ≡ c ∷ octets → text ≡ c ∷ more → octets ≡ more
 rest_behind c octets more text e f = let both : c ∷ octets ≡ c ∷ more = sym e ∙ f in cc
 
--- ---- a unit more in front of what a quote opened
+-- ---- a unit more before what a quote opened
 
 module _ (step : Step) (depth : ℕ) (w : Written) (is : IsUnit is_quote w) (octets text : List ℕ) (e : text ≡ 34 ∷ octets) where
   quoted_more : (rest : List ℕ) (p : Piece) → Takes depth text p rest → EndsNone depth p → Reads step (depth_behind depth p) rest → Reads step depth (34 ∷ (text_of w ++ octets))
@@ -158,7 +158,7 @@ module _ (step : Step) (depth : ℕ) (w : Written) (is : IsUnit is_quote w) (oct
 push_quoted : (step : Step) (depth : ℕ) (w : Written) (octets : List ℕ) → IsUnit is_quote w → Reads step depth (34 ∷ octets) → Reads step depth (34 ∷ (text_of w ++ octets))
 push_quoted step depth w octets is more = push_quoted_in step depth w is octets (34 ∷ octets) refl more
 
--- ---- an octet more in front of what a semicolon opened
+-- ---- an octet more before what a semicolon opened
 
 module _ (step : Step) (depth c : ℕ) (is : c ≢ 10) (octets text : List ℕ) (e : text ≡ 59 ∷ octets) where
   comment_more : (rest : List ℕ) (p : Piece) → Takes depth text p rest → EndsNone depth p → Reads step (depth_behind depth p) rest → Reads step depth (59 ∷ c ∷ octets)
@@ -222,14 +222,14 @@ module _ (step : Step) (depth : ℕ) (w : Written) (is : IsUnit ends_item w) (oc
   push_bare (in_quoted_escape depth octets units after each f open_escape) = bare_alone (at_octet 34 (written_text units ++ after) f refl) (in_quoted_escape depth octets units after each f open_escape)
   push_bare (then_more depth octets p rest front none more) = bare_more rest p front none more
 
--- ---- what is open in front of octets
+-- ---- what is open before octets
 
 abbrev escape_text : Escape → List ℕ → List ℕ
 escape_text Begun octets = 92 ∷ octets
 escape_text (One x) octets = 92 ∷ x ∷ octets
 escape_text (Two x y) octets = 92 ∷ x ∷ y ∷ octets
 
--- the octets with what is open in front of them; of a bare item only an escape
+-- the octets with what is open before them; of a bare item only an escape
 abbrev pub opened : Mode → List ℕ → List ℕ
 opened Open octets = octets
 opened Quoted octets = 34 ∷ octets
@@ -252,7 +252,7 @@ HoldsDigits (QuotedEscaped escape) = AreDigits escape
 
 -- ---- one octet
 
--- what an octet behind a backslash makes of the escape
+-- what an octet after a backslash makes of the escape
 abbrev EscapeBy : Escape → ℕ → Behind → Type 0
 EscapeBy escape c (Inside next) = AreDigits next × ((octets : List ℕ) → escape_text escape (c ∷ octets) ≡ escape_text next octets)
 EscapeBy escape c Whole = (w : Written) × IsEscape w × ((octets : List ℕ) → escape_text escape (c ∷ octets) ≡ text_of w ++ octets)
@@ -288,7 +288,7 @@ escape_by (Two x y) c digits =
     (decimal x y c, (digits.0, digits.1, both.0, leb-true (octet_of (decimal x y c)) 255 both.1), λ octets. refl))
     (ends_no_number x y c digits.0 digits.1)
 
--- what an octet makes of what is read behind it
+-- what an octet makes of what is read after it
 abbrev OneMore : Mode → ℕ → ℕ → Step → Type 0
 OneMore mode depth c (On next) = HoldsDigits next.mode × ((octets : List ℕ) (step : Step) → Reads step next.depth (opened next.mode octets) → Reads step depth (opened mode (c ∷ octets)))
 OneMore mode depth c Ends = Reads Ends depth (opened mode (c ∷ []))

@@ -1,4 +1,5 @@
--- What a scan says of the octets that it took: where it goes on and stops, and the pieces that they are.
+-- What a scan says of the octets that it took: where it goes on and stops, and the tokens that they
+-- are.
 use Rattle.std.proofs.Common.{◌≡◌, ℕ, zero, suc, ◌+◌, ◌≤◌, List, [], ◌∷◌, ◌++◌, length, take, Option, Some, None, refl, sym, ap, ◌∙◌, subst, arith, inl, inr}
 use Rattle.std.proofs.Math.Seq.{take-length}
 use Rattle.std.proofs.lemmas.List.{length-take}
@@ -33,7 +34,7 @@ module _ (at : ScanState) (rest b : List ℕ) where
   go_on_by LostEscape more e = absurd (let t : ⊥ = cc in t)
   go_on_by ClosesNothing more e = absurd (let t : ⊥ = cc in t)
 
--- a scan that doesn't stop goes on behind the octets
+-- a scan that doesn't stop goes on after the octets
 pub step_goes_on : (start at : ScanState) (a b : List ℕ) → (scan_of start a).step ≡ On at → scan_of start (a ++ b) ≡ further (length a) (scan_of at b)
 unfolding scan_of
 step_goes_on start at [] b e = let same : start ≡ at = cc in ap (λ s. scan_of s b) same ∙ sym (further_none (scan_of at b))
@@ -87,7 +88,7 @@ unfolding scan_of
 unfinished_depth start at [] e = let same : start ≡ at = cc in omega (arith, ap (λ (s : ScanState). s.depth) same)
 unfinished_depth start at (c ∷ rest) e = depth_by start at c rest (step_of start c) refl (λ next more. unfinished_depth next at rest more) e
 
--- ---- the pieces of octets that a scan took whole
+-- ---- the tokens of octets that a scan took whole
 
 read_by : (octets : List ℕ) (step : Step) → scan_of beginning octets ≡ record { taken = length octets; step = step } → IsRead step zero octets
 read_by octets step e =

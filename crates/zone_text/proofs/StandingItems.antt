@@ -28,7 +28,7 @@ units_go_on : (units : List Written) → AllByRecursion (IsUnit not_bare) units 
 units_go_on [] each = tt
 units_go_on (w ∷ units) each = (unit_goes_on w each.0, units_go_on units each.1)
 
--- the piece that is an item
+-- the token that is an item
 record PieceOf (item : RawItem) : Type 0 where
   piece : Piece
   is : IsItem piece
@@ -73,7 +73,7 @@ line_for (item ∷ next ∷ items) stand =
     ap₂ (λ (s t : List ℕ). s ++ 32 ∷ t) (piece_of item stand.0).written (line_for (next ∷ items) stand.1)
     ∙ sym (append_assoc (written_item item) (32 ∷ join_with_byte 32 (map written_item (next ∷ items))) (10 ∷ []))
 
--- the pieces whose line is written with the items
+-- the tokens whose line is written with the items
 pub record PiecesOf (items : List RawItem) : Type 0 where
   pub pieces : List Piece
   pub each : AllByRecursion IsItem pieces

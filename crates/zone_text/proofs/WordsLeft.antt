@@ -106,7 +106,7 @@ parts_by words item items (Some word) = parts_behind (words ++ word ∷ []) item
 pub next_part : (words : List Word) (item : RawItem) (items : List RawItem) (o : Option Word) → word_behind words item ≡ o → parts_behind words (item ∷ items) ≡ parts_by words item items o
 next_part words item items o e = ap (parts_by words item items) e
 
--- the words read so far have these values, and the items left are behind them
+-- the words read so far have these values, and the items left follow them
 pub record ReadsWords (items : List RawItem) (values : Words) (rest : List RawItem) : Type 0 where
   pub words : List Word
   pub have : HaveValues words values
@@ -136,7 +136,7 @@ read_on items rest more v next item reads front some =
       parts = reads.parts ∙ (ap (parts_behind reads.words) front ∙ next_part reads.words item more (Some found.0) found.1.0);
     }
 
--- whatever comes behind words, they stand in front
+-- whatever follows words, they stand before it
 abbrev Extends : List RawItem → Type 0
 Extends items = (words : List Word) → (others : List Word) × ((parts_behind words items).words ≡ words ++ others)
 

@@ -1,4 +1,4 @@
--- How a text that isn't cut into pieces breaks (RFC 1035 5.1).
+-- How a text that isn't cut into tokens breaks (RFC 1035 5.1).
 use Rattle.std.specs.Prelude.{◌≡◌, ℕ, zero, ◌<◌, List, [], ◌∷◌, ◌++◌, Some, ⊤}
 use Rattle.std.specs.List.{AllByRecursion}
 use Rattle.zone_name.specs.Spelling.{Written, IsBadEscape, written_text, IsUnit}
@@ -7,15 +7,19 @@ use Rattle.zone_rdata.specs.declared.fault.Fault.TheVariants.{BadEscape, Unclose
 use Rattle.zone_rdata.specs.Strings.{is_quote}
 use Rattle.zone_text.specs.Pieces.{Piece, comment, text, IsPiece, AllFollow, depth_after}
 
--- What stands where a text breaks, at a depth of parentheses, up to the end of the text: a `)` that closes nothing; a
--- backslash that begins no escape, outside quotes or behind an opening quote and quoted units; an opening quote and
--- quoted units alone; nothing, where a parenthesis is open. A broken bare item begins at its backslash, a broken
--- quoted item at its opening quote.
+-- What stands where a text breaks, at a depth of parentheses, up to the end of the text: a `)` that
+-- closes nothing; a backslash that begins no escape, outside quotes or after an opening quote and
+-- quoted units; an opening quote and quoted units alone; nothing, where a parenthesis is open. A
+-- broken bare item begins at its backslash, a broken quoted item at its opening quote.
 pub data IsBroken (depth : ℕ) (rest : List ℕ) : Fault → Type 0 where
-  closes_nothing : (after : List ℕ) → depth ≡ 0 → rest ≡ 41 ∷ after → IsBroken depth rest UnbalancedParenthesis
+  closes_nothing : (after : List ℕ) → depth ≡ 0 → rest ≡ 41 ∷ after
+      → IsBroken depth rest UnbalancedParenthesis
   no_escape : IsBadEscape rest → IsBroken depth rest BadEscape
-  no_quoted_escape : (units : List Written) (after : List ℕ) → AllByRecursion (IsUnit is_quote) units → rest ≡ 34 ∷ written_text units ++ after → IsBadEscape after → IsBroken depth rest BadEscape
-  no_quote : (units : List Written) → AllByRecursion (IsUnit is_quote) units → rest ≡ 34 ∷ written_text units → IsBroken depth rest UnclosedQuote
+  no_quoted_escape : (units : List Written) (after : List ℕ)
+      → AllByRecursion (IsUnit is_quote) units → rest ≡ 34 ∷ written_text units ++ after
+      → IsBadEscape after → IsBroken depth rest BadEscape
+  no_quote : (units : List Written) → AllByRecursion (IsUnit is_quote) units
+      → rest ≡ 34 ∷ written_text units → IsBroken depth rest UnclosedQuote
   not_closed : 0 < depth → rest ≡ [] → IsBroken depth rest UnbalancedParenthesis
 
 -- a comment ends at a line feed or where the text does
@@ -25,8 +29,8 @@ MayEndBefore (comment octets ∷ []) rest = rest ≡ []
 MayEndBefore (p ∷ []) rest = ⊤
 MayEndBefore (p ∷ q ∷ pieces) rest = MayEndBefore (q ∷ pieces) rest
 
--- The text breaks behind these pieces: they are the pieces of its front, and behind them, at their depth, stands what
--- breaks it.
+-- The text breaks after these tokens: they are the tokens of its beginning, and after them, at
+-- their depth, stands what breaks it.
 pub record Breaks (octets : List ℕ) (pieces : List Piece) (fault : Fault) : Type 0 where
   pub rest : List ℕ
   pub depth : ℕ

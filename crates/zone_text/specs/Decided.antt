@@ -1,5 +1,5 @@
--- What is decided of a file by the octets that were fed so far, whatever octets come behind them. This is this
--- project's own: RFC 1035 5.1 speaks of whole files.
+-- What is decided of a file by the octets that were fed so far, whatever octets follow them. This
+-- is this project's own: RFC 1035 5.1 speaks of whole files.
 use Rattle.std.specs.Prelude.{◌≡◌, ℕ, List, [], ◌++◌, Some, None, ◌⊎◌}
 use Rattle.zone_rdata.specs.declared.fault.Fault.{Fault}
 use Rattle.zone_rdata.specs.declared.fault.Place.{Place}
@@ -12,18 +12,28 @@ use Rattle.zone_text.specs.Entries.{ended_entries, open_line}
 use Rattle.zone_text.specs.FileReads.{ReadEach}
 use Rattle.zone_text.specs.Given.{Ending}
 
--- the pieces of the octets, up to where they break if they do
+-- the tokens of the octets, up to where they break if they do
 abbrev pub ArePieces : List ℕ → List Piece → Type 0
 ArePieces octets pieces = Cuts octets pieces ⊎ ((fault : Fault) × Breaks octets pieces fault)
 
--- The records and the first fault of the entries that a line feed has ended, and behind them the fault of a break that no
--- further octets mend, at the line of the entry that is open there
-pub data Decided (origin : List (List ℕ)) (octets : List ℕ) (placed : List Placed) (ending : Ending) : Type 0 where
-  undecided : (pieces : List Piece) → ArePieces octets pieces → ((fault : Fault) → BreaksForGood octets pieces fault → ⊥) → ReadEach origin None [] (ended_entries pieces) placed ending → Decided origin octets placed ending
-  decided : (pieces : List Piece) (fault : Fault) → BreaksForGood octets pieces fault → ReadEach origin (Some (fault, Line (open_line pieces))) [] (ended_entries pieces) placed ending → Decided origin octets placed ending
+-- The records and the first fault of the entries that a line feed has ended, and after them the
+-- fault of a break of which the octets show that it stays (a `)` or a bad escape, not one that the
+-- end of the octets makes), at the line of the entry that is open there
+pub data Decided (origin : List (List ℕ)) (octets : List ℕ) (placed : List Placed)
+    (ending : Ending) : Type 0 where
+  undecided : (pieces : List Piece) → ArePieces octets pieces
+      → ((fault : Fault) → BreaksForGood octets pieces fault → ⊥)
+      → ReadEach origin None [] (ended_entries pieces) placed ending
+      → Decided origin octets placed ending
+  decided : (pieces : List Piece) (fault : Fault) → BreaksForGood octets pieces fault
+      → ReadEach origin (Some (fault, Line (open_line pieces))) []
+      (ended_entries pieces) placed ending
+      → Decided origin octets placed ending
 
--- what was decided stays: the records are the first of those that come to be, and after a fault nothing comes
-pub record Stays (placed : List Placed) (ending : Ending) (later : List Placed) (last : Ending) : Type 0 where
+-- what was decided stays: the records are the first of those that come to be, and after a fault
+-- nothing comes
+pub record Stays (placed : List Placed) (ending : Ending) (later : List Placed)
+    (last : Ending) : Type 0 where
   pub others : List Placed
   pub first : later ≡ placed ++ others
   pub fault : (found : Fault × Place) → ending ≡ Some found → (later ≡ placed) × (last ≡ ending)

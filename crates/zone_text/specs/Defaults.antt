@@ -1,5 +1,5 @@
--- What the entries of a master file leave to those behind them (RFC 1035 5.1, RFC 2308 4): running defaults, each of
--- which is what a look back over the entries finds.
+-- What the entries of a master file leave to those after them (RFC 1035 5.1, RFC 2308 4): running
+-- defaults, each of which is what a look back over the entries finds.
 use Rattle.std.specs.Prelude.{◌≡◌, ℕ, List, Option, None, MatchOption, IsSomeAnd}
 use Rattle.zone_name.specs.Common.{Labels, NothingIs}
 use Rattle.zone_rdata.specs.Words.{IsClassWord}
@@ -14,14 +14,17 @@ IsOneOrNone Is found = MatchOption found (NothingIs Is) Is
 
 -- the seconds of a TTL's text, or none where there is no text
 abbrev pub IsTtlOrNone : Option (List ℕ) → Option ℕ → Type 0
-IsTtlOrNone text seconds = MatchOption text (seconds ≡ None) (λ stated. IsSomeAnd seconds (IsTtl stated))
+IsTtlOrNone text seconds =
+    MatchOption text (seconds ≡ None) (λ stated. IsSomeAnd seconds (IsTtl stated))
 
--- The defaults are those that the entries leave, the latest first: the origin, the last owner, the last class or else
--- IN, the latest `$TTL`, the latest TTL that a record states, and the MINIMUM of the latest SOA, whatever its size
+-- The defaults are those that the entries leave, the latest first: the origin, the last owner, the
+-- last class or else IN, the latest `$TTL`, the latest TTL that a record states, and the MINIMUM of
+-- the latest SOA, whatever its size
 pub record AreDefaults (origin : Labels) (before : List Entry) (d : Defaults) : Type 0 where
   pub under : IsOrigin origin before d.origin
   pub owner : IsOneOrNone (IsLastOwner origin before) d.owner
-  pub class : MatchOption (latest class_word before) (d.class ≡ 1) (λ word. IsClassWord word d.class)
+  pub class : MatchOption (latest class_word before) (d.class ≡ 1)
+      (λ word. IsClassWord word d.class)
   pub default_ttl : IsTtlOrNone (latest default_ttl_text before) d.default_ttl
   pub last_ttl : IsTtlOrNone (latest ttl_text before) d.last_ttl
   pub minimum : IsOneOrNone (IsLastMinimum origin before) d.minimum

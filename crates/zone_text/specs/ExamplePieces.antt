@@ -1,4 +1,4 @@
--- Pieces of texts on which cuts and breaks are computed (RFC 1035 5.1).
+-- Tokens of texts on which cuts and breaks are computed (RFC 1035 5.1).
 use Rattle.std.specs.Prelude.{ℕ, List, map}
 use Rattle.zone_name.specs.Spelling.{plain}
 use Rattle.zone_text.specs.Pieces.{Piece, blank, bare, quoted}

@@ -14,9 +14,10 @@ RefusesNone before entry fault = ⊥
 abbrev pub StateEach : List (List ℕ) → List Entry → List Entry → List Placed → Type 0
 StateEach origin before entries placed = GiveEach RefusesNone origin None before entries placed None
 
--- The text of a file states these records in this order, each at its line. A text that isn't cut into pieces
--- states none, nor does one with an entry that states neither a record nor nothing.
-pub record FileStates (origin : List (List ℕ)) (octets : List ℕ) (placed : List Placed) : Type 0 where
+-- The text of a file states these records in this order, each at its line. A text that isn't cut
+-- into tokens states none, nor does one with an entry that states neither a record nor nothing.
+pub record FileStates (origin : List (List ℕ)) (octets : List ℕ)
+    (placed : List Placed) : Type 0 where
   pub pieces : List Piece
   pub cut : Cuts octets pieces
   pub each : StateEach origin [] (entries_of pieces) placed

@@ -1,4 +1,5 @@
--- The forms of an entry (RFC 1035 5.1; `$TTL` RFC 2308 4): blank, a directive or a record, and a record's parts.
+-- The forms of an entry (RFC 1035 5.1; `$TTL` RFC 2308 4): blank, a directive or a record, and a
+-- record's parts.
 use Rattle.std.specs.Prelude.{ℕ, List, [], ◌∷◌, ◌++◌, codes, take, drop, ◌==◌, ◌&&◌, ◌||◌, if◌then◌else◌, Bool, false, bytes_eq, Option, Some, None, is_some}
 use Rattle.zone_name.specs.Name.{folded_label}
 use Rattle.zone_name.specs.Spelling.{is_digit}
@@ -7,7 +8,8 @@ use Rattle.zone_rdata.specs.Table.{classes, number_among}
 use Rattle.zone_text.specs.Pieces.{is_blank}
 use Rattle.zone_text.specs.Entries.{Entry}
 
--- no items; a directive with what follows its word; or a record with what follows its owner, stated or omitted
+-- no items; a directive with what follows its word; or a record with what follows its owner, stated
+-- or omitted
 pub data EntryForm : Type 0 where
   no_items : EntryForm
   sets_origin : List RawItem → EntryForm
@@ -17,7 +19,7 @@ pub data EntryForm : Type 0 where
   owned : RawItem → List RawItem → EntryForm
   unowned : List RawItem → EntryForm
 
--- a directive's word, in any case
+-- a directive's word, in any letter case
 abbrev pub directive : RawItem → List RawItem → EntryForm
 directive (quoted text) items = unknown
 directive (bare text) items =
@@ -48,10 +50,11 @@ are_digits [] = false
 are_digits (c ∷ []) = is_digit c
 are_digits (c ∷ d ∷ text) = is_digit c && are_digits (d ∷ text)
 
--- the mnemonic of a class, or CLASS and digits (RFC 3597 5), in any case
+-- the mnemonic of a class, or CLASS and digits (RFC 3597 5), in any letter case
 abbrev pub is_class_word : List ℕ → Bool
 is_class_word text =
-    is_some (number_among classes text) || (bytes_eq (take 5 (folded_label text)) (codes "class") && are_digits (drop 5 text))
+    is_some (number_among classes text)
+    || (bytes_eq (take 5 (folded_label text)) (codes "class") && are_digits (drop 5 text))
 
 -- a word before the type
 pub data Word : Type 0 where
@@ -72,8 +75,9 @@ abbrev pub unless_stated : Option (List ℕ) → Word → Option Word
 unless_stated None word = Some word
 unless_stated (Some text) word = None
 
--- The word that an item is behind others: a bare item that begins with a digit is a TTL if none stood before, a bare
--- class word is a class if none stood before. Any other item stands at the type's place.
+-- The word that an item is after others: a bare item that begins with a digit is a TTL if none
+-- stood before, a bare class word is a class if none stood before. Any other item stands at the
+-- type's place.
 abbrev pub word_behind : List Word → RawItem → Option Word
 word_behind before (quoted text) = None
 word_behind before (bare text) =
@@ -81,14 +85,19 @@ word_behind before (bare text) =
     else if is_class_word text then unless_stated (class_among before) (class text)
     else None
 
--- the parts of a record behind its owner: `[TTL] [class]` in either order, and the items from the type on
+-- the parts of a record after its owner: `[TTL] [class]` in either order, and the items from the
+-- type on
 pub record Parts : Type 0 where
   pub words : List Word
   pub rest : List RawItem
 
 abbrev pub parts_behind : List Word → List RawItem → Parts
 parts_behind words [] = record { words = words; rest = [] }
-parts_behind words (item ∷ items) = elim (word_behind words item) [ None ↦ record { words = words; rest = item ∷ items } | Some word ↦ parts_behind (words ++ word ∷ []) items ]
+parts_behind words (item ∷ items) =
+    elim (word_behind words item) [
+      | None ↦ record { words = words; rest = item ∷ items }
+      | Some word ↦ parts_behind (words ++ word ∷ []) items
+    ]
 
 abbrev pub parts_in : EntryForm → Option Parts
 parts_in (owned owner items) = Some (parts_behind [] items)

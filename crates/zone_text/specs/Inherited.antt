@@ -1,4 +1,5 @@
--- What an entry inherits from the entries before it (RFC 1035 5.1, RFC 2308 4). They come the latest first.
+-- What an entry inherits from the entries before it (RFC 1035 5.1, RFC 2308 4). They come the
+-- latest first.
 use Rattle.std.specs.Prelude.{◌≡◌, ℕ, ◌≤◌, List, [], ◌∷◌, Option, Some, None, MatchOption}
 use Rattle.zone_name.specs.Spelling.{Spells}
 use Rattle.zone_rdata.specs.Number.{IsTime}
@@ -40,7 +41,8 @@ abbrev pub class_in : Option Parts → Option (List ℕ)
 class_in None = None
 class_in (Some parts) = class_among parts.words
 
--- the texts that an entry states: the name of `$ORIGIN`, the time of `$TTL`, a record's owner, TTL and class
+-- the texts that an entry states: the name of `$ORIGIN`, the time of `$TTL`, a record's owner, TTL
+-- and class
 abbrev pub origin_text : Entry → Option (List ℕ)
 origin_text entry = origin_in (form_of entry)
 
@@ -56,20 +58,26 @@ ttl_text entry = ttl_in (parts_of entry)
 abbrev pub class_word : Entry → Option (List ℕ)
 class_word entry = class_in (parts_of entry)
 
--- The origin behind entries: that of the latest `$ORIGIN`, read under the origin before it, else the one handed in
+-- The origin after entries: that of the latest `$ORIGIN`, read under the origin before it, else the
+-- one handed in
 abbrev pub IsOrigin : List (List ℕ) → List Entry → List (List ℕ) → Type 0
 IsOrigin origin [] name = name ≡ origin
 IsOrigin origin (entry ∷ before) name =
-    MatchOption (origin_text entry) (IsOrigin origin before name) (λ text. (above : List (List ℕ)) × (IsOrigin origin before above × Spells (Some above) text name))
+    MatchOption (origin_text entry) (IsOrigin origin before name)
+    (λ text. (above : List (List ℕ))
+    × (IsOrigin origin before above × Spells (Some above) text name))
 
--- the text spells the name where it stands behind entries
+-- the text spells the name where it stands after entries
 abbrev pub SpellsBehind : List (List ℕ) → List Entry → List ℕ → List (List ℕ) → Type 0
-SpellsBehind origin before text name = (above : List (List ℕ)) × (IsOrigin origin before above × Spells (Some above) text name)
+SpellsBehind origin before text name =
+    (above : List (List ℕ)) × (IsOrigin origin before above × Spells (Some above) text name)
 
 -- the owner of the latest record entry that states one, read under the origin of that entry
 abbrev pub IsLastOwner : List (List ℕ) → List Entry → List (List ℕ) → Type 0
 IsLastOwner origin [] name = ⊥
-IsLastOwner origin (entry ∷ before) name = MatchOption (owner_text entry) (IsLastOwner origin before name) (λ text. SpellsBehind origin before text name)
+IsLastOwner origin (entry ∷ before) name =
+    MatchOption (owner_text entry) (IsLastOwner origin before name)
+    (λ text. SpellsBehind origin before text name)
 
 -- the owner of a record entry: its own, or the last one stated where it begins with a blank
 abbrev pub IsOwner : List (List ℕ) → List Entry → EntryForm → List (List ℕ) → Type 0
@@ -77,14 +85,17 @@ IsOwner origin before (owned (bare text) items) name = SpellsBehind origin befor
 IsOwner origin before (unowned items) name = IsLastOwner origin before name
 IsOwner origin before form name = ⊥
 
--- The class of a record entry: the latest stated in it or before it, else IN. IN is this project's choice where RFC 1035
--- 5.1 leaves it open.
+-- The class of a record entry: the latest stated in it or before it, else IN. IN is this project's
+-- choice where RFC 1035 5.1 leaves it open.
 abbrev pub HasClass : List Entry → Entry → ℕ → Type 0
-HasClass before entry class = MatchOption (latest class_word (entry ∷ before)) (class ≡ 1) (λ text. IsClassWord text class)
+HasClass before entry class =
+    MatchOption (latest class_word (entry ∷ before)) (class ≡ 1) (λ text. IsClassWord text class)
 
--- the text of a record entry's TTL: its own, else that of the latest `$TTL`, else the latest that a record states
+-- the text of a record entry's TTL: its own, else that of the latest `$TTL`, else the latest that a
+-- record states
 abbrev pub stated_ttl : List Entry → Entry → Option (List ℕ)
-stated_ttl before entry = or_else (ttl_text entry) (or_else (latest default_ttl_text before) (latest ttl_text before))
+stated_ttl before entry =
+    or_else (ttl_text entry) (or_else (latest default_ttl_text before) (latest ttl_text before))
 
 -- a time that a TTL may be (RFC 2181 8)
 pub record IsTtl (text : List ℕ) (seconds : ℕ) : Type 0 where

@@ -16,14 +16,15 @@ IsItem (bare units) = IsPiece (bare units)
 IsItem (quoted units) = IsPiece (quoted units)
 IsItem p = ⊥
 
--- items parted by single spaces, and the line feed behind them
+-- items parted by single spaces, and the line feed after them
 abbrev pub line_of : List Piece → List Piece
 line_of [] = line_feed ∷ []
 line_of (item ∷ []) = item ∷ line_feed ∷ []
 line_of (item ∷ next ∷ items) = item ∷ blank 32 ∷ line_of (next ∷ items)
 
--- The entry states every part of the record: it begins with neither a blank nor `$`, its owner is a name under every
--- origin, and TTL, class, type and data follow it, with names that are the same under every origin
+-- The entry states every part of the record: it begins with neither a blank nor `$`, its owner is a
+-- name under every origin, and TTL, class, type and data follow it, with names that are the same
+-- under every origin
 pub record StatesWhole (entry : Entry) (r : Record) : Type 0 where
   pub owner_text : List ℕ
   pub ttl_text : List ℕ
@@ -31,7 +32,8 @@ pub record StatesWhole (entry : Entry) (r : Record) : Type 0 where
   pub kind_word : List ℕ
   pub items : List RawItem
   pub begins : IfSome entry.first (λ c. (is_blank c ≡ false) × (c ≢ 36))
-  pub whole : entry.items ≡ raw.bare owner_text ∷ raw.bare ttl_text ∷ raw.bare class_word ∷ raw.bare kind_word ∷ items
+  pub whole : entry.items
+      ≡ raw.bare owner_text ∷ raw.bare ttl_text ∷ raw.bare class_word ∷ raw.bare kind_word ∷ items
   pub owner : (above : Labels) → Spells (Some above) owner_text r.owner
   pub ttl : IsTime ttl_text r.ttl
   pub class : IsClassWord class_word r.class

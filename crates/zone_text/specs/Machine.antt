@@ -1,9 +1,11 @@
 -- What private functions and proofs cite, and no public clause.
+pub mod Blank
 pub mod Cutting
 pub mod EntryReading
 pub mod Feeding
 pub mod Form
 pub mod ItemLengths
+pub mod Line
 pub mod Lower
 pub mod Scan
 pub mod WordValues

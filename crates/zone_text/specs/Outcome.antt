@@ -11,7 +11,9 @@ use Rattle.zone_text.specs.Records.{StatesNothing, StatesRecord}
 -- each entry states nothing or a record, those before it known, the latest first
 abbrev pub AllState : List (List ℕ) → List Entry → Type 0
 AllState origin [] = ⊤
-AllState origin (entry ∷ before) = (StatesNothing origin before (form_of entry) ⊎ ((r : Record) × StatesRecord origin before entry r)) × AllState origin before
+AllState origin (entry ∷ before) =
+    (StatesNothing origin before (form_of entry)
+    ⊎ ((r : Record) × StatesRecord origin before entry r)) × AllState origin before
 
 -- items of octets
 abbrev pub AreOctetItems : List RawItem → Type 0

@@ -1,4 +1,4 @@
--- A master file as a list of pieces (RFC 1035 5.1).
+-- A master file as a list of tokens (RFC 1035 5.1).
 use Rattle.std.specs.Prelude.{◌≡◌, ◌≢◌, ℕ, zero, suc, ◌<◌, List, [], ◌∷◌, ◌++◌, length, ◌==◌, ◌||◌, Bool, true, Option, Some, None, ⊤}
 use Rattle.std.specs.List.{flat_map, AllByRecursion}
 use Rattle.zone_name.specs.Spelling.{Written, written_text, IsUnit}
@@ -8,7 +8,8 @@ use Rattle.zone_rdata.specs.Strings.{is_quote}
 abbrev pub is_blank : ℕ → Bool
 is_blank c = c == 32 || c == 9 || c == 13
 
--- what ends a bare item where no backslash stands before it: a blank, a line feed, `"`, `(`, `)` and `;`
+-- what ends a bare item where no backslash stands before it: a blank, a line feed, `"`, `(`, `)`
+-- and `;`
 abbrev pub ends_item : ℕ → Bool
 ends_item c = is_blank c || c == 10 || c == 34 || c == 40 || c == 41 || c == 59
 
@@ -42,7 +43,8 @@ IsPiece (comment octets) = AllByRecursion (λ c. c ≢ 10) octets
 IsPiece (bare units) = (0 < length units) × AllByRecursion (IsUnit ends_item) units
 IsPiece (quoted units) = AllByRecursion (IsUnit is_quote) units
 
--- no bare item directly follows a bare item, and after a comment comes a line feed or the end of the text
+-- no bare item directly follows a bare item, and after a comment comes a line feed or the end of
+-- the text
 abbrev pub MayFollow : Piece → Piece → Type 0
 MayFollow (bare units) (bare more) = ⊥
 MayFollow (comment octets) line_feed = ⊤
@@ -54,7 +56,7 @@ AllFollow [] = ⊤
 AllFollow (p ∷ []) = ⊤
 AllFollow (p ∷ q ∷ pieces) = MayFollow p q × AllFollow (q ∷ pieces)
 
--- the depth of parentheses after pieces, where it never fell below zero
+-- the depth of parentheses after tokens, where it never fell below zero
 abbrev pub depth_after : ℕ → List Piece → Option ℕ
 depth_after depth [] = Some depth
 depth_after depth (opening ∷ pieces) = depth_after (suc depth) pieces
@@ -62,7 +64,7 @@ depth_after zero (closing ∷ pieces) = None
 depth_after (suc depth) (closing ∷ pieces) = depth_after depth pieces
 depth_after depth (p ∷ pieces) = depth_after depth pieces
 
--- the text is cut into these pieces
+-- the text is cut into these tokens
 pub record Cuts (octets : List ℕ) (pieces : List Piece) : Type 0 where
   pub whole : octets ≡ text pieces
   pub each : AllByRecursion IsPiece pieces

@@ -23,7 +23,8 @@ pub record Head : Type 0 where
   pub items : List RawItem
 
 -- the entry is a record up to its data, the entries before it known, the latest first
-pub record HasHead (origin : List (List ℕ)) (before : List Entry) (entry : Entry) (head : Head) : Type 0 where
+pub record HasHead (origin : List (List ℕ)) (before : List Entry) (entry : Entry)
+    (head : Head) : Type 0 where
   pub parts : Parts
   pub word : List ℕ
   pub split : parts_of entry ≡ Some parts
@@ -35,36 +36,44 @@ pub record HasHead (origin : List (List ℕ)) (before : List Entry) (entry : Ent
   pub kind : IsKind head.kind
 
 -- the items state data under the origin at the entry
-pub record StatesData (origin : List (List ℕ)) (before : List Entry) (head : Head) (octets : List ℕ) : Type 0 where
+pub record StatesData (origin : List (List ℕ)) (before : List Entry) (head : Head)
+    (octets : List ℕ) : Type 0 where
   pub above : List (List ℕ)
   pub under : IsOrigin origin before above
   pub states : States above head.class head.kind head.items octets
 
 -- the entry is an SOA with this MINIMUM
-pub record StatesMinimum (origin : List (List ℕ)) (before : List Entry) (entry : Entry) (seconds : ℕ) : Type 0 where
+pub record StatesMinimum (origin : List (List ℕ)) (before : List Entry) (entry : Entry)
+    (seconds : ℕ) : Type 0 where
   pub head : Head
   pub octets : List ℕ
   pub has : HasHead origin before entry head
   pub rdata : StatesData origin before head octets
-  pub field : minimum (record { class = head.class; kind = head.kind; octets = octets }) ≡ Some seconds
+  pub field : minimum (record { class = head.class; kind = head.kind; octets = octets })
+      ≡ Some seconds
 
 -- the MINIMUM of the latest SOA
 abbrev pub IsLastMinimum : List (List ℕ) → List Entry → ℕ → Type 0
 IsLastMinimum origin [] seconds = ⊥
 IsLastMinimum origin (entry ∷ before) seconds =
-    StatesMinimum origin before entry seconds ⊎ (((other : ℕ) → StatesMinimum origin before entry other → ⊥) × IsLastMinimum origin before seconds)
+    StatesMinimum origin before entry seconds
+    ⊎ (((other : ℕ) → StatesMinimum origin before entry other → ⊥)
+    × IsLastMinimum origin before seconds)
 
--- The TTL of a record entry, whatever its bound: a stated one, else the MINIMUM of the latest SOA, which may be the
--- entry. The MINIMUM as the last choice is this project's own: RFC 2308 4 asks for `$TTL` in its place.
+-- The TTL of a record entry, whatever its bound: a stated one, else the MINIMUM of the latest SOA,
+-- which may be the entry. The MINIMUM as the last choice is this project's own: RFC 2308 4 asks for
+-- `$TTL` in its place.
 abbrev pub HasTtl : List (List ℕ) → List Entry → Entry → ℕ → Type 0
 HasTtl origin before entry seconds =
-    MatchOption (stated_ttl before entry) (IsLastMinimum origin (entry ∷ before) seconds) (λ text. IsTime text seconds)
+    MatchOption (stated_ttl before entry) (IsLastMinimum origin (entry ∷ before) seconds)
+    (λ text. IsTime text seconds)
 
 abbrev pub head_of : Record → List RawItem → Head
 head_of r items = record { owner = r.owner; class = r.class; kind = r.kind; items = items }
 
 -- The entry states the record under the origin, the entries before it known, the latest first
-pub record StatesRecord (origin : List (List ℕ)) (before : List Entry) (entry : Entry) (r : Record) : Type 0 where
+pub record StatesRecord (origin : List (List ℕ)) (before : List Entry) (entry : Entry)
+    (r : Record) : Type 0 where
   pub items : List RawItem
   pub head : HasHead origin before entry (head_of r items)
   pub rdata : StatesData origin before (head_of r items) r.octets
@@ -74,6 +83,7 @@ pub record StatesRecord (origin : List (List ℕ)) (before : List Entry) (entry 
 -- a blank entry, `$ORIGIN` with a name, or `$TTL` with a time
 abbrev pub StatesNothing : List (List ℕ) → List Entry → EntryForm → Type 0
 StatesNothing origin before no_items = ⊤
-StatesNothing origin before (sets_origin (bare text ∷ [])) = (name : List (List ℕ)) × SpellsBehind origin before text name
+StatesNothing origin before (sets_origin (bare text ∷ [])) =
+    (name : List (List ℕ)) × SpellsBehind origin before text name
 StatesNothing origin before (sets_ttl (bare text ∷ [])) = (seconds : ℕ) × IsTtl text seconds
 StatesNothing origin before form = ⊥

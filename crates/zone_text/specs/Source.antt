@@ -1,5 +1,5 @@
--- A source of the records of a master file that is fed in pieces: what it holds, and what it stands for. This is this
--- project's own: RFC 1035 speaks of whole files.
+-- A source of the records of a master file that is fed in pieces: what it holds, and what it stands
+-- for. This is this project's own: RFC 1035 speaks of whole files.
 use Rattle.std.specs.Prelude.{◌≡◌, ℕ, zero, ◌+◌, List, ◌++◌, length, reverse, Bool, true, false, None}
 use Rattle.std.specs.List.{flat_map}
 use Rattle.zone_name.specs.Common.{Labels}
@@ -12,8 +12,9 @@ use Rattle.zone_text.specs.FileReads.{FileReads}
 use Rattle.zone_text.specs.Pieces.{Piece, text}
 use Rattle.zone_text.specs.declared.defaults.Defaults.{Defaults}
 
--- What a source holds beside what it has still to give: whether the file has ended, the number of octets fed, and of the
--- file behind the entries that were ended the defaults that these leave, the line, and the octets
+-- What a source holds besides what it has left to give: whether the file has ended, the number of
+-- octets fed, and of the file after the entries that were ended the defaults that these leave, the
+-- line, and the octets
 pub record Held : Type 0 where
   pub finished : Bool
   pub fed : ℕ
@@ -32,28 +33,34 @@ counted more source = record {
   held = record source.held { fed = source.held.fed + more };
 }
 
--- these are the octets behind the last line feed that ended an entry
+-- these are the octets after the last line feed that ended an entry
 pub record AreUnfinished (fed unfinished : List ℕ) : Type 0 where
   pub pieces : List Piece
   pub are : ArePieces fed pieces
   pub whole : fed ≡ flat_map text (cut_from zero pieces).ended ++ unfinished
 
--- what the octets fed leave: the octets behind the last line feed that ended an entry, and the defaults and the line behind
--- those entries
-pub record Leave (origin : Labels) (fed : List ℕ) (defaults : Defaults) (line : ℕ) (unfinished : List ℕ) : Type 0 where
+-- what the octets fed leave: the octets after the last line feed that ended an entry, and the
+-- defaults and the line after those entries
+pub record Leave (origin : Labels) (fed : List ℕ) (defaults : Defaults) (line : ℕ)
+    (unfinished : List ℕ) : Type 0 where
   pub octets : AreUnfinished fed unfinished
   pub inherited : AreDefaults origin (reverse (ended_entries octets.pieces)) defaults
   pub numbered : line ≡ open_line octets.pieces
 
--- The source, made under an origin, stands for the octets that it was fed and the records that it has given. Before the
--- end of the file it has still to give what else is decided, and while no fault is decided it holds what the octets leave.
--- From then on it has still to give the rest of what is read of the file.
-pub record Stands (origin : Labels) (source : SourceState) (fed : List ℕ) (given : List Placed) : Type 0 where
+-- The source, made under an origin, stands for the octets that it was fed and the records that it
+-- has given. Before the end of the file it has left to give what else is decided, and while no
+-- fault is decided it holds what the octets leave. From then on it has left to give the rest of
+-- what is read of the file.
+pub record Stands (origin : Labels) (source : SourceState) (fed : List ℕ)
+    (given : List Placed) : Type 0 where
   pub works : source.pending.failed ≡ false
   pub count : source.held.fed ≡ length fed
-  pub decided : source.held.finished ≡ false → Decided origin fed (given ++ source.pending.records) source.pending.ending
-  pub leave : source.held.finished ≡ false → source.pending.ending ≡ None → Leave origin fed source.held.defaults source.held.line source.held.unfinished
-  pub read : source.held.finished ≡ true → FileReads origin fed (given ++ source.pending.records) source.pending.ending
+  pub decided : source.held.finished ≡ false
+      → Decided origin fed (given ++ source.pending.records) source.pending.ending
+  pub leave : source.held.finished ≡ false → source.pending.ending ≡ None
+      → Leave origin fed source.held.defaults source.held.line source.held.unfinished
+  pub read : source.held.finished ≡ true
+      → FileReads origin fed (given ++ source.pending.records) source.pending.ending
 
 -- the source gives these records next, and stays as it is else
 pub record Gives (old : SourceState) (placed : List Placed) (new : SourceState) : Type 0 where

@@ -1,22 +1,22 @@
 ghost use Rattle.std.specs.Prelude.{◌≡◌, ℕ, List, [], map, IfErr, OnOk};
+ghost use Rattle.std.specs.List.{flat_map};
 ghost use Rattle.zone_name.specs.Common.{Labels};
 ghost use Rattle.zone_rdata.specs.Item.{raw};
 ghost use Rattle.zone_text.specs.Defaults.{AreDefaults};
-ghost use Rattle.zone_text.specs.Entries.{Entry, entry_of};
+ghost use Rattle.zone_text.specs.Entries.{Entry, entry_of, item_of};
 ghost use Rattle.zone_text.specs.EntryFault.{EntryFault};
 ghost use Rattle.zone_text.specs.Forms.{form_of, owned};
-ghost use Rattle.zone_text.specs.Pieces.{Cuts, Piece};
+ghost use Rattle.zone_text.specs.Pieces.{Piece, text};
 ghost use Rattle.zone_text.specs.Machine.EntryReading.{DecidesEntry, LeavesNoRecord};
 ghost use Rattle.zone_text.specs.Machine.Form.{directive_in, form_in};
 
 use crate::form::{Directive, EntryForm, form_of};
-use crate::items::cut_items;
 use crate::record::refuse;
 use std::alloc::{AllocError, Global};
 use zone_name::Name;
 use zone_rdata::{Class, Failing, Fault, Item, Place, Reading};
 
-/// What the entries of a master file leave to those behind them (RFC 1035 5.1, RFC 2308 4).
+/// What the entries of a master file leave to those after them (RFC 1035 5.1, RFC 2308 4).
 #[derive(Debug, Drop)]
 pub(crate) struct Defaults {
     /// The origin of relative names.
@@ -55,24 +55,25 @@ impl Defaults {
         }
     }
 
-    /// Reads an entry behind those before it, and takes what it decides into `decided`: the record that it states, with
-    /// its place; or its first fault; or nothing, as of a blank entry, `$ORIGIN` and `$TTL`. The entry is known to be
-    /// cut into pieces. `items` holds nothing that is used again. Behind a fault the defaults say nothing.
-    // Records and faults hold names, and are wide. So they are written where they go, and not handed up.
+    /// Reads the entry after those before it, and takes what it decides into `decided`: the record
+    /// that it states, with its place; or its first fault; or nothing, as of a blank entry,
+    /// `$ORIGIN` and `$TTL`. The entry is known to be cut into pieces, and these are its items.
+    /// After a fault the defaults say nothing.
+    // Records and faults hold names, and are wide. So they are written where they go, and not
+    // handed up.
     pub(crate) fn read<'t>(
         &mut self,
         alloc: Global,
         entry: &'t [u8],
-        items: &mut Vec<Item<'t>>,
+        items: &[Item<'t>],
         place: Place,
         decided: &mut Reading,
     ) -> Result<(), AllocError>
         ensures { (origin : Labels) (before : List Entry) (line : ℕ) (pieces : List Piece)
-            → AreDefaults origin before self.old → Cuts entry.now pieces
-            → OnOk result
+            → AreDefaults origin before self.old → map raw items.now ≡ flat_map item_of pieces
+            → entry.now ≡ text pieces → OnOk result
             (DecidesEntry origin before (entry_of line pieces) place decided.old decided.new self.new) }
     {
-        cut_items(entry, items)?;
         self.read_form(alloc, form_of(entry, items), place, decided)
     }
 

@@ -35,7 +35,8 @@ impl Defaults {
     /// `BadDirective`, and the faults of the name.
     pub(crate) fn set_origin(&mut self, items: &[Item]) -> Result<(), Fault>
         ensures found { OnOk result (SetsOrigin (map raw items.now) self.old self.new) }
-        ensures fault { IfErr result (OriginFaultUnder self.old.origin (one_bare (map raw items.now))) }
+        ensures fault { IfErr result
+            (OriginFaultUnder self.old.origin (one_bare (map raw items.now))) }
     {
         let text = one_bare(items)?;
         self.origin = Name::from_text(text, Some(&self.origin))?;

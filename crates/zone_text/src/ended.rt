@@ -1,9 +1,12 @@
 //! The entries that were ended, read one by one (RFC 1035 5.1).
-ghost use Rattle.std.specs.Prelude.{◌≡◌, ◌+◌, ◌<◌, ◌≤◌, ◌^◌, ◌==◌, [], count_by, length, OnOk, Some, None};
+ghost use Rattle.std.specs.Prelude.{◌≡◌, ◌+◌, ◌<◌, ◌≤◌, ◌^◌, ◌==◌, [], count_by, length, map, OnOk, Some, None};
+ghost use Rattle.zone_rdata.specs.Item.{raw};
 ghost use Rattle.zone_text.specs.Defaults.{AreDefaults};
 ghost use Rattle.zone_text.specs.Machine.Feeding.{ReadsOctets};
+ghost use Rattle.zone_text.specs.Machine.Line.{AreItems};
 
 use crate::defaults::Defaults;
+use crate::items::cut_items;
 use std::alloc::{AllocError, Global};
 use std::collections::VecDeque;
 use zone_name::Name;
@@ -14,9 +17,9 @@ use zone_rdata::{Fault, Item, Place, Reading};
 pub(crate) struct EndedEntries {
     /// Their records that were not given yet, and the fault.
     pub(crate) decided: Reading,
-    /// What they leave to the entries behind them.
+    /// What they leave to the entries after them.
     pub(crate) defaults: Defaults,
-    /// The line behind them.
+    /// The line after them.
     pub(crate) line: u64,
 }
 
@@ -50,7 +53,8 @@ impl EndedEntries {
         }
     }
 
-    /// Reads the entry behind them, which is known to be cut into pieces. `items` holds nothing that is used again.
+    /// Reads the entry after them, which is known to be cut into tokens. `items` holds nothing that
+    /// is used again.
     pub(crate) fn read<'t>(
         &mut self,
         alloc: Global,
@@ -61,6 +65,22 @@ impl EndedEntries {
         requires fits { self.old.line + length entry.now < 2 ^ 64 }
         ensures { OnOk result (ReadsOctets entry.now self.old self.new) }
     {
+        cut_items(entry, items)?;
+        self.read_cut(alloc, entry, items)
+    }
+
+    /// Reads the entry after them, of which these are the items.
+    pub(crate) fn read_cut<'t>(
+        &mut self,
+        alloc: Global,
+        entry: &'t [u8],
+        items: &[Item<'t>],
+    ) -> Result<(), AllocError>
+        requires undecided { self.old.decided.ending ≡ None }
+        requires fits { self.old.line + length entry.now < 2 ^ 64 }
+        ensures { AreItems entry.now (map raw items.now)
+            → OnOk result (ReadsOctets entry.now self.old self.new) }
+    {
         let place = Place::Line(self.line);
         self.defaults
             .read(alloc, entry, items, place, &mut self.decided)?;
@@ -68,10 +88,11 @@ impl EndedEntries {
         Ok(())
     }
 
-    /// Decides the fault of the entry behind them.
+    /// Decides the fault of the entry after them.
     pub(crate) fn refuse(&mut self, fault: Fault)
         ensures records { self.new.decided.placed.items ≡ self.old.decided.placed.items }
-        ensures ending { self.new.decided.ending ≡ Some (record { 0 = fault; 1 = Place.Line self.old.line }) }
+        ensures ending { self.new.decided.ending
+            ≡ Some (record { 0 = fault; 1 = Place.Line self.old.line }) }
         ensures line { self.new.line ≡ self.old.line }
     {
         self.decided.ending = Some((fault, Place::Line(self.line)));

@@ -11,9 +11,9 @@ use zone_rdata::Item;
 /// A directive (RFC 1035 5.1; `$TTL` RFC 2308 4).
 #[derive(Drop)]
 pub(crate) enum Directive<'i, 't> {
-    /// `$ORIGIN`, and the items behind the word.
+    /// `$ORIGIN`, and the items after the word.
     Origin(&'i [Item<'t>]),
-    /// `$TTL`, and the items behind the word.
+    /// `$TTL`, and the items after the word.
     Ttl(&'i [Item<'t>]),
     /// `$INCLUDE`, which isn't read.
     Include,
@@ -28,20 +28,20 @@ pub(crate) enum EntryForm<'i, 't> {
     Blank,
     /// A directive.
     Directive(Directive<'i, 't>),
-    /// A record that states its owner, and the items behind the owner.
+    /// A record that states its owner, and the items after the owner.
     Owned(Item<'t>, &'i [Item<'t>]),
     /// A record that omits its owner.
     Unowned(&'i [Item<'t>]),
 }
 
-/// Whether two words are equal in any case of their letters.
+/// Whether two words are equal but for the case of their letters.
 fn is_word(word: &[u8], wanted: &[u8]) -> bool
     ensures { result ≡ bytes_eq (folded_label word.now) (folded_label wanted.now) }
 {
     word.eq_ignore_ascii_case(wanted)
 }
 
-/// The directive of a word in any case.
+/// The directive of a word in any letter case.
 fn directive_of<'i, 't>(word: Item<'t>, items: &'i [Item<'t>]) -> Directive<'i, 't>
     ensures { directive_in result ≡ directive (raw word.entry) (map raw items.now) }
 {

@@ -1,20 +1,23 @@
-//! Octets of a master file as they come in pieces: the entries that they end, and the one that they leave unfinished.
+//! Octets of a master file as they come in pieces: the entries that they end, and the one that they
+//! leave unfinished.
 ghost use Rattle.std.specs.Prelude.{◌≡◌, ◌+◌, ◌<◌, ◌≤◌, ◌^◌, ◌++◌, [], length, IfSome, IsOk, OnOk, None};
 ghost use Rattle.zone_text.specs.Machine.Feeding.{Follow, FollowOn, IsIntake, reach, ReadsAll, ReadsOctets, ScansTo};
 ghost use Rattle.zone_text.specs.Machine.Scan.{beginning};
 
+use crate::blank::blank_lines;
 use crate::ended::EndedEntries;
+use crate::line::cut_line;
 use crate::scan::{ScanState, Step, end_fault, scan};
 use std::alloc::{AllocError, Global};
 use zone_name::Name;
 use zone_rdata::{Fault, Item};
 
-/// The entries that were ended, and the octets behind them.
+/// The entries that were ended, and the octets after them.
 #[derive(Drop)]
 pub(crate) struct Intake {
     alloc: Global,
     pub(crate) ended: EndedEntries,
-    /// Where the octets of the unfinished entry leave its pieces.
+    /// Where the octets of the unfinished entry leave its tokens.
     pub(crate) at: ScanState,
     /// The octets of the unfinished entry. No other input is kept.
     pub(crate) unfinished: Vec<u8>,
@@ -44,11 +47,26 @@ impl Intake {
         ensures is { OnOk result (IsIntake self.new.ended self.new.at self.new.unfinished.items) }
         ensures near { OnOk result (reach self.new ≤ reach self.old + length piece.now) }
         ensures settled { IfSome self.old.ended.decided.ending (λ _. IsOk result × (self.new ≡ self.old)) }
+        ensures nothing { piece.now ≡ [] → IsOk result × (self.new ≡ self.old) }
         ensures follow { OnOk result (FollowOn self.old piece.now self.new) }
     {
         let mut items = Vec::new(self.alloc);
         let mut rest = piece;
         while !rest.is_empty() && self.ended.decided.ending.is_none() {
+            if self.unfinished.is_empty() {
+                let blank = blank_lines(rest);
+                if blank.count > 0 {
+                    self.ended.line += blank.count as u64;
+                    rest = blank.rest;
+                    continue;
+                }
+                if let Some(taken) = cut_line(rest, &mut items)? {
+                    let (entry, after) = rest.split_at(taken);
+                    self.ended.read_cut(self.alloc, entry, &items)?;
+                    rest = after;
+                    continue;
+                }
+            }
             let found = scan(rest, self.at);
             let (part, after) = rest.split_at(found.taken);
             self.take_part(part, found.step, &mut items)?;
@@ -137,6 +155,8 @@ impl Intake {
         ensures none { OnOk result (self.new.unfinished.items ≡ []) }
         ensures near { OnOk result (self.new.ended.line ≤ reach self.old) }
         ensures is { OnOk result (IsIntake self.new.ended self.new.at self.new.unfinished.items) }
+        ensures settled { IfSome self.old.ended.decided.ending (λ _. IsOk result) }
+        ensures nothing { self.old.unfinished.items ≡ [] → IsOk result }
         ensures reads { OnOk result (ReadsAll self.old self.new) }
     {
         if self.ended.decided.ending.is_none() {
@@ -153,6 +173,7 @@ impl Intake {
         requires fits { reach self.old < 2 ^ 64 }
         ensures later { OnOk result (self.old.ended.line ≤ self.new.ended.line) }
         ensures near { OnOk result (self.new.ended.line ≤ reach self.old) }
+        ensures nothing { self.old.unfinished.items ≡ [] → IsOk result }
         ensures reads { OnOk result (ReadsAll self.old self.new) }
     {
         match end_fault(self.at) {

@@ -1,5 +1,5 @@
-ghost use Rattle.std.specs.Prelude.{◌≡◌, ◌≤◌, ◌<◌, List, [], ◌∷◌, ◌++◌, map, length, drop, false, not, IfNone, IfSome, OnOk, option_map, option_to_list};
-ghost use Rattle.std.specs.List.{flat_map};
+ghost use Rattle.std.specs.Prelude.{◌≡◌, ◌≤◌, ◌<◌, List, [], ◌∷◌, ◌++◌, map, length, drop, take, false, not, IfNone, IfSome, OnOk, option_map, option_to_list};
+ghost use Rattle.std.specs.List.{All, flat_map};
 ghost use Rattle.zone_name.specs.Common.{Octets};
 ghost use Rattle.zone_rdata.specs.Item.{raw};
 ghost use Rattle.zone_text.specs.Entries.{item_of};
@@ -40,9 +40,10 @@ impl Extent {
     }
 }
 
-/// The number of octets in front of the first that ends the item or is a backslash.
-fn plain_len(text: &[u8], extent: Extent) -> usize
+/// The number of octets before the first that ends the item or is a backslash.
+pub(crate) fn plain_len(text: &[u8], extent: Extent) -> usize
     ensures within { result ≤ length text.now }
+    ensures plain { All (λ c. stops_within extent c ≡ false) (take result text.now) }
     ensures reaches { Reaches (ends_within extent) text.now result }
     ensures stops { EndsAt (stops_within extent) (drop result text.now) }
 {
@@ -54,7 +55,7 @@ fn plain_len(text: &[u8], extent: Extent) -> usize
     text.len()
 }
 
-/// The number of octets of the item at the front, of which these many are plain.
+/// The number of octets of the item at the beginning, of which these many are plain.
 // Not inlined: few items have a backslash.
 #[inline(never)]
 fn escaped_len(text: &[u8], plain: usize, extent: Extent) -> usize
@@ -66,7 +67,7 @@ fn escaped_len(text: &[u8], plain: usize, extent: Extent) -> usize
 {
     let mut len = plain;
     while len < text.len() && text[len] == b'\\' {
-        // The octet behind a backslash goes with it.
+        // The octet after a backslash goes with it.
         len += (text.len() - len).min(2);
         let (_, behind) = text.split_at(len);
         len += plain_len(behind, extent);
@@ -74,7 +75,7 @@ fn escaped_len(text: &[u8], plain: usize, extent: Extent) -> usize
     len
 }
 
-/// The number of octets of the item at the front, without quotes.
+/// The number of octets of the item at the beginning, without quotes.
 #[inline(always)]
 fn item_len(text: &[u8], extent: Extent) -> usize
     ensures len { result ≡ item_len (ends_within extent) false text.now }
@@ -89,7 +90,7 @@ fn item_len(text: &[u8], extent: Extent) -> usize
 }
 
 /// The number of octets of the comment at the front, without its semicolon.
-fn comment_len(text: &[u8]) -> usize
+pub(crate) fn comment_len(text: &[u8]) -> usize
     ensures len { result ≡ length (before_line_feed text.now) }
     ensures within { result ≤ length text.now }
 {
@@ -109,8 +110,8 @@ fn begins_bare(octet: u8) -> bool
     !stops_bare(octet) || octet == b'\\'
 }
 
-/// The piece at the front of a text that is cut into pieces: its item, if it is one, and what is behind it. `None`: the
-/// text ends.
+/// The first token of a text that is cut into tokens: its item, if it is one, and the rest. `None`:
+/// the text ends.
 fn split_piece(text: &[u8]) -> Option<(Option<Item<'_>>, &[u8])>
     ensures end { IfNone result (text.now ≡ []) }
     ensures found { IfSome result (λ found. (p : Piece) (rest : Octets)
@@ -135,7 +136,7 @@ fn split_piece(text: &[u8]) -> Option<(Option<Item<'_>>, &[u8])>
     }
 }
 
-/// Puts the items of an entry, which is known to be cut into pieces, in place of what `items` held.
+/// Puts the items of an entry, which is known to be cut into tokens, in place of what `items` held.
 ///
 /// # Errors
 ///

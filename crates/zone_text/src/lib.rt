@@ -1,6 +1,7 @@
 //! Master files (RFC 1035 5): from text to records and the first fault.
 #![tactic(auto)]
 
+mod blank;
 mod defaults;
 mod directive;
 mod ended;
@@ -9,6 +10,7 @@ mod form;
 mod intake;
 mod items;
 pub mod laws;
+mod line;
 mod reader;
 mod record;
 mod scan;

@@ -16,7 +16,8 @@ use crate::words::{split_bare, words_of};
 use std::alloc::{AllocError, Global};
 use zone_rdata::{Class, Failing, Fault, Item, Kind, Place, Placed, Rdata, Reading, Rr};
 
-/// What a record states behind its owner: the words before its type, its type, and the items of its data.
+/// What a record states after its owner: the words before its type, its type, and the items of its
+/// data.
 #[derive(Drop)]
 pub(crate) struct Head<'i, 't> {
     /// The TTL that the record states, in seconds.
@@ -27,7 +28,7 @@ pub(crate) struct Head<'i, 't> {
     rdata: &'i [Item<'t>],
 }
 
-/// What is read of a record behind its owner.
+/// What is read of a record after its owner.
 #[derive(Drop)]
 pub(crate) struct Contents {
     /// The TTL that the record states or inherits, in seconds.
@@ -59,8 +60,8 @@ pub(crate) fn refuse(
 }
 
 impl Defaults {
-    /// Reads the record of the last owner, and of the items behind the owner where it is stated: the record comes
-    /// behind those that were decided, or the entry's fault behind the owner is decided.
+    /// Reads the record of the last owner, and of the items after the owner where it is stated: the
+    /// record comes after those that were decided, or the entry's fault after the owner is decided.
     #[inline(never)]
     pub(crate) fn read_record(
         &mut self,
@@ -95,11 +96,11 @@ impl Defaults {
         }
     }
 
-    /// What the items behind the owner state or inherit.
+    /// What the items after the owner state or inherit.
     ///
     /// # Errors
     ///
-    /// The first fault behind the owner but `BadTtl` of a TTL that is inherited, and `Memory`.
+    /// The first fault after the owner but `BadTtl` of a TTL that is inherited, and `Memory`.
     fn contents_of(&self, alloc: Global, items: &[Item]) -> Result<Contents, Failing>
         ensures found { (origin : Labels) (before : List Entry) (entry : Entry) (owner : Labels)
             → IsRecordEntry origin before entry self.now owner (map raw items.now)
@@ -125,12 +126,12 @@ impl Defaults {
         })
     }
 
-    /// What the items behind the owner state in front of the data.
+    /// What the items after the owner state before the data.
     ///
     /// # Errors
     ///
-    /// `BadTtl` and `BadClass` for the leftmost word before the type without a value; then `UnknownType` and
-    /// `MetaType`.
+    /// `BadTtl` and `BadClass` for the leftmost word before the type without a value; then
+    /// `UnknownType` and `MetaType`.
     fn head_of<'i, 't>(&self, items: &'i [Item<'t>]) -> Result<Head<'i, 't>, Fault>
         ensures found { (origin : Labels) (before : List Entry) (entry : Entry) (owner : Labels)
             → IsRecordEntry origin before entry self.now owner (map raw items.now)

@@ -1,11 +1,11 @@
-//! Where the octets of a master file leave its pieces, octet by octet (RFC 1035 5.1).
+//! Where the octets of a master file leave its tokens, octet by octet (RFC 1035 5.1).
 ghost use Rattle.std.specs.Prelude.{◌≡◌, ◌+◌, ◌<◌, ◌≤◌, ◌^◌, drop, length, not};
 ghost use Rattle.zone_text.specs.Machine.Scan.{AreQuiet, behind_backslash, beginning, closed, end_fault_of, ends_number, escape_step, fed_line, further, moves, open_step, scan_of, step_of, unclosed};
 
 use crate::table::moves_open;
 use zone_rdata::Fault;
 
-/// How much of an escape was read: its backslash, and digits behind it.
+/// How much of an escape was read: its backslash, and digits after it.
 #[derive(Clone, Copy, Drop)]
 pub(crate) enum Escape {
     /// The backslash.
@@ -16,7 +16,7 @@ pub(crate) enum Escape {
     Two(u8, u8),
 }
 
-/// What is open behind the octets read so far.
+/// What is open after the octets read so far.
 #[derive(Clone, Copy, Drop)]
 pub(crate) enum Mode {
     /// No item, or a bare item.
@@ -31,7 +31,7 @@ pub(crate) enum Mode {
     QuotedEscaped(Escape),
 }
 
-/// Where the octets read so far leave the pieces.
+/// Where the octets read so far leave the tokens.
 #[derive(Clone, Copy, Drop)]
 pub(crate) struct ScanState {
     pub(crate) mode: Mode,
@@ -59,7 +59,7 @@ pub(crate) struct Scanned {
     pub(crate) step: Step,
 }
 
-/// What an octet behind a backslash leads to.
+/// What an octet after a backslash leads to.
 #[derive(Clone, Copy, Drop)]
 enum Behind {
     /// The escape goes on.
@@ -105,7 +105,7 @@ fn ends_number(first: u8, second: u8, octet: u8) -> bool
     octet.is_ascii_digit() && value <= 255
 }
 
-/// What an octet leads to behind a backslash.
+/// What an octet leads to after a backslash.
 fn behind_backslash(escape: Escape, octet: u8) -> Behind
     ensures { result ≡ behind_backslash escape octet }
 {
@@ -178,8 +178,8 @@ fn take_octet(at: ScanState, octet: u8) -> Step
     }
 }
 
-/// How many octets at the front lead nowhere else where no quote, comment or escape is open. It counts by four, and so
-/// may leave out up to three.
+/// How many octets at the beginning lead nowhere else where no quote, comment or escape is open. It
+/// counts by four, and so may leave out up to three.
 fn quiet_len(octets: &[u8]) -> usize
     ensures within { result ≤ length octets.now }
     ensures quiet { AreQuiet octets.now result }
@@ -227,7 +227,7 @@ fn scan_each(octets: &[u8], start: ScanState) -> Scanned
     }
 }
 
-/// How many octets at the front leave the state as it is, as far as that is seen at a glance.
+/// How many octets at the beginning leave the state as it is, as far as that is seen at a glance.
 fn quiet_front(octets: &[u8], at: ScanState) -> usize
     ensures within { result ≤ length octets.now }
     ensures reaches { scan_of at octets.now ≡ further result (scan_of at (drop result octets.now)) }
@@ -238,7 +238,8 @@ fn quiet_front(octets: &[u8], at: ScanState) -> usize
     }
 }
 
-/// Takes octets up to the end of the entry or to what breaks it, and all of them where neither comes.
+/// Takes octets up to the end of the entry or to what breaks it, and all of them where neither
+/// comes.
 pub(crate) fn scan(octets: &[u8], start: ScanState) -> Scanned
     requires { start.depth + length octets.now + 1 < 2 ^ 64 }
     ensures found { result ≡ scan_of start octets.now }

@@ -9,10 +9,12 @@ use std::marker::Model;
 use zone_name::Name;
 use zone_rdata::{Placed, Reading, RrSource, Stop};
 
-/// The records of a master file (RFC 1035 5.1) that is fed in pieces. It gives a record as soon as a line feed has ended
-/// its entry. Contracts see what it has still to give and what it holds beside.
+/// The records of a master file (RFC 1035 5.1) that is fed in pieces. It gives a record as soon as
+/// a line feed has ended its entry. Contracts see the records that it has left to give, the fault
+/// after them, and what else it holds.
 ///
-/// Refused memory, it has failed: every later `feed`, `finish` and `next` answers `Memory`.
+/// Once it was refused memory it has failed: every later `feed`, `finish` and `next` answers
+/// `Memory`.
 #[derive(Drop)]
 pub struct TextSource {
     intake: Intake,
@@ -72,8 +74,8 @@ impl TextSource {
         }
     }
 
-    /// Takes the next piece of the file, of any length. Once a fault is decided a piece is counted alone, which takes no
-    /// memory.
+    /// Takes the next piece of the file, of any length. Once a fault is decided a piece is counted
+    /// alone, which takes no memory.
     ///
     /// # Errors
     ///
@@ -86,6 +88,8 @@ impl TextSource {
         ensures count { OnOk result (self.new.held.fed ≡ self.old.held.fed + length piece.now) }
         ensures decided { self.old.pending.failed ≡ false → IfSome self.old.pending.ending
             (λ _. IsOk result × (self.new ≡ counted (length piece.now) self.old)) }
+        ensures nothing { piece.now ≡ [] → (self.new ≡ self.old)
+            × (self.old.pending.failed ≡ false → IsOk result) }
         ensures works { OnOk result (self.old.pending.failed ≡ false) }
         ensures working { OnOk result (self.new.pending.failed ≡ false) }
         ensures memory { IfErr result (λ stop. stop ≡ Stop.Memory) }
@@ -105,7 +109,8 @@ impl TextSource {
         }
     }
 
-    /// Takes the end of the file. What the source has still to give is then the rest of what is read of the file.
+    /// Takes the end of the file. What the source has still to give is then the rest of what is read of the file. It takes
+    /// no memory where no octets are undecided.
     ///
     /// # Errors
     ///
@@ -120,6 +125,10 @@ impl TextSource {
         ensures memory { IfErr result (λ stop. stop ≡ Stop.Memory) }
         ensures failed { OnErr result (self.new.pending.failed ≡ true) }
         ensures goes_on { OnErr result (self.new.held.finished ≡ false) }
+        ensures decided { self.old.pending.failed ≡ false
+            → IfSome self.old.pending.ending (λ _. IsOk result) }
+        ensures nothing { self.old.pending.failed ≡ false
+            → self.old.held.unfinished ≡ [] → IsOk result }
         ensures count { self.new.held.fed ≡ self.old.held.fed }
     {
         if let Status::OutOfMemory = self.status {
@@ -141,8 +150,9 @@ impl TextSource {
         matches!(self.status, Status::Finished)
     }
 
-    /// The number of octets of the file that the source keeps: those behind the last line feed that ended an entry, and
-    /// none once a fault is decided, the file has ended or the source has failed.
+    /// The number of octets of the file that the source keeps: those after the last line feed that
+    /// ended an entry, and none once a fault is decided, the file has ended or the source has
+    /// failed.
     pub fn undecided(&self) -> usize
         ensures held { result ≡ length self.now.held.unfinished }
         ensures decided { IfSome self.now.pending.ending (λ _. result ≡ 0) }
@@ -159,7 +169,7 @@ impl TextSource {
         self.fed
     }
 
-    /// What it has still to give.
+    /// What it has left to give.
     pub(crate) fn into_reading(self) -> Reading
         ensures records { result.placed.items ≡ self.pending.records }
         ensures ending { result.ending ≡ self.pending.ending }

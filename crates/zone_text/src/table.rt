@@ -38,7 +38,8 @@ pub(crate) fn moves_open(octet: u8) -> bool
     MOVES_OPEN[octet as usize]
 }
 
-/// By octet, sixteen a row: a space, a tab, a carriage return, a line feed, `"`, `(` and `)`, `;` and a backslash.
+/// By octet, sixteen a row: a space, a tab, a carriage return, a line feed, `"`, `(` and `)`, `;`
+/// and a backslash.
 #[rattlefmt::skip]
 static STOPS_BARE: [bool; 256] = [
     N, N, N, N, N, N, N, N, N, Y, Y, N, N, Y, N, N,

@@ -9,7 +9,7 @@ ghost use Rattle.zone_text.specs.Machine.WordValues.{ArePartsOf, HaveValues};
 
 use zone_rdata::{Class, Fault, Item, MAX_TTL, seconds_of};
 
-/// The first item's text where the item is bare, and the items behind it.
+/// The first item's text where the item is bare, and the items after it.
 pub(crate) fn split_bare<'i, 't>(items: &'i [Item<'t>]) -> Option<(&'t [u8], &'i [Item<'t>])>
     ensures found { IfSome result (λ parts.
         map raw items.now ≡ bare parts.0.now ∷ map raw parts.1.now) }
@@ -91,7 +91,8 @@ impl Words {
     }
 }
 
-/// The values of the words before a record's type, and how many they are, of the items behind the owner.
+/// The values of the words before a record's type, and how many they are, of the items after the
+/// owner.
 ///
 /// # Errors
 ///

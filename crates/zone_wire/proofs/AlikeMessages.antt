@@ -15,7 +15,7 @@ use Rattle.zone_wire.proofs.Accepting.{any_append}
 use Rattle.zone_wire.proofs.Answering.{is_soa}
 use Rattle.zone_wire.proofs.GivenMessages.{asked_grow, placed_grow, sections_grow}
 
--- what an answer is judged by beside itself
+-- what an answer is judged by besides itself
 record Alike (questions others : List QuestionAt) (before other : List Placed) : Type 0 where
   opening : opening_of before ≡ opening_of other
   closing : is_closed before ≡ is_closed other
@@ -177,7 +177,7 @@ id_grows (x ∷ xs) (y ∷ ys) p e = e
 asked_more : (before : List StatedMessage) (p : StatedMessage) → asked_in before ++ p.sections.questions ≡ asked_in (before ++ p ∷ [])
 asked_more before p = sym (asked_grow before p.sections) ∙ ap (flat_map (λ (t : Sections). t.questions)) (sections_grow before p)
 
--- messages that are alike stay so behind one more
+-- messages that are alike stay so after one more
 pub alike_grows : (before other : List StatedMessage) (p : StatedMessage) → AreAlike before other → IsReadBehind before p → AreAlike (before ++ p ∷ []) (other ++ p ∷ [])
 alike_grows before other p is read =
     let questions = p.sections.questions in

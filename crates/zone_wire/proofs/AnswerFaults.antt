@@ -111,7 +111,7 @@ other_soa_test r opening = r.kind == 6 && not (same_record r opening.rr)
 other_records : (r s : Record) → not (same_record r s) ≡ true → r ≢ s
 other_records r s e same = let yes = records_same r s same in let no : same_record r s ≡ false = not-true _ e in cc
 
--- a record behind others is refused with its first fault
+-- a record after others is refused with its first fault
 pub order_faults : (questions : List QuestionAt) (before : List Placed) (r : Record) (fault : Fault) → order_fault questions before r ≡ Some fault → OrderFault questions before r fault
 order_faults questions [] r fault e = elim (faulted (not (r.kind == 6)) NoOpeningSoa fault _ e) [
   | inl h ↦ subst (OrderFault questions [] r) h.1 (no_soa refl (unequal_by r.kind 6 h.0))
@@ -155,7 +155,7 @@ kept_soa r opening e kind = elim (and_cases (r.kind == 6) (not (same_record r op
   | inr same ↦ records_equal r opening.rr (not-false _ same)
 ]
 
--- a record that isn't refused stands behind others
+-- a record that isn't refused stands after others
 pub order_stands : (questions : List QuestionAt) (before : List Placed) (r : Record) → order_fault questions before r ≡ None → StandsBehind questions before r
 order_stands questions [] r e =
     let h = passed (not (r.kind == 6)) NoOpeningSoa _ e in

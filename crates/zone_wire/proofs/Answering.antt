@@ -63,7 +63,7 @@ zone_agrees zone [] [] name class ask opens n c = refl
 abbrev pub is_soa : Placed → Bool
 is_soa p = p.rr.kind == 6
 
--- a record that can stand behind others
+-- a record that can stand after others
 abbrev pub Follows : Record → List Placed → Placed → Type 0
 Follows zone [] p = (p.rr ≡ zone) × (zone.kind ≡ 6)
 Follows zone (opening ∷ others) p = (list_any is_soa others ≡ false) × ((is_soa p && not (same_record p.rr opening.rr)) ≡ false)

@@ -1,4 +1,5 @@
--- A walk that is carried on from place to place: the walk from the start is what was met so far and the walk from here.
+-- A walk that is carried on from place to place: the walk from the start is what was met so far and
+-- the walk from here.
 use Rattle.std.proofs.Common.{◌≡◌, ℕ, zero, suc, ◌+◌, ◌-◌, ◌*◌, ◌<◌, ◌≤◌, List, [], ◌∷◌, ◌++◌, length, refl, ap, sym, ◌∙◌, subst, arith, length-append, append_assoc}
 use Rattle.std.specs.Prelude.{Option, Some, None, take, drop}
 use Rattle.std.specs.Option.{unwrap_or}
@@ -75,7 +76,7 @@ reaches_by message offset spot labels end steps standing (suc after) enough few 
 reaches : {message : List ℕ} {offset : ℕ} {spot : Spot} {labels : List (List ℕ)} {end : Option ℕ} {steps : ℕ} (standing : Option Standing) → Carries message offset spot labels end steps → place_of message spot ≡ standing → Reaches message offset spot labels end steps standing
 reaches {message} {offset} {spot} {labels} {end} {steps} standing c e = reaches_by message offset spot labels end steps standing c.left c.enough (omega (arith, c.few, c.short, c.pointers)) c.whole e
 
--- behind a label
+-- after a label
 pub carries_label : {message : List ℕ} {offset : ℕ} {spot : Spot} {labels : List (List ℕ)} {end : Option ℕ} {steps : ℕ} (size : ℕ) → Carries message offset spot labels end steps → place_of message spot ≡ Some (at_label size) → Carries message offset (past_label spot size) (labels ++ label_at message spot.offset size ∷ []) end (steps + 1)
 carries_label {message} {offset} {spot} {labels} {end} {steps} size c e =
     let r = reaches (Some (at_label size)) c e in

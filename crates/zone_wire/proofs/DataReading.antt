@@ -28,7 +28,7 @@ use Rattle.zone_wire.proofs.ReadFields.{value_shows, values_show}
 use Rattle.zone_wire.proofs.MessageFaults.{and_then_err}
 use Rattle.zone_wire.proofs.ReadRecords.{IsRow, each_row}
 use Rattle.zone_wire.proofs.Sectioning.{and_then_ok}
-use Rattle.zone_wire.proofs.StringReading.{length-strings, octets_of_strings, put_none}
+use Rattle.zone_wire.proofs.StringReading.{length-strings, octets_of_strings}
 
 -- ---- the fields of a layout
 from_here : (fields : List Field) (i : ℕ) (field : Field) → slice_get fields i ≡ Some field → drop i fields ≡ field ∷ drop (i + 1) fields

@@ -30,7 +30,7 @@ inside_refused : {X : Type 0} (octets : List ℕ) (by : Found → X) (end_of : X
 inside_refused octets by end_of (refused other steps) fault e = e
 inside_refused octets by end_of (named found) fault e = cc
 
--- a part whose end is this far behind that of its name
+-- a part whose end is this far after that of its name
 inside_ends : {X : Type 0} (octets : List ℕ) (by : Found → X) (end_of : X → ℕ) (past : ℕ → ℕ) → ((found : Found) → end_of (by found) ≡ past found.end) → (o : Outcome) (end : ℕ) → Ok end ≡ name_end_of o → past end ≤ length octets → Ok (past end) ≡ part_end_of end_of (inside octets by end_of o)
 inside_ends octets by end_of past ends (named found) end e h =
     let same : end ≡ found.end = cc in

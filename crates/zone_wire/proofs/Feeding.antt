@@ -1,4 +1,5 @@
--- What is decided of a stream by one frame more, by octets that end inside a frame, and by the stream's end.
+-- What is decided of a stream by one frame more, by octets that end inside a frame, and by the
+-- stream's end.
 use Rattle.std.proofs.Common.{◌≡◌, ℕ, zero, suc, ◌+◌, ◌-◌, ◌*◌, ◌/◌, ◌%◌, ◌<◌, ◌≤◌, List, [], ◌∷◌, ◌++◌, length, refl, ap, sym, ◌∙◌, subst, false, arith, append_assoc, length-append, lit<}
 use Rattle.std.specs.Prelude.{get_or, take, drop, Option, Some, None, IfSome, MatchOption}
 use Rattle.std.specs.List.{flat_map}
@@ -108,7 +109,7 @@ inside_frame t unfinished fed more given going each cut follow =
     } in
     record { octets = bytes_append fed more follow.octets each; state = going_state t (unfinished ++ more) (fed ++ more) given t.decided.ending going longer }
 
--- behind a fault nothing more is decided
+-- after a fault nothing more is decided
 faulted_state : (t : Transfer) (unfinished other fed more : List ℕ) (given : List Placed) (ending : Option (Fault × Place)) → (ending ≡ None → ⊥) → Bytes (fed ++ more) → MatchOption ending (Going t unfinished fed given) (λ e. Decided fed (given ++ t.decided.placed.items) (Some e)) → MatchOption ending (Going t other (fed ++ more) given) (λ e. Decided (fed ++ more) (given ++ t.decided.placed.items) (Some e))
 faulted_state t unfinished other fed more given None some each state = absurd (some refl)
 faulted_state t unfinished other fed more given (Some f) some each state =
@@ -122,7 +123,7 @@ behind_fault t unfinished other fed more given some each follow = record {
   state = faulted_state t unfinished other fed more given t.decided.ending some (bytes_append fed more follow.octets each) follow.state;
 }
 
--- the end of the stream behind frames without a fault
+-- the end of the stream after frames without a fault
 pub ends_with : (t : Transfer) (unfinished fed : List ℕ) (given : List Placed) (ending : Option (Fault × Place)) → (g : Going t unfinished fed given) → StreamEnd (length g.parts + 1) (placed_in g.parts) unfinished ending → StreamReads fed (given ++ t.decided.placed.items) ending
 ends_with t unfinished fed given ending g end = record {
   messages = octets_in g.parts;
@@ -135,7 +136,7 @@ ends_with t unfinished fed given ending g end = record {
   ends = subst (λ n. StreamEnd (n + 1) (placed_in g.parts) unfinished ending) (sym (length-map g.parts (λ (p : StatedMessage). p.octets))) end;
 }
 
--- the end of the stream behind a fault
+-- the end of the stream after a fault
 pub ends_behind_fault : (t : Transfer) (unfinished fed : List ℕ) (given : List Placed) → (t.decided.ending ≡ None → ⊥) → Follow t unfinished fed given → StreamReads fed (given ++ t.decided.placed.items) t.decided.ending
 ends_behind_fault t unfinished fed given some follow = by t.decided.ending some follow.state
   where

@@ -133,7 +133,7 @@ long_value octets start past n at within is =
 pub fixed_value : (octets : List ℕ) (start size past : ℕ) → past ≡ start + size → past ≤ length octets → field_at (Octets size) (octets_between octets start past) ≡ fixed (octets_between octets start past)
 fixed_value octets start size past at within = ap fixed (take_all size (octets_between octets start past) (omega (arith, part_len octets start past within)))
 
--- the string behind its length
+-- the string after its length
 pub string_value : (octets : List ℕ) (start past : ℕ) → past ≡ start + (1 + slice_index octets start) → past ≤ length octets → field_at OneString (octets_between octets start past) ≡ string (octets_between octets (start + 1) past)
 string_value octets start past at within =
     let text : List ℕ = octets_between octets (start + 1) past in

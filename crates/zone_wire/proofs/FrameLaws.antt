@@ -18,7 +18,7 @@ use Rattle.zone_wire.proofs.ReadStreams.{Bytes}
 use Rattle.zone_wire.proofs.GivenMessages.{placed_grow, records_show}
 use Rattle.zone_wire.proofs.OneReading.{FirstRead, first_read, fault_one, one_read, read_not_refused}
 
--- octets joined behind octets: their frames behind those before, where the rest begins them
+-- octets appended to octets: their frames after those before, where the rest begins them
 pub frames_join : (stream more : List ℕ) (messages others : List (List ℕ)) (rest last : List ℕ) → IsFramed stream messages rest → IsFramed (rest ++ more) others last → IsFramed (stream ++ more) (messages ++ others) last
 frames_join stream more messages others rest last is next = record {
   whole = ap (λ x. x ++ more) is.whole ∙ append_assoc (flat_map frame messages) rest more ∙ ap (λ x. flat_map frame messages ++ x) next.whole ∙ sym (append_assoc (flat_map frame messages) (flat_map frame others) last) ∙ ap (λ x. x ++ last) (sym (flat_map-append frame messages others));
@@ -61,7 +61,7 @@ frame_refused stream octets before here fault offset framed are few is = record 
   stated = refl;
 }
 
--- a message behind others is read, or refused for one fault
+-- a message after others is read, or refused for one fault
 abbrev pub IsOne : List StatedMessage → List ℕ → StatedMessage → Type 0
 IsOne before octets p = (p.octets ≡ octets) × IsReadBehind before p
 

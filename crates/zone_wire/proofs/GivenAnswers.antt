@@ -102,7 +102,7 @@ module _ (octets : List ℕ) (each : Bytes octets) (few : length octets ≤ 6553
 abbrev pub found : List Placed → Option (Fault × ℕ) → Answered (Fault × ℕ)
 found placed stop = record { placed = placed; fault = stop }
 
--- an answer that states a record behind others is read as it
+-- an answer that states a record after others is read as it
 pub answer_stated : (octets : List ℕ) (questions : List QuestionAt) (before : List Placed) (a : RecordAt) (r : Record) → a.end ≤ length octets → StatesRecord octets a r → StandsBehind questions before r → answer_of octets questions before a ≡ Ok r
 unfolding answer_of
 answer_stated octets questions before a r within states stands =

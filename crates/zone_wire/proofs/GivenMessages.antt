@@ -25,7 +25,7 @@ use Rattle.zone_wire.proofs.ReadSections.{leads, passes, ok_same, sections_shown
 use Rattle.zone_wire.proofs.ReadStreams.{Bytes}
 use Rattle.zone_wire.proofs.Sectioning.{and_then_ok, sections_read}
 
--- the ID of a message behind others
+-- the ID of a message after others
 id_kept : (before : List StatedMessage) (s : Sections) → HasFirstId before s → has_first_id (sections_in before) s ≡ Ok s
 id_kept [] s is = refl
 id_kept (first ∷ before) s is = cond-true _ _ _ (eq-eqb s.id first.sections.id is)
@@ -91,7 +91,7 @@ module _ (questions : List QuestionAt) (placed : List Placed) where
       by (Ok t) e = absurd (none (ask_is s t qs e).1)
       by (Err f) e = e ∙ ap Err (ask_fault s qs f e).0
 
--- the sections of a message behind others
+-- the sections of a message after others
 pub message_kept : (before : List StatedMessage) (octets : List ℕ) (s : Sections) → IsMessageBehind before octets s → message_of (sections_in before) (placed_in before) octets ≡ Ok s
 unfolding message_of
 message_kept before octets s is =
@@ -148,7 +148,7 @@ records_grow before p messages = ap (λ x. records_of x (placed_in before ++ p.p
 number_same : (before : List StatedMessage) → length (sections_in before) + 1 ≡ length before + 1
 number_same before = ap (λ n. n + 1) (length-map before (λ (p : StatedMessage). p.sections))
 
--- what the answers of a message behind others give
+-- what the answers of a message after others give
 abbrev answers_behind : List StatedMessage → List ℕ → Sections → Answered (Fault × ℕ)
 answers_behind before octets s = answers_of (length (sections_in before) + 1) octets (questions_of (sections_in before ++ s ∷ [])) (placed_in before) s.answers
 
@@ -170,7 +170,7 @@ records_step : (before : List StatedMessage) (octets : List ℕ) (messages : Lis
 unfolding records_of
 records_step before octets messages = refl
 
--- a message that is read, and what comes behind it
+-- a message that is read, and what follows it
 read_step : (before : List StatedMessage) (p : StatedMessage) (messages : List (List ℕ)) → IsReadBehind before p → records_of (sections_in before) (placed_in before) (p.octets ∷ messages) ≡ (let x = records_of (sections_in (before ++ p ∷ [])) (placed_in (before ++ p ∷ [])) messages in record x { placed = p.placed ++ x.placed })
 read_step before p messages is =
     let s = p.sections in
@@ -182,7 +182,7 @@ read_step before p messages is =
     ∙ ap (λ a. followed_by number a (next_records before messages s)) given
     ∙ ap (λ (x : Finds). record x { placed = p.placed ++ x.placed }) (records_grow before p messages)
 
--- messages that are read, and what comes behind them
+-- messages that are read, and what follows them
 pub parts_read : (before parts : List StatedMessage) (rest : List (List ℕ)) (more : List Placed) (ending : Option (Fault × Place)) → AreRead before parts → records_of (sections_in (before ++ parts)) (placed_in (before ++ parts)) rest ≡ finds more ending → records_of (sections_in before) (placed_in before) (octets_in parts ++ rest) ≡ finds (placed_in parts ++ more) ending
 parts_read before [] rest more ending are e = subst (λ b. records_of (sections_in b) (placed_in b) rest ≡ finds more ending) (append-nil before) e
 parts_read before (p ∷ parts) rest more ending are e =
@@ -244,7 +244,7 @@ read_more before p messages placed (Some e) is r =
       place = r.place ∙ ap (λ b. (r.fault, Message (length b + 1) r.offset)) along;
     }
 
--- a message that is refused behind others
+-- a message that is refused after others
 refused_here : (before : List StatedMessage) (octets : List ℕ) (messages : List (List ℕ)) (here : List Placed) (fault : Fault) (offset : ℕ) → FaultBehind before octets here fault offset → ReadBehind before (octets ∷ messages) here (Some (fault, Message (length before + 1) offset))
 refused_here before octets messages here fault offset is = record {
   parts = [];
@@ -260,7 +260,7 @@ refused_here before octets messages here fault offset is = record {
   place = ap (λ b. (fault, Message (length b + 1) offset)) (sym (append-nil before));
 }
 
--- what is found behind others is what is read there
+-- what is found after others is what is read there
 abbrev pub Shows : List StatedMessage → List (List ℕ) → Finds → Type 0
 Shows before messages x = ReadBehind before messages x.placed x.fault
 

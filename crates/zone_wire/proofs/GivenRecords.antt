@@ -1,4 +1,4 @@
--- What a source stands for behind the records that it gives.
+-- What a source stands for after the records that it gives.
 use Rattle.std.proofs.Common.{◌≡◌, ℕ, List, [], ◌∷◌, ◌++◌, Option, Some, None, Result, Ok, Err, refl, sym, ap, ◌∙◌, subst, append_assoc}
 use Rattle.std.proofs.lemmas.List.{append-nil}
 use Rattle.zone_rdata.specs.Source.{Pending, after, answer_of, first_answer, others}

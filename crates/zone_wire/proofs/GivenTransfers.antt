@@ -30,7 +30,7 @@ asks_in zone before placed [] asked opens ask = tt
 asks_in zone before placed (q ∷ questions) asked opens ask =
     (record { kind = ask.0.kind; agrees = agrees_by (zone_of before placed) q.name q.class (zone_agrees zone before placed q.name q.class asked opens ask.0.name ask.0.class) }, asks_in zone before placed questions asked opens ask.1)
 
--- a message of a transfer behind others
+-- a message of a transfer after others
 stated_is_read : (id : ℕ) (zone : Record) (number : ℕ) (before : List StatedMessage) (p : StatedMessage) → number ≡ length before + 1 → IsStatedMessage id zone number p → AllByRecursion (λ (q : StatedMessage). q.sections.id ≡ id) before → AllByRecursion (AsksFor zone) (asked_in before) → OpensWith zone (placed_in before) → InOrder zone (placed_in before) p.placed → IsReadBehind before p
 stated_is_read id zone number before p count is ids asked opens order = record {
   message = record { message = is.message; same_id = first_id id before p.sections ids is.same_id; asks = asks_in zone (asked_in before) (placed_in before) p.sections.questions asked opens is.questions };

@@ -87,7 +87,7 @@ module _ (octets : List ℕ) (end : ℕ) (within : end ≤ length octets) where
       let same = value_one field start is.0 too.0 is.1 too.1 is.2 too.2 in
       fields_one fields too.0 f g (subst (λ n. FieldsFault octets end fields n f) same.1 is.3) too.3
 
-  -- a field that has its value leaves the fault to those behind it
+  -- a field that has its value leaves the fault to those after it
   behind : (field : Field) (fields : List Field) (start past : ℕ) (v : FieldValue) (f : Fault) → HasValueAt octets end field start past v → FieldsFault octets end (field ∷ fields) start f → FieldsFault octets end fields past f
   behind field fields start past v f h (inl is) = absurd (field_not_both field start past v f h is)
   behind field fields start past v f h (inr is) = subst (λ n. FieldsFault octets end fields n f) (value_one field start is.0 past is.1 v is.2 h).1 is.3
@@ -174,7 +174,7 @@ own_not_both octets a f r within is states = by (own_head octets a f is)
     by (inl x) = let y = states_head octets a r states in cc
     by (inr x) = data_not_both octets a f r.octets within x.1 states.rdata
 
--- an answer behind others
+-- an answer after others
 module _ (octets : List ℕ) (questions : List QuestionAt) (before : List Placed) (a : RecordAt) (within : a.end ≤ length octets) where
   pub answer_not_both : (f : Fault) (r : Record) → AnswerFault octets questions before a f → StatesRecord octets a r → StandsBehind questions before r → ⊥
   answer_not_both f r (own is) states stands = own_not_both octets a f r within is states

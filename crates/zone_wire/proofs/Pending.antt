@@ -1,4 +1,5 @@
--- The question and the answers of a message that was parsed, and the answers that are still to come.
+-- The question and the answers of a message that was parsed, and the answers that are still to
+-- come.
 use Rattle.std.proofs.Common.{◌≡◌, ℕ, ◌-◌, List, [], ◌∷◌, length, refl, ap, sym, ◌∙◌, subst, arith}
 use Rattle.std.specs.Prelude.{map}
 use Rattle.zone_wire.specs.Message.{u16_at, QuestionAt, question_by, IsQuestionAt, AreQuestionsAt, RecordAt, record_by, IsRecordAt, AreRecordsAt, Sections, IsMessage}
@@ -38,7 +39,7 @@ one_more_is octets count offset s some r is end e =
     let there : more.first.end ≡ end = ap (λ (x : RecordAt). x.end) same ∙ e in
     (subst (StandFrom octets (count - 1)) there more.rest, more.shown ∙ ap (λ (x : RecordAt). raw_at octets x ∷ raw_from octets (count - 1) more.first.end) same ∙ ap (λ n. raw_at octets r ∷ raw_from octets (count - 1) n) there)
 
--- the record behind this name, where a record stands
+-- the record after this name, where a record stands
 pub record_of_name : (octets : List ℕ) (offset : ℕ) (r : RecordAt) → IsRecordAt octets offset r → (found : Found) → IsNameAt octets offset found → IsRecordAt octets offset (record_by octets offset found)
 record_of_name octets offset r is found name =
     let same : r ≡ record_by octets offset found = is.stands ∙ ap (record_by octets offset) (one_name octets offset is.found found is.name name) in

@@ -1,4 +1,4 @@
--- Answers and messages that are read one behind another.
+-- Answers and messages that are read one after another.
 use Rattle.std.proofs.Common.{◌≡◌, ℕ, ◌+◌, List, [], ◌∷◌, ◌++◌, length, refl, ap, sym, ◌∙◌, subst, Bool, true, false, append_assoc, length-append}
 use Rattle.std.specs.Prelude.{map, reverse, nat_eq, is_some, ◌==◌, ◌||◌, not, Option, Some, None, MatchOption, Result, Ok, Err, ⊤}
 use Rattle.std.specs.Cmp.Lexicographic.{pointwise}
@@ -93,7 +93,7 @@ gains_closing questions placed p opened old new among some soa opening zone clos
     or_true true = refl
     or_true false = refl
 
--- any other record is handed on behind the opening SOA
+-- any other record is handed on after the opening SOA
 pub gains_other : (questions : List QuestionAt) (placed : List Placed) (p : Placed) (opened : Record) (old new : Transfer) → Among questions placed old → old.opening ≡ Some opened → (p.rr.kind ≡ 6 → ⊥)
     → new.opening ≡ old.opening → new.zone ≡ old.zone → new.closed ≡ old.closed → new.messages ≡ old.messages → new.id ≡ old.id → new.decided.ending ≡ old.decided.ending
     → new.decided.placed.items ≡ old.decided.placed.items ++ p ∷ [] → Gains (p ∷ []) questions placed old new
@@ -350,7 +350,7 @@ pub stops_in_head : (octets : List ℕ) (before : List StatedMessage) (s : Secti
 stops_in_head octets before s old new e is (other_id other) decided = record { here = []; next = of_id s is other; handed = hands_nothing (placed_in before) old new decided }
 stops_in_head octets before s old new e is (other_zone same other) decided = record { here = []; next = of_questions s is same other; handed = hands_nothing (placed_in before) old new decided }
 
--- a record behind those before it is taken
+-- a record after those before it is taken
 pub some_of : {X : Type 0} (o : Option X) → is_some o ≡ true → (x : X) × (o ≡ Some x)
 some_of None e = cc
 some_of (Some x) e = (x, refl)
@@ -392,7 +392,7 @@ pub stopped_by : (octets : List ℕ) (answers : List RecordAt) (first : RawRecor
 stopped_by octets answers first left before old mid new (failings.Fault fault) offset p e there refuses same questions placed among = takes_up_to octets answers first left before old mid new fault offset p e same there refuses questions placed among
 stopped_by octets answers first left before old mid new failings.Memory offset p e there refuses same questions placed among = tt
 
--- a message behind others, by what its answers give
+-- a message after others, by what its answers give
 module _ (octets : List ℕ) (before : List StatedMessage) (s : Sections) (old mid new : Transfer) (behind : Behind before old) (is : IsMessage octets s) (head : TakesHead before s old mid) (decided : mid.decided ≡ old.decided) where
   failing_taken : (failing : Failing) (offset : ℕ) → IfNoMemory (TakesUpTo octets s.answers (asked_in before ++ s.questions) (placed_in before) mid new) (Err (failing, offset)) → IfNoMemory (TakesMessageUpTo octets before old new) (Err (failing, offset))
   failing_taken (failings.Fault fault) offset takes = stops_in_answers octets before s old mid new (fault, offset) behind is head decided takes

@@ -91,7 +91,7 @@ module _ (octets : List ℕ) (each : (k : ℕ) → get_or octets k 0 < 256) (end
       let whole : take n bs ≡ bs = take_all n bs (omega (arith, len)) in
       (record { size = ap length whole ∙ len; each = bytes_each (take n bs) (take_each n bs (part_bytes start (start + n))) }, fits, (omega arith, sym whole))
 
-  -- a string behind its length
+  -- a string after its length
   string_shows : (start : ℕ) → start + (1 + slice_index octets start) ≤ end → Shown octets end start OneString (field_at OneString (octets_between octets start (start + (1 + slice_index octets start))), start + (1 + slice_index octets start))
   string_shows start fits =
       let past = start + (1 + slice_index octets start) in

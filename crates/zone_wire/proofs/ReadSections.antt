@@ -55,7 +55,7 @@ header_shows octets e =
       counts = (leb-true _ _ counts.0, eqb-true _ _ counts.1);
     }
 
--- what stands behind a name inside the message
+-- what stands after a name inside the message
 record IsInside {X : Type 0} (octets : List ℕ) (by : Found → X) (end_of : X → ℕ) (o : Outcome) (x : X) : Type 0 where
   found : Found
   is : o ≡ named found

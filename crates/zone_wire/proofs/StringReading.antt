@@ -1,4 +1,4 @@
--- Strings are read in a message one behind another, and put into a builder.
+-- Strings are read in a message one after another, and pushed to a builder.
 use Rattle.std.proofs.Common.{◌≡◌, ℕ, suc, ◌+◌, ◌-◌, ◌<◌, ◌≤◌, List, [], ◌∷◌, ◌++◌, length, take, drop, map, get_or, refl, sym, ap, ◌∙◌, subst, arith, Bool, true, false, nat_lt, nat_eq, append_assoc, length-append}
 use Rattle.std.specs.Prelude.{slice_index, ◌&&◌, Some, Ok, Err}
 use Rattle.std.specs.Cmp.Lexicographic.{pointwise, bytes_decides}

@@ -8,7 +8,7 @@ use Rattle.zone_wire.specs.Transfer.{IsDataAt, StatesRecord, StateEach, StatedMe
 use Rattle.zone_wire.proofs.Fielding.{data_reads}
 use Rattle.zone_wire.proofs.Messages.{one_message}
 
--- two lists, each with more behind it, where the first are as long
+-- two lists, each with more after it, where the first are as long
 pub front_unique : {X : Type 0} (a b c d : List X) → length a ≡ length b → a ++ c ≡ b ++ d → (a ≡ b) × (c ≡ d)
 front_unique [] [] c d len e = (refl, e)
 front_unique [] (y ∷ b) c d len e = absurd (omega (arith, len))
@@ -26,7 +26,7 @@ init_unique a b x y e =
     let len : length a ≡ length b = omega (arith, ap length e, length-append a (x ∷ []), length-append b (y ∷ [])) in
     (front_unique a b (x ∷ []) (y ∷ []) len e).0
 
--- a frame at the front of a stream
+-- a frame at the beginning of a stream
 pub frame_unique : (a b c d : List ℕ) → frame a ++ c ≡ frame b ++ d → (a ≡ b) × (c ≡ d)
 frame_unique a b c d e =
     let high : length a / 256 ≡ length b / 256 = cc in

@@ -37,7 +37,7 @@ pub outcome_step : (message : List ℕ) (n : ℕ) (spot : Spot) (standing : Opti
 unfolding walk_by outcome_by
 outcome_step message n spot standing e = rw e (outcome_on message n spot standing)
 
--- the octets of labels, each behind its length
+-- the octets of labels, each after its length
 abbrev pub octets_of : List (List ℕ) → ℕ
 octets_of labels = length (flat_map with_length labels)
 

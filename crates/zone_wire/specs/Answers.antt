@@ -1,4 +1,5 @@
--- What stands before an answer in a stream: the questions, and the records of the answers (RFC 5936 2.2, 3).
+-- What stands before an answer in a stream: the questions, and the records of the answers (RFC 5936
+-- 2.2, 3).
 use Rattle.std.specs.Prelude.{◌≡◌, ℕ, List, [], ◌∷◌, ◌++◌, ◌==◌, not, Bool, false, Option, Some, None, MatchOption, ⊤}
 use Rattle.std.specs.List.{flat_map, filter, list_any}
 use Rattle.zone_rdata.specs.Record.{Record}
@@ -10,7 +11,8 @@ pub record ZoneAsked : Type 0 where
   pub name : List (List ℕ)
   pub class : ℕ
 
--- what questions and records before fix as the zone: the first question or the first record, since these agree
+-- what questions and records before fix as the zone: the first question or the first record, since
+-- these agree
 abbrev pub zone_of : List QuestionAt → List Placed → Option ZoneAsked
 zone_of (q ∷ questions) placed = Some (record { name = q.name; class = q.class })
 zone_of [] (opening ∷ placed) = Some (record { name = opening.rr.owner; class = opening.rr.class })
@@ -29,18 +31,22 @@ abbrev pub handed_on : List Placed → List Placed
 handed_on [] = []
 handed_on (opening ∷ others) = opening ∷ filter (λ p. not (p.rr.kind == 6)) others
 
--- an SOA stands behind the opening one
+-- an SOA stands after the opening one
 abbrev pub is_closed : List Placed → Bool
 is_closed [] = false
 is_closed (opening ∷ others) = list_any (λ p. p.rr.kind == 6) others
 
--- Where a record can stand behind questions and records: as the opening SOA, of the zone that a question fixed; or behind
--- that, the transfer not being closed, as no SOA or the opening one again.
-pub data StandsBehind (questions : List QuestionAt) (before : List Placed) (r : Record) : Type 0 where
-  opens : before ≡ [] → r.kind ≡ 6 → AgreeWith (zone_of questions []) r.owner r.class → StandsBehind questions before r
-  follows : (opening : Placed) (others : List Placed) → before ≡ opening ∷ others → is_closed before ≡ false → (r.kind ≡ 6 → r ≡ opening.rr) → StandsBehind questions before r
+-- Where a record can stand after questions and records: as the opening SOA, of the zone that a
+-- question fixed; or after that, the transfer not being closed, as no SOA or the opening one again.
+pub data StandsBehind (questions : List QuestionAt) (before : List Placed)
+    (r : Record) : Type 0 where
+  opens : before ≡ [] → r.kind ≡ 6 → AgreeWith (zone_of questions []) r.owner r.class
+      → StandsBehind questions before r
+  follows : (opening : Placed) (others : List Placed) → before ≡ opening ∷ others
+      → is_closed before ≡ false → (r.kind ≡ 6 → r ≡ opening.rr) → StandsBehind questions before r
 
--- each behind those before it
+-- each after those before it
 abbrev pub StandInOrder : List QuestionAt → List Placed → List Placed → Type 0
 StandInOrder questions before [] = ⊤
-StandInOrder questions before (p ∷ placed) = StandsBehind questions before p.rr × StandInOrder questions (before ++ p ∷ []) placed
+StandInOrder questions before (p ∷ placed) =
+    StandsBehind questions before p.rr × StandInOrder questions (before ++ p ∷ []) placed

@@ -16,7 +16,8 @@ id_of octets = u16_at octets 0
 abbrev pub qr_of : List ℕ → ℕ
 qr_of octets = slice_index octets 2 / 128
 
--- OPCODE, 0 for a query and its response; TC, 1 where the message is truncated; RCODE, 0 where there is no error
+-- OPCODE, 0 for a query and its response; TC, 1 where the message is truncated; RCODE, 0 where
+-- there is no error
 abbrev pub opcode_of : List ℕ → ℕ
 opcode_of octets = slice_index octets 2 / 8 % 16
 
@@ -26,7 +27,8 @@ tc_of octets = slice_index octets 2 / 2 % 2
 abbrev pub rcode_of : List ℕ → ℕ
 rcode_of octets = slice_index octets 3 % 16
 
--- QDCOUNT, ANCOUNT, NSCOUNT and ARCOUNT: how many questions, answers, authority and additional records there are
+-- QDCOUNT, ANCOUNT, NSCOUNT and ARCOUNT: how many questions, answers, authority and additional
+-- records there are
 abbrev pub qdcount_of : List ℕ → ℕ
 qdcount_of octets = u16_at octets 4
 
@@ -43,11 +45,13 @@ arcount_of octets = u16_at octets 10
 abbrev pub IsResponse : List ℕ → Type 0
 IsResponse octets = (qr_of octets ≡ 1) × (opcode_of octets ≡ 0)
 
--- the counts of a message of a transfer: at most one question, and no authority record (RFC 5936 2.2)
+-- the counts of a message of a transfer: at most one question, and no authority record (RFC 5936
+-- 2.2)
 abbrev pub HasCounts : List ℕ → Type 0
 HasCounts octets = (qdcount_of octets ≤ 1) × (nscount_of octets ≡ 0)
 
--- the header of a message of a transfer: whole, of a response that isn't truncated and has no error (RFC 5936 2.2.1)
+-- the header of a message of a transfer: whole, of a response that isn't truncated and has no error
+-- (RFC 5936 2.2.1)
 pub record HasHeader (octets : List ℕ) : Type 0 where
   pub twelve : 12 ≤ length octets
   pub response : IsResponse octets
@@ -63,7 +67,13 @@ pub record QuestionAt : Type 0 where
   pub end : ℕ
 
 abbrev pub question_by : List ℕ → Found → QuestionAt
-question_by octets found = record { name = found.labels; kind = u16_at octets found.end; class = u16_at octets (found.end + 2); end = found.end + 4 }
+question_by octets found =
+    record {
+      name = found.labels;
+      kind = u16_at octets found.end;
+      class = u16_at octets (found.end + 2);
+      end = found.end + 4;
+    }
 
 pub record IsQuestionAt (octets : List ℕ) (offset : ℕ) (q : QuestionAt) : Type 0 where
   pub found : Found
@@ -71,7 +81,8 @@ pub record IsQuestionAt (octets : List ℕ) (offset : ℕ) (q : QuestionAt) : Ty
   pub stands : q ≡ question_by octets found
   pub inside : q.end ≤ length octets
 
--- a record, the offset at which it begins, and those from which and up to which its data stands (RFC 1035 4.1.3)
+-- a record, the offset at which it begins, and those from which and up to which its data stands
+-- (RFC 1035 4.1.3)
 pub record RecordAt : Type 0 where
   pub offset : ℕ
   pub owner : List (List ℕ)
@@ -104,7 +115,8 @@ AreAt Is end_of offset [] end = offset ≡ end
 AreAt Is end_of offset (x ∷ parts) end = Is offset x × AreAt Is end_of (end_of x) parts end
 
 abbrev pub AreQuestionsAt : List ℕ → ℕ → List QuestionAt → ℕ → Type 0
-AreQuestionsAt octets offset questions end = AreAt (IsQuestionAt octets) (λ q. q.end) offset questions end
+AreQuestionsAt octets offset questions end =
+    AreAt (IsQuestionAt octets) (λ q. q.end) offset questions end
 
 abbrev pub AreRecordsAt : List ℕ → ℕ → List RecordAt → ℕ → Type 0
 AreRecordsAt octets offset records end = AreAt (IsRecordAt octets) (λ r. r.end) offset records end
@@ -116,7 +128,8 @@ pub record Sections : Type 0 where
   pub answers : List RecordAt
   pub additional : List RecordAt
 
--- the octets are a message of a transfer: as many questions and records as the header counts, and nothing after them
+-- the octets are a message of a transfer: as many questions and records as the header counts, and
+-- nothing after them
 pub record IsMessage (octets : List ℕ) (s : Sections) : Type 0 where
   pub header : HasHeader octets
   pub id : s.id ≡ id_of octets

@@ -1,5 +1,5 @@
--- A source of the records of a zone transfer that is fed in pieces: what it holds, and what it stands for. This is this
--- project's own: RFC 5936 speaks of whole transfers.
+-- A source of the records of a zone transfer that is fed in pieces: what it holds, and what it
+-- stands for. This is this project's own: RFC 5936 speaks of whole transfers.
 use Rattle.std.specs.Prelude.{◌≡◌, ℕ, ◌+◌, ◌<◌, List, [], ◌++◌, length, slice_index, Bool, true, false, Option, None}
 use Rattle.zone_rdata.specs.Record.{Record}
 use Rattle.zone_rdata.specs.Source.{Pending}
@@ -9,9 +9,10 @@ use Rattle.zone_wire.specs.Frames.{IsFramed}
 use Rattle.zone_wire.specs.Stream.{octets_in, asked_in, placed_in, first_id, opening_of, AreRead, StreamReads, Decided}
 use Rattle.zone_wire.specs.Transfer.{StatedMessage}
 
--- What a source holds beside what it has still to give: whether the stream has ended, the number of octets fed, and of the
--- messages that came whole their number, the ID of the first, the zone that they fix, the opening SOA and whether the
--- closing one came; and the octets behind the last whole frame
+-- What a source holds besides what it has left to give: whether the stream has ended, the number of
+-- octets fed, and of the messages that came whole their number, the ID of the first, the zone that
+-- they fix, the opening SOA and whether the closing one came; and the octets after the last whole
+-- frame
 pub record Held : Type 0 where
   pub finished : Bool
   pub fed : ℕ
@@ -40,7 +41,8 @@ pub record Gives (old : SourceState) (placed : List Placed) (new : SourceState) 
   pub ending : new.pending.ending ≡ old.pending.ending
   pub held : new.held ≡ old.held
 
--- what the octets fed leave: the octets behind the last whole frame, and what the messages of the whole frames say
+-- what the octets fed leave: the octets after the last whole frame, and what the messages of the
+-- whole frames say
 pub record Leave (fed : List ℕ) (held : Held) : Type 0 where
   pub parts : List StatedMessage
   pub framed : IsFramed fed (octets_in parts) held.unfinished
@@ -51,13 +53,16 @@ pub record Leave (fed : List ℕ) (held : Held) : Type 0 where
   pub opening : held.opening ≡ opening_of (placed_in parts)
   pub closed : held.closed ≡ is_closed (placed_in parts)
 
--- The source stands for the octets that it was fed and the records that it has given. Before the end of the stream it has
--- still to give what else is decided, and while no fault is decided it holds what the octets leave. From then on it has
--- still to give the rest of what the stream is read as.
+-- The source stands for the octets that it was fed and the records that it has given. Before the
+-- end of the stream it has left to give what else is decided, and while no fault is decided it
+-- holds what the octets leave. From then on it has left to give the rest of what the stream is read
+-- as.
 pub record Stands (source : SourceState) (fed : List ℕ) (given : List Placed) : Type 0 where
   pub works : source.pending.failed ≡ false
   pub octets : (i : ℕ) → slice_index fed i < 256
   pub count : source.held.fed ≡ length fed
-  pub decided : source.held.finished ≡ false → Decided fed (given ++ source.pending.records) source.pending.ending
+  pub decided : source.held.finished ≡ false
+      → Decided fed (given ++ source.pending.records) source.pending.ending
   pub leave : source.held.finished ≡ false → source.pending.ending ≡ None → Leave fed source.held
-  pub read : source.held.finished ≡ true → StreamReads fed (given ++ source.pending.records) source.pending.ending
+  pub read : source.held.finished ≡ true
+      → StreamReads fed (given ++ source.pending.records) source.pending.ending

@@ -1,5 +1,5 @@
--- What a stream of messages states, each behind its length, up to the first fault of its frames and messages
--- (RFC 1035 4.2.2; RFC 5936 2.2, 3).
+-- What a stream of messages states, each after its length, up to the first fault of its frames and
+-- messages (RFC 1035 4.2.2; RFC 5936 2.2, 3).
 use Rattle.std.specs.Prelude.{◌≡◌, ◌≢◌, ℕ, ◌+◌, List, [], ◌∷◌, ◌++◌, map, length, true, false, Option, Some, None, MatchOption, ⊤}
 use Rattle.std.specs.List.{flat_map, AllByRecursion}
 use Rattle.zone_rdata.specs.Record.{Record}
@@ -33,49 +33,63 @@ abbrev pub HasFirstId : List StatedMessage → Sections → Type 0
 HasFirstId [] s = ⊤
 HasFirstId (first ∷ before) s = s.id ≡ first.sections.id
 
--- a question for the whole of the zone that is fixed, if one is: of type AXFR, 252 (RFC 5936 2.1.2, 2.2.2)
+-- a question for the whole of the zone that is fixed, if one is: of type AXFR, 252 (RFC 5936 2.1.2,
+-- 2.2.2)
 pub record AsksIn (zone : Option ZoneAsked) (q : QuestionAt) : Type 0 where
   pub kind : q.kind ≡ 252
   pub agrees : AgreeWith zone q.name q.class
 
 -- each question asks for the zone that messages before fixed
 abbrev pub AskBehind : List StatedMessage → Sections → Type 0
-AskBehind before s = AllByRecursion (AsksIn (zone_of (asked_in before) (placed_in before))) s.questions
+AskBehind before s =
+    AllByRecursion (AsksIn (zone_of (asked_in before) (placed_in before))) s.questions
 
--- octets are a message that stands behind others: of the same ID, and its questions are for the same zone
-pub record IsMessageBehind (before : List StatedMessage) (octets : List ℕ) (s : Sections) : Type 0 where
+-- octets are a message that stands after others: of the same ID, and its questions are for the same
+-- zone
+pub record IsMessageBehind (before : List StatedMessage) (octets : List ℕ)
+    (s : Sections) : Type 0 where
   pub message : IsMessage octets s
   pub same_id : HasFirstId before s
   pub asks : AskBehind before s
 
--- a message behind others is read: each of its answers states a record, and these stand in order
+-- a message after others is read: each of its answers states a record, and these stand in order
 pub record IsReadBehind (before : List StatedMessage) (p : StatedMessage) : Type 0 where
   pub message : IsMessageBehind before p.octets p.sections
   pub stated : StateEach (length before + 1) p.octets p.sections.answers p.placed
   pub order : StandInOrder (asked_in before ++ p.sections.questions) (placed_in before) p.placed
 
--- messages are read, each behind those before it
+-- messages are read, each after those before it
 abbrev pub AreRead : List StatedMessage → List StatedMessage → Type 0
 AreRead before [] = ⊤
 AreRead before (p ∷ messages) = IsReadBehind before p × AreRead (before ++ p ∷ []) messages
 
--- The first fault of a message behind others and the offset at which it stands, and the records that are read before it:
--- of its structure; its ID; a question; an answer.
-pub data FaultBehind (before : List StatedMessage) (octets : List ℕ) : List Placed → Fault → ℕ → Type 0 where
-  of_structure : (fault : Fault) (offset : ℕ) → MessageFault octets fault offset → FaultBehind before octets [] fault offset
-  of_id : (s : Sections) → IsMessage octets s → (HasFirstId before s → ⊥) → FaultBehind before octets [] IdMismatch 0
-  of_questions : (s : Sections) → IsMessage octets s → HasFirstId before s → (AskBehind before s → ⊥) → FaultBehind before octets [] BadQuestion 12
-  of_answers : (s : Sections) (placed : List Placed) (fault : Fault) (offset : ℕ) → IsMessageBehind before octets s → FirstAnswerFault (length before + 1) octets (asked_in before ++ s.questions) (placed_in before) s.answers placed fault offset → FaultBehind before octets placed fault offset
+-- The first fault of a message after others and the offset at which it stands, and the records that
+-- are read before it: of its structure; its ID; a question; an answer.
+pub data FaultBehind (before : List StatedMessage)
+    (octets : List ℕ) : List Placed → Fault → ℕ → Type 0 where
+  of_structure : (fault : Fault) (offset : ℕ) → MessageFault octets fault offset
+      → FaultBehind before octets [] fault offset
+  of_id : (s : Sections) → IsMessage octets s → (HasFirstId before s → ⊥)
+      → FaultBehind before octets [] IdMismatch 0
+  of_questions : (s : Sections) → IsMessage octets s → HasFirstId before s
+      → (AskBehind before s → ⊥) → FaultBehind before octets [] BadQuestion 12
+  of_answers : (s : Sections) (placed : List Placed) (fault : Fault) (offset : ℕ)
+      → IsMessageBehind before octets s
+      → FirstAnswerFault (length before + 1) octets (asked_in before ++ s.questions)
+      (placed_in before) s.answers placed fault offset
+      → FaultBehind before octets placed fault offset
 
--- all of these octets are messages that are read behind others, and state the records
-pub record AllRead (before : List StatedMessage) (messages : List (List ℕ)) (placed : List Placed) : Type 0 where
+-- all of these octets are messages that are read after others, and state the records
+pub record AllRead (before : List StatedMessage) (messages : List (List ℕ))
+    (placed : List Placed) : Type 0 where
   pub parts : List StatedMessage
   pub read : AreRead before parts
   pub whole : messages ≡ octets_in parts
   pub stated : placed ≡ placed_in parts
 
--- messages are read behind others, and the next has this first fault
-pub record ReadUpTo (before : List StatedMessage) (messages : List (List ℕ)) (placed : List Placed) (e : Fault × Place) : Type 0 where
+-- messages are read after others, and the next has this first fault
+pub record ReadUpTo (before : List StatedMessage) (messages : List (List ℕ)) (placed : List Placed)
+    (e : Fault × Place) : Type 0 where
   pub parts : List StatedMessage
   pub octets : List ℕ
   pub rest : List (List ℕ)
@@ -88,9 +102,12 @@ pub record ReadUpTo (before : List StatedMessage) (messages : List (List ℕ)) (
   pub stated : placed ≡ placed_in parts ++ here
   pub place : e ≡ (fault, Message (length (before ++ parts) + 1) offset)
 
--- the records of messages behind others up to the first fault, and that fault with its place, or none
-abbrev pub ReadBehind : List StatedMessage → List (List ℕ) → List Placed → Option (Fault × Place) → Type 0
-ReadBehind before messages placed ending = MatchOption ending (AllRead before messages placed) (λ e. ReadUpTo before messages placed e)
+-- the records of messages after others up to the first fault, and that fault with its place, or
+-- none
+abbrev pub ReadBehind : List StatedMessage → List (List ℕ) → List Placed → Option (Fault × Place)
+    → Type 0
+ReadBehind before messages placed ending =
+    MatchOption ending (AllRead before messages placed) (λ e. ReadUpTo before messages placed e)
 
 -- the ID of the first of messages, and the opening SOA, which is the first of records
 abbrev pub first_id : List StatedMessage → Option ℕ
@@ -101,24 +118,28 @@ abbrev pub opening_of : List Placed → Option Record
 opening_of [] = None
 opening_of (opening ∷ others) = Some opening.rr
 
--- messages that are alike to the next one: as many, of one first ID, one zone that is fixed, one opening SOA, and closed
--- or not
+-- messages that are alike to the next one: as many, of one first ID, one zone that is fixed, one
+-- opening SOA, and closed or not
 pub record AreAlike (before other : List StatedMessage) : Type 0 where
   pub count : length before ≡ length other
   pub id : first_id before ≡ first_id other
-  pub zone : zone_of (asked_in before) (placed_in before) ≡ zone_of (asked_in other) (placed_in other)
+  pub zone : zone_of (asked_in before) (placed_in before)
+      ≡ zone_of (asked_in other) (placed_in other)
   pub opening : opening_of (placed_in before) ≡ opening_of (placed_in other)
   pub closing : is_closed (placed_in before) ≡ is_closed (placed_in other)
 
--- how a stream ends behind whole messages without a fault, the number of the next message known: inside a frame, without
--- the closing SOA, or with it
-pub data StreamEnd (number : ℕ) (placed : List Placed) (rest : List ℕ) : Option (Fault × Place) → Type 0 where
+-- how a stream ends after whole messages without a fault, the number of the next message known:
+-- inside a frame, without the closing SOA, or with it
+pub data StreamEnd (number : ℕ) (placed : List Placed) (rest : List ℕ)
+    : Option (Fault × Place) → Type 0 where
   in_frame : rest ≢ [] → StreamEnd number placed rest (Some (ShortFrame, Message number 0))
-  unclosed : rest ≡ [] → is_closed placed ≡ false → StreamEnd number placed rest (Some (NoClosingSoa, Message number 0))
+  unclosed : rest ≡ [] → is_closed placed ≡ false
+      → StreamEnd number placed rest (Some (NoClosingSoa, Message number 0))
   closed : rest ≡ [] → is_closed placed ≡ true → StreamEnd number placed rest None
 
 -- what a stream is read as: the records before its first fault, and that fault with its place
-pub record StreamReads (stream : List ℕ) (placed : List Placed) (ending : Option (Fault × Place)) : Type 0 where
+pub record StreamReads (stream : List ℕ) (placed : List Placed)
+    (ending : Option (Fault × Place)) : Type 0 where
   pub messages : List (List ℕ)
   pub rest : List ℕ
   pub framed : IsFramed stream messages rest
@@ -126,10 +147,13 @@ pub record StreamReads (stream : List ℕ) (placed : List Placed) (ending : Opti
   pub first : Option (Fault × Place)
   pub read : ReadBehind [] messages all first
   pub stated : placed ≡ handed_on all
-  pub ends : MatchOption first (StreamEnd (length messages + 1) all rest ending) (λ e. ending ≡ Some e)
+  pub ends : MatchOption first (StreamEnd (length messages + 1) all rest ending)
+      (λ e. ending ≡ Some e)
 
--- what is decided once this much of a stream is known: the records and the first fault of its whole frames
-pub record Decided (stream : List ℕ) (placed : List Placed) (ending : Option (Fault × Place)) : Type 0 where
+-- what is decided once this much of a stream is known: the records and the first fault of its whole
+-- frames
+pub record Decided (stream : List ℕ) (placed : List Placed)
+    (ending : Option (Fault × Place)) : Type 0 where
   pub messages : List (List ℕ)
   pub rest : List ℕ
   pub framed : IsFramed stream messages rest

@@ -1,4 +1,5 @@
--- The records that a zone transfer states: a stream of messages, each behind its length (RFC 5936 2.2, 3; RFC 1035 4.2.2).
+-- The records that a zone transfer states: a stream of messages, each after its length (RFC 5936
+-- 2.2, 3; RFC 1035 4.2.2).
 use Rattle.std.specs.Prelude.{◌≡◌, ◌≢◌, ℕ, ◌+◌, ◌-◌, ◌/◌, ◌%◌, ◌≤◌, List, [], ◌∷◌, ◌++◌, length, take, drop, nat_lt, if◌then◌else◌, MatchOption, ⊤}
 use Rattle.std.specs.List.{flat_map, AllByRecursion}
 use Rattle.zone_rdata.specs.Field.{FieldValue, name, field_octets, octets_of, HoldEach}
@@ -13,35 +14,41 @@ use Rattle.zone_wire.specs.Name.{Found, IsNameAt}
 abbrev pub octets_between : List ℕ → ℕ → ℕ → List ℕ
 octets_between octets start end = take (end - start) (drop start octets)
 
--- The value of a field stands from one offset to another: a name as names stand in messages, every other value by its
--- octets (RFC 1035 3.3).
+-- The value of a field stands from one offset to another: a name as names stand in messages, every
+-- other value by its octets (RFC 1035 3.3).
 abbrev pub StandsAt : List ℕ → ℕ → ℕ → FieldValue → Type 0
-StandsAt octets start end (name labels) = (found : Found) × IsNameAt octets start found × (found.labels ≡ labels) × (found.end ≡ end)
-StandsAt octets start end value = (start ≤ end) × (octets_between octets start end ≡ field_octets value)
+StandsAt octets start end (name labels) =
+    (found : Found) × IsNameAt octets start found × (found.labels ≡ labels) × (found.end ≡ end)
+StandsAt octets start end value =
+    (start ≤ end) × (octets_between octets start end ≡ field_octets value)
 
 -- values stand one after another from one offset to another
 abbrev pub StandEach : List ℕ → ℕ → ℕ → List FieldValue → Type 0
 StandEach octets start end [] = start ≡ end
-StandEach octets start end (v ∷ values) = (next : ℕ) × (next ≤ end) × StandsAt octets start next v × StandEach octets next end values
+StandEach octets start end (v ∷ values) =
+    (next : ℕ) × (next ≤ end) × StandsAt octets start next v × StandEach octets next end values
 
 -- the canonical octets of the values that stand there for the fields of a layout
-pub record AreFieldsAt (octets : List ℕ) (start end : ℕ) (fields : List Field) (canonical : List ℕ) : Type 0 where
+pub record AreFieldsAt (octets : List ℕ) (start end : ℕ) (fields : List Field)
+    (canonical : List ℕ) : Type 0 where
   pub values : List FieldValue
   pub held : HoldEach fields values
   pub stand : StandEach octets start end values
   pub whole : canonical ≡ octets_of values
 
--- the canonical octets of a record's data: of the values of its layout, or the octets as they are where there is none
--- (RFC 3597 3, 4)
+-- the canonical octets of a record's data: of the values of its layout, or the octets as they are
+-- where there is none (RFC 3597 3, 4)
 abbrev pub IsDataAt : List ℕ → RecordAt → List ℕ → Type 0
-IsDataAt octets a canonical = MatchOption (layout a.class a.kind) (canonical ≡ octets_between octets a.start a.end) (λ fields. AreFieldsAt octets a.start a.end fields canonical)
+IsDataAt octets a canonical =
+    MatchOption (layout a.class a.kind) (canonical ≡ octets_between octets a.start a.end)
+    (λ fields. AreFieldsAt octets a.start a.end fields canonical)
 
 -- a TTL with its top bit set counts as 0 (RFC 2181 8)
 abbrev pub ttl_of : ℕ → ℕ
 ttl_of n = if nat_lt 2147483647 n then 0 else n
 
--- the types that may hold compressed names and aren't read: MD, MF, MB, MG, MR, MINFO, RP, AFSDB, RT, SIG, PX, NXT
--- (RFC 1035 3.3, RFC 3597 4)
+-- the types that may hold compressed names and aren't read: MD, MF, MB, MG, MR, MINFO, RP, AFSDB,
+-- RT, SIG, PX, NXT (RFC 1035 3.3, RFC 3597 4)
 abbrev pub compressible : List ℕ
 compressible = 3 ∷ 4 ∷ 7 ∷ 8 ∷ 9 ∷ 14 ∷ 17 ∷ 18 ∷ 21 ∷ 24 ∷ 26 ∷ 30 ∷ []
 
@@ -61,7 +68,9 @@ pub record StatesRecord (octets : List ℕ) (a : RecordAt) (r : Record) : Type 0
 -- each answer of the message of this number states its record, which stands at the answer's offset
 abbrev pub StateEach : ℕ → List ℕ → List RecordAt → List Placed → Type 0
 StateEach number octets [] [] = ⊤
-StateEach number octets (a ∷ answers) (p ∷ placed) = StatesRecord octets a p.rr × (p.place ≡ Message number a.offset) × StateEach number octets answers placed
+StateEach number octets (a ∷ answers) (p ∷ placed) =
+    StatesRecord octets a p.rr × (p.place ≡ Message number a.offset)
+    × StateEach number octets answers placed
 StateEach number octets answers placed = ⊥
 
 -- a message of a stream, what stands in it, and the records that its answers state
@@ -70,8 +79,8 @@ pub record StatedMessage : Type 0 where
   pub sections : Sections
   pub placed : List Placed
 
--- a question for the whole zone: of type AXFR, 252, and of the zone's name and class (RFC 5936 2.1.2; by 2.2.2 it is
--- copied from the query)
+-- a question for the whole zone: of type AXFR, 252, and of the zone's name and class (RFC 5936
+-- 2.1.2; by 2.2.2 it is copied from the query)
 pub record AsksFor (zone : Record) (q : QuestionAt) : Type 0 where
   pub name : q.name ≡ zone.owner
   pub kind : q.kind ≡ 252
@@ -87,14 +96,15 @@ pub record IsStatedMessage (id : ℕ) (zone : Record) (number : ℕ) (p : Stated
 
 abbrev pub AreStatedMessages : ℕ → Record → ℕ → List StatedMessage → Type 0
 AreStatedMessages id zone number [] = ⊤
-AreStatedMessages id zone number (p ∷ parts) = IsStatedMessage id zone number p × AreStatedMessages id zone (number + 1) parts
+AreStatedMessages id zone number (p ∷ parts) =
+    IsStatedMessage id zone number p × AreStatedMessages id zone (number + 1) parts
 
--- a message as it stands in a stream, behind its length in two octets
+-- a message as it stands in a stream, after its length in two octets
 abbrev pub frame : List ℕ → List ℕ
 frame octets = (length octets / 256) ∷ (length octets % 256) ∷ octets
 
--- The stream states the records: messages with one ID, whose answers are an SOA, records that are none, and that SOA again.
--- The closing SOA isn't handed on.
+-- The stream states the records: messages with one ID, whose answers are an SOA, records that are
+-- none, and that SOA again. The closing SOA isn't handed on.
 pub record StreamStates (stream : List ℕ) (placed : List Placed) : Type 0 where
   pub parts : List StatedMessage
   pub framed : stream ≡ flat_map (λ p. frame p.octets) parts

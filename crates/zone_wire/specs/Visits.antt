@@ -21,4 +21,5 @@ pointers_in visits = count_by (λ v. is_pointer v.standing) visits
 abbrev pub LeadToLast : List Visit → Type 0
 LeadToLast [] = ⊤
 LeadToLast (last ∷ []) = ⊤
-LeadToLast (v ∷ next ∷ visits) = (is_label v.standing || is_pointer v.standing ≡ true) × LeadToLast (next ∷ visits)
+LeadToLast (v ∷ next ∷ visits) =
+    (is_label v.standing || is_pointer v.standing ≡ true) × LeadToLast (next ∷ visits)

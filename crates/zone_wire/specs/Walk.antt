@@ -4,7 +4,8 @@ use Rattle.zone_wire.specs.Name.{target_at}
 use Rattle.zone_rdata.specs.declared.fault.Fault.{Fault}
 use Rattle.zone_rdata.specs.declared.fault.Fault.TheVariants.{ShortMessage, NameTooLong, ReservedLabel, BadPointer, TooManyPointers}
 
--- what stands at a place of a name: the root, a label of so many octets, a pointer to a target, or a fault
+-- what stands at a place of a name: the root, a label of so many octets, a pointer to a target, or
+-- a fault
 pub data Standing : Type 0 where
   at_root : Standing
   at_label : ℕ → Standing
@@ -16,8 +17,8 @@ pub record Visit : Type 0 where
   pub offset : ℕ
   pub standing : Standing
 
--- A place that is come to: its offset, the offset at which the run of labels began that stands there, and how many pointers
--- and octets of labels, each with its length, stand before it.
+-- A place that is come to: its offset, the offset at which the run of labels began that stands
+-- there, and how many pointers and octets of labels, each with its length, stand before it.
 pub record Spot : Type 0 where
   pub offset : ℕ
   pub bound : ℕ
@@ -31,7 +32,8 @@ label_of message spot size =
     else if nat_lt 255 (spot.octets + size + 2) then at_fault NameTooLong
     else at_label size
 
--- a pointer: its two octets lie in the message, its target is past the header and below the bound, and it is at most the 128th
+-- a pointer: its two octets lie in the message, its target is past the header and below the bound,
+-- and it is at most the 128th
 abbrev pub pointer_of : List ℕ → Spot → ℕ → Standing
 pointer_of message spot target =
     if nat_le (length message) (spot.offset + 1) then at_fault ShortMessage
@@ -50,10 +52,17 @@ standing_at message spot =
 
 -- what stands at a place, none where it doesn't lie in the message
 unfoldable pub place_of : List ℕ → Spot → Option Standing
-place_of message spot = if nat_le (length message) spot.offset then None else Some (standing_at message spot)
+place_of message spot =
+    if nat_le (length message) spot.offset then None else Some (standing_at message spot)
 
--- The fault with which a walk ends, none where it ends at the root. One that ends at no fault and no root ends before a
--- place outside the message.
+-- The fault with which a walk ends, none where it ends at the root. One that ends at no fault and
+-- no root ends before a place outside the message.
 unfoldable pub ending : List Visit → Option Fault
 ending [] = Some ShortMessage
-ending (last ∷ visits) = elim last.standing [ at_root ↦ None | at_label size ↦ ending visits | at_pointer target ↦ ending visits | at_fault fault ↦ Some fault ]
+ending (last ∷ visits) =
+    elim last.standing [
+      | at_root ↦ None
+      | at_label size ↦ ending visits
+      | at_pointer target ↦ ending visits
+      | at_fault fault ↦ Some fault
+    ]

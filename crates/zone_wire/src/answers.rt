@@ -1,11 +1,11 @@
 ghost use Rattle.std.specs.Prelude.{◌≡◌};
 ghost use Rattle.zone_wire.specs.Message.{RecordAt, IsRecordAt};
 
-use crate::name::{Decoded, name_at};
+use crate::name::read_name;
 use crate::number::{u16_at, u32_at};
 use crate::place::RECORD_HEAD_LEN;
 use std::marker::Model;
-use zone_name::Name;
+use zone_name::{Name, NameBuilder};
 
 /// A record of a message as it stands there, its data not read (RFC 1035 4.1.3).
 #[derive(Debug, Drop)]
@@ -90,14 +90,15 @@ impl<'m> RawRr<'m> {
     }
 }
 
-/// The answers of a message that are still to come, in order (RFC 1035 4.1). Contracts see their list.
+/// The answers of a message that are left, in order (RFC 1035 4.1). Contracts see their
+/// list.
 #[derive(Debug, Drop)]
 pub struct Answers<'m> {
     /// The octets of the whole message.
     pub(crate) message: &'m [u8],
     /// The offset at which the next answer begins.
     pub(crate) offset: usize,
-    /// How many answers are still to come.
+    /// How many answers are left.
     pub(crate) left: u16,
 }
 
@@ -140,11 +141,12 @@ fn record_at<'m>(message: &'m [u8], offset: usize) -> RawRr<'m>
     ensures octets { result.octets ≡ message.now }
     ensures at { IsRecordAt message.now offset result.at }
 {
-    match name_at(message, offset) {
-        Ok(Decoded { name, end, .. }) => RawRr {
+    let mut owner = NameBuilder::new();
+    match read_name(message, offset, &mut owner) {
+        Ok((end, _)) => RawRr {
             message,
             offset,
-            owner: name,
+            owner: owner.finish(),
             kind: u16_at(message, end),
             class: u16_at(message, end + 2),
             ttl: u32_at(message, end + 4),

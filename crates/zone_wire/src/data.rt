@@ -7,10 +7,11 @@ ghost use Rattle.zone_wire.specs.Machine.Data.{data_at, value_at, values_at};
 ghost use Rattle.zone_wire.specs.Machine.DataReading.{Awaits, AwaitsStrings, IsReadyFor, IsRead, PutsValue, PutsValues};
 
 use crate::answers::RawRr;
-use crate::name::name_at;
+use crate::name::read_name;
 use crate::number::{u16_at, u32_at};
 use crate::octets::are_octets;
 use std::alloc::Global;
+use zone_name::NameBuilder;
 use zone_rdata::{Class, Failing, Fault, Field, Kind, Layout, Rdata, RdataBuilder, layout_of};
 
 /// The offset after so many octets, in data that ends at another.
@@ -35,18 +36,21 @@ fn push_name(
     requires order { start ≤ end }
     requires inside { end ≤ length message.now }
     requires next { Awaits message.now end start builder.old Field.Name }
-    ensures found { IfOk result (PutsValue message.now end start Field.Name builder.old builder.new) }
-    ensures fault { IfErr result (IfFault (λ f. value_at message.now end start Field.Name ≡ Err f)) }
+    ensures found { IfOk result
+        (PutsValue message.now end start Field.Name builder.old builder.new) }
+    ensures fault { IfErr result
+        (IfFault (λ f. value_at message.now end start Field.Name ≡ Err f)) }
 {
-    let found = match name_at(message, start) {
-        Ok(found) => found,
-        Err((fault, _)) => return Err(Failing::Fault(fault)),
+    let mut labels = NameBuilder::new();
+    let past = match read_name(message, start, &mut labels) {
+        Ok((past, _)) => past,
+        Err((fault, _)) => return Err(Failing::Fault(fault.widened())),
     };
-    if found.end > end {
+    if past > end {
         return Err(Failing::Fault(Fault::BadRdata));
     }
-    builder.push_name(&found.name)?;
-    Ok(found.end)
+    builder.push_name(&labels.finish())?;
+    Ok(past)
 }
 
 /// Pushes the number of 32 bits at an offset of a message, and gives the offset after it.
@@ -59,8 +63,10 @@ fn push_u32(
     requires order { start ≤ end }
     requires inside { end ≤ length message.now }
     requires next { Awaits message.now end start builder.old Field.Serial }
-    ensures found { IfOk result (PutsValue message.now end start Field.Serial builder.old builder.new) }
-    ensures fault { IfErr result (IfFault (λ f. value_at message.now end start Field.Serial ≡ Err f)) }
+    ensures found { IfOk result
+        (PutsValue message.now end start Field.Serial builder.old builder.new) }
+    ensures fault { IfErr result
+        (IfFault (λ f. value_at message.now end start Field.Serial ≡ Err f)) }
 {
     let past = offset_past(start, 4, end)?;
     builder.push_u32(u32_at(message, start))?;
@@ -77,7 +83,8 @@ fn push_u16(
     requires order { start ≤ end }
     requires inside { end ≤ length message.now }
     requires next { Awaits message.now end start builder.old Field.U16 }
-    ensures found { IfOk result (PutsValue message.now end start Field.U16 builder.old builder.new) }
+    ensures found { IfOk result
+        (PutsValue message.now end start Field.U16 builder.old builder.new) }
     ensures fault { IfErr result (IfFault (λ f. value_at message.now end start Field.U16 ≡ Err f)) }
 {
     let past = offset_past(start, 2, end)?;
@@ -98,14 +105,16 @@ fn push_octets(
     requires next { Awaits message.now end start builder.old (Field.Octets size) }
     ensures found { IfOk result
         (PutsValue message.now end start (Field.Octets size) builder.old builder.new) }
-    ensures fault { IfErr result (IfFault (λ f. value_at message.now end start (Field.Octets size) ≡ Err f)) }
+    ensures fault { IfErr result
+        (IfFault (λ f. value_at message.now end start (Field.Octets size) ≡ Err f)) }
 {
     let past = offset_past(start, size, end)?;
     builder.push_octets(&message[start..past])?;
     Ok(past)
 }
 
-/// Pushes the string that stands behind its length at an offset of a message, and gives the offset after it.
+/// Pushes the string that stands after its length at an offset of a message, and gives the offset
+/// after it.
 fn push_string(
     message: &[u8],
     start: usize,
@@ -115,8 +124,10 @@ fn push_string(
     requires order { start ≤ end }
     requires inside { end ≤ length message.now }
     requires next { Awaits message.now end start builder.old Field.OneString }
-    ensures found { IfOk result (PutsValue message.now end start Field.OneString builder.old builder.new) }
-    ensures fault { IfErr result (IfFault (λ f. value_at message.now end start Field.OneString ≡ Err f)) }
+    ensures found { IfOk result
+        (PutsValue message.now end start Field.OneString builder.old builder.new) }
+    ensures fault { IfErr result
+        (IfFault (λ f. value_at message.now end start Field.OneString ≡ Err f)) }
 {
     if start == end {
         return Err(Failing::Fault(Fault::BadRdata));
@@ -126,7 +137,8 @@ fn push_string(
     Ok(past)
 }
 
-/// Pushes the strings that stand, each behind its length, from an offset of a message up to the end of the data.
+/// Pushes the strings that stand, each after its length, from an offset of a message up to the end
+/// of the data.
 fn push_strings(
     message: &[u8],
     start: usize,
@@ -136,8 +148,10 @@ fn push_strings(
     requires order { start ≤ end }
     requires inside { end ≤ length message.now }
     requires next { AwaitsStrings end start builder.old }
-    ensures found { IfOk result (PutsValue message.now end start Field.Strings builder.old builder.new) }
-    ensures fault { IfErr result (IfFault (λ f. value_at message.now end start Field.Strings ≡ Err f)) }
+    ensures found { IfOk result
+        (PutsValue message.now end start Field.Strings builder.old builder.new) }
+    ensures fault { IfErr result
+        (IfFault (λ f. value_at message.now end start Field.Strings ≡ Err f)) }
 {
     if start == end {
         return Err(Failing::Fault(Fault::BadRdata));
@@ -149,8 +163,8 @@ fn push_strings(
     Ok(place)
 }
 
-/// Pushes the value of a field at an offset of a message, in data that ends at another, and gives the offset after it. A
-/// name is followed into the whole message.
+/// Pushes the value of a field at an offset of a message, in data that ends at another, and gives
+/// the offset after it. A name is followed into the whole message.
 fn push_field(
     field: Field,
     message: &[u8],
@@ -174,7 +188,8 @@ fn push_field(
     }
 }
 
-/// Pushes the values of the fields of a layout, one behind another from an offset of a message on. They are all the data.
+/// Pushes the values of the fields of a layout, one after another from an offset of a message on.
+/// They are all the data.
 fn push_fields(
     fields: Layout,
     message: &[u8],
@@ -189,7 +204,8 @@ fn push_fields(
     requires new { builder.old.parts ≡ [] }
     ensures found { OnOk result
         (PutsValues message.now end start (fields_of fields) builder.old builder.new) }
-    ensures fault { IfErr result (IfFault (λ f. values_at message.now end start (fields_of fields) ≡ Err f)) }
+    ensures fault { IfErr result
+        (IfFault (λ f. values_at message.now end start (fields_of fields) ≡ Err f)) }
 {
     let mut place = start;
     let mut count = 0;
@@ -204,7 +220,8 @@ fn push_fields(
 }
 
 impl<'m> RawRr<'m> {
-    /// Pushes the record's data: the values of its layout, or the octets as they are where there is none (RFC 3597 3, 4).
+    /// Pushes the record's data: the values of its layout, or the octets as they are where there is
+    /// none (RFC 3597 3, 4).
     fn push_data(&self, class: Class, kind: Kind, builder: &mut RdataBuilder) -> Result<(), Failing>
         requires class { class ≡ self.now.at.class }
         requires kind { kind ≡ self.now.at.kind }

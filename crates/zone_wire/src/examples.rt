@@ -10,7 +10,7 @@ ghost use Rattle.zone_rdata.specs.declared.fault.Fault.TheVariants.{BadClass, Me
 
 use crate::laws::a_transfer_is_read;
 
-/// `A.x.` by a pointer from behind `X.`: letters are folded, and the name ends after the pointer.
+/// `A.x.` by a pointer after `X.`: letters are folded, and the name ends after the pointer.
 pub fn a_compressed_name()
     ensures { IsNameAt (behind_zeros (1 ∷ 88 ∷ 0 ∷ 1 ∷ 65 ∷ 192 ∷ 12 ∷ [])) 15
         (record { labels = (97 ∷ []) ∷ (120 ∷ []) ∷ []; end = 19; steps = 4; pointers = 1 }) }
@@ -52,10 +52,12 @@ pub fn a_transfer()
     a_transfer_is_read();
 }
 
-/// The longest walk has 256 places: 127 labels, 128 pointers and the root. A label before those 127 is one too many.
+/// The longest walk has 256 places: 127 labels, 128 pointers and the root. A label before those 127
+/// is one too many.
 pub fn long_names()
     ensures longest { WalkEnds longest_walk 521 None 256 }
-    ensures too_long { WalkEnds (longest_walk ++ 1 ∷ 97 ∷ 192 ∷ 12 ∷ []) 523 (Some NameTooLong) 129 }
+    ensures too_long { WalkEnds (longest_walk ++ 1 ∷ 97 ∷ 192 ∷ 12 ∷ []) 523
+        (Some NameTooLong) 129 }
 {}
 
 /// Transfers in one message with compressed names, and one in two.
@@ -75,29 +77,36 @@ pub fn transfers_without_a_fault()
 /// Streams that end before the transfer does, or inside a frame.
 pub fn streams_cut_short()
     ensures empty { StreamReads [] [] (Some (NoClosingSoa, Message 1 0)) }
-    ensures no_answers { StreamReads (frame (0 ∷ 1 ∷ 132 ∷ 0 ∷ 0 ∷ 0 ∷ 0 ∷ 0 ∷ 0 ∷ 0 ∷ 0 ∷ 0 ∷ [])) []
+    ensures no_answers { StreamReads (frame (0 ∷ 1 ∷ 132 ∷ 0 ∷ 0 ∷ 0 ∷ 0 ∷ 0 ∷ 0 ∷ 0 ∷ 0 ∷ 0 ∷ []))
+        [] (Some (NoClosingSoa, Message 2 0)) }
+    ensures first_of_two { StreamReads (frame first_message) small_records
         (Some (NoClosingSoa, Message 2 0)) }
-    ensures first_of_two { StreamReads (frame first_message) small_records (Some (NoClosingSoa, Message 2 0)) }
     ensures one_octet_more { StreamReads (frame small_message ++ 0 ∷ []) small_records
         (Some (ShortFrame, Message 2 0)) }
     ensures half_a_length { StreamReads (0 ∷ []) [] (Some (ShortFrame, Message 1 0)) }
-    ensures half_a_message { StreamReads (0 ∷ 109 ∷ answer_header 1 3 0) [] (Some (ShortFrame, Message 1 0)) }
+    ensures half_a_message { StreamReads (0 ∷ 109 ∷ answer_header 1 3 0)
+        [] (Some (ShortFrame, Message 1 0)) }
 {}
 
 /// Faults in the structure of a message: none of its records is read, nor is their data judged.
 pub fn faults_of_messages()
     ensures no_octets { StreamReads (0 ∷ 0 ∷ []) [] (Some (ShortMessage, Message 1 0)) }
-    ensures query { StreamReads (frame ((0 ∷ 1 ∷ 4 ∷ 0 ∷ 0 ∷ 1 ∷ 0 ∷ 3 ∷ 0 ∷ 0 ∷ 0 ∷ 0 ∷ []) ++ small_body))
+    ensures query { StreamReads
+        (frame ((0 ∷ 1 ∷ 4 ∷ 0 ∷ 0 ∷ 1 ∷ 0 ∷ 3 ∷ 0 ∷ 0 ∷ 0 ∷ 0 ∷ []) ++ small_body))
         [] (Some (NotAResponse, Message 1 0)) }
-    ensures opcode { StreamReads (frame ((0 ∷ 1 ∷ 140 ∷ 0 ∷ 0 ∷ 1 ∷ 0 ∷ 3 ∷ 0 ∷ 0 ∷ 0 ∷ 0 ∷ []) ++ small_body))
+    ensures opcode { StreamReads
+        (frame ((0 ∷ 1 ∷ 140 ∷ 0 ∷ 0 ∷ 1 ∷ 0 ∷ 3 ∷ 0 ∷ 0 ∷ 0 ∷ 0 ∷ []) ++ small_body))
         [] (Some (NotAResponse, Message 1 0)) }
-    ensures truncated { StreamReads (frame ((0 ∷ 1 ∷ 134 ∷ 0 ∷ 0 ∷ 1 ∷ 0 ∷ 3 ∷ 0 ∷ 0 ∷ 0 ∷ 0 ∷ []) ++ small_body))
+    ensures truncated { StreamReads
+        (frame ((0 ∷ 1 ∷ 134 ∷ 0 ∷ 0 ∷ 1 ∷ 0 ∷ 3 ∷ 0 ∷ 0 ∷ 0 ∷ 0 ∷ []) ++ small_body))
         [] (Some (Truncated, Message 1 0)) }
-    ensures error { StreamReads (frame ((0 ∷ 1 ∷ 132 ∷ 5 ∷ 0 ∷ 1 ∷ 0 ∷ 3 ∷ 0 ∷ 0 ∷ 0 ∷ 0 ∷ []) ++ small_body))
+    ensures error { StreamReads
+        (frame ((0 ∷ 1 ∷ 132 ∷ 5 ∷ 0 ∷ 1 ∷ 0 ∷ 3 ∷ 0 ∷ 0 ∷ 0 ∷ 0 ∷ []) ++ small_body))
         [] (Some (ErrorCode 5, Message 1 0)) }
     ensures two_questions { StreamReads (frame (answer_header 2 3 0 ++ small_body)) []
         (Some (BadCounts, Message 1 0)) }
-    ensures authority { StreamReads (frame ((0 ∷ 1 ∷ 132 ∷ 0 ∷ 0 ∷ 1 ∷ 0 ∷ 3 ∷ 0 ∷ 1 ∷ 0 ∷ 0 ∷ []) ++ small_body))
+    ensures authority { StreamReads
+        (frame ((0 ∷ 1 ∷ 132 ∷ 0 ∷ 0 ∷ 1 ∷ 0 ∷ 3 ∷ 0 ∷ 1 ∷ 0 ∷ 0 ∷ []) ++ small_body))
         [] (Some (BadCounts, Message 1 0)) }
     ensures too_many_answers { StreamReads (frame (answer_header 1 4 0 ++ small_body)) []
         (Some (ShortMessage, Message 1 109)) }
@@ -127,7 +136,8 @@ pub fn faults_of_messages()
 
 /// Faults of answers: the answers before are read.
 pub fn faults_of_answers()
-    ensures no_opening { StreamReads (frame (answer_header 1 1 0 ++ question_x ++ record_x 2 (192 ∷ 12 ∷ []))) []
+    ensures no_opening { StreamReads
+        (frame (answer_header 1 1 0 ++ question_x ++ record_x 2 (192 ∷ 12 ∷ []))) []
         (Some (NoOpeningSoa, Message 1 19)) }
     ensures question_class { StreamReads
         (frame (answer_header 1 3 0 ++ (1 ∷ 120 ∷ 0 ∷ 0 ∷ 252 ∷ 0 ∷ 3 ∷ []) ++ opening_x ++ server_x
@@ -135,7 +145,8 @@ pub fn faults_of_answers()
     ensures other_serial { StreamReads
         (frame (answer_header 1 3 0 ++ question_x ++ opening_x ++ server_x ++ closing_x 2))
         small_records (Some (SoaMismatch, Message 1 73)) }
-    ensures after_closing { StreamReads (frame (answer_header 1 4 0 ++ small_body ++ server_x)) small_records
+    ensures after_closing { StreamReads
+        (frame (answer_header 1 4 0 ++ small_body ++ server_x)) small_records
         (Some (AfterClosing, Message 1 109)) }
     ensures given_twice { StreamReads (frame small_message ++ frame small_message) small_records
         (Some (AfterClosing, Message 2 19)) }
@@ -143,7 +154,8 @@ pub fn faults_of_answers()
         (placed_at 1 19 soa_x ∷ []) (Some (CompressibleType, Message 1 59)) }
     ensures left_over { StreamReads (frame (message_with (record_x 2 (192 ∷ 31 ∷ 0 ∷ []))))
         (placed_at 1 19 soa_x ∷ []) (Some (BadRdata, Message 1 59)) }
-    ensures no_string { StreamReads (frame (message_with (record_x 16 []))) (placed_at 1 19 soa_x ∷ [])
+    ensures no_string { StreamReads (frame (message_with (record_x 16 [])))
+        (placed_at 1 19 soa_x ∷ [])
         (Some (BadRdata, Message 1 59)) }
     ensures short_service { StreamReads (frame (message_with (record_x 33 (192 ∷ 31 ∷ []))))
         (placed_at 1 19 soa_x ∷ []) (Some (BadRdata, Message 1 59)) }
@@ -151,8 +163,8 @@ pub fn faults_of_answers()
         (placed_at 1 19 soa_x ∷ []) (Some (BadPointer, Message 1 59)) }
 {}
 
-/// A place of a name with two faults has the first: an octet outside the message before a name of over 255 octets, and a
-/// bad target before the 129th pointer.
+/// A place of a name with two faults has the first: an octet outside the message before a name of
+/// over 255 octets, and a bad target before the 129th pointer.
 pub fn names_with_two_faults()
     ensures outside_and_too_long { WalkEnds (labels_a 127 ++ 1 ∷ []) 12 (Some ShortMessage) 128 }
     ensures bad_target_and_too_many { WalkEnds (chain 129 12 12) 268 (Some BadPointer) 129 }
@@ -160,12 +172,16 @@ pub fn names_with_two_faults()
 
 /// A message with two faults in its structure has the first, by the order of its parts.
 pub fn messages_with_two_faults()
-    ensures query_cut_off { StreamReads (frame (0 ∷ 1 ∷ 4 ∷ 0 ∷ [])) [] (Some (ShortMessage, Message 1 0)) }
-    ensures truncated_query { StreamReads (frame ((0 ∷ 1 ∷ 6 ∷ 0 ∷ 0 ∷ 1 ∷ 0 ∷ 3 ∷ 0 ∷ 0 ∷ 0 ∷ 0 ∷ []) ++ small_body))
+    ensures query_cut_off { StreamReads (frame (0 ∷ 1 ∷ 4 ∷ 0 ∷ []))
+        [] (Some (ShortMessage, Message 1 0)) }
+    ensures truncated_query { StreamReads
+        (frame ((0 ∷ 1 ∷ 6 ∷ 0 ∷ 0 ∷ 1 ∷ 0 ∷ 3 ∷ 0 ∷ 0 ∷ 0 ∷ 0 ∷ []) ++ small_body))
         [] (Some (NotAResponse, Message 1 0)) }
-    ensures truncated_error { StreamReads (frame ((0 ∷ 1 ∷ 134 ∷ 5 ∷ 0 ∷ 1 ∷ 0 ∷ 3 ∷ 0 ∷ 0 ∷ 0 ∷ 0 ∷ []) ++ small_body))
+    ensures truncated_error { StreamReads
+        (frame ((0 ∷ 1 ∷ 134 ∷ 5 ∷ 0 ∷ 1 ∷ 0 ∷ 3 ∷ 0 ∷ 0 ∷ 0 ∷ 0 ∷ []) ++ small_body))
         [] (Some (Truncated, Message 1 0)) }
-    ensures error_with_two_questions { StreamReads (frame ((0 ∷ 1 ∷ 132 ∷ 5 ∷ 0 ∷ 2 ∷ 0 ∷ 3 ∷ 0 ∷ 0 ∷ 0 ∷ 0 ∷ []) ++ small_body))
+    ensures error_with_two_questions { StreamReads
+        (frame ((0 ∷ 1 ∷ 132 ∷ 5 ∷ 0 ∷ 2 ∷ 0 ∷ 3 ∷ 0 ∷ 0 ∷ 0 ∷ 0 ∷ []) ++ small_body))
         [] (Some (ErrorCode 5, Message 1 0)) }
     ensures trailing_under_other_id { StreamReads
         (frame first_message ++ frame (0 ∷ 2 ∷ 132 ∷ 0 ∷ 0 ∷ 0 ∷ 0 ∷ 0 ∷ 0 ∷ 0 ∷ 0 ∷ 0 ∷ 0 ∷ []))
@@ -176,22 +192,28 @@ pub fn messages_with_two_faults()
         ∷ 0 ∷ 1 ∷ [])) small_records (Some (IdMismatch, Message 2 0)) }
 {}
 
-/// An answer with two faults has the first: of its class, its type, its data, and then of the order of answers.
+/// An answer with two faults has the first: of its class, its type, its data, and then of the order
+/// of answers.
 pub fn answers_with_two_faults()
     ensures class_and_type { StreamReads (frame (ends_with (record_of_class 0 41 [])))
         (placed_at 1 19 soa_x ∷ []) (Some (BadClass, Message 1 59)) }
-    ensures name_past_the_message { StreamReads (frame (ends_with (record_x 2 []))) (placed_at 1 19 soa_x ∷ [])
+    ensures name_past_the_message { StreamReads (frame (ends_with (record_x 2 [])))
+        (placed_at 1 19 soa_x ∷ [])
         (Some (ShortMessage, Message 1 59)) }
-    ensures name_past_the_data { StreamReads (frame (message_with (record_x 2 []))) (placed_at 1 19 soa_x ∷ [])
+    ensures name_past_the_data { StreamReads (frame (message_with (record_x 2 [])))
+        (placed_at 1 19 soa_x ∷ [])
         (Some (BadRdata, Message 1 59)) }
-    ensures bad_data_first { StreamReads (frame (answer_header 1 1 0 ++ question_x ++ record_x 16 [])) []
+    ensures bad_data_first { StreamReads
+        (frame (answer_header 1 1 0 ++ question_x ++ record_x 16 [])) []
         (Some (BadRdata, Message 1 19)) }
     ensures no_opening_of_other_class { StreamReads
         (frame (answer_header 1 1 0 ++ (1 ∷ 120 ∷ 0 ∷ 0 ∷ 252 ∷ 0 ∷ 3 ∷ []) ++ record_x 2
         (192 ∷ 12 ∷ []))) [] (Some (NoOpeningSoa, Message 1 19)) }
-    ensures differing_soa_after_closing { StreamReads (frame (answer_header 1 4 0 ++ small_body ++ closing_x 2)) small_records
+    ensures differing_soa_after_closing { StreamReads
+        (frame (answer_header 1 4 0 ++ small_body ++ closing_x 2)) small_records
         (Some (AfterClosing, Message 1 109)) }
-    ensures class_after_closing { StreamReads (frame (answer_header 1 4 0 ++ small_body ++ record_of_class 255 1 []))
+    ensures class_after_closing { StreamReads
+        (frame (answer_header 1 4 0 ++ small_body ++ record_of_class 255 1 []))
         small_records (Some (BadClass, Message 1 109)) }
 {}
 

@@ -1,4 +1,5 @@
-//! Octets of a stream as they come in pieces: the frames that came whole, and the octets behind them (RFC 1035 4.2.2).
+//! Octets of a stream as they come in pieces: the frames that came whole, and the octets after them
+//! (RFC 1035 4.2.2).
 ghost use Rattle.std.specs.Prelude.{◌≡◌, ◌+◌, ◌-◌, ◌<◌, ◌≤◌, ◌^◌, ◌++◌, [], ℕ, List, None, length, take, IfOk, IfSome, IsOk, MatchOption, OnOk};
 ghost use Rattle.zone_rdata.specs.declared.record.Placed.{Placed};
 ghost use Rattle.zone_wire.specs.Machine.Feeding.{Follow, IsCut};
@@ -14,7 +15,7 @@ use zone_rdata::{Fault, Place};
 /// The octets of a frame's length.
 const LENGTH_LEN: usize = 2;
 
-/// The messages of the frames that came whole, and the octets behind them.
+/// The messages of the frames that came whole, and the octets after them.
 #[derive(Drop)]
 pub(crate) struct Intake {
     pub(crate) transfer: Transfer,
@@ -41,12 +42,14 @@ impl Intake {
     pub(crate) fn feed(&mut self, piece: &[u8]) -> Result<(), AllocError>
         requires cut { IsCut self.old.unfinished.items }
         requires fits { self.old.transfer.messages + length piece.now + 1 < 2 ^ 64 }
-        requires dropped { IfSome self.old.transfer.decided.ending (λ _. self.old.unfinished.items ≡ []) }
+        requires dropped { IfSome self.old.transfer.decided.ending
+            (λ _. self.old.unfinished.items ≡ []) }
         ensures cut { OnOk result (IsCut self.new.unfinished.items) }
         ensures dropped { OnOk result
             (IfSome self.new.transfer.decided.ending (λ _. self.new.unfinished.items ≡ [])) }
         ensures count { OnOk result (self.new.transfer.messages ≤ self.old.transfer.messages + length piece.now) }
         ensures decided { IfSome self.old.transfer.decided.ending (λ _. IsOk result × (self.new ≡ self.old)) }
+        ensures nothing { piece.now ≡ [] → IsOk result × (self.new ≡ self.old) }
         ensures follow { OnOk result ((fed : List ℕ) (given : List Placed)
             → Follow self.old.transfer self.old.unfinished.items fed given
             → Follow self.new.transfer self.new.unfinished.items (fed ++ piece.now) given) }
@@ -59,7 +62,8 @@ impl Intake {
         Ok(())
     }
 
-    /// Takes octets up to the end of the unfinished frame, all where it doesn't end in them, and gives their number.
+    /// Takes octets up to the end of the unfinished frame, all where it doesn't end in them, and
+    /// gives their number.
     fn take_front(&mut self, octets: &[u8]) -> Result<usize, AllocError>
         requires cut { IsCut self.old.unfinished.items }
         requires some { 0 < length octets.now }
@@ -117,7 +121,7 @@ impl Intake {
         self.drop_unfinished();
     }
 
-    /// How the stream ends behind frames without a fault.
+    /// How the stream ends after frames without a fault.
     fn end(&self) -> Option<(Fault, Place)>
         requires { self.now.transfer.messages + 1 < 2 ^ 64 }
         ensures { (placed : List Placed) → self.now.transfer.closed ≡ is_closed placed
@@ -143,7 +147,7 @@ pub(crate) fn cut_len(octets: &[u8]) -> usize
     octets.len()
 }
 
-/// The message of a frame, behind its length.
+/// The message of a frame, after its length.
 fn message_of(framed: &[u8]) -> &[u8]
     requires { length framed.now ≡ 2 + u16_at framed.now 0 }
     ensures framed { framed.now ≡ frame result.now }
@@ -152,7 +156,8 @@ fn message_of(framed: &[u8]) -> &[u8]
     &framed[LENGTH_LEN..]
 }
 
-/// Where in further octets the frame ends that cut-off octets begin; none, where it doesn't end there.
+/// Where in further octets the frame ends that cut-off octets begin; none, where it doesn't end
+/// there.
 fn frame_end(cut: &[u8], more: &[u8]) -> Option<usize>
     requires { IsCut cut.now }
     ensures { MatchOption result (IsCut (cut.now ++ more.now))

@@ -41,8 +41,8 @@ pub fn a_name_is_bounded()
         → found.end ≤ length message }
 {}
 
-/// A walk has at most 256 places, all of them in the message: at most 127 labels and 128 pointers, and what is neither
-/// stands at the last place alone.
+/// A walk has at most 256 places, all of them in the message: at most 127 labels and 128 pointers,
+/// and what is neither stands at the last place alone.
 pub fn a_walk_is_bounded()
     ensures places { (message : Octets) (offset : ℕ) (visits : List Visit)
         → IsWalk message offset visits
@@ -91,10 +91,12 @@ pub fn one_list_of_a_stream()
 
 /// A stream is read in at most one way, and one thing is decided for it.
 pub fn one_reading_of_a_stream()
-    ensures whole { (stream : Octets) (placed other : List Placed) (ending late : Option (Fault × Place))
+    ensures whole { (stream : Octets) (placed other : List Placed)
+        (ending late : Option (Fault × Place))
         → StreamReads stream placed ending → StreamReads stream other late → (placed ≡ other)
         × (ending ≡ late) }
-    ensures decided { (stream : Octets) (placed other : List Placed) (ending late : Option (Fault × Place))
+    ensures decided { (stream : Octets) (placed other : List Placed)
+        (ending late : Option (Fault × Place))
         → Decided stream placed ending → Decided stream other late → (placed ≡ other)
         × (ending ≡ late) }
 {}
@@ -109,9 +111,11 @@ pub fn each_stream_is_read()
         × Decided stream placed ending }
 {}
 
-/// The records that are decided for a stream begin those of every longer one, and a decided fault stays.
+/// The records that are decided for a stream begin those of every longer one, and a decided fault
+/// stays.
 pub fn what_is_decided_stays()
-    ensures records { (stream more : Octets) (placed other : List Placed) (ending late : Option (Fault × Place))
+    ensures records { (stream more : Octets) (placed other : List Placed)
+        (ending late : Option (Fault × Place))
         → Decided stream placed ending → Decided (stream ++ more) other late
         → (rest : List Placed) × (other ≡ placed ++ rest) }
     ensures fault { (stream more : Octets) (placed other : List Placed) (e : Fault × Place)
@@ -120,9 +124,11 @@ pub fn what_is_decided_stays()
         × (late ≡ Some e) }
 {}
 
-/// The records that are decided for a stream begin those that every longer one is read as, and a decided fault is its fault.
+/// The records that are decided for a stream begin those that every longer one is read as, and a
+/// decided fault is its fault.
 pub fn what_is_decided_is_read()
-    ensures records { (stream more : Octets) (placed other : List Placed) (ending late : Option (Fault × Place))
+    ensures records { (stream more : Octets) (placed other : List Placed)
+        (ending late : Option (Fault × Place))
         → Decided stream placed ending → StreamReads (stream ++ more) other late
         → (rest : List Placed) × (other ≡ placed ++ rest) }
     ensures fault { (stream more : Octets) (placed other : List Placed) (e : Fault × Place)
@@ -150,7 +156,8 @@ pub fn what_is_read_is_records()
         → AllByRecursion (λ p. IsRecord p.rr) placed }
 {}
 
-/// A transfer is read as its records, without a fault, and a stream that is read without a fault is that transfer.
+/// A transfer is read as its records, without a fault, and a stream that is read without a fault is
+/// that transfer.
 pub fn a_transfer_is_read()
     ensures found { (stream : Octets) (placed : List Placed)
         → ((i : ℕ) → slice_index stream i < 256)

@@ -23,8 +23,8 @@ pub struct Question {
     pub class: u16,
 }
 
-/// A message of a zone transfer: a header without a fault, as many questions and records as it counts, and nothing
-/// after them (RFC 1035 4.1, RFC 5936 2.2). It borrows the octets.
+/// A message of a zone transfer: a header without a fault, as many questions and records as it
+/// counts, and nothing after them (RFC 1035 4.1, RFC 5936 2.2). It borrows the octets.
 #[derive(Debug, Drop)]
 pub struct Message<'m> {
     octets: &'m [u8],
@@ -45,12 +45,13 @@ impl<'m> Model for Message<'m> {
 }
 
 impl<'m> Message<'m> {
-    /// The message that octets are. Of records it judges the owners' names and where they end, and no more.
+    /// The message that octets are. Of records it judges the owners' names and where they end, and
+    /// no more.
     ///
     /// # Errors
     ///
-    /// The first fault of the message's structure and the offset at which it stands: 0 for a fault of the header and
-    /// for `TrailingOctets`, else the start of the question or record.
+    /// The first fault of the message's structure and the offset at which it stands: 0 for a fault
+    /// of the header and for `TrailingOctets`, else the start of the question or record.
     pub fn parse(octets: &'m [u8]) -> Result<Message<'m>, (Fault, usize)>
         ensures octets { IfOk result (λ m. m.octets ≡ octets.now) }
         ensures found { IfOk result (λ m. IsMessage octets.now m.sections) }

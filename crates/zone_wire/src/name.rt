@@ -1,12 +1,11 @@
-ghost use Rattle.std.specs.Prelude.{◌≡◌, ◌<◌, ◌≤◌, ℕ, [], length, IfOk, IfErr, IfSome, IsOk, MatchResult, List};
-ghost use Rattle.std.specs.Option.{is_some};
+ghost use Rattle.std.specs.Prelude.{◌≡◌, ◌<◌, ◌≤◌, ℕ, [], length, IfOk, IfErr, IsOk, MatchResult, List};
 ghost use Rattle.zone_wire.specs.Name.{Found, IsNameAt, found_by};
 ghost use Rattle.zone_wire.specs.Machine.Finding.{Says, Tells, outcome};
 ghost use Rattle.zone_wire.specs.Machine.Walk.{walk};
 ghost use Rattle.zone_wire.specs.Walk.{Visit};
 ghost use Rattle.zone_wire.specs.WholeWalk.{IsWalk, NameFault};
 
-use crate::place::{Spot, Standing, place_at};
+use crate::place::{PlaceFault, Spot, Standing, place_at};
 use crate::ticks::Ticks;
 use zone_name::{Name, NameBuilder};
 use zone_rdata::Fault;
@@ -26,10 +25,11 @@ pub struct Decoded {
 ///
 /// # Errors
 ///
-/// The fault at the first place of the name that has one, and the steps of the walk: one for each place that was looked
-/// at.
+/// The fault at the first place of the name that has one, and the steps of the walk: one for each
+/// place that was looked at.
 pub fn name_at(message: &[u8], offset: usize) -> Result<Decoded, (Fault, u16)>
-    ensures found { IfOk result (λ d. (pointers : ℕ) × IsNameAt message.now offset (found_by d pointers)) }
+    ensures found { IfOk result
+        (λ d. (pointers : ℕ) × IsNameAt message.now offset (found_by d pointers)) }
     ensures only { (found : Found) → IsNameAt message.now offset found → IsOk result }
     ensures within { IfOk result (λ d. (offset < d.end) × (d.end ≤ length message.now)) }
     ensures fault { IfErr result (λ e. NameFault message.now offset e.0) }
@@ -44,50 +44,44 @@ pub fn name_at(message: &[u8], offset: usize) -> Result<Decoded, (Fault, u16)>
 fn walked(message: &[u8], offset: usize) -> Result<Decoded, (Fault, u16)>
     ensures { Says result (outcome message.now (walk message.now offset)) }
 {
-    let mut labels = Some(NameBuilder::new());
-    let (end, steps) = walk_to_root(message, offset, &mut labels)?;
-    match labels {
-        Some(labels) => Ok(Decoded {
+    let mut labels = NameBuilder::new();
+    match read_name(message, offset, &mut labels) {
+        Ok((end, steps)) => Ok(Decoded {
             name: labels.finish(),
             end,
             steps,
         }),
-        None => unreachable!(),
+        Err((fault, steps)) => Err((fault.widened(), steps)),
     }
 }
 
-/// Walks along the name at an offset, and gives the offset after it and the steps of the walk. The labels go into a builder
-/// where there is one.
+/// Puts the labels of the name at an offset into a builder, and gives the offset after the name and the steps of the walk.
 ///
 /// # Errors
 ///
-/// As `name_at`.
-pub(crate) fn walk_to_root(
+/// As `name_at`; the builder then has the labels before the fault.
+pub(crate) fn read_name(
     message: &[u8],
     offset: usize,
-    labels: &mut Option<NameBuilder>,
-) -> Result<(usize, u16), (Fault, u16)>
-    requires { IfSome labels.old (λ l. l ≡ []) }
-    ensures walk { Tells result labels.new (outcome message.now (walk message.now offset)) }
-    ensures kept { is_some labels.new ≡ is_some labels.old }
+    labels: &mut NameBuilder,
+) -> Result<(usize, u16), (PlaceFault, u16)>
+    requires { labels.old ≡ [] }
+    ensures { Tells result labels.new (outcome message.now (walk message.now offset)) }
 {
     let mut ticks = Ticks::new();
     let mut end = None;
     let mut spot = Spot::outset(offset);
     'places: loop {
         match place_at(message, spot, &mut ticks) {
-            Standing::Outside => return Err((Fault::ShortMessage, ticks.count())),
+            Standing::Outside => return Err((PlaceFault::ShortMessage, ticks.count())),
             Standing::Bad(fault) => return Err((fault, ticks.count())),
             Standing::Root => return Ok((end.unwrap_or(spot.offset + 1), ticks.count())),
             Standing::Label(size) => {
-                if let Some(labels) = labels {
-                    let start = spot.offset + 1;
-                    match labels.push_label(&message[start..start + size]) {
-                        Ok(()) => {}
-                        Err(_) => unreachable!(),
-                    }
+                let start = spot.offset + 1;
+                match labels.push_label(&message[start..start + size]) {
+                    Ok(()) => spot = spot.past_label(size),
+                    Err(_) => unreachable!(),
                 }
-                spot = spot.past_label(size);
             }
             Standing::Pointer(target) => {
                 end = Some(end.unwrap_or(spot.offset + 2));

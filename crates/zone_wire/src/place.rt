@@ -1,6 +1,6 @@
 ghost use Rattle.std.specs.Prelude.{◌≡◌, ◌+◌, ◌^◌, ◌<◌, ◌≤◌, length, slice_index, Some};
 ghost use Rattle.zone_wire.specs.Name.{target_at};
-ghost use Rattle.zone_wire.specs.Machine.Place.{spot_of, standing_of, ticks_at};
+ghost use Rattle.zone_wire.specs.Machine.Place.{fault_here, spot_of, standing_of, ticks_at};
 ghost use Rattle.zone_wire.specs.Walk.{place_of, label_of, pointer_of};
 ghost use Rattle.zone_wire.specs.Machine.Walk.{outset, past_label, past_pointer};
 
@@ -24,10 +24,12 @@ pub(crate) const NSCOUNT: usize = 8;
 /// Where a header says how many additional records there are (RFC 1035 4.1.1).
 pub(crate) const ARCOUNT: usize = 10;
 
-/// The octets of a record between its name and its data: its type, its class, its TTL and the data's length (RFC 1035 4.1.3).
+/// The octets of a record between its name and its data: its type, its class, its TTL and the
+/// data's length (RFC 1035 4.1.3).
 pub(crate) const RECORD_HEAD_LEN: usize = 10;
 
-/// The greatest number of pointers through which a name is followed. RFC 1035 states none; this is the project's own choice.
+/// The greatest number of pointers through which a name is followed. RFC 1035 states none; this is
+/// the project's own choice.
 const MAX_POINTERS: usize = 128;
 
 /// What the two high bits of a pointer, both set, count in its 16 bits (RFC 1035 4.1.4).
@@ -44,8 +46,36 @@ pub(crate) struct Spot {
     pub(crate) octets: usize,
 }
 
+/// What is wrong at one place of a name, in one octet: a `Fault` has room for a name.
+#[derive(Clone, Copy, Debug)]
+pub(crate) enum PlaceFault {
+    ShortMessage,
+    ReservedLabel,
+    BadPointer,
+    TooManyPointers,
+    NameTooLong,
+}
+
+impl PlaceFault {
+    /// The fault itself.
+    // Not inlined: only what is refused needs the room.
+    #[cold]
+    #[inline(never)]
+    pub(crate) fn widened(self) -> Fault
+        ensures { result ≡ fault_here self }
+    {
+        match self {
+            PlaceFault::ShortMessage => Fault::ShortMessage,
+            PlaceFault::ReservedLabel => Fault::ReservedLabel,
+            PlaceFault::BadPointer => Fault::BadPointer,
+            PlaceFault::TooManyPointers => Fault::TooManyPointers,
+            PlaceFault::NameTooLong => Fault::NameTooLong,
+        }
+    }
+}
+
 /// What stands at one place of a name.
-#[derive(Debug, Drop)]
+#[derive(Clone, Copy, Debug)]
 pub(crate) enum Standing {
     /// No octet of the message.
     Outside,
@@ -54,10 +84,11 @@ pub(crate) enum Standing {
     Label(usize),
     /// A pointer, and where it leads.
     Pointer(usize),
-    Bad(Fault),
+    Bad(PlaceFault),
 }
 
-/// What stands at a place, by its first octet. Where there is one, it counts a step before it looks at it.
+/// What stands at a place, by its first octet. Where there is one, it counts a step before it looks
+/// at it.
 #[tactic(auto, unfolding(crate::specs::Walk::place_of))]
 pub(crate) fn place_at(message: &[u8], spot: Spot, ticks: &mut Ticks) -> Standing
     requires octets { spot.octets < 256 }
@@ -70,11 +101,12 @@ pub(crate) fn place_at(message: &[u8], spot: Spot, ticks: &mut Ticks) -> Standin
     }
     ticks.tick();
     let first = message[spot.offset];
-    // The two high bits say the form: 00 is a label's length, 11 a pointer, and the others are reserved (RFC 1035 4.1.4).
+    // The two high bits say the form: 00 is a label's length, 11 a pointer, and the others are
+    // reserved (RFC 1035 4.1.4).
     match first {
         0 => Standing::Root,
         1..=63 => label_at(message, spot, first as usize),
-        64..=191 => Standing::Bad(Fault::ReservedLabel),
+        64..=191 => Standing::Bad(PlaceFault::ReservedLabel),
         _ => pointer_at(message, spot),
     }
 }
@@ -87,9 +119,9 @@ fn label_at(message: &[u8], spot: Spot, size: usize) -> Standing
     ensures { standing_of result ≡ Some (label_of message.now (spot_of spot) size) }
 {
     if size >= message.len() - spot.offset {
-        Standing::Bad(Fault::ShortMessage)
+        Standing::Bad(PlaceFault::ShortMessage)
     } else if spot.octets + size + 2 > MAX_NAME_LEN {
-        Standing::Bad(Fault::NameTooLong)
+        Standing::Bad(PlaceFault::NameTooLong)
     } else {
         Standing::Label(size)
     }
@@ -103,13 +135,13 @@ fn pointer_at(message: &[u8], spot: Spot) -> Standing
         (pointer_of message.now (spot_of spot) (target_at message.now spot.offset)) }
 {
     if message.len() - spot.offset < 2 {
-        return Standing::Bad(Fault::ShortMessage);
+        return Standing::Bad(PlaceFault::ShortMessage);
     }
     let target = (u16_at(message, spot.offset) - POINTER_BITS) as usize;
     if target < HEADER_LEN || target >= spot.bound {
-        Standing::Bad(Fault::BadPointer)
+        Standing::Bad(PlaceFault::BadPointer)
     } else if spot.pointers >= MAX_POINTERS {
-        Standing::Bad(Fault::TooManyPointers)
+        Standing::Bad(PlaceFault::TooManyPointers)
     } else {
         Standing::Pointer(target)
     }
@@ -128,7 +160,7 @@ impl Spot {
         }
     }
 
-    /// Behind a label of this many octets.
+    /// The place after a label of this many octets.
     pub(crate) fn past_label(self, size: usize) -> Spot
         requires offset { self.offset + 1 + size < 2 ^ 64 }
         requires octets { self.octets + 1 + size < 256 }

@@ -10,8 +10,8 @@ use crate::octets::are_octets;
 use std::alloc::Global;
 use zone_rdata::{Class, Failing, Fault, Kind, MAX_TTL, Rr};
 
-/// The types whose data may hold compressed names and isn't read: MD, MF, MB, MG, MR and MINFO (RFC 1035 3.3), and RP,
-/// AFSDB, RT, SIG, PX and NXT (RFC 3597 4).
+/// The types whose data may hold compressed names and isn't read: MD, MF, MB, MG, MR and MINFO (RFC
+/// 1035 3.3), and RP, AFSDB, RT, SIG, PX and NXT (RFC 3597 4).
 const COMPRESSIBLE: [u16; 12] = [3, 4, 7, 8, 9, 14, 17, 18, 21, 24, 26, 30];
 
 /// Whether records of a type are read.
@@ -47,14 +47,16 @@ impl<'m> RawRr<'m> {
         Ok((class, kind))
     }
 
-    /// The record that the answer states by itself, wherever it stands in a transfer (RFC 1035 3.2.1, 4.1.3). Names in its
-    /// data are followed into the whole message. A TTL with its top bit set counts as 0 (RFC 2181 8).
+    /// The record that the answer states by itself, wherever it stands in a transfer (RFC 1035
+    /// 3.2.1, 4.1.3). Names in its data are followed into the whole message. A TTL with its top bit
+    /// set counts as 0 (RFC 2181 8).
     ///
     /// # Errors
     ///
-    /// `BadClass` or `MetaType` where no zone data has the class or the type, `CompressibleType` where the type may hold
-    /// compressed names and has no layout, then the first fault of the data: `BadRdata`, or a name's `ShortMessage`,
-    /// `ReservedLabel`, `BadPointer`, `TooManyPointers` or `NameTooLong`; and `Failing::Memory` for want of memory.
+    /// `BadClass` or `MetaType` where no zone data has the class or the type, `CompressibleType`
+    /// where the type may hold compressed names and has no layout, then the first fault of the
+    /// data: `BadRdata`, or a name's `ShortMessage`, `ReservedLabel`, `BadPointer`,
+    /// `TooManyPointers` or `NameTooLong`; and `Failing::Memory` for want of memory.
     pub fn to_rr(&self, alloc: Global) -> Result<Rr, Failing>
         ensures found { IfOk result (StatesRecord self.now.octets self.now.at) }
         ensures only { (r : Record) → StatesRecord self.now.octets self.now.at r

@@ -7,10 +7,12 @@ use std::alloc::{AllocError, Global};
 use std::marker::Model;
 use zone_rdata::{Placed, Reading, RrSource, Stop};
 
-/// The records of a zone transfer (RFC 5936 2.2) that is fed in pieces, as soon as they are decided: with the octet that ends
-/// their message. Contracts see what it has still to give, and what it holds beside.
+/// The records of a zone transfer (RFC 5936 2.2) that is fed in pieces, as soon as they are
+/// decided: with the octet that ends their message. Contracts see the records that it has left to
+/// give, the fault after them, and what else it holds.
 ///
-/// Once it was refused memory it has failed: every later `feed`, `finish` and `next` answers `Memory`.
+/// Once it was refused memory it has failed: every later `feed`, `finish` and `next` answers
+/// `Memory`.
 #[derive(Drop)]
 pub struct TransferSource {
     intake: Intake,
@@ -77,8 +79,8 @@ impl TransferSource {
         }
     }
 
-    /// Takes the next piece of the stream, of any length. Once a fault is decided a piece is counted alone, which takes no
-    /// memory.
+    /// Takes the next piece of the stream, of any length. Once a fault is decided a piece is
+    /// counted alone, which takes no memory.
     ///
     /// # Errors
     ///
@@ -91,6 +93,8 @@ impl TransferSource {
         ensures count { OnOk result (self.new.held.fed ≡ self.old.held.fed + length piece.now) }
         ensures decided { self.old.pending.failed ≡ false → IfSome self.old.pending.ending
             (λ _. IsOk result × (self.new ≡ counted (length piece.now) self.old)) }
+        ensures nothing { piece.now ≡ [] → (self.new ≡ self.old)
+            × (self.old.pending.failed ≡ false → IsOk result) }
         ensures works { OnOk result (self.old.pending.failed ≡ false) }
         ensures working { OnOk result (self.new.pending.failed ≡ false) }
         ensures memory { IfErr result (λ stop. stop ≡ Stop.Memory) }
@@ -114,7 +118,8 @@ impl TransferSource {
         }
     }
 
-    /// Takes the end of the stream. What the source has still to give is then the rest of what the stream is read as.
+    /// Takes the end of the stream. What the source has still to give is then the rest of what the stream is read as. It
+    /// takes no memory.
     ///
     /// # Errors
     ///
@@ -129,6 +134,7 @@ impl TransferSource {
         ensures memory { IfErr result (λ stop. stop ≡ Stop.Memory) }
         ensures failed { OnErr result (self.new.pending.failed ≡ true) }
         ensures goes_on { OnErr result (self.new.held.finished ≡ false) }
+        ensures only { OnErr result (self.old.pending.failed ≡ true) }
         ensures count { self.new.held.fed ≡ self.old.held.fed }
     {
         if let Status::OutOfMemory = self.status {
@@ -146,8 +152,9 @@ impl TransferSource {
         matches!(self.status, Status::Finished)
     }
 
-    /// The number of octets of the stream that the source keeps, at most 65,536: those behind the last whole frame, and none
-    /// once a fault is decided, the stream has ended or the source has failed.
+    /// The number of octets of the stream that the source keeps, at most 65,536: those after the
+    /// last whole frame, and none once a fault is decided, the stream has ended or the source has
+    /// failed.
     pub fn undecided(&self) -> usize
         ensures held { result ≡ length self.now.held.unfinished }
         ensures few { result ≤ 65536 }
@@ -165,7 +172,7 @@ impl TransferSource {
         self.fed
     }
 
-    /// What the source has still to give.
+    /// What the source has left to give.
     fn into_reading(self) -> Reading
         ensures placed { result.placed.items ≡ self.pending.records }
         ensures ending { result.ending ≡ self.pending.ending }
@@ -193,8 +200,8 @@ impl RrSource for TransferSource {
     }
 }
 
-/// What a stream of messages is read as, each behind its length (RFC 1035 4.2.2; RFC 5936 2.2, 3): the records before its
-/// first fault, and that fault.
+/// What a stream of messages is read as, each after its length (RFC 1035 4.2.2; RFC 5936 2.2, 3):
+/// the records before its first fault, and that fault.
 ///
 /// # Errors
 ///

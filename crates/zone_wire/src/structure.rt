@@ -2,11 +2,15 @@ ghost use Rattle.std.specs.Prelude.{◌≡◌, ◌≤◌, length, MatchResult, E
 ghost use Rattle.zone_wire.specs.Machine.Parsing.{IsParsed, name_end_of, part_end_of, run_end_of};
 ghost use Rattle.zone_wire.specs.Machine.Sections.{header_fault, question_at, record_at, questions_from, records_from, sections_of};
 ghost use Rattle.zone_wire.specs.Machine.Finding.{outcome};
+ghost use Rattle.zone_wire.specs.Machine.Place.{end_or_fault};
 ghost use Rattle.zone_wire.specs.Machine.Walk.{walk};
 
-use crate::name::walk_to_root;
 use crate::number::u16_at;
-use crate::place::{ANCOUNT, ARCOUNT, HEADER_LEN, NSCOUNT, QDCOUNT, RECORD_HEAD_LEN};
+use crate::place::{
+    ANCOUNT, ARCOUNT, HEADER_LEN, NSCOUNT, PlaceFault, QDCOUNT, RECORD_HEAD_LEN, Spot, Standing,
+    place_at,
+};
+use crate::ticks::Ticks;
 use zone_rdata::Fault;
 
 /// The offset at which the answers of a message begin.
@@ -37,7 +41,8 @@ fn header_fault(octets: &[u8]) -> Option<Fault>
     if octets.len() < HEADER_LEN {
         return Some(Fault::ShortMessage);
     }
-    // QR, of one bit, and the opcode, of four, stand above AA, TC and RD; RA and Z above RCODE, of four (RFC 1035 4.1.1).
+    // QR, of one bit, and the opcode, of four, stand above AA, TC and RD; RA and Z above RCODE, of
+    // four (RFC 1035 4.1.1).
     if octets[2] >> 3 != 0b10000 {
         Some(Fault::NotAResponse)
     } else if octets[2] >> 1 & 1 != 0 {
@@ -51,39 +56,50 @@ fn header_fault(octets: &[u8]) -> Option<Fault>
     }
 }
 
-/// The offset after the name at an offset.
-fn name_end(message: &[u8], offset: usize) -> Result<usize, Fault>
-    ensures { result ≡ name_end_of (outcome message.now (walk message.now offset)) }
+/// The offset after the name at an offset. The walk is the one that `read_name` makes, and keeps no label.
+fn walk_to_root(message: &[u8], offset: usize) -> Result<usize, PlaceFault>
+    ensures { end_or_fault result ≡ name_end_of (outcome message.now (walk message.now offset)) }
 {
-    match walk_to_root(message, offset, &mut None) {
-        Ok((end, _)) => Ok(end),
-        Err((fault, _)) => Err(fault),
+    let mut ticks = Ticks::new();
+    let mut end = None;
+    let mut spot = Spot::outset(offset);
+    'places: loop {
+        match place_at(message, spot, &mut ticks) {
+            Standing::Outside => return Err(PlaceFault::ShortMessage),
+            Standing::Bad(fault) => return Err(fault),
+            Standing::Root => return Ok(end.unwrap_or(spot.offset + 1)),
+            Standing::Label(size) => spot = spot.past_label(size),
+            Standing::Pointer(target) => {
+                end = Some(end.unwrap_or(spot.offset + 2));
+                spot = spot.past_pointer(target);
+            }
+        }
     }
 }
 
 /// The offset after the question at an offset: its name, type and class (RFC 1035 4.1.2).
-fn question_end(message: &[u8], offset: usize) -> Result<usize, Fault>
-    ensures { result ≡ part_end_of (λ q. q.end) (question_at message.now offset) }
+fn question_end(message: &[u8], offset: usize) -> Result<usize, PlaceFault>
+    ensures { end_or_fault result ≡ part_end_of (λ q. q.end) (question_at message.now offset) }
 {
-    let end = name_end(message, offset)?;
+    let end = walk_to_root(message, offset)?;
     if message.len() - end < 4 {
-        return Err(Fault::ShortMessage);
+        return Err(PlaceFault::ShortMessage);
     }
     Ok(end + 4)
 }
 
 /// The offset after the record at an offset: its name, type, class, TTL, and its data behind its length (RFC 1035 4.1.3).
-fn record_end(message: &[u8], offset: usize) -> Result<usize, Fault>
-    ensures { result ≡ part_end_of (λ r. r.end) (record_at message.now offset) }
+fn record_end(message: &[u8], offset: usize) -> Result<usize, PlaceFault>
+    ensures { end_or_fault result ≡ part_end_of (λ r. r.end) (record_at message.now offset) }
 {
-    let end = name_end(message, offset)?;
+    let end = walk_to_root(message, offset)?;
     if message.len() - end < RECORD_HEAD_LEN {
-        return Err(Fault::ShortMessage);
+        return Err(PlaceFault::ShortMessage);
     }
     let start = end + RECORD_HEAD_LEN;
     let size = u16_at(message, end + 8) as usize;
     if message.len() - start < size {
-        return Err(Fault::ShortMessage);
+        return Err(PlaceFault::ShortMessage);
     }
     Ok(start + size)
 }
@@ -100,7 +116,10 @@ fn questions_end(message: &[u8], count: u16, offset: usize) -> Result<usize, (Fa
     if count == 0 {
         return Ok(offset);
     }
-    question_end(message, offset).map_err(|fault| (fault, offset))
+    match question_end(message, offset) {
+        Ok(end) => Ok(end),
+        Err(fault) => Err((fault.widened(), offset)),
+    }
 }
 
 /// The offset after so many records.
@@ -115,7 +134,7 @@ fn records_end(message: &[u8], count: u16, offset: usize) -> Result<usize, (Faul
     for _ in 0..count {
         end = match record_end(message, end) {
             Ok(next) => next,
-            Err(fault) => return Err((fault, end)),
+            Err(fault) => return Err((fault.widened(), end)),
         };
     }
     Ok(end)

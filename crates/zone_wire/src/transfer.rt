@@ -64,7 +64,7 @@ impl Transfer {
         }
     }
 
-    /// What is still to be handed on.
+    /// What is left to hand on.
     pub(crate) fn into_decided(self) -> Reading
         ensures { result ≡ self.decided }
     {
@@ -72,7 +72,7 @@ impl Transfer {
         decided
     }
 
-    /// Takes the next message. A fault in it is the last word.
+    /// Takes the next message. Nothing is taken after a fault in it.
     pub(crate) fn read(&mut self, octets: &[u8]) -> Result<(), AllocError>
         requires going { self.old.decided.ending ≡ None }
         requires fits { self.old.messages + 1 < 2 ^ 64 }
@@ -175,7 +175,8 @@ impl Transfer {
         ensures taken { OnOk result ((questions : List QuestionAt) (placed : List Placed)
             → Among questions placed self.old
             → Takes answer.now.octets answer.now.at questions placed self.old self.new) }
-        ensures fault { IfErr result (IfFault (λ f. (questions : List QuestionAt) (placed : List Placed)
+        ensures fault { IfErr result
+            (IfFault (λ f. (questions : List QuestionAt) (placed : List Placed)
             → Among questions placed self.old
             → AnswerFault answer.now.octets questions placed answer.now.at f)) }
         ensures unchanged { IfErr result (IfFault (λ _. self.new ≡ self.old)) }
@@ -189,7 +190,7 @@ impl Transfer {
         }
     }
 
-    /// Takes the record that an answer states behind those before it.
+    /// Takes the record that an answer states after those before it.
     fn take_record(&mut self, rr: Rr, answer: &RawRr<'_>) -> Result<(), AllocError>
         requires { StatesRecord answer.now.octets answer.now.at rr }
         ensures gains { OnOk result ((questions : List QuestionAt) (placed : List Placed)
@@ -213,7 +214,7 @@ impl Transfer {
         Ok(())
     }
 
-    /// Puts a record behind those that are still to be handed on.
+    /// Appends a record to those that are left to hand on.
     fn hand_on(&mut self, rr: Rr, offset: usize) -> Result<(), AllocError>
         ensures items { OnOk result (self.new.decided.placed.items
             ≡ self.old.decided.placed.items
@@ -230,7 +231,8 @@ impl Transfer {
     fn open(&mut self, opening: Rr)
         ensures opening { self.new.opening ≡ Some opening }
         ensures zone { zone_held self.new.zone ≡ zone_with (zone_held self.old.zone) opening }
-        ensures others { self.new ≡ record self.old { zone = self.new.zone; opening = self.new.opening } }
+        ensures others { self.new
+            ≡ record self.old { zone = self.new.zone; opening = self.new.opening } }
     {
         if self.zone.is_none() {
             self.zone = Some(FixedZone {
@@ -241,7 +243,7 @@ impl Transfer {
         self.opening = Some(opening);
     }
 
-    /// The fault of a record behind those before it.
+    /// The fault of a record after those before it.
     fn order_fault(&self, rr: &Rr) -> Option<Fault>
         ensures { (questions : List QuestionAt) (placed : List Placed)
             → Among questions placed self.now

@@ -1,4 +1,5 @@
--- Records that were taken were accepted, and what is said of records holds of others that are the same as a set.
+-- Records that were taken were accepted, and what is said of records holds of others that are the
+-- same as a set.
 use Rattle.std.proofs.Common.{List, [], ◌∷◌, ◌++◌, sym, subst, inl, inr, ⊎_elim, append_assoc, append-nil}
 use Rattle.zone_rdata.specs.Record.{Record}
 use Rattle.zone_rdata.specs.declared.fault.Fault.{Fault}

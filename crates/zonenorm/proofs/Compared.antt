@@ -1,4 +1,5 @@
--- The lines of a canonical text are those of its records, so texts differ first at the line of the first records that do.
+-- The lines of a canonical text are those of its records, so texts differ first at the line of the
+-- first records that do.
 use Rattle.std.proofs.Common.{◌≡◌, ◌≢◌, ◌↔◌, ℕ, zero, suc, ◌+◌, ◌<◌, ◌≤◌, List, [], ◌∷◌, ◌++◌, length, map, Some, None, refl, sym, ap, ap₂, ◌∙◌, subst, append_assoc, length-append, arith}
 use Rattle.std.proofs.lemmas.Bool.{ne_eqb}
 use Rattle.std.specs.List.{AllByRecursion}
@@ -15,7 +16,7 @@ use Rattle.zonenorm.specs.declared.compare.Verdict.{Verdict}
 
 -- ---- the lines of a text
 
--- a first line, and the lines behind it
+-- a first line, and the lines after it
 cut_first : (front text : List ℕ) → HasNoFeed front → lines_of (front ++ 10 ∷ text) ≡ (front ++ 10 ∷ []) ∷ lines_of text
 cut_first [] text none = refl
 cut_first (c ∷ front) text none = rw (ne_eqb c 10 none.0, cut_first front text none.1) refl

@@ -21,7 +21,7 @@ use Rattle.zonenorm.proofs.Inputs.{octet_at}
 abbrev Ending : Type 0
 Ending = Option (Fault × Place)
 
--- the records go on behind those that are decided, and a decided fault is the last word
+-- the records go on after those that are decided, and nothing follows a decided fault
 abbrev GoesOn : List Placed → Ending → List Placed → Ending → Type 0
 GoesOn placed ending later last = ((others : List Placed) × (later ≡ placed ++ others)) × ((e : Fault × Place) → ending ≡ Some e → (later ≡ placed) × (last ≡ ending))
 

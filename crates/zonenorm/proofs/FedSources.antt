@@ -1,4 +1,5 @@
--- A source of a master file or of a transfer that begins, or goes on, does so as a source of an input.
+-- A source of a master file or of a transfer that begins, or goes on, does so as a source of an
+-- input.
 use Rattle.std.proofs.Common.{◌≡◌, List, [], Ok, Err, false, ap, ◌∙◌}
 use Rattle.std.specs.Prelude.{Option, None, Result, OnOk}
 use Rattle.zone_name.specs.Common.{Labels, Octets}

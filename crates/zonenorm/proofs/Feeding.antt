@@ -1,6 +1,6 @@
 -- From what was taken of the octets that a reader gave to what the reader's octets are read as.
-use Rattle.std.proofs.Common.{◌≡◌, ℕ, suc, ◌<◌, ◌≤◌, ◌+◌, true, List, [], ◌∷◌, ◌++◌, length, length-append, refl, sym, ap, ◌∙◌, subst, append-nil, append_assoc, arith, eqb-true}
-use Rattle.std.specs.Prelude.{◌==◌, get_or, Option, Some, None, IfSome}
+use Rattle.std.proofs.Common.{◌≡◌, ℕ, ◌<◌, ◌≤◌, ◌+◌, true, List, [], ◌∷◌, ◌++◌, length, length-append, refl, sym, ap, ◌∙◌, subst, append-nil, append_assoc, arith, eqb-true}
+use Rattle.std.specs.Prelude.{◌==◌, Option, Some, None, IfSome}
 use Rattle.std.specs.Io.KnownBytes.{Consumes, IsAtEnd}
 use Rattle.std.specs.List.{AllByRecursion}
 use Rattle.zone_name.specs.Common.{Octets}
@@ -13,14 +13,13 @@ use Rattle.zone_rdata.specs.declared.fault.Place.TheVariants.{Whole}
 use Rattle.zone_rdata.specs.declared.fault.Stop.{Stop}
 use Rattle.zone_rdata.specs.declared.fault.Stop.TheVariants.{Refused, Read, Write, Memory}
 use Rattle.zone_rdata.specs.declared.record.Placed.{Placed}
-use Rattle.zone_set.specs.Builder.{StopsTaking, failure, memory, refused, ending, StopsFinish, no_soa, outside}
 use Rattle.zone_set.specs.Zone.{Zone}
 use Rattle.zonenorm.specs.Input.{InputForm, as_file, as_transfer, input_of, octets_of, IsInput}
 use Rattle.zonenorm.specs.Machine.Input.{IsForm}
 use Rattle.zonenorm.specs.Machine.Taking.{IsTaken, all_taken, Begins, ReadsZone, ReadsZoneWithin, RefusesRead}
-use Rattle.zonenorm.specs.Machine.Stops.{TellsRead}
 use Rattle.zonenorm.specs.Normalise.{IsOfBytes, IsOfReading}
 use Rattle.zonenorm.specs.Refusal.{IfRefused, IsRefusalWithin, too_long, reading}
+use Rattle.zonenorm.specs.Stops.{TellsRead}
 
 pub octets_of_input : (form : InputForm) (octets : Octets) → octets_of (input_of form octets) ≡ octets
 octets_of_input (as_file origin) octets = refl
@@ -68,7 +67,8 @@ begun Stands form pending inside held refusal none unrefused begins = all_taken 
 
 -- ---- what was read so far
 
--- The octets that the reader gave, and what was taken of them for each form under which the source began with nothing
+-- The octets that the reader gave, and what was taken of them for each form under which the source
+-- began with nothing
 pub record HasFed (Began : InputForm → Type 0) (Taken : InputForm → Octets → Type 0) (old new : Option Octets) (count fed limit : ℕ) : Type 0 where
   pub given : Octets
   pub consumed : Consumes old new given
@@ -100,11 +100,11 @@ of_reading Write is = is
 of_reading Memory is = tt
 
 -- what ends the input tells no failed read
-pub tells_no_read : (failed : Type 0) (stop : Stop) → IsOfBytes stop → TellsRead failed stop
-tells_no_read failed (Refused fault place) is = tt
-tells_no_read failed Read is = absurd is
-tells_no_read failed Write is = tt
-tells_no_read failed Memory is = tt
+pub tells_no_read : (works failed : Type 0) (stop : Stop) → works → IsOfBytes stop → TellsRead works failed stop
+tells_no_read works failed (Refused fault place) on is = on
+tells_no_read works failed Read on is = absurd is
+tells_no_read works failed Write on is = on
+tells_no_read works failed Memory on is = on
 
 pub no_octets : (octets : Octets) → (length octets == 0) ≡ true → octets ≡ []
 no_octets [] none = refl

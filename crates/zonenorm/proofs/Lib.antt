@@ -15,4 +15,5 @@ pub mod Compared
 pub mod FedSources
 pub mod Running
 pub mod Telling
+pub mod Ascii
 pub mod Headline

@@ -1,4 +1,5 @@
--- Records of which each may stand with all before it have one ascending list, and that is a zone's or lacks what a zone needs.
+-- Records of which each may stand with all before it have one ascending list, and that is a zone's
+-- or lacks what a zone needs.
 use Rattle.std.proofs.Common.{◌≡◌, ◌≢◌, ◌⊎◌, ◌↔◌, ℕ, List, [], ◌∷◌, ◌++◌, length, Some, None, Ordering, Less, Equal, Greater, refl, sym, ap, ◌∙◌, subst, inl, inr, ⊎_elim, append_assoc, append-nil}
 use Rattle.std.proofs.lemmas.Bool.{cases_eq}
 use Rattle.std.proofs.lemmas.Bool.Decides.{leb_tells}

@@ -12,7 +12,8 @@ use Rattle.zonenorm.specs.Input.{InputDenotes, InputForm, input_of}
 use Rattle.zonenorm.specs.Machine.Telling.{which_words, TellsStop, TellsVerdict}
 use Rattle.zonenorm.specs.Normalise.{Normalises, WritesNothing, WritesPrefix}
 use Rattle.zonenorm.specs.Refusal.{IfRefused, IsRefusal}
-use Rattle.zonenorm.specs.Run.{form_with, records_line, verdict_line, AppendsLine, AppendsPart, AppendsThisLine, AreCompared, AreRefused, Devices, Explains, Fails, IsExplanation, IsFailure, Runs, TellsPart, TellsRecords, done, failed}
+use Rattle.zone_print.specs.Writing.{AppendsPart}
+use Rattle.zonenorm.specs.Run.{form_with, records_line, verdict_line, AppendsLine, AppendsThisLine, AreCompared, AreRefused, Devices, Explains, Fails, IsExplanation, IsFailure, Runs, TellsPart, TellsRecords, done, failed}
 use Rattle.zonenorm.specs.Run as runs
 use Rattle.zonenorm.specs.declared.compare.Verdict.{Verdict}
 use Rattle.zonenorm.specs.declared.compare.Which.{Which}

@@ -1,4 +1,5 @@
--- Records of short lists that are accepted, and names of one label that lie outside an apex of one label.
+-- Records of short lists that are accepted, and names of one label that lie outside an apex of one
+-- label.
 use Rattle.std.proofs.Common.{◌≡◌, ◌≢◌, ℕ, List, [], ◌∷◌, sym, subst, ⊎_elim}
 use Rattle.std.specs.List.{AllByRecursion}
 use Rattle.zone_name.specs.Name.{IsWithin}

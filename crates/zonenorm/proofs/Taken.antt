@@ -78,7 +78,7 @@ module _ (Beside : Type 0) (Stands : InputForm → Pending → Beside → Octets
   abbrev pub GivesOn : Type 0
   GivesOn = (pending : Pending) (beside : Beside) (octets : Octets) (given taken others : List Placed) → Stands form pending beside octets given → pending.records ≡ taken ++ others → Stands form (leaves pending others) beside octets (given ++ taken)
 
-  -- behind a refusal nothing more is taken
+  -- after a refusal nothing more is taken
   pub taken_behind : (pending : Pending) (beside : Beside) (held : List Record) (refusal : Option (Fault × Place)) (octets piece : Octets) (e : Fault × Place) → refusal ≡ Some e → IsTaken (Stands form pending beside) form pending held refusal octets → IsTaken (Stands form pending beside) form pending held refusal (octets ++ piece)
   taken_behind pending beside held refusal octets piece e is (all_taken given none stands nothing each) = absurd (not_both (sym is ∙ none))
   taken_behind pending beside held refusal octets piece e is (front_refuses front more placed ending fault place at parts decides refuses) =

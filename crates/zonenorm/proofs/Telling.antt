@@ -1,23 +1,21 @@
 -- Lines that are written piece by piece.
-use Rattle.std.proofs.Common.{◌≡◌, ◌≢◌, ℕ, List, [], ◌∷◌, ◌++◌, sym, ap, ◌∙◌, append_assoc, refl, inr, subst}
+use Rattle.std.proofs.Common.{◌≡◌, ℕ, List, [], ◌∷◌, ◌++◌, sym, ap, ◌∙◌, append_assoc, refl, inr, subst}
 use Rattle.std.specs.Prelude.{Option, Result, Ok, Err, OnErr, OnOk}
 use Rattle.std.specs.Io.KnownBytes.{Appends}
 use Rattle.std.proofs.KnownBytes.{Appends-trans}
 use Rattle.zonenorm.specs.Machine.Telling.{TellsFault}
 use Rattle.zonenorm.specs.Order.{line_text}
-use Rattle.zonenorm.specs.Run.{AppendsPart, AppendsThisLine}
+use Rattle.zone_print.proofs.Front.{some_more}
+use Rattle.zone_print.specs.Writing.{AppendsPart}
+use Rattle.zonenorm.specs.Run.{AppendsThisLine}
 use Rattle.zonenorm.specs.declared.order.LineFault.{LineFault}
-
-some_more : (rest more : List ℕ) → rest ≢ [] → rest ++ more ≢ []
-some_more [] more some e = some refl
-some_more (c ∷ rest) more some e = cc
 
 -- a part of the front of a text is a part of the text
 pub part_first : (old new : Option (List ℕ)) (piece front back : List ℕ) → piece ≡ front → AppendsPart old new piece → AppendsPart old new (front ++ back)
 part_first old new piece front back is (taken, rest, some, split, appended) =
     (taken, rest ++ back, some_more rest back some, ap (λ (l : List ℕ). l ++ back) (sym is ∙ split) ∙ append_assoc taken rest back, appended)
 
--- so is the front and a part of what is behind it
+-- so is the beginning and a part of what follows it
 pub part_then : (old mid new : Option (List ℕ)) (piece front back : List ℕ) → piece ≡ front → Appends old mid piece → AppendsPart mid new back → AppendsPart old new (front ++ back)
 part_then old mid new piece front back is whole (taken, rest, some, split, appended) =
     (piece ++ taken, rest, some, ap (λ (l : List ℕ). l ++ back) (sym is) ∙ ap (λ (l : List ℕ). piece ++ l) split ∙ sym (append_assoc piece taken rest), Appends-trans old mid new piece taken whole appended)

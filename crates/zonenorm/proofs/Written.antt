@@ -15,6 +15,7 @@ use Rattle.zonenorm.specs.Input.{Input, IsInput, InputDenotes, Reads, States}
 use Rattle.zonenorm.specs.Machine.Taking.{ReadsZoneWithin}
 use Rattle.zonenorm.specs.Normalise.{Normalises, NormalisesTo, WritesNothing, WritesPrefix}
 use Rattle.zonenorm.specs.Refusal.{IfRefused, IsRefusal, reading, too_large}
+use Rattle.zonenorm.specs.Stops.{TellsRead}
 
 abbrev ReadIsStated : Type 0
 ReadIsStated = (input : Input) (placed : List Placed) → IsInput input → Reads input placed None → States input placed
@@ -51,3 +52,9 @@ normalises input z reads stated is old new count written short counted = record 
 pub normalises_to : (input : Input) (z : Zone) → ReadsZoneWithin text_limit input z → ReadIsStated → IsInput input → (r : Result (Vec ℕ Global) Stop) → IfOk r (λ text. text.items ≡ canon z) → OnOk r (length (canon z) ≤ text_limit) → IfOk r (λ text. NormalisesTo input text.items)
 normalises_to input z reads stated is (Ok text) same short = record { zone = z; denotes = denotes_zone input z reads stated is short; canonical = same }
 normalises_to input z reads stated is (Err stop) same short = tt
+
+-- what stops the printing tells no failed read
+pub prints_no_read : (works failed : Type 0) (limit : ℕ) (text : Octets) (old new : Option Octets) (stop : Stop) → works → StopsWrite limit text old new stop → TellsRead works failed stop
+prints_no_read works failed limit text old new _ on (printing.large long kept) = on
+prints_no_read works failed limit text old new _ on (printing.memory short front) = on
+prints_no_read works failed limit text old new _ on (printing.write short front) = on

@@ -1,25 +1,27 @@
--- What comparing two inputs answers: that their canonical texts are equal, or the first line at which they differ (this
--- project's own).
+-- What comparing two inputs answers: that their canonical texts are equal, or the first line at
+-- which they differ (this project's own).
 use Rattle.std.specs.Prelude.{◌≡◌, ◌≢◌, ℕ, zero, suc, ◌<◌, ◌≤◌, ◌==◌, if◌then◌else◌, List, [], ◌∷◌, slice_get, Option, None, IfSome}
-use Rattle.std.specs.Io.KnownBytes.{Keeps}
+use Rattle.std.specs.Io.KnownBytes.{IsAtEnd, Keeps}
 use Rattle.std.specs.List.{onto_first}
 use Rattle.zone_rdata.specs.declared.fault.Stop.{Stop}
 use Rattle.zone_set.specs.Zone.{Zone}
-use Rattle.zone_print.specs.Canonical.{canon}
+use Rattle.zone_print.specs.Canonical.{canon, text_limit}
 use Rattle.zonenorm.specs.Input.{Input, InputForm, input_of, InputDenotes}
-use Rattle.zonenorm.specs.Normalise.{IsOfReading}
+use Rattle.zonenorm.specs.Normalise.{IsOfReading, ReadsWhole}
 use Rattle.zonenorm.specs.Refusal.{IfRefused, IsRefusal}
+use Rattle.zonenorm.specs.Stops.{TellsRead}
 use Rattle.zonenorm.specs.declared.compare.Verdict.{Verdict}
 use Rattle.zonenorm.specs.declared.compare.Verdict.TheVariants.{Same, Different}
 use Rattle.zonenorm.specs.declared.compare.Which.{Which}
 use Rattle.zonenorm.specs.declared.compare.Which.TheVariants.{First, Second}
 
--- the lines of a text, each with the line feed that ends it; octets behind the last line feed are a line too
+-- the lines of a text, each with the line feed that ends it; octets after the last line feed are a
+-- line too
 abbrev pub lines_of : List ℕ → List (List ℕ)
 lines_of [] = []
 lines_of (c ∷ text) = if c == 10 then (c ∷ []) ∷ lines_of text else onto_first c (lines_of text)
 
--- the line of this number, from 1; there is none behind the last
+-- the line of this number, from 1; there is none after the last
 abbrev pub line_at : List ℕ → ℕ → Option (List ℕ)
 line_at text zero = None
 line_at text (suc n) = slice_get (lines_of text) n
@@ -47,7 +49,8 @@ pub record Compares (first second : Input) (verdict : Verdict) : Type 0 where
 abbrev pub IsAccepted : InputForm → Option (List ℕ) → Type 0
 IsAccepted form known = IfSome known (λ octets. (z : Zone) × InputDenotes (input_of form octets) z)
 
--- an input was not read: known octets are refused so, the reader answered an error, or memory was refused
+-- an input was not read: known octets are refused so, the reader answered an error, or memory was
+-- refused
 pub record StopsReading (form : InputForm) (known : Option (List ℕ)) (stop : Stop) : Type 0 where
   pub kind : IsOfReading stop
   pub fault : IfSome known (λ octets. IfRefused stop (IsRefusal (input_of form octets)))
@@ -57,3 +60,15 @@ pub record StopsReading (form : InputForm) (known : Option (List ℕ)) (stop : S
 pub data StopsCompare (form other_form : InputForm) (first second second' : Option (List ℕ)) : Which → Stop → Type 0 where
   by_first : (stop : Stop) → StopsReading form first stop → Keeps second second' → StopsCompare form other_form first second second' First stop
   by_second : (stop : Stop) → IsAccepted form first → StopsReading other_form second stop → StopsCompare form other_form first second second' Second stop
+
+-- how far two readers were read, of octets that are known before and after, where one of them is refused: that one whole,
+-- and the first to its end where it is the second
+abbrev pub ReadsWholeTo : Option (List ℕ) → Option (List ℕ) → Option (List ℕ) → Option (List ℕ) → Which → Stop → Type 0
+ReadsWholeTo first first' second second' First stop = IfRefused stop (λ fault place. ReadsWhole text_limit first first')
+ReadsWholeTo first first' second second' Second stop =
+    IsAtEnd first' × IfRefused stop (λ fault place. ReadsWhole text_limit second second')
+
+-- what a stop by an input tells of the two readers, of each that it works and that it failed
+abbrev pub TellsReadOf : Type 0 → Type 0 → Type 0 → Type 0 → Which → Stop → Type 0
+TellsReadOf works failed other_works other_failed First stop = TellsRead works failed stop × other_works
+TellsReadOf works failed other_works other_failed Second stop = works × TellsRead other_works other_failed stop

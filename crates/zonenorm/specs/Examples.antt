@@ -30,7 +30,14 @@ long n = 0 ∷ 0 ∷ 0 ∷ n ∷ []
 
 -- the SOA of x. with names n.x. and h.x. and the numbers SERIAL, 2, 3, 4, 5 (RFC 1035 3.3.13)
 abbrev pub soa_of : ℕ → ℕ → ℕ → Record
-soa_of class ttl serial = record { owner = x; class = class; kind = 6; ttl = ttl; octets = wire n_x ++ wire h_x ++ long serial ++ long 2 ++ long 3 ++ long 4 ++ long 5 }
+soa_of class ttl serial =
+    record {
+      owner = x;
+      class = class;
+      kind = 6;
+      ttl = ttl;
+      octets = wire n_x ++ wire h_x ++ long serial ++ long 2 ++ long 3 ++ long 4 ++ long 5;
+    }
 
 -- the name server n.x. of an owner, in class IN (RFC 1035 3.3.11)
 abbrev pub server_of : List (List ℕ) → ℕ → Record
@@ -42,4 +49,5 @@ zone_of ttl = record { apex = x; class = 1; records = soa_of 1 ttl 1 ∷ server_
 
 -- the address 10.0.0.n of an owner, in class IN (RFC 1035 3.4.1)
 abbrev pub address_of : List (List ℕ) → ℕ → ℕ → Record
-address_of owner ttl n = record { owner = owner; class = 1; kind = 1; ttl = ttl; octets = 10 ∷ 0 ∷ 0 ∷ n ∷ [] }
+address_of owner ttl n =
+    record { owner = owner; class = 1; kind = 1; ttl = ttl; octets = 10 ∷ 0 ∷ 0 ∷ n ∷ [] }

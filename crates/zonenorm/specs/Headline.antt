@@ -22,8 +22,8 @@ pub record NormalisesOnlyTo (input : Input) (text : List ℕ) : Type 0 where
   pub normalises : NormalisesTo input text
   pub no_other : (other : List ℕ) → NormalisesTo input other → other ≡ text
 
--- The walk of the name at an offset: at most 256 places, all in the message. A name that is decoded there takes a step
--- for each.
+-- The walk of the name at an offset: at most 256 places, all in the message. A name that is decoded
+-- there takes a step for each.
 pub record IsBoundedWalk (message : List ℕ) (offset : ℕ) (visits : List Visit) : Type 0 where
   pub walk : IsWalk message offset visits
   pub few : length visits ≤ 256

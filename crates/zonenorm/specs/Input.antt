@@ -1,5 +1,6 @@
--- The inputs that state records: a master file with its origin (RFC 1035 5), or the octets of a zone transfer as they
--- came over TCP (RFC 5936 2.2), each message behind its length (RFC 1035 4.2.2).
+-- The inputs that state records: a master file with its origin (RFC 1035 5), or the octets of a
+-- zone transfer as they came over TCP (RFC 5936 2.2), each message after its length (RFC 1035
+-- 4.2.2).
 use Rattle.std.specs.Prelude.{ℕ, ◌<◌, List, Option}
 use Rattle.std.specs.List.{AllByRecursion}
 use Rattle.zone_name.specs.Name.{IsName}

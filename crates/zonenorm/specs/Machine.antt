@@ -3,6 +3,5 @@ pub mod Calling
 pub mod Fed
 pub mod Input
 pub mod Opened
-pub mod Stops
 pub mod Taking
 pub mod Telling

@@ -1,14 +1,15 @@
 -- What normalising an input answers and leaves (this project's own).
-use Rattle.std.specs.Prelude.{◌≡◌, ℕ, ◌-◌, ◌^◌, ◌≤◌, List, length, min, Option, ◌⊎◌}
-use Rattle.std.specs.Io.KnownBytes.{Appends, Consumes, Keeps}
+use Rattle.std.specs.Prelude.{◌≡◌, ℕ, ◌-◌, ◌^◌, ◌+◌, ◌≤◌, List, length, min, Option, ◌⊎◌}
+use Rattle.std.specs.Io.KnownBytes.{Appends, Consumes, IsAtEnd, Keeps}
 use Rattle.zone_rdata.specs.declared.fault.Stop.{Stop}
 use Rattle.zone_rdata.specs.declared.fault.Stop.TheVariants.{Refused, Read, Write, Memory}
 use Rattle.zone_set.specs.Zone.{Zone}
 use Rattle.zone_print.specs.Canonical.{canon}
-use Rattle.zone_print.specs.Writing.{AppendsPrefix}
+use Rattle.zone_print.specs.Writing.{AppendsPart}
 use Rattle.zonenorm.specs.Input.{Input, InputDenotes}
 
--- The input denotes a zone, its canonical text and nothing else was written, and the answer is the number of its records.
+-- The input denotes a zone, its canonical text and nothing else was written, and the answer is the
+-- number of its records.
 pub record Normalises (input : Input) (old new : Option (List ℕ)) (count : ℕ) : Type 0 where
   pub zone : Zone
   pub denotes : InputDenotes input zone
@@ -35,19 +36,23 @@ IsOfBytes Read = ⊥
 IsOfBytes Write = ⊥
 IsOfBytes Memory = Unit {0}
 
--- the stops of a call that has a reader and no writer: the input is refused, the reader answered an error, or memory was
--- refused
+-- the stops of a call that has a reader and no writer: the input is refused, the reader answered an
+-- error, or memory was refused
 abbrev pub IsOfReading : Stop → Type 0
 IsOfReading (Refused fault place) = Unit {0}
 IsOfReading Read = Unit {0}
 IsOfReading Write = ⊥
 IsOfReading Memory = Unit {0}
 
--- nothing was written, or a prefix of the canonical text of the zone that the input denotes
+-- nothing was written, or a proper prefix of the canonical text of the zone that the input denotes
 abbrev pub WritesPrefix : Input → Option (List ℕ) → Option (List ℕ) → Type 0
 WritesPrefix input old new =
-    Keeps old new ⊎ ((z : Zone) × InputDenotes input z × AppendsPrefix old new (canon z))
+    Keeps old new ⊎ ((z : Zone) × InputDenotes input z × AppendsPart old new (canon z))
 
--- the known octets of a reader lost a front of at most so many
+-- the known octets of a reader lost a prefix of at most so many
 abbrev pub ConsumesAtMost : ℕ → Option (List ℕ) → Option (List ℕ) → Type 0
 ConsumesAtMost most old new = (given : List ℕ) × (length given ≤ most) × Consumes old new given
+
+-- a reader was read whole: to its end, or to one octet over the limit
+abbrev pub ReadsWhole : ℕ → Option (List ℕ) → Option (List ℕ) → Type 0
+ReadsWhole limit old new = IsAtEnd new ⊎ ((given : List ℕ) × (length given ≡ limit + 1) × Consumes old new given)

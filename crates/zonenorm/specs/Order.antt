@@ -10,7 +10,7 @@ use Rattle.zonenorm.specs.declared.order.Order.TheVariants.{Normalise, Explain, 
 use Rattle.zonenorm.specs.declared.order.LineFault.{LineFault}
 use Rattle.zonenorm.specs.declared.order.LineFault.TheVariants as line_faults
 
--- an argument of a command: one required word in its place
+-- an argument of a command: one required word at its position
 abbrev pub argument : Text → Rule
 argument id = record (new_rule id) { required = true }
 
@@ -22,15 +22,21 @@ abbrev pub explain_app : App
 explain_app = with_rule (new_app (codes "explain")) (argument (codes "ORIGIN"))
 
 abbrev pub compare_app : App
-compare_app = with_rule (with_rule (with_rule (with_rule (new_app (codes "compare")) (argument (codes "ORIGIN1"))) (argument (codes "PATH1"))) (argument (codes "ORIGIN2"))) (argument (codes "PATH2"))
+compare_app =
+    with_rule
+    (with_rule
+    (with_rule (with_rule (new_app (codes "compare")) (argument (codes "ORIGIN1")))
+    (argument (codes "PATH1"))) (argument (codes "ORIGIN2"))) (argument (codes "PATH2"))
 
--- the program without its name, as `clap` sees it
+-- the program without its name, as `clap` sees it; it has a version to tell
 abbrev pub bare_app : App
-bare_app = let app = new_app (codes "zonenorm") in record app { top = record app.top { no_binary_name = true } }
+bare_app = let app = new_app (codes "zonenorm") in record app { top = record app.top { no_binary_name = true; has_version = true } }
 
 -- the program with its commands
 abbrev pub program_app : App
-program_app = with_subcommand (with_subcommand (with_subcommand bare_app normalise_app.top) explain_app.top) compare_app.top
+program_app =
+    with_subcommand
+    (with_subcommand (with_subcommand bare_app normalise_app.top) explain_app.top) compare_app.top
 
 -- a command with the texts of its arguments, in their order
 pub data Call : Type 0 where
@@ -49,21 +55,23 @@ abbrev pub arguments_of : Call → List (Text × Text)
 arguments_of (normalise origin) = (codes "ORIGIN", origin) ∷ []
 arguments_of (explain origin) = (codes "ORIGIN", origin) ∷ []
 arguments_of (compare origin path origin' path') =
-    (codes "ORIGIN1", origin) ∷ (codes "PATH1", path) ∷ (codes "ORIGIN2", origin') ∷ (codes "PATH2", path') ∷ []
+    (codes "ORIGIN1", origin) ∷ (codes "PATH1", path) ∷ (codes "ORIGIN2", origin') ∷
+    (codes "PATH2", path') ∷ []
 
 -- the subcommand that was found is this one, with these texts
 pub record Finds (found : Option (Text × List Row)) (call : Call) : Type 0 where
   pub rows : List Row
   pub entered : found ≡ Some (command_of call, rows)
-  pub texts : AllByRecursion (λ (argument : Text × Text). first_of argument.0 rows ≡ Some argument.1) (arguments_of call)
+  pub texts : AllByRecursion
+      (λ (argument : Text × Text). first_of argument.0 rows ≡ Some argument.1) (arguments_of call)
 
 -- `clap` finds no fault in the words, and states this subcommand with these texts for its arguments
 pub record Calls (words : List Text) (call : Call) : Type 0 where
   pub faultless : fault_of program_app words ≡ []
   pub finds : Finds (subcommand_of program_app words) call
 
--- what a text in the place of an origin asks for: the word `transfer` for a transfer, any other text for a master file
--- under the origin that it spells as an absolute name
+-- what a text given as an origin asks for: the word `transfer` for a transfer, any other
+-- text for a master file under the origin that it spells as an absolute name
 abbrev pub IsOriginText : Text → Option (List (List ℕ)) → Type 0
 IsOriginText text None = text ≡ codes "transfer"
 IsOriginText text (Some origin) = Spells None text origin
@@ -77,20 +85,23 @@ pub record IsSource (origin path : Text) (source : Source) : Type 0 where
 abbrev pub Asks : Call → Order → Type 0
 Asks (normalise text) (Normalise origin) = IsOriginText text origin
 Asks (explain text) (Explain origin) = IsOriginText text origin
-Asks (compare origin path origin' path') (Compare first second) = IsSource origin path first × IsSource origin' path' second
+Asks (compare origin path origin' path') (Compare first second) =
+    IsSource origin path first × IsSource origin' path' second
 Asks _ _ = ⊥
 
 -- the text of an origin asks for nothing
 abbrev pub HasBadOrigin : Call → Type 0
 HasBadOrigin (normalise origin) = NothingIs (IsOriginText origin)
 HasBadOrigin (explain origin) = NothingIs (IsOriginText origin)
-HasBadOrigin (compare origin path origin' path') = NothingIs (IsOriginText origin) ⊎ NothingIs (IsOriginText origin')
+HasBadOrigin (compare origin path origin' path') =
+    NothingIs (IsOriginText origin) ⊎ NothingIs (IsOriginText origin')
 
 -- The words give the order: by `clap` they are a command with the texts that ask for it.
 abbrev pub Orders : List Text → Order → Type 0
 Orders words order = (call : Call) × Calls words call × Asks call order
 
--- Why the words give no order: the text of an origin is bad, or by `clap` they are no command with all its arguments.
+-- Why the words give no order: the text of an origin is bad, or by `clap` they are no command with
+-- all its arguments.
 abbrev pub IsLineFault : List Text → LineFault → Type 0
 IsLineFault words line_faults.BadOrigin = (call : Call) × Calls words call × HasBadOrigin call
 IsLineFault words (line_faults.Clap told) = NothingIs (Calls words)
@@ -104,6 +115,7 @@ line_status line_faults.Memory = 4
 
 -- what the user is told of it
 abbrev pub line_text : LineFault → List ℕ
-line_text line_faults.BadOrigin = codes "F46 BadOrigin: an origin is an absolute name or the word transfer"
+line_text line_faults.BadOrigin =
+    codes "F46 BadOrigin: an origin is an absolute name or the word transfer"
 line_text (line_faults.Clap told) = string_bytes told
 line_text line_faults.Memory = codes "out of memory"

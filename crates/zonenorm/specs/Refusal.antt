@@ -1,5 +1,5 @@
--- Why an input is refused, and where: the first fault of a file (RFC 1035 5) or of a transfer (RFC 5936 2.2). The order
--- of faults is this project's choice.
+-- Why an input is refused, and where: the first fault of a file (RFC 1035 5) or of a transfer (RFC
+-- 5936 2.2). The order of faults is this project's choice.
 use Rattle.std.specs.Prelude.{◌≡◌, ℕ, ◌<◌, ◌≤◌, List, length, Option, Some, None}
 use Rattle.zone_rdata.specs.declared.fault.Fault.{Fault}
 use Rattle.zone_rdata.specs.declared.fault.Fault.TheVariants.{ZoneTooLarge, InputTooLong}
@@ -14,16 +14,24 @@ use Rattle.zone_set.specs.Zone.{Zone, IsZone, SameRecords}
 use Rattle.zone_print.specs.Canonical.{canon, text_limit}
 use Rattle.zonenorm.specs.Input.{Input, octets_of, Reads}
 
--- What refuses a reading, the records of an input in their order and the fault after them: the first record that can't
--- stand with those before it; else the fault of reading; else that no SOA is there, or an owner outside the zone, of
--- which the least is named; else that the canonical text of the zone is too long.
-pub data RefusesReading (placed : List Placed) (ending : Option (Fault × Place)) : Fault → Place → Type 0 where
-  refused : (fault : Fault) (place : Place) → IsFirstRefused placed fault place → RefusesReading placed ending fault place
-  unread : (fault : Fault) (place : Place) → AllAccepted placed → ending ≡ Some (fault, place) → RefusesReading placed ending fault place
-  unfinished : (fault : Fault) (place : Place) → AllAccepted placed → ending ≡ None → StopsFinish (records_of placed) (Refused fault place) → RefusesReading placed ending fault place
-  too_large : (z : Zone) → ending ≡ None → IsZone z → SameRecords z.records (records_of placed) → text_limit < length (canon z) → RefusesReading placed ending ZoneTooLarge Whole
+-- What refuses a reading, the records of an input in their order and the fault after them: the
+-- first record that can't stand with those before it; else the fault of reading; else that no SOA
+-- is there, or an owner outside the zone, of which the least is named; else that the canonical text
+-- of the zone is too long.
+pub data RefusesReading (placed : List Placed)
+    (ending : Option (Fault × Place)) : Fault → Place → Type 0 where
+  refused : (fault : Fault) (place : Place) → IsFirstRefused placed fault place
+      → RefusesReading placed ending fault place
+  unread : (fault : Fault) (place : Place) → AllAccepted placed → ending ≡ Some (fault, place)
+      → RefusesReading placed ending fault place
+  unfinished : (fault : Fault) (place : Place) → AllAccepted placed → ending ≡ None
+      → StopsFinish (records_of placed) (Refused fault place)
+      → RefusesReading placed ending fault place
+  too_large : (z : Zone) → ending ≡ None → IsZone z → SameRecords z.records (records_of placed)
+      → text_limit < length (canon z) → RefusesReading placed ending ZoneTooLarge Whole
 
--- the records of a reading are those of the zone, as a set, and its canonical text is within the limit
+-- the records of a reading are those of the zone, as a set, and its canonical text is within the
+-- limit
 pub record MakesZone (placed : List Placed) (z : Zone) : Type 0 where
   pub zone : IsZone z
   pub same : SameRecords z.records (records_of placed)
@@ -32,7 +40,9 @@ pub record MakesZone (placed : List Placed) (z : Zone) : Type 0 where
 -- why an input is refused, and where: it is longer than the limit, or else its reading is refused
 pub data IsRefusalWithin (limit : ℕ) (input : Input) : Fault → Place → Type 0 where
   too_long : limit < length (octets_of input) → IsRefusalWithin limit input InputTooLong Whole
-  reading : (placed : List Placed) (ending : Option (Fault × Place)) (fault : Fault) (place : Place) → length (octets_of input) ≤ limit → Reads input placed ending → RefusesReading placed ending fault place → IsRefusalWithin limit input fault place
+  reading : (placed : List Placed) (ending : Option (Fault × Place)) (fault : Fault) (place : Place)
+      → length (octets_of input) ≤ limit → Reads input placed ending
+      → RefusesReading placed ending fault place → IsRefusalWithin limit input fault place
 
 abbrev pub IsRefusal : Input → Fault → Place → Type 0
 IsRefusal = IsRefusalWithin text_limit

@@ -9,6 +9,14 @@ use std::alloc::{AllocError, Global};
 
 const ABOUT: &str = "Normalises DNS zone data: equal zones give equal bytes";
 
+/// The program's version and that of the canonical text, which a change of any zone's text raises.
+const VERSION: &str = "0.1.0, canonical text 1";
+
+const USAGE: &str = "\
+zonenorm normalise <ORIGIN> < FILE
+       zonenorm explain <ORIGIN> < FILE
+       zonenorm compare <ORIGIN1> <PATH1> <ORIGIN2> <PATH2>";
+
 /// What stands below the help of the program and of each command.
 const NOTES: &str = "\
 ORIGIN is the origin of a master file, an absolute name as example.com. with the dot at its end, or the word transfer
@@ -27,7 +35,9 @@ pub(crate) fn program<'a>(alloc: Global) -> Result<Command<'a>, AllocError>
 {
     let bare = Command::new(alloc, "zonenorm")
         .no_binary_name(true)
+        .version(VERSION)
         .about(ABOUT)
+        .override_usage(USAGE)
         .after_help(NOTES);
     let with_normalise = bare.subcommand(normalise(alloc)?)?;
     let with_explain = with_normalise.subcommand(explain(alloc)?)?;
@@ -41,6 +51,7 @@ fn normalise<'a>(alloc: Global) -> Result<Command<'a>, AllocError>
     let origin = Arg::new(alloc, "ORIGIN").required(true).help(ORIGIN);
     let command = Command::new(alloc, "normalise")
         .about("Writes the canonical text of the zone on standard input")
+        .override_usage("zonenorm normalise <ORIGIN> < FILE")
         .after_help(NOTES)
         .arg(origin)?;
     Ok(command)
@@ -52,6 +63,7 @@ fn explain<'a>(alloc: Global) -> Result<Command<'a>, AllocError>
     let origin = Arg::new(alloc, "ORIGIN").required(true).help(ORIGIN);
     let command = Command::new(alloc, "explain")
         .about("Tells how many records the zone on standard input has, or why it is refused")
+        .override_usage("zonenorm explain <ORIGIN> < FILE")
         .after_help(NOTES)
         .arg(origin)?;
     Ok(command)
@@ -68,6 +80,7 @@ fn compare<'a>(alloc: Global) -> Result<Command<'a>, AllocError>
         .about(
             "Tells whether two files hold one zone, or the first line of canonical text that differs",
         )
+        .override_usage("zonenorm compare <ORIGIN1> <PATH1> <ORIGIN2> <PATH2>")
         .after_help(NOTES);
     let with_origin1 = bare.arg(origin1)?;
     let with_path1 = with_origin1.arg(path1)?;

@@ -1,14 +1,15 @@
-ghost use Rattle.std.specs.Prelude.{◌+◌, ◌≤◌, length, IfOk, IfErr, IfSome};
+ghost use Rattle.std.specs.Prelude.{◌+◌, ◌≤◌, length, IfOk, IfErr, IfSome, OnOk};
+ghost use Rattle.std.specs.Io.KnownBytes.{IsAtEnd};
 ghost use Rattle.zone_print.specs.Canonical.{canon, text_limit};
-ghost use Rattle.zonenorm.specs.Compare.{Compares, IsVerdictOnTexts, StopsCompare};
+ghost use Rattle.zonenorm.specs.Compare.{Compares, IsVerdictOnTexts, ReadsWholeTo, StopsCompare, TellsReadOf};
 ghost use Rattle.zonenorm.specs.Form.{form_of};
 ghost use Rattle.zonenorm.specs.Input.{input_of};
 ghost use Rattle.zonenorm.specs.Normalise.{ConsumesAtMost};
 
 use crate::engine::accepted_zone;
 use crate::form::Form;
+use crate::octets::OctetReader;
 use std::alloc::Global;
-use std::io::Read;
 use zone_print::laws::equal_lines_are_equal_records;
 use zone_rdata::Stop;
 use zone_set::Zone;
@@ -18,8 +19,8 @@ use zone_set::Zone;
 pub enum Verdict {
     /// Their canonical texts are equal.
     Same,
-    /// The number of the first line, from 1, at which their canonical texts differ: the one behind the shorter text's last
-    /// where that text begins the other.
+    /// The number of the first line, from 1, at which their canonical texts differ: the one after
+    /// the shorter text's last where that text begins the other.
     Different(u64),
 }
 
@@ -32,14 +33,15 @@ pub enum Which {
     Second,
 }
 
-/// Compares the canonical texts of the zones that two readers' octets denote, without making the texts. Each reader is
-/// read as by [`normalise`](crate::normalise), the second one after the first input was judged whole.
+/// Compares the canonical texts of the zones that two readers' octets denote, without making the
+/// texts. Each reader is read as by [`normalise`](crate::normalise), the second one after the first
+/// input was judged whole.
 ///
 /// # Errors
 ///
-/// The first input that stops it, and by what: `Refused` where its octets denote no zone, `Read` and `Memory`. Where that
-/// is the first input, the second isn't read.
-pub fn compare<R: Read, S: Read>(
+/// The first input that stops it, and by what: `Refused` where its octets denote no zone, `Read` where its reader failed,
+/// which isn't called again, and `Memory`. Where that is the first input, the second isn't read.
+pub fn compare<R: OctetReader, S: OctetReader>(
     alloc: Global,
     first_form: Form<'_>,
     first: &mut R,
@@ -50,10 +52,20 @@ pub fn compare<R: Read, S: Read>(
         IfSome (R.remaining first.old) (λ octets. IfSome (S.remaining second.old) (λ others.
         Compares (input_of (form_of first_form.entry) octets)
         (input_of (form_of second_form.entry) others) verdict))) }
-    ensures stopped { IfErr result (λ why. StopsCompare (form_of first_form.entry) (form_of second_form.entry)
+    ensures stopped { IfErr result
+        (λ why. StopsCompare (form_of first_form.entry) (form_of second_form.entry)
         (R.remaining first.old) (S.remaining second.old) (S.remaining second.new) why.0 why.1) }
     ensures few { ConsumesAtMost (text_limit + 1) (R.remaining first.old) (R.remaining first.new) }
     ensures few_of_second { ConsumesAtMost (text_limit + 1) (S.remaining second.old) (S.remaining second.new) }
+    ensures whole { OnOk result (IsAtEnd (R.remaining first.new) × IsAtEnd (S.remaining second.new)) }
+    ensures whole_refused { IfErr result (λ why. ReadsWholeTo (R.remaining first.old)
+        (R.remaining first.new) (S.remaining second.old) (S.remaining second.new) why.0 why.1) }
+    ensures works { OnOk result ((R.Works first.old → R.Works first.new)
+        × (S.Works second.old → S.Works second.new)) }
+    ensures failed { IfErr result (λ why. TellsReadOf
+        (R.Works first.old → R.Works first.new) (R.Works first.old → R.Failed first.new)
+        (S.Works second.old → S.Works second.new) (S.Works second.old → S.Failed second.new)
+        why.0 why.1) }
 {
     let zone = match accepted_zone(alloc, first_form, first) {
         Ok(zone) => zone,
@@ -65,8 +77,8 @@ pub fn compare<R: Read, S: Read>(
     }
 }
 
-/// The verdict on the canonical texts of two zones. Each line is that of a record, and lines are equal exactly if the
-/// records are, so records are compared.
+/// The verdict on the canonical texts of two zones. Each line is that of a record, and lines are
+/// equal exactly if the records are, so records are compared.
 fn first_difference(zone: &Zone, other: &Zone) -> Verdict
     requires { length (canon zone.now) ≤ text_limit }
     ensures { IsVerdictOnTexts result (canon zone.now) (canon other.now) }

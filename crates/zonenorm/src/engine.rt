@@ -1,35 +1,37 @@
-ghost use Rattle.std.specs.Prelude.{◌+◌, ◌≤◌, length, IfOk, IfErr, IfSome};
+ghost use Rattle.std.specs.Prelude.{◌+◌, ◌≤◌, length, IfOk, IfErr, IfSome, OnOk};
+ghost use Rattle.std.specs.Io.KnownBytes.{IsAtEnd};
 ghost use Rattle.zone_print.specs.Canonical.{canon, text_limit};
+ghost use Rattle.zone_print.specs.Writing.{TellsWrite};
 ghost use Rattle.zonenorm.specs.Form.{form_of};
 ghost use Rattle.zonenorm.specs.Input.{input_of, InputDenotes};
 ghost use Rattle.zonenorm.specs.Machine.Input.{IsForm};
-ghost use Rattle.zonenorm.specs.Machine.Stops.{TellsRead};
 ghost use Rattle.zonenorm.specs.Machine.Taking.{ReadsZoneWithin};
-ghost use Rattle.zonenorm.specs.Normalise.{ConsumesAtMost, IsOfBytes, IsOfReading, Normalises, NormalisesTo, WritesNothing, WritesPrefix};
+ghost use Rattle.zonenorm.specs.Normalise.{ConsumesAtMost, IsOfBytes, IsOfReading, Normalises, NormalisesTo, ReadsWhole, WritesNothing, WritesPrefix};
 ghost use Rattle.zonenorm.specs.Refusal.{IfRefused, IsRefusal};
+ghost use Rattle.zonenorm.specs.Stops.{TellsRead};
 
 use crate::form::Form;
 use crate::input::read_zone;
 use crate::laws::what_is_read_is_stated;
 use crate::octets::{OctetReader, OctetSlice};
 use std::alloc::Global;
-use std::io::{Read, Write};
-use zone_print::{TEXT_LIMIT, push_zone, text_fits, write_zone};
+use zone_print::{OctetWriter, TEXT_LIMIT, push_zone, text_fits, write_zone};
 use zone_rdata::{Fault, Place, Stop};
 use zone_set::Zone;
 use zone_text::TextSource;
 use zone_text::laws::file::of_nothing_nothing_is_decided;
 use zone_wire::TransferSource;
 
-/// Writes the canonical text of the zone that the reader's octets denote, and answers the number of its records. The
-/// reader is read to its end, or to the octet behind [`TEXT_LIMIT`], in pieces.
+/// Writes the canonical text of the zone that the reader's octets denote, and answers the number of
+/// its records. The reader is read to its end, or to the octet after [`TEXT_LIMIT`], in pieces.
 ///
 /// # Errors
 ///
 /// `Refused` where they denote none: `InputTooLong` where there are more than [`TEXT_LIMIT`]; else the first fault of
-/// their records in order, of reading or of `ZoneBuilder::add`; else `NoSoa`, `OutOfZone` or `ZoneTooLarge`. `Read`,
-/// `Write` and `Memory`. A refused input writes nothing.
-pub fn normalise<R: Read, W: Write>(
+/// their records in order, of reading or of `ZoneBuilder::add`; else `NoSoa`, `OutOfZone` or `ZoneTooLarge`. `Read` where
+/// the reader failed, an interruption too, and `Write` where the writer did: neither is called again. `Memory`. A refused
+/// input writes nothing, and after the last two a proper prefix of the text was written.
+pub fn normalise<R: OctetReader, W: OctetWriter>(
     alloc: Global,
     form: Form<'_>,
     reader: &mut R,
@@ -47,6 +49,15 @@ pub fn normalise<R: Read, W: Write>(
         IfRefused stop (IsRefusal (input_of (form_of form.entry) octets)))) }
     ensures few { ConsumesAtMost (text_limit + 1) (R.remaining reader.old)
         (R.remaining reader.new) }
+    ensures whole { OnOk result (IsAtEnd (R.remaining reader.new)) }
+    ensures whole_refused { IfErr result (λ stop. IfRefused stop (λ fault place.
+        ReadsWhole text_limit (R.remaining reader.old) (R.remaining reader.new))) }
+    ensures works { OnOk result ((R.Works reader.old → R.Works reader.new)
+        × (W.Works writer.old → W.Works writer.new)) }
+    ensures failed { IfErr result (λ stop. TellsRead (R.Works reader.old → R.Works reader.new)
+        (R.Works reader.old → R.Failed reader.new) stop
+        × TellsWrite (W.Works writer.old → W.Works writer.new)
+        (W.Works writer.old → W.Failed writer.new) stop) }
 {
     let zone = zone_of(alloc, form, reader)?;
     what_is_read_is_stated();
@@ -58,7 +69,8 @@ pub fn normalise<R: Read, W: Write>(
 ///
 /// # Errors
 ///
-/// `Refused` where they denote none, also where its canonical text is too long; `Read` and `Memory`.
+/// `Refused` where they denote none, also where its canonical text is too long; `Read` and
+/// `Memory`.
 pub(crate) fn accepted_zone<R: OctetReader>(
     alloc: Global,
     form: Form<'_>,
@@ -70,7 +82,12 @@ pub(crate) fn accepted_zone<R: OctetReader>(
     ensures fault { IfErr result (λ stop. IfSome (R.remaining reader.old) (λ octets.
         IfRefused stop (IsRefusal (input_of (form_of form.entry) octets)))) }
     ensures stopped { IfErr result IsOfReading }
-    ensures failed { IfErr result (TellsRead (R.Failed reader.new)) }
+    ensures whole { OnOk result (IsAtEnd (R.remaining reader.new)) }
+    ensures whole_refused { IfErr result (λ stop. IfRefused stop (λ fault place.
+        ReadsWhole text_limit (R.remaining reader.old) (R.remaining reader.new))) }
+    ensures works { OnOk result (R.Works reader.old → R.Works reader.new) }
+    ensures failed { IfErr result (TellsRead
+        (R.Works reader.old → R.Works reader.new) (R.Works reader.old → R.Failed reader.new)) }
     ensures few { ConsumesAtMost (text_limit + 1) (R.remaining reader.old)
         (R.remaining reader.new) }
 {
@@ -103,8 +120,8 @@ pub fn normalise_bytes(alloc: Global, form: Form<'_>, octets: &[u8]) -> Result<V
 ///
 /// # Errors
 ///
-/// `Refused` with the refusal of the input, but for the length of its canonical text; `Read` where the reader failed, and
-/// `Memory`.
+/// `Refused` with the refusal of the input, but for the length of its canonical text; `Read` where
+/// the reader failed, and `Memory`.
 fn zone_of<R: OctetReader>(alloc: Global, form: Form<'_>, reader: &mut R) -> Result<Zone, Stop>
     ensures zone { IfOk result (λ z. IfSome (R.remaining reader.old) (λ octets.
         ReadsZoneWithin text_limit (input_of (form_of form.entry) octets) z)) }
@@ -112,7 +129,12 @@ fn zone_of<R: OctetReader>(alloc: Global, form: Form<'_>, reader: &mut R) -> Res
         IfRefused stop (IsRefusal (input_of (form_of form.entry) octets)))) }
     ensures form { IsForm (form_of form.entry) }
     ensures stopped { IfErr result IsOfReading }
-    ensures failed { IfErr result (TellsRead (R.Failed reader.new)) }
+    ensures whole { OnOk result (IsAtEnd (R.remaining reader.new)) }
+    ensures whole_refused { IfErr result (λ stop. IfRefused stop (λ fault place.
+        ReadsWhole text_limit (R.remaining reader.old) (R.remaining reader.new))) }
+    ensures works { OnOk result (R.Works reader.old → R.Works reader.new) }
+    ensures failed { IfErr result (TellsRead
+        (R.Works reader.old → R.Works reader.new) (R.Works reader.old → R.Failed reader.new)) }
     ensures few { ConsumesAtMost (text_limit + 1) (R.remaining reader.old)
         (R.remaining reader.new) }
 {

@@ -1,27 +1,37 @@
-ghost use Rattle.std.specs.Prelude.{[], IfErr, IfOk, OnErr, OnOk, string_bytes};
+ghost use Rattle.std.specs.Prelude.{◌≡◌, ◌<◌, ◌++◌, ◌∷◌, [], IfErr, IfOk, OnErr, OnOk, string_bytes};
+ghost use Rattle.std.specs.List.{AllByRecursion};
+ghost use Rattle.zone_name.specs.Text.{name_text};
+ghost use Rattle.zone_print.specs.Canonical.{text_limit};
+ghost use Rattle.zone_print.specs.Writing.{TellsWrite};
 ghost use Rattle.zonenorm.specs.Form.{form_of};
-ghost use Rattle.zonenorm.specs.Run.{Explains, IsExplanation, IsFailure, IsStopLine, KeepsUnlessWrite, ReadsFew, TellsPart};
+ghost use Rattle.zonenorm.specs.Normalise.{ReadsWhole};
+ghost use Rattle.zonenorm.specs.Run.{Explains, IsExplanation, IsFailure, KeepsUnlessWrite, ReadsFew, TellsPart};
+ghost use Rattle.zonenorm.specs.Stops.{TellsRead};
+ghost use Rattle.zonenorm.specs.Telling.{argument_of, place_words, refusal_line, row_of, stop_line};
 
 use crate::engine::accepted_zone;
 use crate::form::Form;
 use crate::line::write_line;
+use crate::octets::OctetReader;
 use crate::status;
 use itoa::Buffer;
 use std::alloc::{AllocError, Global};
-use std::io::{Read, Write};
 use zone_name::Name;
+use zone_print::OctetWriter;
 use zone_rdata::{Fault, Place, Stop};
 
 /// What a user is told where memory was refused.
 pub(crate) const OUT_OF_MEMORY: &str = "out of memory";
 
-/// Writes a line that tells how many records the zone has that the reader's octets denote, and answers 0; or one that tells
-/// why they are refused, and answers 3. It reads what `normalise` reads.
+/// Writes a line that tells how many records the zone has that the reader's octets denote, and
+/// answers 0; or one that tells why they are refused, and answers 3. It reads what `normalise`
+/// reads.
 ///
 /// # Errors
 ///
-/// `Read` and `Memory`, which write nothing, and `Write`, where a part of the line was written, but not all of it.
-pub fn explain<R: Read, W: Write>(
+/// `Read` where the reader failed and `Memory`, which write nothing, and `Write` where the writer failed and a proper
+/// prefix of the line was written. Neither is called again.
+pub fn explain<R: OctetReader, W: OctetWriter>(
     alloc: Global,
     form: Form<'_>,
     reader: &mut R,
@@ -29,12 +39,21 @@ pub fn explain<R: Read, W: Write>(
 ) -> Result<u8, Stop>
     ensures explained { IfOk result (Explains (form_of form.entry) (R.remaining reader.old)
         (W.contents writer.old) (W.contents writer.new)) }
-    ensures failed { IfErr result IsFailure }
+    ensures failure { IfErr result IsFailure }
     ensures kept { IfErr result (λ stop.
         KeepsUnlessWrite stop (W.contents writer.old) (W.contents writer.new)) }
-    ensures part { OnErr result (TellsPart (IsExplanation (form_of form.entry) (R.remaining reader.old))
+    ensures part { OnErr result
+        (TellsPart (IsExplanation (form_of form.entry) (R.remaining reader.old))
         (W.contents writer.old) (W.contents writer.new)) }
     ensures few { ReadsFew (R.remaining reader.old) (R.remaining reader.new) }
+    ensures whole { OnOk result
+        (ReadsWhole text_limit (R.remaining reader.old) (R.remaining reader.new)) }
+    ensures works { OnOk result ((R.Works reader.old → R.Works reader.new)
+        × (W.Works writer.old → W.Works writer.new)) }
+    ensures failed { IfErr result (λ stop. TellsRead (R.Works reader.old → R.Works reader.new)
+        (R.Works reader.old → R.Failed reader.new) stop
+        × TellsWrite (W.Works writer.old → W.Works writer.new)
+        (W.Works writer.old → W.Failed writer.new) stop) }
 {
     match accepted_zone(alloc, form, reader) {
         Ok(zone) => {
@@ -57,7 +76,7 @@ pub fn explain<R: Read, W: Write>(
 ///
 /// Want of memory.
 pub fn explain_line(alloc: Global, stop: &Stop) -> Result<String, AllocError>
-    ensures { IfOk result (λ line. IsStopLine stop.now (string_bytes line)) }
+    ensures { IfOk result (λ line. string_bytes line ≡ stop_line stop.now) }
 {
     match stop {
         Stop::Refused(fault, place) => refusal_line(alloc, fault, *place),
@@ -68,29 +87,56 @@ pub fn explain_line(alloc: Global, stop: &Stop) -> Result<String, AllocError>
 }
 
 /// Number, name and argument of the fault, its place, and what is wrong.
-fn refusal_line(alloc: Global, fault: &Fault, place: Place) -> Result<String, AllocError> {
+fn refusal_line(alloc: Global, fault: &Fault, place: Place) -> Result<String, AllocError>
+    ensures { IfOk result (λ line. string_bytes line ≡ refusal_line fault.now place) }
+{
     let FaultRow { number, name, text } = fault_row(fault);
     let mut line = format!(in alloc; "F{number} {name}")?;
-    match fault {
-        Fault::ErrorCode(code) => write!(line, " {code}")?,
-        Fault::OutOfZone(owner) => push_owner(alloc, &mut line, owner)?,
-        _ => {}
-    }
-    match place {
-        Place::Line(number) => write!(line, " at line {number}")?,
-        Place::Message(number, offset) => write!(line, " at message {number} offset {offset}")?,
-        Place::Whole => line.push_str(" in the input")?,
-    }
+    push_argument(alloc, &mut line, fault)?;
+    push_place(&mut line, place)?;
     write!(line, ": {text}")?;
     Ok(line)
 }
 
+/// The error code or the owner that the fault names.
+fn push_argument(alloc: Global, line: &mut String, fault: &Fault) -> Result<(), AllocError>
+    ensures { OnOk result (string_bytes line.new ≡ string_bytes line.old ++ argument_of fault.now) }
+{
+    match fault {
+        Fault::ErrorCode(code) => write!(line, " {code}"),
+        Fault::OutOfZone(owner) => push_owner(alloc, line, owner),
+        _ => Ok(()),
+    }
+}
+
+/// The place in words.
+fn push_place(line: &mut String, place: Place) -> Result<(), AllocError>
+    ensures { OnOk result (string_bytes line.new ≡ string_bytes line.old ++ place_words place) }
+{
+    match place {
+        Place::Line(number) => write!(line, " at line {number}"),
+        Place::Message(number, offset) => write!(line, " at message {number} offset {offset}"),
+        Place::Whole => line.push_str(" in the input"),
+    }
+}
+
 /// A space and the canonical spelling of the name, which is ASCII.
-fn push_owner(alloc: Global, line: &mut String, owner: &Name) -> Result<(), AllocError> {
+fn push_owner(alloc: Global, line: &mut String, owner: &Name) -> Result<(), AllocError>
+    ensures { OnOk result (string_bytes line.new ≡ string_bytes line.old ++ 32 ∷ name_text owner.now) }
+{
+    owner.known();
     let mut spelling = Vec::new(alloc);
     owner.push_text(&mut spelling)?;
     line.push(' ')?;
-    for octet in &spelling {
+    push_ascii(line, spelling.as_slice())
+}
+
+/// Octets of ASCII.
+fn push_ascii(line: &mut String, octets: &[u8]) -> Result<(), AllocError>
+    requires { AllByRecursion (λ c. c < 128) octets.now }
+    ensures { OnOk result (string_bytes line.new ≡ string_bytes line.old ++ octets.now) }
+{
+    for octet in octets {
         line.push(char::from(*octet))?;
     }
     Ok(())
@@ -104,69 +150,85 @@ struct FaultRow {
 }
 
 /// The row of a fault: one match, so that no fault can be without its row.
-fn fault_row(fault: &Fault) -> FaultRow {
-    let (number, name, text) = match fault {
-        Fault::EmptyLabel => (1, "EmptyLabel", "a label is empty"),
-        Fault::LabelTooLong => (2, "LabelTooLong", "a label has more than 63 octets"),
-        Fault::NameTooLong => (3, "NameTooLong", "a name has more than 255 octets"),
-        Fault::BadEscape => (4, "BadEscape", "a backslash escape is malformed"),
-        Fault::RelativeName => (5, "RelativeName", "a relative name has no origin"),
-        Fault::BadClass => (6, "BadClass", "the class can't hold zone data"),
-        Fault::UnknownType => (7, "UnknownType", "the type word is missing or unknown"),
-        Fault::MetaType => (8, "MetaType", "the type can't hold zone data"),
-        Fault::BadRdata => (9, "BadRdata", "the data doesn't fit its type"),
-        Fault::BadGeneric => (10, "BadGeneric", "the generic data is malformed"),
-        Fault::StringTooLong => (
+fn fault_row(fault: &Fault) -> FaultRow
+    ensures number { result.number ≡ (row_of fault.now).number }
+    ensures name { result.name.now ≡ (row_of fault.now).name }
+    ensures text { result.text.now ≡ (row_of fault.now).text }
+{
+    match fault {
+        Fault::EmptyLabel => row(1, "EmptyLabel", "a label is empty"),
+        Fault::LabelTooLong => row(2, "LabelTooLong", "a label has more than 63 octets"),
+        Fault::NameTooLong => row(3, "NameTooLong", "a name has more than 255 octets"),
+        Fault::BadEscape => row(4, "BadEscape", "a backslash escape is malformed"),
+        Fault::RelativeName => row(5, "RelativeName", "a relative name has no origin"),
+        Fault::BadClass => row(6, "BadClass", "the class can't hold zone data"),
+        Fault::UnknownType => row(7, "UnknownType", "the type word is missing or unknown"),
+        Fault::MetaType => row(8, "MetaType", "the type can't hold zone data"),
+        Fault::BadRdata => row(9, "BadRdata", "the data doesn't fit its type"),
+        Fault::BadGeneric => row(10, "BadGeneric", "the generic data is malformed"),
+        Fault::StringTooLong => row(
             11,
             "StringTooLong",
             "a character-string has more than 255 octets",
         ),
-        Fault::RdataTooLong => (12, "RdataTooLong", "the data has more than 65535 octets"),
-        Fault::BadNumber => (13, "BadNumber", "a number is malformed or out of range"),
-        Fault::UnclosedQuote => (14, "UnclosedQuote", "a quoted string isn't closed"),
-        Fault::UnbalancedParenthesis => (15, "UnbalancedParenthesis", "parentheses don't balance"),
-        Fault::IncludeDirective => (16, "IncludeDirective", "$INCLUDE isn't read"),
-        Fault::UnknownDirective => (17, "UnknownDirective", "the directive is unknown"),
-        Fault::BadDirective => (18, "BadDirective", "the directive needs one plain item"),
-        Fault::NoOwner => (19, "NoOwner", "the record has no owner"),
-        Fault::NoTtl => (20, "NoTtl", "the record has no TTL"),
-        Fault::BadTtl => (21, "BadTtl", "the TTL is malformed or out of range"),
-        Fault::ShortFrame => (22, "ShortFrame", "the stream ends inside a frame"),
-        Fault::ShortMessage => (23, "ShortMessage", "the message ends too early"),
-        Fault::NotAResponse => (24, "NotAResponse", "the message isn't an answer to a query"),
-        Fault::Truncated => (25, "Truncated", "the message is marked as truncated"),
-        Fault::ErrorCode(_) => (26, "ErrorCode", "the message carries an error code"),
-        Fault::BadCounts => (27, "BadCounts", "the section counts don't fit a transfer"),
-        Fault::IdMismatch => (28, "IdMismatch", "the message ID differs"),
-        Fault::BadQuestion => (29, "BadQuestion", "question and zone don't agree"),
-        Fault::ReservedLabel => (30, "ReservedLabel", "a label has a reserved form"),
-        Fault::BadPointer => (31, "BadPointer", "a compression pointer has a bad target"),
-        Fault::TooManyPointers => (32, "TooManyPointers", "a name has more than 128 pointers"),
-        Fault::CompressibleType => (
+        Fault::RdataTooLong => row(12, "RdataTooLong", "the data has more than 65535 octets"),
+        Fault::BadNumber => row(13, "BadNumber", "a number is malformed or out of range"),
+        Fault::UnclosedQuote => row(14, "UnclosedQuote", "a quoted string isn't closed"),
+        Fault::UnbalancedParenthesis => row(
+            15,
+            "UnbalancedParenthesis",
+            "parentheses don't balance",
+        ),
+        Fault::IncludeDirective => row(16, "IncludeDirective", "$INCLUDE isn't read"),
+        Fault::UnknownDirective => row(17, "UnknownDirective", "the directive is unknown"),
+        Fault::BadDirective => row(18, "BadDirective", "the directive needs one plain item"),
+        Fault::NoOwner => row(19, "NoOwner", "the record has no owner"),
+        Fault::NoTtl => row(20, "NoTtl", "the record has no TTL"),
+        Fault::BadTtl => row(21, "BadTtl", "the TTL is malformed or out of range"),
+        Fault::ShortFrame => row(22, "ShortFrame", "the stream ends inside a frame"),
+        Fault::ShortMessage => row(23, "ShortMessage", "the message ends too early"),
+        Fault::NotAResponse => row(24, "NotAResponse", "the message isn't an answer to a query"),
+        Fault::Truncated => row(25, "Truncated", "the message is marked as truncated"),
+        Fault::ErrorCode(_) => row(26, "ErrorCode", "the message carries an error code"),
+        Fault::BadCounts => row(27, "BadCounts", "the section counts don't fit a transfer"),
+        Fault::IdMismatch => row(28, "IdMismatch", "the message ID differs"),
+        Fault::BadQuestion => row(29, "BadQuestion", "question and zone don't agree"),
+        Fault::ReservedLabel => row(30, "ReservedLabel", "a label has a reserved form"),
+        Fault::BadPointer => row(31, "BadPointer", "a compression pointer has a bad target"),
+        Fault::TooManyPointers => row(32, "TooManyPointers", "a name has more than 128 pointers"),
+        Fault::CompressibleType => row(
             33,
             "CompressibleType",
             "the type may hold pointers and isn't read",
         ),
-        Fault::TrailingOctets => (34, "TrailingOctets", "octets follow the last record"),
-        Fault::NoOpeningSoa => (35, "NoOpeningSoa", "the transfer doesn't begin with an SOA"),
-        Fault::SoaMismatch => (
+        Fault::TrailingOctets => row(34, "TrailingOctets", "octets follow the last record"),
+        Fault::NoOpeningSoa => row(35, "NoOpeningSoa", "the transfer doesn't begin with an SOA"),
+        Fault::SoaMismatch => row(
             36,
             "SoaMismatch",
             "a later SOA differs from the opening one",
         ),
-        Fault::AfterClosing => (37, "AfterClosing", "a record follows the closing SOA"),
-        Fault::NoClosingSoa => (38, "NoClosingSoa", "the transfer has no closing SOA"),
-        Fault::ClassMismatch => (39, "ClassMismatch", "the class differs from the zone's"),
-        Fault::MultipleSoa => (40, "MultipleSoa", "the zone has two SOA records"),
-        Fault::DifferingTtl => (
+        Fault::AfterClosing => row(37, "AfterClosing", "a record follows the closing SOA"),
+        Fault::NoClosingSoa => row(38, "NoClosingSoa", "the transfer has no closing SOA"),
+        Fault::ClassMismatch => row(39, "ClassMismatch", "the class differs from the zone's"),
+        Fault::MultipleSoa => row(40, "MultipleSoa", "the zone has two SOA records"),
+        Fault::DifferingTtl => row(
             41,
             "DifferingTtl",
             "the TTL differs from that of its record set",
         ),
-        Fault::NoSoa => (42, "NoSoa", "the zone has no SOA record"),
-        Fault::OutOfZone(_) => (43, "OutOfZone", "an owner lies outside the zone"),
-        Fault::ZoneTooLarge => (44, "ZoneTooLarge", "the canonical text is too long"),
-        Fault::InputTooLong => (45, "InputTooLong", "the input is too long"),
-    };
+        Fault::NoSoa => row(42, "NoSoa", "the zone has no SOA record"),
+        Fault::OutOfZone(_) => row(43, "OutOfZone", "an owner lies outside the zone"),
+        Fault::ZoneTooLarge => row(44, "ZoneTooLarge", "the canonical text is too long"),
+        Fault::InputTooLong => row(45, "InputTooLong", "the input is too long"),
+    }
+}
+
+/// A row of the table.
+fn row(number: u8, name: &'static str, text: &'static str) -> FaultRow
+    ensures number { result.number ≡ number }
+    ensures name { result.name.now ≡ name.now }
+    ensures text { result.text.now ≡ text.now }
+{
     FaultRow { number, name, text }
 }

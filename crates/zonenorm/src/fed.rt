@@ -13,12 +13,13 @@ use zone_wire::TransferSource;
 
 /// A source of records that is fed an input in pieces.
 pub(crate) trait FedSource: RrSource {
-    /// What else it holds than what is pending.
+    /// What it holds besides what is pending.
     ghost Held: { Type 0 };
 
     ghost held: { Self → Held };
 
-    /// That what is pending, and what else the source holds, is what these octets leave, of which it gave these records.
+    /// That what is pending, and what else the source holds, is what these octets leave, of which
+    /// it gave these records.
     ghost Stands: { InputForm → Pending → Held → Octets → List Placed → Type 0 };
 
     /// The octets of all pieces.
@@ -56,20 +57,24 @@ pub(crate) trait FedSource: RrSource {
         ensures stopped { IfErr result (λ stop. stop ≡ Memory) };
 
     /// Giving a record changes nothing else.
-    ghost keeps: { (old new : Self) → Self.RrSource.beside new ≡ Self.RrSource.beside old → held new ≡ held old };
+    ghost keeps: { (old new : Self) → Self.RrSource.beside new ≡ Self.RrSource.beside old
+        → held new ≡ held old };
 
     /// Before the end, what was given and is pending is what the octets decide.
-    ghost decides: { (form : InputForm) (pending : Pending) (inside : Self.Held) (octets : Octets) (given : List Placed)
+    ghost decides: { (form : InputForm) (pending : Pending) (inside : Self.Held) (octets : Octets)
+        (given : List Placed)
         → Stands form pending inside octets given → finished inside ≡ false
         → Decides (input_of form octets) (given ++ pending.records) pending.ending };
 
     /// From the end on, it is what the input is read as.
-    ghost reads: { (form : InputForm) (pending : Pending) (inside : Self.Held) (octets : Octets) (given : List Placed)
+    ghost reads: { (form : InputForm) (pending : Pending) (inside : Self.Held) (octets : Octets)
+        (given : List Placed)
         → Stands form pending inside octets given → finished inside ≡ true
         → Reads (input_of form octets) (given ++ pending.records) pending.ending };
 
     /// What is given is pending no more.
-    ghost gives: { (form : InputForm) (pending : Pending) (inside : Self.Held) (octets : Octets) (given taken others : List Placed)
+    ghost gives: { (form : InputForm) (pending : Pending) (inside : Self.Held) (octets : Octets)
+        (given taken others : List Placed)
         → Stands form pending inside octets given → pending.records ≡ taken ++ others
         → Stands form (leaves pending others) inside octets (given ++ taken) };
 }

@@ -9,7 +9,8 @@ use zone_name::Name;
 pub enum Form<'n> {
     /// A master file with its origin (RFC 1035 5).
     File(&'n Name),
-    /// The octets of a zone transfer as they came over TCP, each message behind its length (RFC 5936 2.2, RFC 1035 4.2.2).
+    /// The octets of a zone transfer as they came over TCP, each message after its length (RFC 5936
+    /// 2.2, RFC 1035 4.2.2).
     Transfer,
 }
 

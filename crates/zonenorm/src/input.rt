@@ -1,8 +1,9 @@
-ghost use Rattle.std.specs.Prelude.{◌≡◌, ◌+◌, ◌^◌, ◌≤◌, ◌<◌, false, [], length, IfOk, IfErr};
+ghost use Rattle.std.specs.Prelude.{◌≡◌, ◌+◌, ◌^◌, ◌≤◌, ◌<◌, false, [], length, IfOk, IfErr, OnOk};
 ghost use Rattle.std.specs.Io.KnownBytes.{Consumes, IsAtEnd, Keeps};
 ghost use Rattle.zonenorm.specs.Machine.Taking.{BeginsAs, ReadsKnown, RefusesKnown};
-ghost use Rattle.zonenorm.specs.Machine.Stops.{IsOfPiece, TellsRead};
-ghost use Rattle.zonenorm.specs.Normalise.{ConsumesAtMost, IsOfReading};
+ghost use Rattle.zonenorm.specs.Normalise.{ConsumesAtMost, IsOfReading, ReadsWhole};
+ghost use Rattle.zonenorm.specs.Refusal.{IfRefused};
+ghost use Rattle.zonenorm.specs.Stops.{IsFailedRead, TellsRead};
 
 use crate::fed::FedSource;
 use crate::octets::OctetReader;
@@ -14,14 +15,14 @@ use zone_set::Zone;
 /// How many octets one read asks for at most.
 const PIECE: usize = 65_536;
 
-/// The zone of what the reader gives up to its end, which is fed to a source in pieces. Behind a fault it reads on, since
-/// an input that is too long is refused for that.
+/// The zone of what the reader gives up to its end, which is fed to a source in pieces. After a
+/// fault it reads on, since an input that is too long is refused for that.
 ///
 /// # Errors
 ///
-/// `Read` where the reader failed, by an interruption too; `Refused` with `InputTooLong` where it gives more than
-/// `limit` octets, of which `limit + 1` are read, and else with the refusal of the input, but for the length of its
-/// canonical text; `Memory`.
+/// `Read` where the reader failed, by an interruption too; `Refused` with `InputTooLong` where it
+/// gives more than `limit` octets, of which `limit + 1` are read, and else with the refusal of the
+/// input, but for the length of its canonical text; `Memory`.
 pub(crate) fn read_zone<S: FedSource, R: OctetReader>(
     alloc: Global,
     source: &mut S,
@@ -38,14 +39,19 @@ pub(crate) fn read_zone<S: FedSource, R: OctetReader>(
         (BeginsAs S.Stands (S.pending source.old) (S.held source.old)) limit
         (R.remaining reader.old)) }
     ensures stopped { IfErr result IsOfReading }
-    ensures failed { IfErr result (TellsRead (R.Failed reader.new)) }
+    ensures whole { OnOk result (IsAtEnd (R.remaining reader.new)) }
+    ensures whole_refused { IfErr result (λ stop. IfRefused stop (λ fault place.
+        ReadsWhole limit (R.remaining reader.old) (R.remaining reader.new))) }
+    ensures works { OnOk result (R.Works reader.old → R.Works reader.new) }
+    ensures failed { IfErr result (TellsRead
+        (R.Works reader.old → R.Works reader.new) (R.Works reader.old → R.Failed reader.new)) }
     ensures few { ConsumesAtMost (limit + 1) (R.remaining reader.old) (R.remaining reader.new) }
 {
     let mut piece = zeros(alloc, PIECE)?;
     read_in_pieces(alloc, source, reader, &mut piece, limit)
 }
 
-/// So many octets 0. The length is a parameter, so that no proof counts up to it.
+/// So many zero octets. The length is a parameter, so that no proof counts up to it.
 fn zeros(alloc: Global, len: usize) -> Result<Vec<u8>, AllocError>
     ensures { IfOk result (λ octets. length octets.items ≡ len) }
 {
@@ -71,7 +77,12 @@ fn read_in_pieces<S: FedSource, R: OctetReader>(
         (BeginsAs S.Stands (S.pending source.old) (S.held source.old)) limit
         (R.remaining reader.old)) }
     ensures stopped { IfErr result IsOfReading }
-    ensures failed { IfErr result (TellsRead (R.Failed reader.new)) }
+    ensures whole { OnOk result (IsAtEnd (R.remaining reader.new)) }
+    ensures whole_refused { IfErr result (λ stop. IfRefused stop (λ fault place.
+        ReadsWhole limit (R.remaining reader.old) (R.remaining reader.new))) }
+    ensures works { OnOk result (R.Works reader.old → R.Works reader.new) }
+    ensures failed { IfErr result (TellsRead
+        (R.Works reader.old → R.Works reader.new) (R.Works reader.old → R.Failed reader.new)) }
     ensures few { ConsumesAtMost (limit + 1) (R.remaining reader.old) (R.remaining reader.new) }
 {
     let mut taking = Taking::new(alloc);
@@ -99,7 +110,8 @@ fn read_piece<'p, R: OctetReader>(reader: &mut R, piece: &'p mut [u8]) -> Result
         (λ given. Consumes (R.remaining reader.old) (R.remaining reader.new) given.now) }
     ensures few { IfOk result (λ given. length given.now ≤ length piece.old) }
     ensures end { IfOk result (λ given. given.now ≡ [] → IsAtEnd (R.remaining reader.new)) }
-    ensures stopped { IfErr result (IsOfPiece (R.Failed reader.new)) }
+    ensures works { OnOk result (R.Works reader.old → R.Works reader.new) }
+    ensures failed { IfErr result (IsFailedRead (R.Works reader.old → R.Failed reader.new)) }
     ensures kept { IfErr result (λ _. Keeps (R.remaining reader.old) (R.remaining reader.new)) }
 {
     let count = reader.read_some(piece)?;

@@ -1,4 +1,5 @@
-//! Laws of inputs over the definitions alone. The functions only call other laws: their contracts are the laws.
+//! Laws of inputs over the definitions alone. The functions only call other laws: their contracts
+//! are the laws.
 ghost use Rattle.std.specs.Prelude.{◌≡◌, ◌<◌, ◌++◌, ◌⊎◌, ◌↔◌, ℕ, List, Option, Some, None};
 ghost use Rattle.std.specs.Io.KnownBytes.{Appends};
 ghost use Rattle.std.specs.List.{AllByRecursion};
@@ -98,7 +99,7 @@ pub fn refusal_or_zone()
     zone_wire::laws::a_transfer_is_read();
 }
 
-/// What refuses a front of an input refuses the input.
+/// What refuses a prefix of an input refuses the input.
 pub(crate) fn what_is_decided_refuses()
     ensures { (form : InputForm) (octets front more : Octets) (placed : List Placed)
         (ending : Option (Fault × Place)) (fault : Fault) (place : Place)
@@ -121,10 +122,10 @@ pub fn what_is_read_is_stated()
     zone_wire::laws::a_transfer_is_read();
 }
 
-/// Of any two accepted inputs, each a master file with its origin or a transfer, however cut, the normalised bytes are
-/// equal exactly if they denote the same zone; those bytes, as a master file under any origin, denote that zone and
-/// normalise to themselves; an input is refused exactly if it denotes no zone; and name decoding takes at most 256 steps,
-/// all inside its message.
+/// Of any two accepted inputs, each a master file with its origin or a transfer, however cut, the
+/// normalised bytes are equal exactly if they denote the same zone; those bytes, as a master file
+/// under any origin, denote that zone and normalise to themselves; an input is refused exactly if
+/// it denotes no zone; and name decoding takes at most 256 steps, all inside its message.
 pub fn headline()
     ensures same { (a b : Input) (z w : Zone) → InputDenotes a z → InputDenotes b w
         → (canon z ≡ canon w) ↔ DenoteOne a b }
@@ -147,8 +148,8 @@ pub fn headline()
     zone_wire::laws::a_name_is_walked();
 }
 
-/// What two inputs normalise to is equal exactly if they denote the same zone, and under every origin it denotes that zone
-/// and normalises to itself. It is what was written.
+/// What two inputs normalise to is equal exactly if they denote the same zone, and under every
+/// origin it denotes that zone and normalises to itself. It is what was written.
 pub fn normalised_texts()
     ensures same { (a b : Input) (text other : Octets) → NormalisesTo a text → NormalisesTo b other
         → (text ≡ other) ↔ DenoteOne a b }
@@ -163,7 +164,8 @@ pub fn normalised_texts()
     headline();
 }
 
-/// A comparison finds that two inputs are the same exactly if they denote the same zone, and it finds one thing.
+/// A comparison finds that two inputs are the same exactly if they denote the same zone, and it
+/// finds one thing.
 pub fn same_is_one_zone()
     ensures same { (first second : Input) (verdict : Verdict) → Compares first second verdict
         → (verdict ≡ Same) ↔ DenoteOne first second }

@@ -1,48 +1,30 @@
 //! Lines for people.
-ghost use Rattle.std.specs.Prelude.{◌≡◌, ◌++◌, ◌∷◌, [], IfErr, OnErr, OnOk};
+ghost use Rattle.std.specs.Prelude.{◌++◌, ◌∷◌, [], IfErr, OnErr, OnOk};
 ghost use Rattle.std.specs.Io.KnownBytes.{Appends};
-ghost use Rattle.zonenorm.specs.Run.{AppendsPart};
+ghost use Rattle.zone_print.specs.Writing.{AppendsPart, IsFailedWrite};
 
-use std::io::Write;
+use zone_print::{OctetWriter, write_octets};
 use zone_rdata::Stop;
 
-/// Writes these words, the line and a line feed. Every error of the writer ends it, `Interrupted` too, and it isn't
-/// flushed.
+/// Writes these words, the line and a line feed. Every error of the writer ends it, `Interrupted`
+/// too, and it isn't flushed.
 ///
 /// # Errors
 ///
-/// `Write`. A front of all that was written, but not all of it.
-pub(crate) fn write_line<W: Write>(writer: &mut W, words: &str, line: &str) -> Result<(), Stop>
+/// `Write` where the writer failed. A proper prefix of all that was written.
+pub(crate) fn write_line<W: OctetWriter>(
+    writer: &mut W,
+    words: &str,
+    line: &str,
+) -> Result<(), Stop>
     ensures written { OnOk result (Appends (W.contents writer.old) (W.contents writer.new)
         (words.now ++ line.now ++ 10 ∷ [])) }
     ensures part { OnErr result (AppendsPart (W.contents writer.old) (W.contents writer.new)
         (words.now ++ line.now ++ 10 ∷ [])) }
-    ensures stop { IfErr result (λ stop. stop ≡ Stop.Write) }
+    ensures works { OnOk result (W.Works writer.old → W.Works writer.new) }
+    ensures failed { IfErr result (IsFailedWrite (W.Works writer.old → W.Failed writer.new)) }
 {
     write_octets(writer, words.as_bytes())?;
     write_octets(writer, line.as_bytes())?;
     write_octets(writer, b"\n")
-}
-
-/// Writes all these octets.
-///
-/// # Errors
-///
-/// `Write`. A front of the octets was written, but not all of them.
-fn write_octets<W: Write>(writer: &mut W, octets: &[u8]) -> Result<(), Stop>
-    ensures written { OnOk result (Appends (W.contents writer.old) (W.contents writer.new) octets.now) }
-    ensures part { OnErr result (AppendsPart (W.contents writer.old) (W.contents writer.new) octets.now) }
-    ensures stop { IfErr result (λ stop. stop ≡ Stop.Write) }
-{
-    let mut rest = octets;
-    while !rest.is_empty() {
-        match writer.write(rest) {
-            Ok(0) | Err(_) => return Err(Stop::Write),
-            Ok(count) => {
-                let (_, after) = rest.split_at(count);
-                rest = after;
-            }
-        }
-    }
-    Ok(())
 }

@@ -22,6 +22,7 @@ pub use compare::{Verdict, Which, compare};
 pub use engine::{normalise, normalise_bytes};
 pub use explain::{explain, explain_line};
 pub use form::Form;
+pub use octets::OctetReader;
 use opened::inputs;
 use order::order_after_name;
 pub use order::{LineFault, Order, Source, order_of};

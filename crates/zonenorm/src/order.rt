@@ -86,8 +86,8 @@ impl LineFault {
 ///
 /// # Errors
 ///
-/// `BadOrigin` where the text of an origin is neither an absolute name nor `transfer`; `Clap` where `clap` gives no matches
-/// for one of the commands, help included; `Memory`.
+/// `BadOrigin` where the text of an origin is neither an absolute name nor `transfer`; `Clap` where
+/// `clap` gives no matches for one of the commands, help included; `Memory`.
 pub fn order_of(alloc: Global, words: &[String]) -> Result<Order, LineFault>
     ensures ordered { IfOk result (Orders (map string_bytes words.now)) }
     ensures refused { IfErr result (IsLineFault (map string_bytes words.now)) }

@@ -1,27 +1,31 @@
 ghost use Rattle.std.specs.Prelude.{◌≡◌, ◌++◌, ◌∷◌, [], OnErr, OnOk};
 ghost use Rattle.zonenorm.specs.Machine.Telling.{which_words, TellsFault, TellsStop, TellsVerdict};
-ghost use Rattle.zonenorm.specs.Run.{devices, verdict_line, verdict_status, AppendsPart, AppendsThisLine, ReadsFew, ReadsSecond, Runs};
+ghost use Rattle.zone_print.specs.Writing.{AppendsPart};
+ghost use Rattle.zonenorm.specs.Run.{devices, verdict_line, verdict_status, AppendsThisLine, ReadsFew, ReadsSecond, Runs};
 
 use crate::compare::{Verdict, Which, compare};
 use crate::engine::normalise;
 use crate::explain::{OUT_OF_MEMORY, explain, explain_line};
 use crate::form::Form;
 use crate::line::write_line;
+use crate::octets::OctetReader;
 use crate::order::{LineFault, Order};
 use crate::status;
 use itoa::Buffer;
 use std::alloc::Global;
-use std::io::{Read, Write};
+use zone_print::OctetWriter;
 use zone_rdata::Stop;
 
-/// The whole program over two readers, a writer and an error writer. `normalise` and `explain` read the first reader alone,
-/// and a comparison reads the second once the first was accepted. It answers the exit status: 0 where the canonical text
-/// was written, the zone was accepted or both are the same; 1 where two zones differ; 3 where an input is refused; 4 where
-/// reading, writing or memory failed. Of 3 and 4 a line on the error writer tells why, of a comparison behind the name of
-/// the input; `explain` tells of 3 on the writer. Where that can't be told the status is 4. With 4 the writer got nothing, or
-/// a front of the text or line that the order writes. No writer is flushed.
+/// The whole program over two readers, a writer and an error writer. `normalise` and `explain` read
+/// the first reader alone, and a comparison reads the second once the first was accepted. It
+/// answers the exit status: 0 where the canonical text was written, the zone was accepted or both
+/// are the same; 1 where two zones differ; 3 where an input is refused; 4 where reading, writing or
+/// memory failed. Of 3 and 4 a line on the error writer tells why, of a comparison after the name
+/// of the input; `explain` tells of 3 on the writer. Where that can't be told the status is 4. With
+/// 4 the writer got nothing, or a prefix of the text or line that the order writes. No writer is
+/// flushed.
 #[tactic(auto, using(crate::proofs::Running::normalised, crate::proofs::Running::normalise_stopped, crate::proofs::Running::explained, crate::proofs::Running::explain_stopped, crate::proofs::Running::compared, crate::proofs::Running::compare_stopped))]
-pub fn run<R1: Read, R2: Read, W: Write, E: Write>(
+pub fn run<R1: OctetReader, R2: OctetReader, W: OctetWriter, E: OctetWriter>(
     alloc: Global,
     order: &Order,
     first: &mut R1,
@@ -65,7 +69,7 @@ pub fn run<R1: Read, R2: Read, W: Write, E: Write>(
 }
 
 /// Tells the verdict of a comparison, and answers its status.
-fn tell_verdict<W: Write, E: Write>(
+fn tell_verdict<W: OctetWriter, E: OctetWriter>(
     alloc: Global,
     verdict: Verdict,
     output: &mut W,
@@ -85,7 +89,7 @@ fn tell_verdict<W: Write, E: Write>(
 /// # Errors
 ///
 /// `Write`. A front of the line was written, but not all of it.
-fn write_verdict<W: Write>(verdict: Verdict, output: &mut W) -> Result<(), Stop>
+fn write_verdict<W: OctetWriter>(verdict: Verdict, output: &mut W) -> Result<(), Stop>
     ensures written { OnOk result
         (AppendsThisLine (verdict_line verdict) (W.contents output.old) (W.contents output.new)) }
     ensures part { OnErr result (AppendsPart (W.contents output.old) (W.contents output.new)
@@ -121,7 +125,7 @@ fn words_of(which: Which) -> &'static str
 }
 
 /// Tells why a run stopped, behind these words, and answers its status: 4 also where that could not be told.
-fn report<E: Write>(alloc: Global, words: &str, stop: &Stop, errors: &mut E) -> u8
+fn report<E: OctetWriter>(alloc: Global, words: &str, stop: &Stop, errors: &mut E) -> u8
     ensures { TellsStop words.now stop.now (E.contents errors.old) (E.contents errors.new) result }
 {
     let line = match stop {
@@ -140,7 +144,7 @@ fn report<E: Write>(alloc: Global, words: &str, stop: &Stop, errors: &mut E) -> 
 }
 
 /// Tells why a command line is no order, and answers the status: 4 where that could not be told.
-pub(crate) fn refuse<E: Write>(fault: &LineFault, errors: &mut E) -> u8
+pub(crate) fn refuse<E: OctetWriter>(fault: &LineFault, errors: &mut E) -> u8
     ensures { TellsFault fault.now (E.contents errors.old) (E.contents errors.new) result }
 {
     match write_line(errors, "", fault.text()) {

@@ -35,7 +35,8 @@ impl Taking {
         }
     }
 
-    /// Feeds a piece to the source, and takes the records that it decides. Behind a refusal it does nothing.
+    /// Feeds a piece to the source, and takes the records that it decides. After a refusal it does
+    /// nothing.
     ///
     /// # Errors
     ///
@@ -71,7 +72,8 @@ impl Taking {
     ///
     /// # Errors
     ///
-    /// `Refused` with the refusal of the input, but for its length and that of its canonical text; `Memory`.
+    /// `Refused` with the refusal of the input, but for its length and that of its canonical text;
+    /// `Memory`.
     pub(crate) fn finish<S: FedSource>(self, source: &mut S) -> Result<Zone, Stop>
         requires open { S.finished (S.held source.old) ≡ false }
         ensures zone { IfOk result (λ z. (form : InputForm) (octets : Octets)

@@ -83,7 +83,8 @@ fn judged<T>(answer: Result<T, Failing>) -> Result<Result<T, Fault>, Fail> {
     }
 }
 
-/// Whether the line that explains a stop has this before its colon: number, name, argument and place.
+/// Whether the line that explains a stop has this before its colon: number, name, argument and
+/// place.
 ///
 /// # Errors
 ///

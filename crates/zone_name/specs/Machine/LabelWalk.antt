@@ -1,4 +1,5 @@
--- How a name's text is read from the left: what stands at a place, and what that makes of the labels so far.
+-- How a name's text is read from the left: what stands at a place, and what that makes of the
+-- labels so far.
 use Rattle.std.specs.Prelude.{◌≡◌, ℕ, zero, suc, ◌<◌, List, [], ◌∷◌, ◌++◌, length, Bool, true, false, nat_le, if◌then◌else◌, Option, Some, None, Result, Ok, Err}
 use Rattle.zone_name.specs.Name.{folded_label, wire}
 use Rattle.zone_name.specs.Spelling.{Written, octet_of, is_dot}
@@ -6,7 +7,7 @@ use Rattle.zone_name.specs.Machine.Units.{unit_first}
 use Rattle.zone_name.specs.declared.fault.NameFault.{NameFault}
 use Rattle.zone_name.specs.declared.fault.NameFault.TheVariants.{EmptyLabel, LabelTooLong, NameTooLong, BadEscape, RelativeName}
 
--- what is ahead of a label's next octet in a text, and what is behind it
+-- what stands where a label's next octet would in a text, and what follows it
 pub data Ahead : Type 0 where
   at_end : Ahead
   at_dot : List ℕ → Ahead
@@ -21,7 +22,8 @@ abbrev pub ahead_in : List ℕ → Ahead
 ahead_in [] = at_end
 ahead_in (c ∷ rest) = if is_dot c then at_dot rest else unit_ahead (unit_first is_dot (c ∷ rest))
 
--- a step: the labels and whether the name is absolute, a fault, or the labels so far, the open label's octets and the rest
+-- a step: the labels and whether the name is absolute, a fault, or the labels so far, the open
+-- label's octets and the rest
 pub data Step : Type 0 where
   done : List (List ℕ) → Bool → Step
   failed : NameFault → Step
@@ -31,14 +33,23 @@ abbrev pub step_at : List (List ℕ) → List ℕ → Ahead → Step
 step_at labels [] at_end = done labels true
 step_at labels (c ∷ open_label) at_end = done (labels ++ folded_label (c ∷ open_label) ∷ []) false
 step_at labels [] (at_dot rest) = failed EmptyLabel
-step_at labels (c ∷ open_label) (at_dot rest) = goes (labels ++ folded_label (c ∷ open_label) ∷ []) [] rest
-step_at labels open_label (at_octet c rest) = if nat_le 63 (length open_label) then failed LabelTooLong else goes labels (open_label ++ c ∷ []) rest
+step_at labels (c ∷ open_label) (at_dot rest) =
+    goes (labels ++ folded_label (c ∷ open_label) ∷ []) [] rest
+step_at labels open_label (at_octet c rest) =
+    if nat_le 63 (length open_label) then failed LabelTooLong
+    else goes labels (open_label ++ c ∷ []) rest
 step_at labels open_label at_fault = failed BadEscape
 
--- the labels of a text and whether they are all of the name, or the text's own first fault; n is above the octets that are left
+-- the labels of a text and whether they are all of the name, or the text's own first fault; n is
+-- above the octets that are left
 abbrev pub read : ℕ → List (List ℕ) → List ℕ → List ℕ → Result (List (List ℕ) × Bool) NameFault
 read zero labels open_label rest = Err BadEscape
-read (suc n) labels open_label rest = elim (step_at labels open_label (ahead_in rest)) [ done found whole ↦ Ok (found, whole) | failed fault ↦ Err fault | goes more open_next left ↦ read n more open_next left ]
+read (suc n) labels open_label rest =
+    elim (step_at labels open_label (ahead_in rest)) [
+      | done found whole ↦ Ok (found, whole)
+      | failed fault ↦ Err fault
+      | goes more open_next left ↦ read n more open_next left
+    ]
 
 unfoldable pub reading : List ℕ → Result (List (List ℕ) × Bool) NameFault
 reading [] = Err EmptyLabel
@@ -53,7 +64,8 @@ abbrev pub sized : List (List ℕ) → Result (List (List ℕ)) NameFault
 sized labels = if nat_le (length (wire labels)) 255 then Ok labels else Err NameTooLong
 
 -- the name of the labels that were read
-abbrev pub under : Option (List (List ℕ)) → Result (List (List ℕ) × Bool) NameFault → Result (List (List ℕ)) NameFault
+abbrev pub under : Option (List (List ℕ)) → Result (List (List ℕ) × Bool) NameFault
+    → Result (List (List ℕ)) NameFault
 under origin (Err fault) = Err fault
 under origin (Ok (labels, true)) = sized labels
 under None (Ok (labels, false)) = Err RelativeName

@@ -14,20 +14,22 @@ HasForm text Root = text ≡ codes "."
 HasForm text Origin = text ≡ codes "@"
 HasForm text Labels = (text ≢ codes ".") × (text ≢ codes "@")
 
--- the octets of labels, each behind its length, with their letters as they are
+-- the octets of labels, each after its length, with their letters as they are
 abbrev pub HoldsUnfolded : List ℕ → Type 0
 HoldsUnfolded octets = HoldsLabels (map folded_octet octets)
 
 abbrev pub unfolded_labels : List ℕ → List (List ℕ)
 unfolded_labels octets = labels_of (map folded_octet octets)
 
--- a label is put behind others, or left out where it makes them too long
+-- a label is added after others, or left out where it makes them too long
 abbrev pub Joins : List (List ℕ) → List ℕ → Bool → List (List ℕ) → Type 0
-Joins before label true after = (after ≡ before) × (255 < length (wire (before ++ folded_label label ∷ [])))
+Joins before label true after =
+    (after ≡ before) × (255 < length (wire (before ++ folded_label label ∷ [])))
 Joins before label false after = after ≡ before ++ folded_label label ∷ []
 
 -- a label of 1 to 63 octets is closed
-pub record Closes (before : List (List ℕ)) (label : List ℕ) (is_left_out : Bool) (after : List (List ℕ)) : Type 0 where
+pub record Closes (before : List (List ℕ)) (label : List ℕ) (is_left_out : Bool)
+    (after : List (List ℕ)) : Type 0 where
   pub some : 0 < length label
   pub short : length label ≤ 63
   pub joins : Joins before label is_left_out after
@@ -39,13 +41,16 @@ pub data RefusesLabel (label : List ℕ) : NameFault → Type 0 where
 
 -- the reading of a text goes on, with a label open, to what is left
 abbrev pub Goes : List ℕ → List ℕ → List ℕ → Type 0
-Goes text open_label rest = (labels : List (List ℕ)) (n : ℕ) → length text < n → (m : ℕ) × (length rest < m) × (read n labels [] text ≡ read m labels open_label rest)
+Goes text open_label rest =
+    (labels : List (List ℕ)) (n : ℕ) → length text < n
+    → (m : ℕ) × (length rest < m) × (read n labels [] text ≡ read m labels open_label rest)
 
 -- the reading of a text ends with a fault, whatever labels are before it
 abbrev pub Refuses : List ℕ → NameFault → Type 0
-Refuses text fault = (labels : List (List ℕ)) (n : ℕ) → length text < n → read n labels [] text ≡ Err fault
+Refuses text fault =
+    (labels : List (List ℕ)) (n : ℕ) → length text < n → read n labels [] text ≡ Err fault
 
--- the label at the front of a text, and what is left from its dot or the end on
+-- the label that a text begins with, and what is left from its dot or the end on
 pub record EndsLabelAt (text label rest : List ℕ) : Type 0 where
   pub goes : Goes text label rest
   pub ends : EndsLabel rest

@@ -42,7 +42,7 @@ low_labels (label ∷ labels) each = AllByRecursion-append (λ c. c < 256) (with
 low : (labels : List (List ℕ)) → IsName labels → AreLow (wire labels)
 low labels h = AllByRecursion-append (λ c. c < 256) (flat_map with_length labels) (0 ∷ []) (low_labels labels h.each) (omega arith, tt)
 
--- ---- the name at the front of octets
+-- ---- the name at the beginning of octets
 pub appends_name : (octets rest old new : List ℕ) (labels : List (List ℕ)) → BeginsWithSent octets labels rest → new ≡ old ++ wire labels → AppendsValue Name octets rest old new
 appends_name octets rest old new labels b grown = record {
   value = name labels;

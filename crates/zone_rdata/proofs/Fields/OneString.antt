@@ -31,9 +31,9 @@ part : (v : FieldValue) → Suits (Some OneString) v → FitsString v → IsReal
 part (string octets) s fits real = (record { short = fits; each = real }, omega arith)
 part v s fits real = absurd s
 
--- ---- the string at the front of octets
+-- ---- the string at the beginning of octets
 
--- the first octet, and those behind it
+-- the first octet, and those after it
 pub first_behind : (octets : List ℕ) → 1 ≤ length octets → octets ≡ get_or octets 0 0 ∷ drop 1 octets
 first_behind [] some = absurd (omega arith)
 first_behind (c ∷ octets) some = refl

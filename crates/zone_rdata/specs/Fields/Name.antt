@@ -8,7 +8,8 @@ use Rattle.zone_rdata.specs.Fault.{fault_of}
 
 -- the fault of a bare text that is no name under the origin: the name's own first fault
 abbrev pub IsNameFault : List (List ℕ) → List ℕ → Fault → Type 0
-IsNameFault origin text fault = (f : NameFault) × FirstFault (Some origin) text f × (fault ≡ fault_of f)
+IsNameFault origin text fault =
+    (f : NameFault) × FirstFault (Some origin) text f × (fault ≡ fault_of f)
 
 -- a name as it is sent: its labels in any letter case (RFC 4343 3)
 abbrev pub IsSentName : List (List ℕ) → List ℕ → Type 0

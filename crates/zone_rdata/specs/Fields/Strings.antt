@@ -11,7 +11,7 @@ pub record AreStrings (many : List (List ℕ)) : Type 0 where
   pub some : 0 < length many
   pub each : AllByRecursion IsString many
 
--- the strings one behind another in octets, n at the most
+-- the strings one after another in octets, at most n of them
 abbrev pub strings_by : ℕ → List ℕ → List (List ℕ)
 strings_by zero octets = []
 strings_by (suc n) [] = []
@@ -24,7 +24,8 @@ strings_of octets = strings_by (length octets) octets
 -- an item for each string, in order, which spells it
 abbrev pub SpellEachString : List RawItem → List (List ℕ) → Type 0
 SpellEachString [] [] = ⊤
-SpellEachString (item ∷ items) (octets ∷ many) = SpellsString item octets × SpellEachString items many
+SpellEachString (item ∷ items) (octets ∷ many) =
+    SpellsString item octets × SpellEachString items many
 SpellEachString items many = ⊥
 
 -- one item or more spell the strings
@@ -35,7 +36,9 @@ pub record SpellsStrings (items : List RawItem) (many : List (List ℕ)) : Type 
 -- the fault of the leftmost item that spells no string
 abbrev pub FirstStringFault : List RawItem → Fault → Type 0
 FirstStringFault [] fault = ⊥
-FirstStringFault (item ∷ items) fault = StringFault item fault ⊎ ((octets : List ℕ) × SpellsString item octets × FirstStringFault items fault)
+FirstStringFault (item ∷ items) fault =
+    StringFault item fault
+    ⊎ ((octets : List ℕ) × SpellsString item octets × FirstStringFault items fault)
 
 -- why items spell no strings: there is no item, or the leftmost that spells none
 abbrev pub StringsFault : List RawItem → Fault → Type 0

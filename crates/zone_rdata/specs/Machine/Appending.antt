@@ -7,35 +7,40 @@ use Rattle.zone_rdata.specs.Spelling.{SpellEach}
 use Rattle.zone_rdata.specs.declared.field.Field.TheVariants.{Strings}
 
 -- the octets of a value that is stated are appended
-pub record Appends {V : Type 0} (Stated : V → Type 0) (octets : V → List ℕ) (old new : List ℕ) : Type 0 where
+pub record Appends {V : Type 0} (Stated : V → Type 0) (octets : V → List ℕ)
+    (old new : List ℕ) : Type 0 where
   pub value : V
   pub stated : Stated value
   pub written : new ≡ old ++ octets value
 
 -- the octets of the value that items spell for a field are appended
 abbrev pub AppendsField : List (List ℕ) → Field → List RawItem → List ℕ → List ℕ → Type 0
-AppendsField origin field items old new = Appends (SpellsField origin field items) field_octets old new
+AppendsField origin field items old new =
+    Appends (SpellsField origin field items) field_octets old new
 
--- likewise for the field at the front of items, and the rest is behind it
-pub record AppendsFirst (origin : List (List ℕ)) (field : Field) (items rest : List RawItem) (old new : List ℕ) : Type 0 where
+-- likewise for the field that the items begin with; `rest` is what follows it
+pub record AppendsFirst (origin : List (List ℕ)) (field : Field) (items rest : List RawItem)
+    (old new : List ℕ) : Type 0 where
   pub appends : AppendsField origin field (own_items field items) old new
   pub behind : rest ≡ items_behind field items
 
 -- the octets are those of the values that items spell for fields
-pub record AreSpelt (origin : List (List ℕ)) (fields : List Field) (items : List RawItem) (octets : List ℕ) : Type 0 where
+pub record AreSpelt (origin : List (List ℕ)) (fields : List Field) (items : List RawItem)
+    (octets : List ℕ) : Type 0 where
   pub values : List FieldValue
   pub spelt : SpellEach origin fields items values
   pub written : octets ≡ octets_of values
 
 -- octets that begin with a value of the field; strings are all that is left
-pub record BeginsWithValue (field : Field) (octets : List ℕ) (value : FieldValue) (rest : List ℕ) : Type 0 where
+pub record BeginsWithValue (field : Field) (octets : List ℕ) (value : FieldValue)
+    (rest : List ℕ) : Type 0 where
   pub held : Holds field value
   pub front : List ℕ
   pub sent : IsSent value front
   pub parts : octets ≡ front ++ rest
   pub last : field ≡ Strings → rest ≡ []
 
--- the canonical octets of the value at the front are appended
+-- the canonical octets of the value at the beginning are appended
 pub record AppendsValue (field : Field) (octets rest old new : List ℕ) : Type 0 where
   pub value : FieldValue
   pub begins : BeginsWithValue field octets value rest
@@ -43,9 +48,10 @@ pub record AppendsValue (field : Field) (octets rest old new : List ℕ) : Type 
 
 -- octets that begin with no value of the field
 abbrev pub BeginsWithNone : Field → List ℕ → Type 0
-BeginsWithNone field octets = (value : FieldValue) (rest : List ℕ) → BeginsWithValue field octets value rest → ⊥
+BeginsWithNone field octets =
+    (value : FieldValue) (rest : List ℕ) → BeginsWithValue field octets value rest → ⊥
 
--- the front of octets is appended, and the rest is behind it
+-- the first `count` octets are appended; `rest` is what follows them
 pub record AppendsPrefix (count : ℕ) (octets rest old new : List ℕ) : Type 0 where
   pub fits : count ≤ length octets
   pub behind : rest ≡ drop count octets

@@ -16,7 +16,7 @@ abbrev pub part_field : Field → Field
 part_field Strings = OneString
 part_field field = field
 
--- n more strings behind a last field of strings
+-- n more fields of strings after a last field of strings
 abbrev pub more_fields : Field → ℕ → List Field
 more_fields Strings zero = []
 more_fields Strings (suc n) = OneString ∷ more_fields Strings n
@@ -39,7 +39,8 @@ parts_of (Some fields) n octets = values_of (part_fields fields n) octets
 abbrev pub ArePushedParts : Option (List Field) → ℕ → List ℕ → Type 0
 ArePushedParts None zero octets = octets ≡ []
 ArePushedParts None (suc n) octets = n ≡ 0
-ArePushedParts (Some fields) n octets = (length (part_fields fields n) ≡ n) × AreLaidOut (part_fields fields n) octets
+ArePushedParts (Some fields) n octets =
+    (length (part_fields fields n) ≡ n) × AreLaidOut (part_fields fields n) octets
 
 pub record IsBuilt (class kind count : ℕ) (octets : List ℕ) : Type 0 where
   pub is_class : IsClass class
@@ -57,10 +58,11 @@ IsReal (fixed octets) = AllByRecursion (λ c. c < 256) octets
 IsReal (string octets) = AllByRecursion (λ c. c < 256) octets
 IsReal part = ⊤
 
--- why a part can't be put behind octets
+-- why a part can't be added after octets
 pub data IsOver (octets : List ℕ) (part : FieldValue) : Fault → Type 0 where
   over_string : (FitsString part → ⊥) → IsOver octets part StringTooLong
-  over_data : FitsString part → 65535 < length octets + length (field_octets part) → IsOver octets part RdataTooLong
+  over_data : FitsString part → 65535 < length octets + length (field_octets part)
+      → IsOver octets part RdataTooLong
 
 pub record Grows (octets : List ℕ) (part : FieldValue) (new : List ℕ) : Type 0 where
   pub string_fits : FitsString part

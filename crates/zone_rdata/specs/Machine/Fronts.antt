@@ -13,17 +13,18 @@ pub record BeginsWithSent (octets : List ℕ) (labels : List (List ℕ)) (rest :
   pub folds : folded sent ≡ labels
   pub parts : octets ≡ wire sent ++ rest
 
--- octets that begin with a string behind its length
+-- octets that begin with a string after its length
 pub record BeginsWithString (octets : List ℕ) : Type 0 where
   pub some : 0 < length octets
   pub held : IsString (string_at octets)
   pub front : take (length (with_length (string_at octets))) octets ≡ with_length (string_at octets)
 
--- octets that are strings, each behind its length
+-- octets that are strings, each after its length
 pub record HoldsStrings (octets : List ℕ) : Type 0 where
   pub each : AllByRecursion IsString (strings_of octets)
   pub whole : flat_map with_length (strings_of octets) ≡ octets
 
--- octets that are one string or more, each behind its length
+-- octets that are one string or more, each after its length
 abbrev pub AreWithLengths : List ℕ → Type 0
-AreWithLengths octets = (many : List (List ℕ)) × AreStrings many × (octets ≡ flat_map with_length many)
+AreWithLengths octets =
+    (many : List (List ℕ)) × AreStrings many × (octets ≡ flat_map with_length many)

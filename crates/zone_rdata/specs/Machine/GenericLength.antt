@@ -1,4 +1,4 @@
--- The item behind the mark of the generic form (RFC 3597 5).
+-- The item after the mark of the generic form (RFC 3597 5).
 use Rattle.std.specs.Prelude.{ℕ, ◌<◌}
 use Rattle.zone_rdata.specs.declared.fault.Fault.{Fault}
 use Rattle.zone_rdata.specs.declared.fault.Fault.TheVariants.{BadGeneric, RdataTooLong}

@@ -1,4 +1,4 @@
--- How data is printed field by field, and the fields at the front of octets.
+-- How data is printed field by field, and the fields at the beginning of octets.
 use Rattle.std.specs.Prelude.{◌≡◌, ℕ, zero, suc, take, drop, List, [], ◌∷◌, ◌++◌, length, map, codes, decimal, Option, Some, None}
 use Rattle.std.specs.List.{join_with_byte}
 use Rattle.zone_rdata.specs.declared.field.Field.{Field}
@@ -18,7 +18,8 @@ laid_out_text (Some fields) octets = join_with_byte 32 (map field_text (values_o
 -- octets that begin with a value of the field
 pub record BeginsWithField (field : Field) (octets : List ℕ) : Type 0 where
   pub held : Holds field (field_at field octets)
-  pub front : take (length (field_octets (field_at field octets))) octets ≡ field_octets (field_at field octets)
+  pub front : take (length (field_octets (field_at field octets))) octets
+      ≡ field_octets (field_at field octets)
 
 -- the octets after the field at their front
 abbrev pub after_field : Field → List ℕ → List ℕ

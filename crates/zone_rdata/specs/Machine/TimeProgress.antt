@@ -1,4 +1,4 @@
--- What was read of a time: the groups so far, and the digits behind the last of them.
+-- What was read of a time: the groups so far, and the digits after the last of them.
 use Rattle.std.specs.Prelude.{◌≡◌, ℕ, ◌<◌, ◌↔◌, List, ◌++◌, length, min, true, IsTrue}
 use Rattle.std.specs.List.{AllByRecursion, flat_map, sum_by}
 use Rattle.zone_name.specs.Spelling.{is_digit}

@@ -43,8 +43,8 @@ fn push_group(octets: &mut ArrayVec<u8, LENGTH>, text: &[u8]) -> Option<()>
     push_octets(octets, &group)
 }
 
-/// Appends the octets of a group or, where `ends` is so, of four decimal numbers. `None`: the text is neither, or
-/// there is no room.
+/// Appends the octets of a group or, where `ends` is so, of four decimal numbers. `None`: the text
+/// is neither, or there is no room.
 fn push_last(octets: &mut ArrayVec<u8, LENGTH>, text: &[u8], ends: bool) -> Option<()>
     ensures some { OnSome result
         (AppendsSome (IsLastPartOf ends text.now) octets.old.items octets.new.items) }
@@ -60,8 +60,8 @@ fn push_last(octets: &mut ArrayVec<u8, LENGTH>, text: &[u8], ends: bool) -> Opti
     push_octets(octets, &numbers)
 }
 
-/// The octets of groups parted by colons, at most sixteen; where `ends` is so, the last two groups may be four
-/// decimal numbers (RFC 4291 2.2). `None`: the text isn't so.
+/// The octets of groups parted by colons, at most sixteen; where `ends` is so, the last two groups
+/// may be four decimal numbers (RFC 4291 2.2). `None`: the text isn't so.
 pub(super) fn octets_of_parts(text: &[u8], ends: bool) -> Option<ArrayVec<u8, LENGTH>>
     ensures found { IfSome result (λ octets. ArePartsOf ends text.now octets.items) }
     ensures none { IfNone result ((octets : Octets) → ArePartsOf ends text.now octets

@@ -5,7 +5,8 @@ ghost use Rattle.zone_rdata.specs.Machine.AddressReading.{IsCut, Lacks};
 
 use crate::number::decimal_of;
 
-/// What stands before the first of an octet, and what stands after it. `None`: the text lacks the octet.
+/// What stands before the first of an octet, and what stands after it. `None`: the text lacks the
+/// octet.
 pub(super) fn cut_at(text: &[u8], octet: u8) -> Option<(&[u8], &[u8])>
     ensures some { IfSome result (λ parts. IsCut octet text.now parts.0.now parts.1.now) }
     ensures none { IfNone result (Lacks octet text.now) }
@@ -41,7 +42,8 @@ fn octet_before_dot(text: &[u8]) -> Option<(u8, &[u8])>
     Some((octet, rest))
 }
 
-/// The octets of an address in four decimal numbers (RFC 1035 3.4.1). `None`: the text is no such address.
+/// The octets of an address in four decimal numbers (RFC 1035 3.4.1). `None`: the text is no such
+/// address.
 pub(crate) fn ipv4_octets_of(text: &[u8]) -> Option<[u8; 4]>
     ensures found { IfSome result (λ octets. IsIpv4Address text.now octets) }
     ensures none { IfNone result (NothingIs (IsIpv4Address text.now)) }

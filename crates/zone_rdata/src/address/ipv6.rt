@@ -5,7 +5,7 @@ ghost use Rattle.zone_rdata.specs.Machine.AddressReading.{HasGapAt};
 
 use super::groups::octets_of_parts;
 
-/// The place of the first two colons in a row.
+/// The offset of the first two colons in a row.
 fn gap_in(text: &[u8]) -> Option<usize>
     ensures found { IfSome result (λ at. HasGapAt text.now at
         × ((k : ℕ) → k < at → HasGapAt text.now k → ⊥)) }
@@ -35,8 +35,8 @@ fn octets_of_eight(text: &[u8]) -> Option<[u8; 16]>
     Some(octets)
 }
 
-/// The octets of the groups before and after `::`, and of the zero groups between them. `None`: these texts aren't
-/// groups, or there are too many.
+/// The octets of the groups before and after `::`, and of the zero groups between them. `None`:
+/// these texts aren't groups, or there are too many.
 fn octets_around(front: &[u8], back: &[u8]) -> Option<[u8; 16]>
     ensures found { IfSome result (λ octets. AreAround front.now back.now octets) }
     ensures none { IfNone result (NothingIs (AreAround front.now back.now)) }

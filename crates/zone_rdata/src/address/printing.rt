@@ -113,7 +113,7 @@ fn longest_zero_run(groups: &[u16]) -> ZeroRun
     ZeroRun { start, len }
 }
 
-/// The group that begins at a place, its higher octet first.
+/// The group that begins at an offset, its higher octet first.
 fn group_at(octets: &[u8], at: usize) -> u16
     requires { at + 1 < length octets.now }
     ensures { result ≡ slice_index octets.now at * 256 + slice_index octets.now (at + 1) }
@@ -161,7 +161,7 @@ fn text_of_ipv6(octets: &[u8]) -> ArrayVec<u8, ROOM>
 ///
 /// # Errors
 ///
-/// `out` refuses the octets, and holds what it held.
+/// `out` refuses the octets, and is unchanged.
 pub(crate) fn push_ipv4<S: Sink>(octets: &[u8], out: &mut S) -> Result<(), S::Error>
     requires { length octets.now ≡ 4 }
     ensures ok { OnOk result (S.takes out.old (ipv4_text octets.now) out.new) }
@@ -170,11 +170,12 @@ pub(crate) fn push_ipv4<S: Sink>(octets: &[u8], out: &mut S) -> Result<(), S::Er
     out.push(text_of_ipv4(octets).as_slice())
 }
 
-/// Appends the text of sixteen octets, groups with `::` for their longest run of zeros (RFC 5952 4).
+/// Appends the text of sixteen octets, groups with `::` for their longest run of zeros (RFC 5952
+/// 4).
 ///
 /// # Errors
 ///
-/// `out` refuses the octets, and holds what it held.
+/// `out` refuses the octets, and is unchanged.
 pub(crate) fn push_ipv6<S: Sink>(octets: &[u8], out: &mut S) -> Result<(), S::Error>
     requires { length octets.now ≡ 16 }
     ensures ok { OnOk result (S.takes out.old (ipv6_text octets.now) out.new) }

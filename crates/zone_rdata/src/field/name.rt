@@ -27,7 +27,7 @@ pub(crate) fn push_name(
     Ok(())
 }
 
-/// Appends the name at the front of octets, in lower case.
+/// Appends the name at the beginning of octets, in lower case.
 pub(crate) fn push_sent_name<'o>(
     octets: &'o [u8],
     canonical: &mut Vec<u8>,
@@ -44,7 +44,7 @@ pub(crate) fn push_sent_name<'o>(
     Ok(rest)
 }
 
-/// The name at the front of uncompressed octets, in lower case, and the octets after it.
+/// The name at the beginning of uncompressed octets, in lower case, and the octets after it.
 fn name_at(octets: &[u8]) -> Option<(Name, &[u8])>
     ensures found { IfSome result (λ r. BeginsWithSent octets.now r.0 r.1.now) }
     ensures none { IfNone result

@@ -4,7 +4,7 @@ ghost use Rattle.zone_rdata.specs.Machine.Appending.{AppendsPrefix};
 
 use crate::fault::{Failing, Fault};
 
-/// Appends so many octets at the front of octets.
+/// Appends the first `count` of the octets.
 pub(crate) fn push_prefix<'o>(
     count: usize,
     octets: &'o [u8],

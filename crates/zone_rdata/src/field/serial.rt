@@ -20,7 +20,7 @@ pub(crate) fn push_serial(text: &[u8], octets: &mut Vec<u8>) -> Result<(), Narro
     Ok(())
 }
 
-/// The number of 32 bits at the front of octets, and the octets after it.
+/// The number of 32 bits at the beginning of octets, and the octets after it.
 pub(crate) fn split_u32(octets: &[u8]) -> (u32, &[u8])
     requires { 4 ≤ length octets.now }
     ensures number { result.0 ≡ from_be_bytes w32 (take 4 octets.now) }

@@ -9,7 +9,7 @@ use super::Field;
 use super::prefix::push_prefix;
 use crate::fault::{Failing, Fault};
 
-/// Appends the string at the front of octets, with its length.
+/// Appends the string at the beginning of octets, with its length.
 pub(crate) fn push_sent_string<'o>(
     octets: &'o [u8],
     canonical: &mut Vec<u8>,
@@ -25,7 +25,7 @@ pub(crate) fn push_sent_string<'o>(
     }
 }
 
-/// The string at the front of octets, and the octets after it.
+/// The string at the beginning of octets, and the octets after it.
 pub(crate) fn split_string(octets: &[u8]) -> (&[u8], &[u8])
     requires { BeginsWithString octets.now }
     ensures string { result.0.now ≡ string_at octets.now }

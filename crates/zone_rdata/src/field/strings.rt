@@ -19,7 +19,7 @@ use crate::narrow_failing::{Cause, NarrowFailing};
 use crate::string::{push_string, push_string_text};
 use zone_name::Sink;
 
-/// Appends the strings that the items spell, one or more, each behind its length.
+/// Appends the strings that the items spell, one or more, each after its length.
 pub(crate) fn push_strings(items: &[Item], octets: &mut Vec<u8>) -> Result<(), NarrowFailing>
     ensures found { OnOk result
         (Appends (SpellsStrings (map raw items.now)) (flat_map with_length) octets.old.items
@@ -35,7 +35,7 @@ pub(crate) fn push_strings(items: &[Item], octets: &mut Vec<u8>) -> Result<(), N
     Ok(())
 }
 
-/// Appends octets that are one string or more, each behind its length.
+/// Appends octets that are one string or more, each after its length.
 pub(crate) fn push_sent_strings<'o>(
     octets: &'o [u8],
     canonical: &mut Vec<u8>,
@@ -51,7 +51,7 @@ pub(crate) fn push_sent_strings<'o>(
     push_prefix(octets.len(), octets, canonical)
 }
 
-/// Whether octets are one string or more, each behind its length.
+/// Whether octets are one string or more, each after its length.
 fn are_strings(octets: &[u8]) -> bool
     ensures { IsTrue result ↔ AreWithLengths octets.now }
 {

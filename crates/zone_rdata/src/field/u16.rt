@@ -20,7 +20,7 @@ pub(crate) fn push_u16(text: &[u8], octets: &mut Vec<u8>) -> Result<(), NarrowFa
     Ok(())
 }
 
-/// The number of 16 bits at the front of octets, and the octets after it.
+/// The number of 16 bits at the beginning of octets, and the octets after it.
 pub(crate) fn split_u16(octets: &[u8]) -> (u16, &[u8])
     requires { 2 ≤ length octets.now }
     ensures number { result.0 ≡ from_be_bytes w16 (take 2 octets.now) }

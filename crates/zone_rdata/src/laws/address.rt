@@ -19,8 +19,8 @@ pub fn printed_addresses_are_read()
         → IsIpv6Address (ipv6_text octets) octets }
 {}
 
-/// What is printed for an address holds digits, lower-case hexadecimal letters, dots and colons only, so that it is one
-/// item of a master file.
+/// What is printed for an address holds digits, lower-case hexadecimal letters, dots and colons
+/// only, so that it is one item of a master file.
 pub fn printed_addresses_are_plain()
     ensures ipv4 { (octets : Octets) → length octets ≡ 4 → AreOctets octets
         → AllByRecursion IsAddressOctet (ipv4_text octets) }
@@ -28,12 +28,13 @@ pub fn printed_addresses_are_plain()
         → AllByRecursion IsAddressOctet (ipv6_text octets) }
 {}
 
-/// `::` is printed for the longest run of zero groups, the first of equal ones, and for none of fewer than two groups
-/// (RFC 5952 4.2).
+/// `::` is printed for the longest run of zero groups, the first of equal ones, and for none of
+/// fewer than two groups (RFC 5952 4.2).
 pub fn the_longest_zero_run_is_shortened()
     ensures run { (octets : Octets) (start len : ℕ) → IsShortenedRun (segments_of octets) start len
         → ipv6_text octets ≡ shortened_groups (segments_of octets) start len }
-    ensures none { (octets : Octets) → ((start len : ℕ) → IsShortenedRun (segments_of octets) start len → ⊥)
+    ensures none { (octets : Octets)
+        → ((start len : ℕ) → IsShortenedRun (segments_of octets) start len → ⊥)
         → ipv6_text octets ≡ parted_groups (segments_of octets) }
     ensures exists { (groups : List ℕ) (start len : ℕ) → IsZeroRun groups start len → 2 ≤ len
         → (first longest : ℕ) × IsShortenedRun groups first longest }

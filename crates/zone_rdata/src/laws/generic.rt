@@ -28,7 +28,8 @@ pub fn generic_fault_is_unique()
     ensures { (items : List RawItem) → AtMostOneIs (GenericFault items) }
 {}
 
-/// The items that are printed for octets, parted by single spaces, are their text and state those octets.
+/// The items that are printed for octets, parted by single spaces, are their text and state those
+/// octets.
 pub fn printed_octets_are_stated()
     ensures text { (octets : Octets) → generic_text octets ≡ join_with_byte 32
         (map item_text (generic_items octets)) }

@@ -12,7 +12,8 @@ ghost use Rattle.zone_rdata.specs.declared.field.Field.{Field};
 
 use zone_name::laws::{spelling_is_unique, texts_have_one_verdict};
 
-/// A layout has at most seven fields, strings stand last in it, and its addresses have 4 or 16 octets.
+/// A layout has at most seven fields, strings stand last in it, and its addresses have 4 or 16
+/// octets.
 pub fn layouts_are_sound()
     ensures { (class kind : ℕ) (fields : List Field) → layout class kind ≡ Some fields
         → IsLayout fields }
@@ -32,7 +33,8 @@ pub fn stated_data_is_data()
         → States origin class kind items octets → IsData class kind octets }
 {}
 
-/// Items of octets state a value of a class and type under an origin that is a name, or have a first fault.
+/// Items of octets state a value of a class and type under an origin that is a name, or have a
+/// first fault.
 pub fn data_or_fault()
     ensures { (origin : List (List ℕ)) (class kind : ℕ) (items : List RawItem) → IsName origin
         → AllByRecursion (λ item. AllByRecursion (λ c. c < 256) (item_text item)) items

@@ -7,7 +7,8 @@ ghost use Rattle.zone_rdata.specs.Text.{data_text, data_items, written_item};
 
 use zone_name::laws::printed_names_are_spelled;
 
-/// What is printed for data is its items, parted by single spaces, and they state that data under every origin.
+/// What is printed for data is its items, parted by single spaces, and they state that data under
+/// every origin.
 pub fn printed_data_is_stated()
     ensures written { (d : Data) → IsRdata d
         → data_text d ≡ join_with_byte 32 (map written_item (data_items d)) }

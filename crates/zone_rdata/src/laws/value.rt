@@ -13,8 +13,8 @@ pub fn held_values_are_data()
         → length (octets_of values) ≤ 65535 → IsData class kind (octets_of values) }
 {}
 
-/// Values of a layout that does not end in strings are short: at most 7 fields of at most 256 octets each never reach
-/// the limit.
+/// Values of a layout that does not end in strings are short: at most 7 fields of at most 256
+/// octets each never reach the limit.
 pub fn values_without_strings_are_short()
     ensures { (class kind : ℕ) (fields : List Field) (values : List FieldValue)
         → layout class kind ≡ Some fields → AllByRecursion (λ field. field ≢ Strings) fields
@@ -28,7 +28,7 @@ pub fn equal_octets_are_equal_values()
         → octets_of values ≡ octets_of others → values ≡ others }
 {}
 
-/// The values of a layout are got back from their octets.
+/// The values of a layout are read back from their octets.
 pub fn values_are_got_back()
     ensures { (class kind : ℕ) (fields : List Field) (values : List FieldValue)
         → layout class kind ≡ Some fields → HoldEach fields values

@@ -20,7 +20,8 @@ pub fn kind_word_is_unique()
     ensures { (word : Octets) → AtMostOneIs (IsKindWord word) }
 {}
 
-/// A word that has a fault at a type's place is that of no type of which records can be, and it has one fault.
+/// A word that has a fault at a type's place is that of no type of which records can be, and it has
+/// one fault.
 pub fn kind_word_has_one_verdict()
     ensures never_both { (word : Octets) (n : ℕ) (fault : Fault)
         → IsKindWord word n → IsKind n → IsWordFault word fault → ⊥ }
@@ -43,7 +44,8 @@ pub fn kind_word_or_fault()
     ensures { (word : Octets) → EitherIs (λ n. IsKindWord word n × IsKind n) (IsWordFault word) }
 {}
 
-/// The word that is printed for a class is that of the class, and the one for a type, in any class, that of the type.
+/// The word that is printed for a class is that of the class, and the one for a type, in any class,
+/// that of the type.
 pub fn printed_words_are_read()
     ensures class { (n : ℕ) → IsClass n → IsClassWord (class_text n) n }
     ensures kind { (class n : ℕ) → IsKind n → IsKindWord (kind_text class n) n }

@@ -26,7 +26,8 @@ pub record AreDatums (octets : List (List ℕ)) : Type 0 where
 -- the data of a set, if it has any, and one more
 abbrev pub with_datum : Option SetData → ℕ → ℕ → List ℕ → SetData
 with_datum None ttl kind octets = record { ttl = ttl; kind = kind; rdatas = octets ∷ [] }
-with_datum (Some d) ttl kind octets = record { ttl = d.ttl; kind = d.kind; rdatas = insert_key (slice_cmp nat_cmp) d.rdatas octets }
+with_datum (Some d) ttl kind octets =
+    record { ttl = d.ttl; kind = d.kind; rdatas = insert_key (slice_cmp nat_cmp) d.rdatas octets }
 
 -- the data of a set, if it has any, are more with this one
 abbrev pub IsNew : Option SetData → List ℕ → Type 0
@@ -35,7 +36,8 @@ IsNew (Some d) octets = length d.rdatas < length (insert_key (slice_cmp nat_cmp)
 
 -- the record of a set and class with these octets
 abbrev pub set_record : ℕ → RecordSet → SetData → List ℕ → Record
-set_record class s d octets = record { owner = s.owner; class = class; kind = d.kind; ttl = d.ttl; octets = octets }
+set_record class s d octets =
+    record { owner = s.owner; class = class; kind = d.kind; ttl = d.ttl; octets = octets }
 
 -- the records of an entry of the map
 abbrev pub entry_records : ℕ → RecordSet × SetData → List Record
@@ -52,7 +54,9 @@ class_or_none (Some class) = class
 -- an entry holds one or more data in order, and all are of the set under which it stands
 pub record IsKept (e : RecordSet × SetData) : Type 0 where
   pub datums : AreDatums e.1.rdatas
-  pub set : AllByRecursion (λ octets. set_for e.0.owner (record { class = 0; kind = e.1.kind; octets = octets }) ≡ e.0) e.1.rdatas
+  pub set : AllByRecursion
+      (λ octets. set_for e.0.owner (record { class = 0; kind = e.1.kind; octets = octets })
+      ≡ e.0) e.1.rdatas
 
 -- sets whose records stand together; there are none where no class is known, and some where one is
 pub record HoldsSets (class : Option ℕ) (entries : List (RecordSet × SetData)) : Type 0 where
@@ -62,9 +66,11 @@ pub record HoldsSets (class : Option ℕ) (entries : List (RecordSet × SetData)
   pub some : IfSome class (λ _. entries ≢ [])
 
 -- such sets, and the octets that their records take in messages, as far as 64 bits count them
-pub record KeepsSets (class : Option ℕ) (entries : List (RecordSet × SetData)) (counted : ℕ) : Type 0 where
+pub record KeepsSets (class : Option ℕ) (entries : List (RecordSet × SetData))
+    (counted : ℕ) : Type 0 where
   pub sets : HoldsSets class entries
-  pub octets : counted ≡ min (message_octets (all_records (class_or_none class) entries)) (2 ^ 64 - 1)
+  pub octets : counted
+      ≡ min (message_octets (all_records (class_or_none class) entries)) (2 ^ 64 - 1)
 
 -- the owner of the first of these records that lies outside the zone of the apex
 pub record IsFirstOutside (records : List Record) (apex owner : List (List ℕ)) : Type 0 where

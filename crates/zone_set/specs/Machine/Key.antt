@@ -1,5 +1,5 @@
--- The key of a set of records: octets whose plain order is the order of sets (RFC 4034 6.1; the SOA first is this
--- project's choice).
+-- The key of a set of records: octets whose plain order is the order of sets (RFC 4034 6.1; the SOA
+-- first is this project's choice).
 use Rattle.std.specs.Prelude.{◌≡◌, ℕ, zero, suc, ◌+◌, ◌*◌, ◌-◌, ◌/◌, ◌%◌, ◌<◌, List, [], ◌∷◌, ◌++◌, ◌==◌, if◌then◌else◌, length, take, drop, reverse, slice_index}
 use Rattle.std.proofs.lemmas.Cmp.{on_total, then_total, lists_total, nat_cmp_total, nat_list_cmp_total}
 use Rattle.std.specs.Cmp.{IsTotalOrder}
@@ -12,7 +12,8 @@ use Rattle.zone_name.specs.Order.{name_cmp}
 use Rattle.zone_rdata.specs.Record.{Data}
 use Rattle.zone_set.specs.Zone.{covered_octets}
 
--- a set of records: owner, type and, for RRSIG, the octets of the type covered (RFC 2181 5, RFC 4034 3)
+-- a set of records: owner, type and, for RRSIG, the octets of the type covered (RFC 2181 5, RFC
+-- 4034 3)
 pub record RecordSet : Type 0 where
   pub owner : List (List ℕ)
   pub kind : ℕ
@@ -32,7 +33,10 @@ set_rank s = if s.kind == 6 then 0 else 1
 
 -- the order of sets: the SOA first, then by owner, type number and type covered
 abbrev pub set_cmp : RecordSet → RecordSet → Ordering
-set_cmp = then_cmp (on set_rank nat_cmp) (then_cmp (on (λ s. s.owner) name_cmp) (then_cmp (on (λ s. s.kind) nat_cmp) (on (λ s. s.covered) (slice_cmp nat_cmp))))
+set_cmp =
+    then_cmp (on set_rank nat_cmp)
+    (then_cmp (on (λ s. s.owner) name_cmp)
+    (then_cmp (on (λ s. s.kind) nat_cmp) (on (λ s. s.covered) (slice_cmp nat_cmp))))
 
 -- it is total
 pub names_total : IsTotalOrder name_cmp
@@ -40,10 +44,12 @@ names_total = on_total (reverse {A = List ℕ}) (lists_total nat_list_cmp_total)
 
 pub sets_total : IsTotalOrder set_cmp
 sets_total =
-    then_total (on_total set_rank nat_cmp_total) (then_total (on_total (λ s. s.owner) names_total) (then_total (on_total (λ s. s.kind) nat_cmp_total)
+    then_total (on_total set_rank nat_cmp_total)
+    (then_total (on_total (λ s. s.owner) names_total)
+    (then_total (on_total (λ s. s.kind) nat_cmp_total)
     (on_total (λ s. s.covered) nat_list_cmp_total)))
 
--- an octet of a label, so that no octet is 0: 0 and 1 go behind a 1
+-- an octet of a label, so that no octet is 0: a 1 stands before 0 and 1
 abbrev pub escaped_octet : ℕ → List ℕ
 escaped_octet zero = 1 ∷ 1 ∷ []
 escaped_octet (suc zero) = 1 ∷ 2 ∷ []
@@ -60,7 +66,7 @@ labels_key labels = flat_map label_key labels ++ 0 ∷ []
 abbrev pub owner_key : List (List ℕ) → List ℕ
 owner_key owner = labels_key (reverse owner)
 
--- each octet behind a 1, and a 0 behind the last
+-- each octet after a 1, and a 0 after the last
 abbrev pub covered_key : List ℕ → List ℕ
 covered_key [] = 0 ∷ []
 covered_key (c ∷ octets) = 1 ∷ c ∷ covered_key octets
@@ -69,19 +75,23 @@ covered_key (c ∷ octets) = 1 ∷ c ∷ covered_key octets
 abbrev pub owner_tail : List (List ℕ) → List ℕ
 owner_tail owner = wire owner ++ length (wire owner) ∷ []
 
--- what orders the sets, and behind it the owner as it is lent
+-- what orders the sets, and after it the owner as the key lends it
 abbrev pub set_octets : RecordSet → List ℕ
-set_octets s = set_rank s ∷ (owner_key s.owner ++ (s.kind / 256 ∷ s.kind % 256 ∷ (covered_key s.covered ++ owner_tail s.owner)))
+set_octets s =
+    set_rank s ∷
+    (owner_key s.owner
+    ++ (s.kind / 256 ∷ s.kind % 256 ∷ (covered_key s.covered ++ owner_tail s.owner)))
 
--- the front of octets but for the last, and what the last one counts from its end
+-- all octets but the last, and what the last one counts from its end
 abbrev pub last_part : List ℕ → ℕ → List ℕ
 last_part front count = drop (length front - count) front
 
 -- the owner's octets in a key
 abbrev pub wire_part : List ℕ → List ℕ
-wire_part octets = last_part (take (length octets - 1) octets) (slice_index octets (length octets - 1))
+wire_part octets =
+    last_part (take (length octets - 1) octets) (slice_index octets (length octets - 1))
 
--- the octets that stand behind a 1
+-- the octets that stand after a 1
 abbrev pub covered_read : List ℕ → List ℕ
 covered_read [] = []
 covered_read (zero ∷ rest) = []
@@ -92,11 +102,14 @@ covered_read (suc n ∷ c ∷ rest) = c ∷ covered_read rest
 abbrev pub set_behind : List (List ℕ) → List ℕ → RecordSet
 set_behind owner [] = record { owner = owner; kind = 0; covered = [] }
 set_behind owner (high ∷ []) = record { owner = owner; kind = 0; covered = [] }
-set_behind owner (high ∷ low ∷ rest) = record { owner = owner; kind = high * 256 + low; covered = covered_read rest }
+set_behind owner (high ∷ low ∷ rest) =
+    record { owner = owner; kind = high * 256 + low; covered = covered_read rest }
 
 -- the set whose key it is
 unfoldable pub set_of : List ℕ → RecordSet
-set_of octets = set_behind (labels_of (wire_part octets)) (drop (1 + length (owner_key (labels_of (wire_part octets)))) octets)
+set_of octets =
+    set_behind (labels_of (wire_part octets))
+    (drop (1 + length (owner_key (labels_of (wire_part octets)))) octets)
 
 -- octets that are the key of their set
 pub record IsSetKey (octets : List ℕ) : Type 0 where

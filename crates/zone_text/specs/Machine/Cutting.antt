@@ -1,4 +1,5 @@
--- How a master file is cut from the left: what stands at its front, and what the rest makes of it (RFC 1035 5.1).
+-- How a master file is cut from the left: what stands at its beginning, and what the rest makes of
+-- it (RFC 1035 5.1).
 use Rattle.std.specs.Prelude.{ℕ, zero, suc, ◌-◌, List, [], ◌∷◌, length, ◌==◌, if◌then◌else◌, Option, Some, None}
 use Rattle.zone_name.specs.Spelling.{Written}
 use Rattle.zone_name.specs.Machine.Units.{Units, units_first}
@@ -7,7 +8,7 @@ use Rattle.zone_rdata.specs.declared.fault.Fault.{Fault}
 use Rattle.zone_rdata.specs.declared.fault.Fault.TheVariants.{BadEscape, UnclosedQuote, UnbalancedParenthesis}
 use Rattle.zone_text.specs.Pieces.{Piece, blank, opening, closing, line_feed, comment, bare, quoted, is_blank, ends_item}
 
--- ---- a comment's octets, and what is behind them
+-- ---- a comment's octets, and the rest
 
 unfoldable pub before_line_feed : List ℕ → List ℕ
 before_line_feed [] = []
@@ -17,7 +18,7 @@ unfoldable pub from_line_feed : List ℕ → List ℕ
 from_line_feed [] = []
 from_line_feed (c ∷ rest) = if c == 10 then c ∷ rest else from_line_feed rest
 
--- ---- the piece at the front of a text
+-- ---- the first token of a text
 
 -- what an octet is where no item, comment or quote is open
 pub data Sign : Type 0 where
@@ -39,22 +40,23 @@ sign_of c =
     else if c == 59 then a_semicolon
     else of_item
 
--- a piece and what is behind it, or the end: of a text that is cut, or with a fault
+-- a token and the rest, or the end: of a text that is cut, or with a fault
 pub data Front : Type 0 where
   takes : Piece → List ℕ → Front
   stops : Option Fault → Front
 
--- behind the units of a quoted item
+-- after the units of a quoted item
 abbrev pub quoted_front : List Written → List ℕ → Front
 quoted_front units [] = stops (Some UnclosedQuote)
-quoted_front units (c ∷ rest) = if is_quote c then takes (quoted units) rest else stops (Some BadEscape)
+quoted_front units (c ∷ rest) =
+    if is_quote c then takes (quoted units) rest else stops (Some BadEscape)
 
--- behind the units of a bare item
+-- after the units of a bare item
 abbrev pub bare_front : List Written → List ℕ → Front
 bare_front [] rest = stops (Some BadEscape)
 bare_front (w ∷ units) rest = takes (bare (w ∷ units)) rest
 
--- at a depth of parentheses, by the first octet and what is behind it
+-- at a depth of parentheses, by the first octet and the rest
 abbrev pub front_by : ℕ → ℕ → List ℕ → Sign → Front
 front_by depth c rest a_blank = takes (blank c) rest
 front_by depth c rest a_line_feed = takes line_feed rest
@@ -62,8 +64,10 @@ front_by depth c rest an_opening = takes opening rest
 front_by zero c rest a_closing = stops (Some UnbalancedParenthesis)
 front_by (suc depth) c rest a_closing = takes closing rest
 front_by depth c rest a_semicolon = takes (comment (before_line_feed rest)) (from_line_feed rest)
-front_by depth c rest a_quote = let found : Units = units_first is_quote rest in quoted_front found.units found.rest
-front_by depth c rest of_item = let found : Units = units_first ends_item (c ∷ rest) in bare_front found.units found.rest
+front_by depth c rest a_quote =
+    let found : Units = units_first is_quote rest in quoted_front found.units found.rest
+front_by depth c rest of_item =
+    let found : Units = units_first ends_item (c ∷ rest) in bare_front found.units found.rest
 
 -- where the text ends
 abbrev pub end_front : ℕ → Front
@@ -76,26 +80,29 @@ front_of depth (c ∷ rest) = front_by depth c rest (sign_of c)
 
 -- ---- the whole text
 
--- the depth behind a piece
+-- the depth after a token
 abbrev pub depth_behind : ℕ → Piece → ℕ
 depth_behind depth opening = suc depth
 depth_behind depth closing = depth - 1
 depth_behind depth p = depth
 
--- the pieces of a text, or of its front where it breaks, and the fault with which it breaks
+-- the tokens of a text, or of its beginning where it breaks, and the fault with which it breaks
 pub record Cutting : Type 0 where
   pub pieces : List Piece
   pub broken : Option Fault
 
 abbrev pub cut_on : (ℕ → List ℕ → Cutting) → ℕ → Front → Cutting
 cut_on go_on depth (stops fault) = record { pieces = []; broken = fault }
-cut_on go_on depth (takes p rest) = let more : Cutting = go_on (depth_behind depth p) rest in record { pieces = p ∷ more.pieces; broken = more.broken }
+cut_on go_on depth (takes p rest) =
+    let more : Cutting = go_on (depth_behind depth p) rest in
+    record { pieces = p ∷ more.pieces; broken = more.broken }
 
--- n pieces at the most
+-- at most n tokens
 unfoldable pub cut_by : ℕ → ℕ → List ℕ → Cutting
 cut_by zero depth octets = record { pieces = []; broken = None }
 cut_by (suc n) depth octets = cut_on (cut_by n) depth (front_of depth octets)
 
--- each piece takes an octet or more, so one more than the octets is enough for all pieces and the end
+-- each token takes an octet or more, so one more than the octets is enough for all tokens and the
+-- end
 unfoldable pub cutting : List ℕ → Cutting
 cutting octets = cut_by (suc (length octets)) zero octets

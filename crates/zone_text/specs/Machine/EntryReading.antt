@@ -1,4 +1,4 @@
--- How an entry is read behind others that left defaults.
+-- How an entry is read after others that left defaults.
 use Rattle.std.specs.Prelude.{◌≡◌, ℕ, List, [], ◌∷◌, ◌++◌, Option, Some, None, MatchOption}
 use Rattle.std.specs.Option.{option_or}
 use Rattle.zone_name.specs.Common.{Labels}
@@ -21,20 +21,29 @@ use Rattle.zone_text.specs.Inherited.{IsLastOwner, IsOwner, IsTtl, one_bare, ttl
 use Rattle.zone_text.specs.Records.{Head, HasHead, StatesNothing, StatesRecord}
 use Rattle.zone_text.specs.declared.defaults.Defaults.{Defaults}
 
--- an entry that states no record, and what is left to those behind it
+-- an entry that states no record, and what is left to those after it
 abbrev pub LeavesNoRecord : Labels → List Entry → Entry → Defaults → Type 0
-LeavesNoRecord origin before entry next = StatesNothing origin before (form_of entry) × AreDefaults origin (entry ∷ before) next
+LeavesNoRecord origin before entry next =
+    StatesNothing origin before (form_of entry) × AreDefaults origin (entry ∷ before) next
 
--- What an entry at a place decides behind what was decided, and what is left to those behind it: nothing; the record that
--- it states; or its fault, behind which nothing is said of what is left
-pub data DecidesEntry (origin : Labels) (before : List Entry) (entry : Entry) (place : Place) (old new : Reading) (next : Defaults) : Type 0 where
-  decides_none : LeavesNoRecord origin before entry next → new ≡ old → DecidesEntry origin before entry place old new next
-  decides_one : (r : Record) → StatesRecord origin before entry r → AreDefaults origin (entry ∷ before) next → new.placed.items ≡ old.placed.items ++ (record { rr = r; place = place }) ∷ [] → new.ending ≡ old.ending → DecidesEntry origin before entry place old new next
-  decides_fault : (fault : Fault) → EntryFault origin before entry fault → new.placed.items ≡ old.placed.items → new.ending ≡ Some (fault, place) → DecidesEntry origin before entry place old new next
+-- What an entry at a place decides after what was decided, and what is left to those after it:
+-- nothing; the record that it states; or its fault, after which nothing is said of what is left
+pub data DecidesEntry (origin : Labels) (before : List Entry) (entry : Entry) (place : Place)
+    (old new : Reading) (next : Defaults) : Type 0 where
+  decides_none : LeavesNoRecord origin before entry next → new ≡ old
+      → DecidesEntry origin before entry place old new next
+  decides_one : (r : Record) → StatesRecord origin before entry r
+      → AreDefaults origin (entry ∷ before) next
+      → new.placed.items ≡ old.placed.items ++ (record { rr = r; place = place }) ∷ []
+      → new.ending ≡ old.ending → DecidesEntry origin before entry place old new next
+  decides_fault : (fault : Fault) → EntryFault origin before entry fault
+      → new.placed.items ≡ old.placed.items → new.ending ≡ Some (fault, place)
+      → DecidesEntry origin before entry place old new next
 
--- the fault is the last word
+-- the fault is decided, and nothing after it
 abbrev pub Refuses : Failing → Place → Reading → Reading → Type 0
-Refuses (failings.Fault fault) place old new = (new.placed.items ≡ old.placed.items) × (new.ending ≡ Some (fault, place))
+Refuses (failings.Fault fault) place old new =
+    (new.placed.items ≡ old.placed.items) × (new.ending ≡ Some (fault, place))
 Refuses failings.Memory place old new = ⊥
 
 abbrev pub with_owner : Option Labels → Defaults → Defaults
@@ -47,21 +56,25 @@ with_owner owner d = record {
   minimum = d.minimum;
 }
 
--- A record entry behind others that left defaults, but for the owner, which is the entry's: that owner, and the items
--- behind it
-pub record IsRecordEntry (origin : Labels) (before : List Entry) (entry : Entry) (d : Defaults) (name : Labels) (items : List RawItem) : Type 0 where
+-- A record entry after others that left defaults, but for the owner, which is the entry's: that
+-- owner, and the items after it
+pub record IsRecordEntry (origin : Labels) (before : List Entry) (entry : Entry) (d : Defaults)
+    (name : Labels) (items : List RawItem) : Type 0 where
   pub held : Option Labels
   pub defaults : AreDefaults origin before (with_owner held d)
   pub owner : IsOwner origin before (form_of entry) name
   pub parts : parts_of entry ≡ Some (parts_behind [] items)
 
--- the owner of a record entry and of those behind it, or the fault that there is none
+-- the owner of a record entry and of those after it, or the fault that there is none
 abbrev pub HasOwnerOrNone : Labels → List Entry → Entry → Defaults → List RawItem → Type 0
 HasOwnerOrNone origin before entry d items =
-    MatchOption d.owner (EntryFault origin before entry NoOwner) (λ name. IsRecordEntry origin before entry d name items × IsLastOwner origin (entry ∷ before) name)
+    MatchOption d.owner (EntryFault origin before entry NoOwner)
+    (λ name. IsRecordEntry origin before entry d name items
+    × IsLastOwner origin (entry ∷ before) name)
 
 -- a record entry up to its data, and the TTL that is looked for
-pub record IsReadTo (origin : Labels) (before : List Entry) (entry : Entry) (d : Defaults) (head : Head) (own : Option ℕ) (rdata : Data) (last found : Option ℕ) : Type 0 where
+pub record IsReadTo (origin : Labels) (before : List Entry) (entry : Entry) (d : Defaults)
+    (head : Head) (own : Option ℕ) (rdata : Data) (last found : Option ℕ) : Type 0 where
   pub held : Option Labels
   pub defaults : AreDefaults origin before (with_owner held d)
   pub has : HasHead origin before entry head
@@ -73,7 +86,8 @@ pub record IsReadTo (origin : Labels) (before : List Entry) (entry : Entry) (d :
   pub ttl : found ≡ option_or (option_or (option_or own d.default_ttl) d.last_ttl) last
 
 -- a record entry of the owner up to its data and TTL
-pub record ReadsContents (origin : Labels) (before : List Entry) (entry : Entry) (d : Defaults) (name : Labels) (own : Option ℕ) (rdata : Data) (last : Option ℕ) (ttl : ℕ) : Type 0 where
+pub record ReadsContents (origin : Labels) (before : List Entry) (entry : Entry) (d : Defaults)
+    (name : Labels) (own : Option ℕ) (rdata : Data) (last : Option ℕ) (ttl : ℕ) : Type 0 where
   pub head : Head
   pub named : head.owner ≡ name
   pub read : IsReadTo origin before entry d head own rdata last (Some ttl)

@@ -19,23 +19,29 @@ use Rattle.zone_text.specs.declared.source.Status.{Status}
 use Rattle.zone_text.specs.declared.source.Status.TheVariants.{Open, Finished, OutOfMemory}
 use Rattle.zone_text.specs.declared.scan.Step.TheVariants.{On}
 
--- An entry was read behind others: the record that it states came behind theirs, or its fault is the last word. If it is
--- no fault, the defaults and the line are those behind the entry.
-pub record ReadsEntry (origin : Labels) (before : List Entry) (pieces : List Piece) (old new : EndedEntries) : Type 0 where
+-- An entry was read after others: the record that it states came after theirs, or its fault was
+-- decided. If it is no fault, the defaults and the line are those after the entry.
+pub record ReadsEntry (origin : Labels) (before : List Entry) (pieces : List Piece)
+    (old new : EndedEntries) : Type 0 where
   pub others : List Placed
   pub read : ReadEach origin None before (entry_of old.line pieces ∷ []) others new.decided.ending
   pub records : new.decided.placed.items ≡ old.decided.placed.items ++ others
-  pub defaults : new.decided.ending ≡ None → AreDefaults origin (entry_of old.line pieces ∷ before) new.defaults
+  pub defaults : new.decided.ending ≡ None
+      → AreDefaults origin (entry_of old.line pieces ∷ before) new.defaults
   pub line : new.decided.ending ≡ None → new.line ≡ old.line + count_by (λ c. c == 10) (text pieces)
 
--- octets are read as the entry behind others, whatever these are
+-- octets are read as the entry after others, whatever these are
 pub record ReadsOctets (octets : List ℕ) (old new : EndedEntries) : Type 0 where
-  pub reads : (origin : Labels) (before : List Entry) (pieces : List Piece) → AreDefaults origin before old.defaults → Cuts octets pieces → ReadsEntry origin before pieces old new
+  pub reads : (origin : Labels) (before : List Entry) (pieces : List Piece)
+      → AreDefaults origin before old.defaults → Cuts octets pieces
+      → ReadsEntry origin before pieces old new
   pub later : old.line ≤ new.line
   pub near : new.line ≤ old.line + length octets
 
--- the entries that were read and the octets behind them follow from the octets fed and the records given
-pub record Follow (origin : Labels) (ended : EndedEntries) (unfinished : List ℕ) (fed : List ℕ) (given : List Placed) : Type 0 where
+-- the entries that were read and the octets after them follow from the octets fed and the records
+-- given
+pub record Follow (origin : Labels) (ended : EndedEntries) (unfinished : List ℕ) (fed : List ℕ)
+    (given : List Placed) : Type 0 where
   pub decided : Decided origin fed (given ++ ended.decided.placed.items) ended.decided.ending
   pub leave : ended.decided.ending ≡ None → Leave origin fed ended.defaults ended.line unfinished
 
@@ -56,12 +62,16 @@ reach s = s.ended.line + length s.unfinished.items
 -- what follows from the octets before goes on with these
 abbrev pub FollowOn : Intake → List ℕ → Intake → Type 0
 FollowOn old part new =
-    (origin : Labels) (fed : List ℕ) (given : List Placed) → Follow origin old.ended old.unfinished.items fed given → Follow origin new.ended new.unfinished.items (fed ++ part) given
+    (origin : Labels) (fed : List ℕ) (given : List Placed)
+    → Follow origin old.ended old.unfinished.items fed given
+    → Follow origin new.ended new.unfinished.items (fed ++ part) given
 
 -- what is read of a file that ends there
 abbrev pub ReadsAll : Intake → Intake → Type 0
 ReadsAll old new =
-    (origin : Labels) (fed : List ℕ) (given : List Placed) → Follow origin old.ended old.unfinished.items fed given → FileReads origin fed (given ++ new.ended.decided.placed.items) new.ended.decided.ending
+    (origin : Labels) (fed : List ℕ) (given : List Placed)
+    → Follow origin old.ended old.unfinished.items fed given
+    → FileReads origin fed (given ++ new.ended.decided.placed.items) new.ended.decided.ending
 
 abbrev pub is_failed : Status → Bool
 is_failed Open = false
@@ -76,12 +86,26 @@ is_finished OutOfMemory = false
 -- a source as contracts see it
 abbrev pub state_of : Status → ℕ → EndedEntries → List ℕ → SourceState
 state_of status fed ended unfinished = record {
-  pending = record { failed = is_failed status; records = ended.decided.placed.items; ending = ended.decided.ending };
-  held = record { finished = is_finished status; fed = fed; defaults = ended.defaults; line = ended.line; unfinished = unfinished };
+  pending =
+      record {
+        failed = is_failed status;
+        records = ended.decided.placed.items;
+        ending = ended.decided.ending;
+      };
+  held =
+      record {
+        finished = is_finished status;
+        fed = fed;
+        defaults = ended.defaults;
+        line = ended.line;
+        unfinished = unfinished;
+      };
 }
 
--- what a source holds: nothing of the unfinished entry once it has failed or the file has ended, and numbers that fit
-pub record IsSource (status : Status) (fed : ℕ) (ended : EndedEntries) (at : ScanState) (unfinished : List ℕ) : Type 0 where
+-- what a source holds: nothing of the unfinished entry once it has failed or the file has ended,
+-- and numbers that fit
+pub record IsSource (status : Status) (fed : ℕ) (ended : EndedEntries) (at : ScanState)
+    (unfinished : List ℕ) : Type 0 where
   pub is : is_failed status ≡ false → IsIntake ended at unfinished
   pub line : is_failed status ≡ false → ended.line + length unfinished ≤ fed + 1
   pub fits : fed + 1 < 2 ^ 64

@@ -1,4 +1,5 @@
--- How the octets of a master file are taken one by one: what each leaves open, and where an entry ends (RFC 1035 5.1).
+-- How the octets of a master file are taken one by one: what each leaves open, and where an entry
+-- ends (RFC 1035 5.1).
 use Rattle.std.specs.Prelude.{◌≡◌, ℕ, zero, ◌+◌, ◌-◌, Bool, true, List, [], ◌∷◌, drop, ◌==◌, ◌&&◌, ◌||◌, nat_le, if◌then◌else◌, Option, Some, None}
 use Rattle.zone_name.specs.Spelling.{decimal, octet_of, is_digit}
 use Rattle.zone_rdata.specs.declared.fault.Fault.{Fault}
@@ -63,7 +64,8 @@ abbrev pub ends_number : ℕ → ℕ → ℕ → Bool
 ends_number x y c = is_digit c && nat_le (octet_of (decimal x y c)) 255
 
 abbrev pub behind_backslash : Escape → ℕ → Behind
-behind_backslash Begun c = if is_digit c then Inside (One c) else (if c == 10 || c == 13 then Lost else Whole)
+behind_backslash Begun c =
+    if is_digit c then Inside (One c) else (if c == 10 || c == 13 then Lost else Whole)
 behind_backslash (One x) c = if is_digit c then Inside (Two x c) else Lost
 behind_backslash (Two x y) c = if ends_number x y c then Whole else Lost
 
@@ -77,8 +79,10 @@ abbrev pub step_in : Mode → ℕ → ℕ → Step
 step_in Open depth c = open_step depth c
 step_in Quoted depth c = quoted_step depth c
 step_in Comment depth c = comment_step depth c
-step_in (Escaped escape) depth c = escape_step (λ e. Escaped e) Open depth (behind_backslash escape c)
-step_in (QuotedEscaped escape) depth c = escape_step (λ e. QuotedEscaped e) Quoted depth (behind_backslash escape c)
+step_in (Escaped escape) depth c =
+    escape_step (λ e. Escaped e) Open depth (behind_backslash escape c)
+step_in (QuotedEscaped escape) depth c =
+    escape_step (λ e. QuotedEscaped e) Quoted depth (behind_backslash escape c)
 
 abbrev pub step_of : ScanState → ℕ → Step
 step_of at c = step_in at.mode at.depth c
@@ -105,7 +109,8 @@ open_at depth = record { mode = Open; depth = depth }
 
 -- there, the first n octets lead nowhere else
 abbrev pub AreQuiet : List ℕ → ℕ → Type 0
-AreQuiet octets n = (depth : ℕ) → scan_of (open_at depth) octets ≡ further n (scan_of (open_at depth) (drop n octets))
+AreQuiet octets n =
+    (depth : ℕ) → scan_of (open_at depth) octets ≡ further n (scan_of (open_at depth) (drop n octets))
 
 -- ---- the end of the input
 
@@ -126,7 +131,7 @@ end_fault_of at = fault_in at.mode at.depth
 
 -- ---- one entry
 
--- the octets are the pieces of one entry, with the line feed that ends it
+-- the octets are the tokens of one entry, with the line feed that ends it
 pub record IsOneEntry (octets : List ℕ) (pieces : List Piece) : Type 0 where
   pub cut : Cuts octets pieces
   pub ended : cut_from zero pieces ≡ record { ended = pieces ∷ []; open_pieces = [] }

@@ -12,7 +12,8 @@ use Rattle.zone_text.specs.declared.words.Words.{Words}
 pub record HaveValues (words : List Word) (values : Words) : Type 0 where
   pub each : AllByRecursion HasValue words
   pub ttl : IsTtlOrNone (ttl_among words) values.ttl
-  pub class : MatchOption (class_among words) (values.class ≡ None) (λ word. IsSomeAnd values.class (IsClassWord word))
+  pub class : MatchOption (class_among words) (values.class ≡ None)
+      (λ word. IsSomeAnd values.class (IsClassWord word))
 
 -- the parts are words of these values and the items from the type on
 pub record ArePartsOf (parts : Parts) (values : Words) (behind : List RawItem) : Type 0 where

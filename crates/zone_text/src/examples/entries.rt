@@ -8,19 +8,22 @@ use zone_rdata::laws::word::kind_word_is_unique;
 
 /// A TTL and a class stand in either order, each once: a second one is the type's word.
 pub fn words_before_the_type()
-    ensures class_first { parts_behind [] (bare (codes "IN") ∷ bare (codes "60") ∷ bare (codes "A") ∷ [])
+    ensures class_first { parts_behind []
+        (bare (codes "IN") ∷ bare (codes "60") ∷ bare (codes "A") ∷ [])
         ≡ record {
           words = class (codes "IN") ∷ ttl (codes "60") ∷ [];
           rest = bare (codes "A")
               ∷ [];
         } }
-    ensures second_ttl { parts_behind [] (bare (codes "60") ∷ bare (codes "6x") ∷ bare (codes "A") ∷ [])
+    ensures second_ttl { parts_behind []
+        (bare (codes "60") ∷ bare (codes "6x") ∷ bare (codes "A") ∷ [])
         ≡ record {
           words = ttl (codes "60") ∷ [];
           rest = bare (codes "6x") ∷ bare (codes "A")
               ∷ [];
         } }
-    ensures second_class { parts_behind [] (bare (codes "IN") ∷ bare (codes "CLASS0") ∷ bare (codes "A") ∷ [])
+    ensures second_class { parts_behind []
+        (bare (codes "IN") ∷ bare (codes "CLASS0") ∷ bare (codes "A") ∷ [])
         ≡ record {
           words = class (codes "IN") ∷ [];
           rest = bare (codes "CLASS0") ∷ bare (codes "A")
@@ -28,13 +31,15 @@ pub fn words_before_the_type()
         } }
 {}
 
-/// An entry that begins with a blank has the owner stated last, and a TTL left out is the one stated last.
+/// An entry that begins with a blank has the owner stated last, and a TTL left out is the one
+/// stated last.
 pub fn owner_and_ttl_are_inherited()
     ensures { Reads (codes "@ 60 NS n.x.\n NS n.x.\n")
         (at_line 1 (ns x 1 60) ∷ at_line 2 (ns x 1 60) ∷ []) None }
 {}
 
-/// An entry goes on inside parentheses over the ends of lines, and the entry behind it stands at its own line.
+/// An entry goes on inside parentheses over the ends of lines, and the entry after it stands at its
+/// own line.
 pub fn an_entry_may_take_several_lines()
     ensures { Reads (codes "@ 60 NS (\n n.x.\n)\n NS n.x.\n")
         (at_line 1 (ns x 1 60) ∷ at_line 4 (ns x 1 60) ∷ []) None }
@@ -52,7 +57,7 @@ pub fn origins_are_nested()
         (at_line 3 (ns (under 98 (under 97 x)) 1 60) ∷ []) None }
 {}
 
-/// An owner left out behind `$ORIGIN` is still the name stated last, unchanged.
+/// An owner left out after `$ORIGIN` is still the name stated last, unchanged.
 pub fn an_owner_keeps_its_origin()
     ensures { Reads (codes "@ 60 NS n.x.\n$ORIGIN a\n 60 NS n.x.\n")
         (at_line 1 (ns x 1 60) ∷ at_line 3 (ns x 1 60) ∷ []) None }
@@ -64,7 +69,7 @@ pub fn a_class_is_inherited()
         (at_line 1 (ns x 3 60) ∷ at_line 2 (ns x 3 60) ∷ []) None }
 {}
 
-/// Where no TTL is stated, the MINIMUM of the SOA is that of the records behind it and its own.
+/// Where no TTL is stated, the MINIMUM of the SOA is that of the records after it and its own.
 pub fn the_minimum_is_the_last_choice()
     ensures { Reads (codes "@ SOA n h 1 2 3 4 5\n NS n\n")
         (at_line 1 (soa 5) ∷ at_line 2 (ns x 1 5) ∷ []) None }

@@ -63,7 +63,7 @@ pub fn breaks_come_first()
     ensures open_at_the_end { Reads (codes "( ; c") [] (fault_at 1 UnbalancedParenthesis) }
 {}
 
-/// The records in front of a break are given.
+/// The records before a break are given.
 pub fn records_before_an_open_quote()
     ensures { Reads
         (codes "@ 60 SOA n h 1 2 3 4 5\na 60 A 10.0.0.1\na 61 A 10.0.0.1\nb 60 TXT \"\n")
@@ -77,7 +77,8 @@ pub fn decided_entries()
         (fault_at 2 UnknownDirective) }
 {}
 
-/// What is decided of a prefix that breaks: a `)` and a bad escape with what ends it, and no escape that is cut off.
+/// What is decided of a prefix that breaks: a `)` and a bad escape with what ends it, and no escape
+/// that is cut off.
 pub fn decided_breaks()
     ensures parenthesis { Decided x (codes "@ 60 NS n.x.\n)") (at_line 1 (ns x 1 60) ∷ [])
         (fault_at 2 UnbalancedParenthesis) }

@@ -47,7 +47,8 @@ pub(super) fn lower_choices()
     stated_data_is_data();
 }
 
-/// An item is taken for a class where it is a class's word, and no word is a class's and begins with a digit, as a TTL.
+/// An item is taken for a class where it is a class's word, and no word is a class's and begins
+/// with a digit, as a TTL.
 pub fn class_words_are_known()
     ensures word { (text : List ℕ) → (is_class_word text ≡ true)
         ↔ ((number : ℕ) × IsClassWord text number) }
@@ -71,7 +72,8 @@ pub fn an_entry_has_one_fault()
     lower_laws();
 }
 
-/// An entry that has a fault states neither a record nor nothing, and one that states nothing states no record.
+/// An entry that has a fault states neither a record nor nothing, and one that states nothing
+/// states no record.
 pub fn an_entry_has_one_outcome()
     ensures record_or_fault { (origin : List (List ℕ)) (before : List Entry) (entry : Entry)
         (r : Record) (fault : Fault) → StatesRecord origin before entry r
@@ -86,8 +88,8 @@ pub fn an_entry_has_one_outcome()
     lower_laws();
 }
 
-/// An entry of octets states nothing or a record, or has a first fault, where each entry before it states nothing or a
-/// record and the origin is a name.
+/// An entry of octets states nothing or a record, or has a first fault, where each entry before it
+/// states nothing or a record and the origin is a name.
 pub fn an_entry_has_an_outcome()
     ensures { (origin : List (List ℕ)) (before : List Entry) (entry : Entry) → IsName origin
         → AllState origin before → AreOctetItems entry.items

@@ -29,7 +29,8 @@ pub fn a_file_has_a_reading()
     lower_choices();
 }
 
-/// Something is decided of every prefix of a file under an origin that is a name, be it that no fault is.
+/// Something is decided of every prefix of a file under an origin that is a name, be it that no
+/// fault is.
 pub fn of_each_prefix_something_is_decided()
     ensures { (origin : List (List ℕ)) (octets : List ℕ) → IsName origin
         → AllByRecursion (λ c. c < 256) octets → (placed : List Placed)
@@ -72,8 +73,8 @@ pub fn a_file_states_what_is_read()
         → FileStates origin octets placed ↔ FileReads origin octets placed None }
 {}
 
-/// What is decided of a file by its front stays for every longer prefix and for the whole file: the records are the first
-/// ones, and a fault is the last word.
+/// What is decided of a file by a prefix of it stays for every longer prefix and for the whole
+/// file: the records are the first ones, and nothing follows a fault.
 pub fn what_is_decided_stays()
     ensures longer { (origin : List (List ℕ)) (octets more : List ℕ) (placed later : List Placed)
         (ending last : Ending) → Decided origin octets placed ending

@@ -9,7 +9,8 @@ ghost use Rattle.zone_text.specs.Line.{IsItem, line_of, StatesWhole};
 ghost use Rattle.zone_text.specs.Pieces.{Cuts, Piece, text};
 ghost use Rattle.zone_text.specs.Records.{StatesRecord};
 
-/// A line of items that are parted by single spaces is one entry with these items, which its line feed ends.
+/// A line of items that are parted by single spaces is one entry with these items, which its line
+/// feed ends.
 pub fn a_line_of_items_is_one_entry()
     ensures cut { (items : List Piece) → AllByRecursion IsItem items
         → Cuts (text (line_of items)) (line_of items) }
@@ -17,10 +18,11 @@ pub fn a_line_of_items_is_one_entry()
         → entries_of (line_of items) ≡ entry_of 1 (line_of items) ∷ [] }
     ensures ended { (items : List Piece) → AllByRecursion IsItem items
         → cut_from zero (line_of items) ≡ record { ended = line_of items ∷ []; open_pieces = [] } }
-    ensures items { (items : List Piece) → flat_map item_of (line_of items) ≡ flat_map item_of items }
+    ensures items { (items : List Piece)
+        → flat_map item_of (line_of items) ≡ flat_map item_of items }
 {}
 
-/// An entry that states every part of a record, with absolute names, states it behind any entries.
+/// An entry that states every part of a record, with absolute names, states it after any entries.
 pub fn a_whole_entry_states_its_record()
     ensures { (origin above : Labels) (before : List Entry) (entry : Entry) (r : Record)
         → IsOrigin origin before above → StatesWhole entry r → StatesRecord origin before entry r }

@@ -1,4 +1,4 @@
-//! Laws of sources: what one stands for behind the records that it gives.
+//! Laws of sources: what one stands for after the records that it gives.
 ghost use Rattle.std.specs.Prelude.{◌≡◌, ◌++◌, ◌∷◌, [], List, ℕ};
 ghost use Rattle.zone_name.specs.Common.{Labels};
 ghost use Rattle.zone_rdata.specs.Source.{after, answer_of};
@@ -6,14 +6,15 @@ ghost use Rattle.zone_rdata.specs.declared.fault.Stop.{Stop};
 ghost use Rattle.zone_rdata.specs.declared.record.Placed.{Placed};
 ghost use Rattle.zone_text.specs.Source.{Gives, SourceState, Stands};
 
-/// Behind records that it gives a source stands for them too.
+/// After it has given records, a source stands for them and for what it has left to give.
 pub fn what_is_given_was_given()
     ensures { (origin : Labels) (old new : SourceState) (more : List Placed) (fed : List ℕ)
         (given : List Placed) → Gives old more new → Stands origin old fed given
         → Stands origin new fed (given ++ more) }
 {}
 
-/// Behind an answer of `next` a source stands for the record that it gave, or for what it stood for where it gave none.
+/// After an answer of `next` a source stands for the record that it gave too, or for what it stood
+/// for where it gave none.
 pub fn an_answer_is_given()
     ensures some { (origin : Labels) (old new : SourceState) (r : Placed) (fed : List ℕ)
         (given : List Placed) → new.pending ≡ after old.pending → new.held ≡ old.held

@@ -19,21 +19,25 @@ put_behind b parts = record b { parts = b.parts ++ parts }
 
 -- the builder's next part is a value of the field, and it has room for the one that stands there
 pub record Awaits (octets : List ℕ) (end start : ℕ) (b : Built) (field : Field) : Type 0 where
-  pub next : (part : FieldValue) → Suits (Some field) part → IsNext (layout b.class b.kind) (length b.parts) part
+  pub next : (part : FieldValue) → Suits (Some field) part
+      → IsNext (layout b.class b.kind) (length b.parts) part
   pub sized : IsSized field
-  pub room : (value : FieldValue) (past : ℕ) → value_at octets end start field ≡ Ok (value, past) → length (octets_of b.parts) + length (field_octets value) ≤ 65535
+  pub room : (value : FieldValue) (past : ℕ) → value_at octets end start field ≡ Ok (value, past)
+      → length (octets_of b.parts) + length (field_octets value) ≤ 65535
 
 -- the builder's next parts are strings, however many, and it has room for all up to the end
 pub record AwaitsStrings (end start : ℕ) (b : Built) : Type 0 where
-  pub next : (count : ℕ) (part : FieldValue) → Suits (Some Strings) part → IsNext (layout b.class b.kind) (length b.parts + count) part
+  pub next : (count : ℕ) (part : FieldValue) → Suits (Some Strings) part
+      → IsNext (layout b.class b.kind) (length b.parts + count) part
   pub room : length (octets_of b.parts) + (end - start) ≤ 65535
 
 abbrev pub IsReadyFor : List ℕ → ℕ → ℕ → Built → Field → Type 0
 IsReadyFor octets end start b Strings = AwaitsStrings end start b
 IsReadyFor octets end start b field = Awaits octets end start b field
 
--- the value of a field is read up to a place and put behind the parts of a builder
-pub record PutsValue (octets : List ℕ) (end start : ℕ) (field : Field) (old new : Built) (place : ℕ) : Type 0 where
+-- the value of a field is read up to an offset and added to the parts of a builder
+pub record PutsValue (octets : List ℕ) (end start : ℕ) (field : Field) (old new : Built)
+    (place : ℕ) : Type 0 where
   pub value : FieldValue
   pub read : value_at octets end start field ≡ Ok (value, place)
   pub put : new ≡ put_behind old (parts_for value)
@@ -41,7 +45,8 @@ pub record PutsValue (octets : List ℕ) (end start : ℕ) (field : Field) (old 
   pub inside : place ≤ end
 
 -- the values of fields are read, and are the parts of a builder that had none
-pub record PutsValues (octets : List ℕ) (end start : ℕ) (fields : List Field) (old new : Built) : Type 0 where
+pub record PutsValues (octets : List ℕ) (end start : ℕ) (fields : List Field)
+    (old new : Built) : Type 0 where
   pub values : List FieldValue
   pub read : values_at octets end start fields ≡ Ok values
   pub put : new ≡ put_behind old (flat_map parts_for values)

@@ -15,8 +15,9 @@ use Rattle.zone_wire.specs.declared.transfer.Transfer.{Transfer}
 abbrev pub IsCut : List ℕ → Type 0
 IsCut octets = length octets < 2 + u16_at octets 0
 
--- the messages of the frames that came whole were read, and these octets stand behind them
-pub record Going (t : Transfer) (unfinished : List ℕ) (fed : List ℕ) (given : List Placed) : Type 0 where
+-- the messages of the frames that came whole were read, and these octets follow them
+pub record Going (t : Transfer) (unfinished : List ℕ) (fed : List ℕ)
+    (given : List Placed) : Type 0 where
   pub parts : List StatedMessage
   pub framed : IsFramed fed (octets_in parts) unfinished
   pub read : AreRead [] parts
@@ -24,9 +25,11 @@ pub record Going (t : Transfer) (unfinished : List ℕ) (fed : List ℕ) (given 
   pub handed : given ++ t.decided.placed.items ≡ handed_on (placed_in parts)
 
 -- what is held follows from the octets fed and the records given
-pub record Follow (t : Transfer) (unfinished : List ℕ) (fed : List ℕ) (given : List Placed) : Type 0 where
+pub record Follow (t : Transfer) (unfinished : List ℕ) (fed : List ℕ)
+    (given : List Placed) : Type 0 where
   pub octets : (i : ℕ) → slice_index fed i < 256
-  pub state : MatchOption t.decided.ending (Going t unfinished fed given) (λ e. Decided fed (given ++ t.decided.placed.items) (Some e))
+  pub state : MatchOption t.decided.ending (Going t unfinished fed given)
+      (λ e. Decided fed (given ++ t.decided.placed.items) (Some e))
 
 abbrev pub is_failed : Status → Bool
 is_failed Open = false
@@ -38,8 +41,8 @@ is_finished Open = false
 is_finished Finished = true
 is_finished OutOfMemory = false
 
--- what a source holds: octets of the unfinished frame alone, none of them behind a fault, behind the end or once it has
--- failed, and numbers that fit
+-- what a source holds: octets of the unfinished frame alone, none of them after a fault, after the
+-- end or once it has failed, and numbers that fit
 pub record IsSource (status : Status) (fed : ℕ) (t : Transfer) (unfinished : List ℕ) : Type 0 where
   pub cut : IsCut unfinished
   pub messages : is_failed status ≡ false → t.messages ≤ fed

@@ -1,10 +1,12 @@
 -- What the walk along a name finds.
-use Rattle.std.specs.Prelude.{◌≡◌, ℕ, suc, ◌+◌, List, [], ◌∷◌, Option, IfSome, Result, Ok, Err}
+use Rattle.std.specs.Prelude.{◌≡◌, ℕ, suc, ◌+◌, List, [], ◌∷◌, Result, Ok, Err}
 use Rattle.zone_wire.specs.Name.{Found, label_at, found_by}
 use Rattle.zone_wire.specs.Walk.{at_root, at_label, at_pointer, at_fault, Visit}
 use Rattle.zone_rdata.specs.declared.fault.Fault.{Fault}
 use Rattle.zone_rdata.specs.declared.fault.Fault.TheVariants.{ShortMessage}
+use Rattle.zone_wire.specs.Machine.Place.{fault_here}
 use Rattle.zone_wire.specs.declared.name.Decoded.{Decoded}
+use Rattle.zone_wire.specs.declared.place.PlaceFault.{PlaceFault}
 
 -- a name, or a fault with the number of steps
 pub data Outcome : Type 0 where
@@ -12,23 +14,31 @@ pub data Outcome : Type 0 where
   refused : Fault → ℕ → Outcome
 
 abbrev pub behind_label : List ℕ → Outcome → Outcome
-behind_label label (named found) = named (record found { labels = label ∷ found.labels; steps = suc found.steps })
+behind_label label (named found) =
+    named (record found { labels = label ∷ found.labels; steps = suc found.steps })
 behind_label label (refused fault steps) = refused fault (suc steps)
 
 abbrev pub behind_pointer : ℕ → Outcome → Outcome
-behind_pointer end (named found) = named (record found { end = end; steps = suc found.steps; pointers = suc found.pointers })
+behind_pointer end (named found) =
+    named (record found { end = end; steps = suc found.steps; pointers = suc found.pointers })
 behind_pointer end (refused fault steps) = refused fault (suc steps)
 
 unfoldable pub outcome : List ℕ → List Visit → Outcome
 outcome message [] = refused ShortMessage 0
-outcome message (first ∷ visits) = elim first.standing [ at_root ↦ named (record { labels = []; end = first.offset + 1; steps = 1; pointers = 0 }) | at_label size ↦ behind_label (label_at message first.offset size) (outcome message visits) | at_pointer target ↦ behind_pointer (first.offset + 2) (outcome message visits) | at_fault fault ↦ refused fault 1 ]
+outcome message (first ∷ visits) =
+    elim first.standing [
+      | at_root ↦ named (record { labels = []; end = first.offset + 1; steps = 1; pointers = 0 })
+      | at_label size ↦ behind_label (label_at message first.offset size) (outcome message visits)
+      | at_pointer target ↦ behind_pointer (first.offset + 2) (outcome message visits)
+      | at_fault fault ↦ refused fault 1
+    ]
 
 -- a result says what a walk finds
 abbrev pub Says : Result Decoded (Fault × ℕ) → Outcome → Type 0
 Says (Ok d) o = (pointers : ℕ) × (o ≡ named (found_by d pointers))
 Says (Err e) o = o ≡ refused e.0 e.1
 
--- the end and the steps of a walk, and the labels where they were kept, are what it finds
-abbrev pub Tells : Result (ℕ × ℕ) (Fault × ℕ) → Option (List (List ℕ)) → Outcome → Type 0
-Tells (Ok r) kept o = (labels : List (List ℕ)) × (pointers : ℕ) × IfSome kept (λ k. k ≡ labels) × (o ≡ named (record { labels = labels; end = r.0; steps = r.1; pointers = pointers }))
-Tells (Err e) kept o = o ≡ refused e.0 e.1
+-- the end and the steps of a walk, and the labels that were kept, are what it finds
+abbrev pub Tells : Result (ℕ × ℕ) (PlaceFault × ℕ) → List (List ℕ) → Outcome → Type 0
+Tells (Ok r) labels o = (pointers : ℕ) × (o ≡ named (record { labels = labels; end = r.0; steps = r.1; pointers = pointers }))
+Tells (Err e) labels o = o ≡ refused (fault_here e.0) e.1

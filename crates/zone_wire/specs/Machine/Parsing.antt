@@ -27,7 +27,8 @@ records_or_none (Err e) = []
 
 -- so many records from an offset on
 abbrev pub raw_from : List ℕ → ℕ → ℕ → List RawRecord
-raw_from octets count offset = map (raw_at octets) (records_or_none (records_from octets count offset))
+raw_from octets count offset =
+    map (raw_at octets) (records_or_none (records_from octets count offset))
 
 -- so many records stand from an offset on
 pub record StandFrom (octets : List ℕ) (count offset : ℕ) : Type 0 where

@@ -1,4 +1,5 @@
--- The sections of a message, or the first fault in their structure and the offset at which it stands (RFC 1035 4.1).
+-- The sections of a message, or the first fault in their structure and the offset at which it
+-- stands (RFC 1035 4.1).
 use Rattle.std.specs.Prelude.{ℕ, zero, suc, ◌/◌, ◌%◌, List, [], ◌∷◌, length, slice_index, ◌==◌, nat_le, nat_lt, ◌&&◌, not, if◌then◌else◌, Option, Some, None, Result, Ok, Err}
 use Rattle.zone_rdata.specs.declared.fault.Fault.{Fault}
 use Rattle.zone_rdata.specs.declared.fault.Fault.TheVariants.{ShortMessage, NotAResponse, Truncated, ErrorCode, BadCounts, TrailingOctets}
@@ -12,8 +13,9 @@ abbrev pub and_then : {X Y E : Type 0} → Result X E → (X → Result Y E) →
 and_then (Err e) next = Err e
 and_then (Ok x) next = next x
 
--- The first fault of a header: it isn't whole, is no response to a query, is marked as truncated, carries an error, or
--- counts two questions or an authority record (RFC 1035 4.1.1, RFC 5936 2.2.1).
+-- The first fault of a header: it isn't whole, is no response to a query, is marked as truncated,
+-- carries an error, or counts two questions or an authority record (RFC 1035 4.1.1, RFC 5936
+-- 2.2.1).
 unfoldable pub header_fault : List ℕ → Option Fault
 header_fault octets =
     if nat_lt (length octets) 12 then Some ShortMessage
@@ -23,24 +25,29 @@ header_fault octets =
     else if not (nat_le (u16_at octets 4) 1 && u16_at octets 8 == 0) then Some BadCounts
     else None
 
--- What begins with a name: the fault at which the name's walk ends, or what stands there, where it ends inside the message.
+-- What begins with a name: the fault at which the name's walk ends, or what stands there, where it
+-- ends inside the message.
 abbrev pub inside : {X : Type 0} → List ℕ → (Found → X) → (X → ℕ) → Outcome → Result X Fault
 inside octets by end (refused fault steps) = Err fault
-inside octets by end (named found) = if nat_le (end (by found)) (length octets) then Ok (by found) else Err ShortMessage
+inside octets by end (named found) =
+    if nat_le (end (by found)) (length octets) then Ok (by found) else Err ShortMessage
 
 unfoldable pub question_at : List ℕ → ℕ → Result QuestionAt Fault
-question_at octets offset = inside octets (question_by octets) (λ q. q.end) (outcome octets (walk octets offset))
+question_at octets offset =
+    inside octets (question_by octets) (λ q. q.end) (outcome octets (walk octets offset))
 
 unfoldable pub record_at : List ℕ → ℕ → Result RecordAt Fault
-record_at octets offset = inside octets (record_by octets offset) (λ r. r.end) (outcome octets (walk octets offset))
+record_at octets offset =
+    inside octets (record_by octets offset) (λ r. r.end) (outcome octets (walk octets offset))
 
 abbrev pub at_offset : {X : Type 0} → ℕ → Result X Fault → Result X (Fault × ℕ)
 at_offset offset (Err fault) = Err (fault, offset)
 at_offset offset (Ok x) = Ok x
 
--- So many of them, each behind the one before, and the offset after the last; or the first fault, at the start of the
--- one that has it.
-abbrev pub each_from : {X : Type 0} → (ℕ → Result X Fault) → (X → ℕ) → ℕ → ℕ → Result (List X × ℕ) (Fault × ℕ)
+-- So many of them, each after the one before, and the offset after the last; or the first fault, at
+-- the start of the one that has it.
+abbrev pub each_from : {X : Type 0} → (ℕ → Result X Fault) → (X → ℕ) → ℕ → ℕ
+    → Result (List X × ℕ) (Fault × ℕ)
 each_from read end zero offset = Ok ([], offset)
 each_from read end (suc count) offset =
     and_then (at_offset offset (read offset)) (λ first.
@@ -55,15 +62,24 @@ records_from octets count offset = each_from (record_at octets) (λ r. r.end) co
 
 -- nothing stands after the last record
 abbrev pub to_the_end : List ℕ → ℕ → Sections → Result Sections (Fault × ℕ)
-to_the_end octets end sections = if end == length octets then Ok sections else Err (TrailingOctets, 0)
+to_the_end octets end sections =
+    if end == length octets then Ok sections else Err (TrailingOctets, 0)
 
--- as many questions, answers and additional records as the header counts, in this order, and nothing after them
+-- as many questions, answers and additional records as the header counts, in this order, and
+-- nothing after them
 abbrev pub behind_header : List ℕ → Result Sections (Fault × ℕ)
 behind_header octets =
     and_then (questions_from octets (u16_at octets 4) 12) (λ questions.
     and_then (records_from octets (u16_at octets 6) questions.1) (λ answers.
     and_then (records_from octets (u16_at octets 10) answers.1) (λ additional.
-    to_the_end octets additional.1 (record { id = u16_at octets 0; questions = questions.0; answers = answers.0; additional = additional.0 }))))
+    to_the_end octets additional.1
+    (record {
+      id = u16_at octets 0;
+      questions = questions.0;
+      answers = answers.0;
+      additional = additional.0;
+    }))))
 
 unfoldable pub sections_of : List ℕ → Result Sections (Fault × ℕ)
-sections_of octets = elim (header_fault octets) [ Some fault ↦ Err (fault, 0) | None ↦ behind_header octets ]
+sections_of octets =
+    elim (header_fault octets) [ Some fault ↦ Err (fault, 0) | None ↦ behind_header octets ]

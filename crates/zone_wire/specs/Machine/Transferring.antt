@@ -1,4 +1,4 @@
--- How the messages of a stream are taken, one behind another.
+-- How the messages of a stream are taken, one after another.
 use Rattle.std.specs.Prelude.{◌≡◌, ℕ, ◌+◌, List, [], ◌∷◌, ◌++◌, length, Option, Some, None, Result, Ok, Err, MatchOption, ⊤}
 use Rattle.zone_rdata.specs.Record.{Record}
 use Rattle.zone_rdata.specs.declared.fault.Failing.{Failing}
@@ -36,46 +36,59 @@ pub record Behind (before : List StatedMessage) (t : Transfer) : Type 0 where
   pub id : t.id ≡ first_id before
   pub among : Among (asked_in before) (placed_in before) t
 
--- what is still to be handed on is the rest of these records, whatever was given
+-- what is left to hand on is the rest of these records, whatever was given
 abbrev pub Hands : List Placed → List Placed → Transfer → Transfer → Type 0
-Hands placed later old new = (given : List Placed) → given ++ old.decided.placed.items ≡ handed_on placed → given ++ new.decided.placed.items ≡ handed_on later
+Hands placed later old new =
+    (given : List Placed) → given ++ old.decided.placed.items ≡ handed_on placed
+    → given ++ new.decided.placed.items ≡ handed_on later
 
--- records came behind others, and those of them that are handed on are held
-pub record Gains (here : List Placed) (questions : List QuestionAt) (placed : List Placed) (old new : Transfer) : Type 0 where
+-- records came after others, and those of them that are handed on are held
+pub record Gains (here : List Placed) (questions : List QuestionAt) (placed : List Placed)
+    (old new : Transfer) : Type 0 where
   pub among : Among questions (placed ++ here) new
   pub handed : Hands placed (placed ++ here) old new
   pub messages : new.messages ≡ old.messages
   pub id : new.id ≡ old.id
   pub ending : new.decided.ending ≡ old.decided.ending
 
--- the record of an answer came behind others
-pub record Takes (octets : List ℕ) (a : RecordAt) (questions : List QuestionAt) (placed : List Placed) (old new : Transfer) : Type 0 where
+-- the record of an answer came after others
+pub record Takes (octets : List ℕ) (a : RecordAt) (questions : List QuestionAt)
+    (placed : List Placed) (old new : Transfer) : Type 0 where
   pub rr : Record
   pub states : StatesRecord octets a rr
   pub stands : StandsBehind questions placed rr
-  pub gains : Gains (record { rr = rr; place = Message old.messages a.offset } ∷ []) questions placed old new
+  pub gains : Gains
+      (record { rr = rr; place = Message old.messages a.offset } ∷ []) questions placed old new
 
 -- the fault that was found, if memory was not wanting
 abbrev pub IfNoMemory : (Option (Fault × ℕ) → Type 0) → Result (Unit {0}) (Failing × ℕ) → Type 0
 IfNoMemory Is (Ok done) = Is None
-IfNoMemory Is (Err e) = elim e.0 [ failings.Fault fault ↦ Is (Some (fault, e.1)) | failings.Memory ↦ ⊤ ]
+IfNoMemory Is (Err e) =
+    elim e.0 [ failings.Fault fault ↦ Is (Some (fault, e.1)) | failings.Memory ↦ ⊤ ]
 
 -- what answers give: the records of all of them, or those before the first fault
-abbrev pub AnswersGive : ℕ → List ℕ → List QuestionAt → List Placed → List RecordAt → List Placed → Option (Fault × ℕ) → Type 0
-AnswersGive number octets questions placed answers here None = StateEach number octets answers here × StandInOrder questions placed here
-AnswersGive number octets questions placed answers here (Some e) = FirstAnswerFault number octets questions placed answers here e.0 e.1
+abbrev pub AnswersGive : ℕ → List ℕ → List QuestionAt → List Placed → List RecordAt → List Placed
+    → Option (Fault × ℕ) → Type 0
+AnswersGive number octets questions placed answers here None =
+    StateEach number octets answers here × StandInOrder questions placed here
+AnswersGive number octets questions placed answers here (Some e) =
+    FirstAnswerFault number octets questions placed answers here e.0 e.1
 
--- the records of answers came behind others, up to a fault
-pub record TakesUpTo (octets : List ℕ) (answers : List RecordAt) (questions : List QuestionAt) (placed : List Placed) (old new : Transfer) (fault : Option (Fault × ℕ)) : Type 0 where
+-- the records of answers came after others, up to a fault
+pub record TakesUpTo (octets : List ℕ) (answers : List RecordAt) (questions : List QuestionAt)
+    (placed : List Placed) (old new : Transfer) (fault : Option (Fault × ℕ)) : Type 0 where
   pub here : List Placed
   pub gives : AnswersGive old.messages octets questions placed answers here fault
   pub gains : Gains here questions placed old new
 
-abbrev pub TakesEach : List ℕ → List RecordAt → List QuestionAt → List Placed → Result (Unit {0}) (Failing × ℕ) → Transfer → Transfer → Type 0
-TakesEach octets answers questions placed result old new = IfNoMemory (TakesUpTo octets answers questions placed old new) result
+abbrev pub TakesEach : List ℕ → List RecordAt → List QuestionAt → List Placed
+    → Result (Unit {0}) (Failing × ℕ) → Transfer → Transfer → Type 0
+TakesEach octets answers questions placed result old new =
+    IfNoMemory (TakesUpTo octets answers questions placed old new) result
 
 -- the ID and the questions of a message fit those of others, and the transfer holds what they fix
-pub record TakesHead (before : List StatedMessage) (s : Sections) (old new : Transfer) : Type 0 where
+pub record TakesHead (before : List StatedMessage) (s : Sections)
+    (old new : Transfer) : Type 0 where
   pub same_id : HasFirstId before s
   pub asks : AskBehind before s
   pub count : new.messages ≡ old.messages + 1
@@ -87,27 +100,35 @@ pub data HeadFault (before : List StatedMessage) (s : Sections) : Fault × ℕ �
   other_id : (HasFirstId before s → ⊥) → HeadFault before s (IdMismatch, 0)
   other_zone : HasFirstId before s → (AskBehind before s → ⊥) → HeadFault before s (BadQuestion, 12)
 
--- a message came behind others
-pub record TakesWhole (octets : List ℕ) (before : List StatedMessage) (old new : Transfer) : Type 0 where
+-- a message came after others
+pub record TakesWhole (octets : List ℕ) (before : List StatedMessage)
+    (old new : Transfer) : Type 0 where
   pub part : StatedMessage
   pub octets_are : part.octets ≡ octets
   pub read : IsReadBehind before part
   pub behind : Behind (before ++ part ∷ []) new
   pub handed : Hands (placed_in before) (placed_in (before ++ part ∷ [])) old new
 
--- a message behind others has a fault
-pub record StopsIn (octets : List ℕ) (before : List StatedMessage) (old new : Transfer) (e : Fault × ℕ) : Type 0 where
+-- a message after others has a fault
+pub record StopsIn (octets : List ℕ) (before : List StatedMessage) (old new : Transfer)
+    (e : Fault × ℕ) : Type 0 where
   pub here : List Placed
   pub next : FaultBehind before octets here e.0 e.1
   pub handed : Hands (placed_in before) (placed_in before ++ here) old new
 
-abbrev pub TakesMessageUpTo : List ℕ → List StatedMessage → Transfer → Transfer → Option (Fault × ℕ) → Type 0
+abbrev pub TakesMessageUpTo : List ℕ → List StatedMessage → Transfer → Transfer → Option (Fault × ℕ)
+    → Type 0
 TakesMessageUpTo octets before old new None = TakesWhole octets before old new
 TakesMessageUpTo octets before old new (Some e) = StopsIn octets before old new e
 
-abbrev pub TakesMessage : List ℕ → List StatedMessage → Result (Unit {0}) (Failing × ℕ) → Transfer → Transfer → Type 0
-TakesMessage octets before result old new = IfNoMemory (TakesMessageUpTo octets before old new) result
+abbrev pub TakesMessage : List ℕ → List StatedMessage → Result (Unit {0}) (Failing × ℕ) → Transfer
+    → Transfer → Type 0
+TakesMessage octets before result old new =
+    IfNoMemory (TakesMessageUpTo octets before old new) result
 
--- one message more: it came behind others, or its fault at its place is the last word
+-- one message more: it came after others, or its fault at its place was decided
 abbrev pub ReadsNext : List ℕ → List StatedMessage → Transfer → Transfer → Type 0
-ReadsNext octets before old new = MatchOption new.decided.ending (TakesWhole octets before old new) (λ e. (offset : ℕ) × (StopsIn octets before old new (e.0, offset) × (e.1 ≡ Message (length before + 1) offset)))
+ReadsNext octets before old new =
+    MatchOption new.decided.ending (TakesWhole octets before old new)
+    (λ e. (offset : ℕ)
+    × (StopsIn octets before old new (e.0, offset) × (e.1 ≡ Message (length before + 1) offset)))

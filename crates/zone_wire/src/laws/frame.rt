@@ -9,7 +9,8 @@ ghost use Rattle.zone_wire.specs.Frames.{IsFramed};
 ghost use Rattle.zone_wire.specs.Stream.{octets_in, placed_in, IsReadBehind, AreRead, FaultBehind, AreAlike, Decided};
 ghost use Rattle.zone_wire.specs.Transfer.{StatedMessage, frame};
 
-/// The frames of joined octets are those of the first octets, and then those of their rest and the octets behind it.
+/// The frames of joined octets are those of the first octets, and then those of their rest and the
+/// octets after it.
 pub fn frames_of_joined_octets()
     ensures { (stream more : Octets) (messages others : List Octets) (rest last : Octets)
         → IsFramed stream messages rest
@@ -17,7 +18,7 @@ pub fn frames_of_joined_octets()
         → IsFramed (stream ++ more) (messages ++ others) last }
 {}
 
-/// Behind messages that are read, octets are one that is read, or are refused for one fault.
+/// After messages that are read, octets are one that is read, or are refused for one fault.
 pub fn a_message_behind_others()
     ensures { (before : List StatedMessage) (octets : Octets)
         → ((i : ℕ) → slice_index octets i < 256) → length octets ≤ 65535
@@ -25,7 +26,8 @@ pub fn a_message_behind_others()
         (λ (e : List Placed × Fault × ℕ). FaultBehind before octets e.0 e.1 e.2) }
 {}
 
-/// What is decided of a stream and a frame behind it is what was decided of the stream, and then what the frame adds.
+/// What is decided of a stream and a frame after it is what was decided of the stream, and then
+/// what the frame adds.
 pub fn one_frame_more()
     ensures read { (stream : Octets) (before : List StatedMessage) (p : StatedMessage)
         → IsFramed stream (octets_in before) []
@@ -41,8 +43,8 @@ pub fn one_frame_more()
         × (handed_on (placed ++ here) ≡ handed_on placed ++ rest) }
 {}
 
-/// A message is judged by itself and, of the messages before it, by how many they are, the first ID, the name and class
-/// that are fixed, the opening SOA and whether the closing one came.
+/// A message is judged by itself and, of the messages before it, by how many they are, the first
+/// ID, the name and class that are fixed, the opening SOA and whether the closing one came.
 pub fn what_a_message_is_judged_by()
     ensures read { (before other : List StatedMessage) (p : StatedMessage) → AreAlike before other
         → IsReadBehind before p → IsReadBehind other p }

@@ -5,7 +5,8 @@ ghost use Rattle.zone_wire.specs.Name.{IsNameAt};
 ghost use Rattle.zone_wire.specs.Walk.{Visit};
 ghost use Rattle.zone_wire.specs.WholeWalk.{IsWalk, NameFault};
 
-/// One list is the walk from an offset: each of its places is the next behind those before it, and it is whole.
+/// One list is the walk from an offset: each of its places is the next after those before it, and
+/// it is whole.
 pub fn one_walk_from_an_offset()
     ensures one { (message : Octets) (offset : ℕ) → AtMostOneIs (IsWalk message offset) }
     ensures some { (message : Octets) (offset : ℕ) → (visits : List Visit)

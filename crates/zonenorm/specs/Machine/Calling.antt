@@ -12,7 +12,8 @@ use Rattle.zonenorm.specs.declared.order.LineFault.TheVariants.{BadOrigin, Clap,
 abbrev pub texts_of : code.Call → Call
 texts_of (calls.Normalise origin) = normalise origin.now
 texts_of (calls.Explain origin) = explain origin.now
-texts_of (calls.Compare first second) = compare first.origin.now first.path.now second.origin.now second.path.now
+texts_of (calls.Compare first second) =
+    compare first.origin.now first.path.now second.origin.now second.path.now
 
 -- a fault that the texts of a command make: a bad origin, where this says so, or want of memory
 abbrev pub IsOfCall : Type 0 → LineFault → Type 0
@@ -28,4 +29,6 @@ IsOfClap Memory = Unit {0}
 
 -- the command is added to another one as it stands
 abbrev pub IsAddedAs : App → Command → Type 0
-IsAddedAs app command = (above new : Command) → AddsSubcommand above command new → app_of new ≡ with_subcommand (app_of above) app.top
+IsAddedAs app command =
+    (above new : Command) → AddsSubcommand above command new
+    → app_of new ≡ with_subcommand (app_of above) app.top

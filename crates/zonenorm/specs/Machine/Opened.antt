@@ -1,12 +1,14 @@
--- What is known of the octets that an input of the program is still to give.
+-- What is known of the octets that an input of the program has left.
 use Rattle.std.specs.Prelude.{◌≡◌, ℕ, List, Option, None}
 use Rattle.zonenorm.specs.declared.opened.Input.{Input}
 use Rattle.zonenorm.specs.declared.opened.Input.TheVariants.{Standard, File, Missing}
 use Rattle.zonenorm.specs.declared.order.Order.{Order}
 use Rattle.zonenorm.specs.declared.order.Order.TheVariants.{Normalise, Explain, Compare}
 
--- what is known of what standard input or the file gives; a missing input gives nothing that is known
-abbrev pub remaining_of : {S F : Type 0} → (S → Option (List ℕ)) → (F → Option (List ℕ)) → Input S F → Option (List ℕ)
+-- what is known of what standard input or the file gives; a missing input gives nothing that is
+-- known
+abbrev pub remaining_of : {S F : Type 0} → (S → Option (List ℕ)) → (F → Option (List ℕ)) → Input S F
+    → Option (List ℕ)
 remaining_of of_standard of_file (Standard input) = of_standard input
 remaining_of of_standard of_file (File file) = of_file file
 remaining_of of_standard of_file Missing = None

@@ -1,4 +1,5 @@
--- What the program holds of an input while it is fed: the records that were taken, or why the input is refused.
+-- What the program holds of an input while it is fed: the records that were taken, or why the input
+-- is refused.
 use Rattle.std.specs.Prelude.{◌≡◌, ℕ, ◌≤◌, ◌<◌, List, [], ◌++◌, length, Option, Some, None, IfSome, false}
 use Rattle.std.specs.List.{AllByRecursion}
 use Rattle.zone_name.specs.Common.{Octets}
@@ -15,24 +16,37 @@ use Rattle.zonenorm.specs.Input.{InputForm, Input, input_of, octets_of, Reads}
 use Rattle.zonenorm.specs.Machine.Input.{Decides, IsForm}
 use Rattle.zonenorm.specs.Refusal.{IfRefused, IsRefusalWithin, RefusesReading}
 
--- what refuses an input whatever comes behind what is decided of it: a record, or the fault behind all of them
-pub data RefusesFront (placed : List Placed) (ending : Option (Fault × Place)) : Fault → Place → Type 0 where
-  by_record : (fault : Fault) (place : Place) → IsFirstRefused placed fault place → RefusesFront placed ending fault place
-  by_ending : (fault : Fault) (place : Place) → AllAccepted placed → ending ≡ Some (fault, place) → RefusesFront placed ending fault place
+-- what refuses an input whatever follows what is decided of it: a record, or the fault after all of
+-- them
+pub data RefusesFront (placed : List Placed)
+    (ending : Option (Fault × Place)) : Fault → Place → Type 0 where
+  by_record : (fault : Fault) (place : Place) → IsFirstRefused placed fault place
+      → RefusesFront placed ending fault place
+  by_ending : (fault : Fault) (place : Place) → AllAccepted placed → ending ≡ Some (fault, place)
+      → RefusesFront placed ending fault place
 
 -- nothing is left to give, and no fault is decided
 abbrev pub nothing_pending : Pending
 nothing_pending = record { failed = false; records = []; ending = None }
 
--- What was taken of octets that were fed: all records that the source gave, with nothing left; or the input is refused by
--- what a front of the octets decides
-pub data IsTaken (Stands : Octets → List Placed → Type 0) (form : InputForm) (pending : Pending) (held : List Record) (refusal : Option (Fault × Place)) (octets : Octets) : Type 0 where
-  all_taken : (given : List Placed) → refusal ≡ None → Stands octets given → pending ≡ nothing_pending → AddsEach [] given held → IsTaken Stands form pending held refusal octets
-  front_refuses : (front more : Octets) (placed : List Placed) (ending : Option (Fault × Place)) (fault : Fault) (place : Place) → refusal ≡ Some (fault, place) → octets ≡ front ++ more → Decides (input_of form front) placed ending → RefusesFront placed ending fault place → IsTaken Stands form pending held refusal octets
+-- What was taken of octets that were fed: all records that the source gave, with nothing left; or
+-- the input is refused by what a prefix of the octets decides
+pub data IsTaken (Stands : Octets → List Placed → Type 0) (form : InputForm) (pending : Pending)
+    (held : List Record) (refusal : Option (Fault × Place)) (octets : Octets) : Type 0 where
+  all_taken : (given : List Placed) → refusal ≡ None → Stands octets given
+      → pending ≡ nothing_pending → AddsEach [] given held
+      → IsTaken Stands form pending held refusal octets
+  front_refuses : (front more : Octets) (placed : List Placed) (ending : Option (Fault × Place))
+      (fault : Fault) (place : Place) → refusal ≡ Some (fault, place) → octets ≡ front ++ more
+      → Decides (input_of form front) placed ending → RefusesFront placed ending fault place
+      → IsTaken Stands form pending held refusal octets
 
 -- the same of what a source holds, for a form
-abbrev pub IsTakenOf : {Held : Type 0} → (InputForm → Pending → Held → Octets → List Placed → Type 0) → Pending → Held → List Record → Option (Fault × Place) → InputForm → Octets → Type 0
-IsTakenOf Stands pending inside held refusal form octets = IsTaken (Stands form pending inside) form pending held refusal octets
+abbrev pub IsTakenOf : {Held : Type 0}
+    → (InputForm → Pending → Held → Octets → List Placed → Type 0) → Pending → Held → List Record
+    → Option (Fault × Place) → InputForm → Octets → Type 0
+IsTakenOf Stands pending inside held refusal form octets =
+    IsTaken (Stands form pending inside) form pending held refusal octets
 
 -- the records that the input is read as are those of the zone, whatever the length of its text
 pub record ReadsZone (input : Input) (z : Zone) : Type 0 where
@@ -55,18 +69,25 @@ pub record ReadsZoneWithin (limit : ℕ) (input : Input) (z : Zone) : Type 0 whe
   pub reads : ReadsZone input z
 
 -- a source was fed nothing, and has nothing to give
-pub record Begins {Beside : Type 0} (Stands : Pending → Beside → Octets → List Placed → Type 0) (pending : Pending) (beside : Beside) : Type 0 where
+pub record Begins {Beside : Type 0} (Stands : Pending → Beside → Octets → List Placed → Type 0)
+    (pending : Pending) (beside : Beside) : Type 0 where
   pub stands : Stands pending beside [] []
   pub nothing : pending ≡ nothing_pending
 
 -- the forms under which it was
-abbrev pub BeginsAs : {Beside : Type 0} → (InputForm → Pending → Beside → Octets → List Placed → Type 0) → Pending → Beside → InputForm → Type 0
+abbrev pub BeginsAs : {Beside : Type 0}
+    → (InputForm → Pending → Beside → Octets → List Placed → Type 0) → Pending → Beside → InputForm
+    → Type 0
 BeginsAs Stands pending beside form = Begins (Stands form) pending beside
 
 -- the zone of octets that are known, as inputs of these forms
 abbrev pub ReadsKnown : (InputForm → Type 0) → ℕ → Option Octets → Zone → Type 0
-ReadsKnown Of limit known z = (form : InputForm) → Of form → IfSome known (λ octets. ReadsZoneWithin limit (input_of form octets) z)
+ReadsKnown Of limit known z =
+    (form : InputForm) → Of form
+    → IfSome known (λ octets. ReadsZoneWithin limit (input_of form octets) z)
 
 -- such octets are refused for the fault that stops, if it is one
 abbrev pub RefusesKnown : (InputForm → Type 0) → ℕ → Option Octets → Stop → Type 0
-RefusesKnown Of limit known stop = (form : InputForm) → IsForm form → Of form → IfSome known (λ octets. IfRefused stop (IsRefusalWithin limit (input_of form octets)))
+RefusesKnown Of limit known stop =
+    (form : InputForm) → IsForm form → Of form
+    → IfSome known (λ octets. IfRefused stop (IsRefusalWithin limit (input_of form octets)))

@@ -4,7 +4,8 @@ use Rattle.std.specs.Io.KnownBytes.{Appends, Keeps}
 use Rattle.zone_rdata.specs.declared.fault.Stop.{Stop}
 use Rattle.zone_rdata.specs.declared.fault.Stop.TheVariants.{Refused, Read, Write, Memory}
 use Rattle.zonenorm.specs.Order.{line_status, line_text}
-use Rattle.zonenorm.specs.Run.{AppendsLine, AppendsPart, AppendsThisLine, verdict_line, verdict_status}
+use Rattle.zone_print.specs.Writing.{AppendsPart}
+use Rattle.zonenorm.specs.Run.{AppendsLine, AppendsThisLine, verdict_line, verdict_status}
 use Rattle.zonenorm.specs.declared.compare.Verdict.{Verdict}
 use Rattle.zonenorm.specs.declared.compare.Which.{Which}
 use Rattle.zonenorm.specs.declared.compare.Which.TheVariants.{First, Second}
@@ -22,17 +23,22 @@ status_of Read = 4
 status_of Write = 4
 status_of Memory = 4
 
--- why a run stopped was told behind these words, with its status, or the answer is 4
+-- why a run stopped was told after these words, with its status, or the answer is 4
 abbrev pub TellsStop : List ℕ → Stop → Option (List ℕ) → Option (List ℕ) → ℕ → Type 0
-TellsStop words stop old new answer = (answer ≡ 4) ⊎ ((answer ≡ status_of stop) × AppendsLine words old new)
+TellsStop words stop old new answer =
+    (answer ≡ 4) ⊎ ((answer ≡ status_of stop) × AppendsLine words old new)
 
--- the verdict of a comparison was told, with its status and nothing on standard error, or not whole, and the answer is 4
-abbrev pub TellsVerdict : Verdict → Option (List ℕ) → Option (List ℕ) → Option (List ℕ) → Option (List ℕ) → ℕ → Type 0
+-- the verdict of a comparison was told, with its status and nothing on standard error, or not
+-- whole, and the answer is 4
+abbrev pub TellsVerdict : Verdict → Option (List ℕ) → Option (List ℕ) → Option (List ℕ)
+    → Option (List ℕ) → ℕ → Type 0
 TellsVerdict verdict old new errors errors' answer =
-    ((answer ≡ verdict_status verdict) × AppendsThisLine (verdict_line verdict) old new × Keeps errors errors')
+    ((answer ≡ verdict_status verdict) × AppendsThisLine (verdict_line verdict) old new
+    × Keeps errors errors')
     ⊎ ((answer ≡ 4) × AppendsPart old new (verdict_line verdict ++ 10 ∷ []))
 
--- the text of a fault of the command line was told whole, with its status, or not whole, and the answer is 4
+-- the text of a fault of the command line was told whole, with its status, or not whole, and the
+-- answer is 4
 abbrev pub TellsFault : LineFault → Option (List ℕ) → Option (List ℕ) → ℕ → Type 0
 TellsFault fault old new answer =
     ((answer ≡ line_status fault) × Appends old new (line_text fault ++ 10 ∷ []))

@@ -1,4 +1,5 @@
-//! Addresses of IPv4 and IPv6, and the short text of the latter (RFC 1035 3.4.1, RFC 4291 2.2, RFC 5952 4).
+//! Addresses of IPv4 and IPv6, and the short text of the latter (RFC 1035 3.4.1, RFC 4291 2.2, RFC
+//! 5952 4).
 use crate::tests::first_wrong;
 use crate::tests::items::Stated;
 use std::test::Fail;

@@ -5,8 +5,8 @@ use std::test::Fail;
 use zone_rdata::{Fault, Rr};
 use zone_wire::Message;
 
-/// Class, type, TTL and data of an answer of `x.`, whose data stands at offset 71 of a message; and the TTL and the octets
-/// of the data of the record that it states, or its fault.
+/// Class, type, TTL and data of an answer of `x.`, whose data stands at offset 71 of a message; and
+/// the TTL and the octets of the data of the record that it states, or its fault.
 struct Answer(
     u16,
     u16,
@@ -15,8 +15,8 @@ struct Answer(
     Result<(u32, &'static [u8]), &'static str>,
 );
 
-/// A header of three answers, the question for `x.`, which stands at offset 12, and the SOA of `x.` with `n.x.`, which
-/// stands at offset 31, and `h.x.`.
+/// A header of three answers, the question for `x.`, which stands at offset 12, and the SOA of `x.`
+/// with `n.x.`, which stands at offset 31, and `h.x.`.
 static FRONT: &[u8] = b"\0\x01\x84\0\0\x01\0\x03\0\0\0\0\x01x\0\0\xfc\0\x01\
     \xc0\x0c\0\x06\0\x01\0\0\x0e\x10\0\x1c\x01n\xc0\x0c\x01h\xc0\x0c\
     \0\0\0\x01\0\0\0\x02\0\0\0\x03\0\0\0\x04\0\0\0\x05";

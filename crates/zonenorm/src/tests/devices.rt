@@ -64,6 +64,26 @@ impl Read for Sparing {
     }
 }
 
+/// A reader that gives its octets one at a time, and answers an error after them.
+#[derive(Drop)]
+pub(super) struct Ailing<'o> {
+    pub(super) left: &'o [u8],
+}
+
+impl Read for Ailing<'_> {
+    fn read(&mut self, buf: &mut [u8]) -> io::Result<usize> {
+        if self.left.is_empty() {
+            return Err(ErrorKind::Other.into());
+        }
+        let (mut first, rest) = self.left.split_at(1);
+        let count = first.read(buf)?;
+        if count > 0 {
+            self.left = rest;
+        }
+        Ok(count)
+    }
+}
+
 /// What a reader gives before its error, and that error.
 struct Broken(&'static [u8], ErrorKind);
 
@@ -98,8 +118,8 @@ fn a_failing_reader_is_told(rt: HostRuntime) -> Result<(), Fail> {
     Ok(())
 }
 
-/// A writer that takes `each` octets a call and `room` in all, and then answers an error or takes nothing. It can't
-/// be flushed.
+/// A writer that takes `each` octets a call and `room` in all, and then answers an error or takes
+/// nothing. It can't be flushed.
 #[derive(Drop)]
 struct Narrow {
     taken: Vec<u8>,
@@ -136,8 +156,8 @@ impl Write for Narrow {
     }
 }
 
-/// How many octets a writer takes a call and in all, whether it answers an error then, and what it has taken of the
-/// text.
+/// How many octets a writer takes a call and in all, whether it answers an error then, and what it
+/// has taken of the text.
 struct Narrowed(usize, usize, bool, &'static [u8]);
 
 impl Narrowed {
@@ -196,8 +216,9 @@ fn a_narrow_writer_has_a_front(rt: HostRuntime) -> Result<(), Fail> {
     Ok(())
 }
 
-/// The words of a command over inputs of the origin `x.`, what each input gives, and the status and the line where
-/// nothing can be written on standard output; none where nothing can be written on standard error.
+/// The words of a command over inputs of the origin `x.`, what each input gives, and the status and
+/// the line where nothing can be written on standard output; none where nothing can be written on
+/// standard error.
 struct Mute(
     &'static [&'static str],
     &'static [u8],

@@ -2,7 +2,7 @@
 use crate::form::Form;
 use crate::input::read_zone;
 use crate::normalise_bytes;
-use crate::tests::{Case, Named, first_wrong_name, is_explained};
+use crate::tests::{Case, Named, first_wrong, first_wrong_name, is_explained};
 use std::alloc::{AllocError, Global};
 use std::io;
 use std::io::Read;
@@ -13,7 +13,7 @@ use zone_text::TextSource;
 /// How many owners a file has.
 const OWNERS: u64 = 1000;
 
-/// Appends the line of an address whose owner is `a` with this number and what is behind it.
+/// Appends the line of an address whose owner is `a` with this number and what follows it.
 fn push_address(
     alloc: Global,
     file: &mut Vec<u8>,
@@ -24,7 +24,7 @@ fn push_address(
     file.extend_from_slice(line.as_bytes())
 }
 
-/// The owners from the highest number down, behind the SOA.
+/// The owners from the highest number down, after the SOA.
 fn descending(alloc: Global) -> Result<Vec<u8>, AllocError> {
     let mut file = Vec::new(alloc);
     file.extend_from_slice(b"@ 60 SOA n h 1 2 3 4 5\n")?;
@@ -44,7 +44,8 @@ fn ascending(alloc: Global) -> Result<Vec<u8>, AllocError> {
     Ok(file)
 }
 
-/// The number below 1000 whose digits are the next in the order of texts, in which 1, 10 and 100 come before 11.
+/// The number below 1000 whose digits are the next in the order of texts, in which 1, 10 and 100
+/// come before 11.
 fn after(number: u64) -> u64 {
     if number == 0 {
         return 1;
@@ -87,6 +88,45 @@ fn a_thousand_owners_are_sorted(rt: HostRuntime) -> Result<(), Fail> {
     assert_eq!(rt; text.len(), 24923);
     assert!(rt; descending.as_slice() == text.as_slice());
     assert!(rt; ascending.as_slice() == text.as_slice());
+    Ok(())
+}
+
+/// The SOA and lines of addresses from 10.0.0.0 on, so many lines of so many addresses, each a step after the one before.
+fn addresses(alloc: Global, count: u64, lines: u64, step: u64) -> Result<Vec<u8>, AllocError> {
+    let mut file = Vec::new(alloc);
+    file.extend_from_slice(b"x. 60 IN SOA n.x. h.x. 1 2 3 4 5\n")?;
+    for line in 0..lines {
+        let number = line.wrapping_mul(step) % count.max(1);
+        let line = format!(in alloc; "x. 60 IN A 10.0.{}.{}\n", number / 256, number % 256)?;
+        file.extend_from_slice(line.as_bytes())?;
+    }
+    Ok(file)
+}
+
+/// A set of so many data, which stand in no order, a third of them twice.
+struct ManyData(u64);
+
+impl Case for ManyData {
+    fn is_right(&self, alloc: Global) -> Result<bool, Fail> {
+        // 1009 is a prime, so each address stands there.
+        let drawn = addresses(alloc, self.0, self.0.wrapping_add(self.0 / 3), 1009)?;
+        let text = addresses(alloc, self.0, self.0, 1)?;
+        Ok(text_of(alloc, &drawn)?.as_slice() == text.as_slice())
+    }
+}
+
+static MANY_DATA: [ManyData; 6] = [
+    ManyData(15),
+    ManyData(16),
+    ManyData(17),
+    ManyData(100),
+    ManyData(300),
+    ManyData(3000),
+];
+
+#[test]
+fn sets_of_many_data_are_sorted(rt: HostRuntime) -> Result<(), Fail> {
+    assert_eq!(rt; first_wrong(rt.alloc(), &MANY_DATA)?, None);
     Ok(())
 }
 

@@ -1,4 +1,5 @@
-//! Where `rt try --test --fail-alloc N` refuses a growth, that call appends nothing and the next one goes on.
+//! Where `rt try --test --fail-alloc N` refuses a growth, that call appends nothing and the next
+//! one goes on.
 use crate::tests::items::data_of;
 use crate::tests::names::named;
 use std::alloc::{AllocError, Global};

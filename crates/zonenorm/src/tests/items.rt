@@ -1,4 +1,5 @@
-//! Record data: from a line of words to its text, its octets and its order (RFC 1035 3.3, RFC 3597, RFC 4034 6.3).
+//! Record data: from a line of words to its text, its octets and its order (RFC 1035 3.3, RFC 3597,
+//! RFC 4034 6.3).
 use crate::tests::{Case, fault_name, first_wrong, judged};
 use std::alloc::Global;
 use std::cmp::Ordering;

@@ -20,7 +20,7 @@ fn is_found(alloc: Global, message: &[u8], offset: usize, found: Found) -> Resul
     }
 }
 
-/// What is behind the header of a message, an offset, and what is found there.
+/// What follows the header of a message, an offset, and what is found there.
 struct InMessage {
     name: &'static str,
     behind: &'static [u8],
@@ -112,8 +112,9 @@ static IN_MESSAGES: [InMessage; 11] = [
     },
 ];
 
-/// A message with a name of so many labels `a` at offset 12, behind it so many pointers, and other octets behind them; an
-/// offset; and what is found there: that name and the offset after it, or the fault; and the steps.
+/// A message with a name of so many labels `a` at offset 12, after it so many pointers, and other
+/// octets after them; an offset; and what is found there: that name and the offset after it, or the
+/// fault; and the steps.
 struct InChain {
     name: &'static str,
     labels: usize,
@@ -133,7 +134,8 @@ fn labels(alloc: Global, count: usize) -> Result<Vec<u8>, Fail> {
     Ok(name)
 }
 
-/// Appends so many pointers: the first to the name at offset 12, each other one to the one before it.
+/// Appends so many pointers: the first to the name at offset 12, each other one to the one before
+/// it.
 fn push_pointers(message: &mut Vec<u8>, count: u16) -> Result<(), Fail> {
     let mut target: u16 = 12;
     for _ in 0..count {

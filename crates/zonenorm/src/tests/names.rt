@@ -162,7 +162,8 @@ fn texts_of_names(rt: HostRuntime) -> Result<(), Fail> {
     Ok(())
 }
 
-/// What is behind a backslash, the octet that its escape stands for, and what is behind the escape (RFC 1035 5.1).
+/// What follows a backslash, the octet that its escape stands for, and what follows the escape (RFC
+/// 1035 5.1).
 struct Escaped(&'static [u8], u8, &'static [u8]);
 
 impl Case for Escaped {

@@ -31,7 +31,8 @@ fn digit(octet: u8) -> Result<u8, Fail> {
     }
 }
 
-/// What a message has: its ID, the name, type and class that it asks for, and where its answers begin.
+/// What a message has: its ID, the name, type and class that it asks for, and where its answers
+/// begin.
 struct Whole {
     id: u16,
     question: Option<(&'static [u8], u16, u16)>,
@@ -147,7 +148,8 @@ fn messages_are_parsed(rt: HostRuntime) -> Result<(), Fail> {
     Ok(())
 }
 
-/// A message, the offset of an answer, and the canonical line and the data of its record, or its fault.
+/// A message, the offset of an answer, and the canonical line and the data of its record, or its
+/// fault.
 struct Stated {
     name: &'static str,
     message: &'static str,

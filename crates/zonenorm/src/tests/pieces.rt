@@ -110,7 +110,7 @@ impl<'r> Taken<'r> {
         Ok(false)
     }
 
-    /// Whether the source, whose input has ended, gives what is left, and has nothing behind it.
+    /// Whether the source, whose input has ended, gives what is left, and nothing after it.
     fn is_whole<S: Fed>(&mut self, alloc: Global, source: &mut S) -> Result<bool, Fail> {
         if !self.is_right(alloc, source)? || self.count != self.wanted.placed.len() {
             return Ok(false);
@@ -124,7 +124,8 @@ impl<'r> Taken<'r> {
     }
 }
 
-/// How an input is cut: into a first piece and pieces of one length, empty pieces between them or not.
+/// How an input is cut: into a first piece and pieces of one length, empty pieces between them or
+/// not.
 #[derive(Clone, Copy)]
 struct Cut {
     first: usize,

@@ -9,7 +9,8 @@ use std::io;
 use std::io::{ErrorKind, Read};
 use std::test::Fail;
 
-/// What an input gives: octets, written as text or in hexadecimal digits, and then its end or an error.
+/// What an input gives: octets, written as text or in hexadecimal digits, and then its end or an
+/// error.
 #[derive(Clone, Copy)]
 enum Given {
     Text(&'static str),
@@ -51,7 +52,8 @@ impl Read for Supply<'_> {
     }
 }
 
-/// The words after the program's name, what its inputs give, its exit status, and what it writes on its two outputs.
+/// The words after the program's name, what its inputs give, its exit status, and what it writes on
+/// its two outputs.
 struct Program {
     name: &'static str,
     words: &'static [&'static str],

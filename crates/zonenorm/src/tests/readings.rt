@@ -38,7 +38,8 @@ fn are_given(alloc: Global, reading: &Reading, given: &[Given]) -> Result<bool, 
     Ok(reading.placed.len() == given.len())
 }
 
-/// Whether this is what an input is read as: its records, and number, name and place of the fault after them.
+/// Whether this is what an input is read as: its records, and number, name and place of the fault
+/// after them.
 pub(super) fn is_read(
     alloc: Global,
     reading: &Reading,

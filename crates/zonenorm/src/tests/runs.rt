@@ -3,7 +3,7 @@ use crate::explain::explain_line;
 use crate::form::Form;
 use crate::order::Order;
 use crate::run::run;
-use crate::tests::devices::{Breaking, Sparing};
+use crate::tests::devices::{Ailing, Breaking, Sparing};
 use crate::tests::vectors::{Answer, Question, Vector, wrong};
 use crate::tests::{had_memory, is_explained, roomy};
 use crate::{Verdict, compare, explain, normalise, normalise_bytes};
@@ -84,8 +84,8 @@ struct Run {
 }
 
 /// What a run over a reader does.
-fn ran<R: Read>(alloc: Global, origin: Name, reader: &mut R) -> Result<Run, Fail> {
-    let order = Order::Normalise(Some(origin));
+fn ran<R: Read>(alloc: Global, origin: Option<Name>, reader: &mut R) -> Result<Run, Fail> {
+    let order = Order::Normalise(origin);
     let (mut output, mut told) = (roomy(alloc)?, roomy(alloc)?);
     let mut second = Breaking {
         left: b"",
@@ -122,15 +122,16 @@ fn is_run(alloc: Global, vector: &Vector, ran: &Run) -> Result<bool, Fail> {
     }
 }
 
-/// What `run` does, over a reader that gives all at once and over one that gives an octet at a time.
+/// What `run` does, over a reader that gives all at once and over one that gives an octet at a
+/// time.
 struct Runs;
 
 impl Question for Runs {
     fn is_answered(alloc: Global, vector: &Vector) -> Result<bool, Fail> {
         let mut reader = vector.file;
         let mut sparing = Sparing { left: vector.file };
-        let at_once = ran(alloc, vector.origin()?, &mut reader)?;
-        let singly = ran(alloc, vector.origin()?, &mut sparing)?;
+        let at_once = ran(alloc, Some(vector.origin()?), &mut reader)?;
+        let singly = ran(alloc, Some(vector.origin()?), &mut sparing)?;
         Ok(is_run(alloc, vector, &at_once)? && is_run(alloc, vector, &singly)?)
     }
 }
@@ -141,8 +142,28 @@ fn runs_over_files(rt: HostRuntime) -> Result<(), Fail> {
     Ok(())
 }
 
-/// What `run` does where the reader fails at once, behind half of the file, and in place of its end, whatever was wrong
-/// before.
+/// Whether a run ends in the failure of its reader, and writes nothing.
+fn is_broken<R: Read>(alloc: Global, origin: Option<Name>, reader: &mut R) -> Result<bool, Fail> {
+    let ran = ran(alloc, origin, reader)?;
+    let is_told = ran.told.as_slice() == b"read failed\n".as_slice();
+    Ok(ran.status == 4 && ran.output.is_empty() && is_told)
+}
+
+/// Whether a run over a stream does so where its reader, which gives an octet at a time, fails at
+/// once, after half of the stream, and in place of its end.
+pub(super) fn is_broken_anywhere(alloc: Global, stream: &[u8]) -> Result<bool, Fail> {
+    for count in [0, stream.len() / 2, stream.len()] {
+        let (left, _) = stream.split_at(count);
+        if !is_broken(alloc, None, &mut Ailing { left })? {
+            return Ok(false);
+        }
+    }
+    Ok(true)
+}
+
+/// What `run` does where the reader fails at once, after half of the file, and in place of its end,
+/// whatever was wrong before: one that gives all at once before that, and one that gives an octet at
+/// a time.
 struct BrokenRuns;
 
 impl Question for BrokenRuns {
@@ -151,10 +172,9 @@ impl Question for BrokenRuns {
         for count in [0, len / 2, len] {
             let (left, _) = vector.file.split_at(count);
             let error = ErrorKind::Other;
-            let ran = ran(alloc, vector.origin()?, &mut Breaking { left, error })?;
-            if ran.status != 4
-                || !ran.output.is_empty()
-                || ran.told.as_slice() != b"read failed\n".as_slice()
+            let (mut breaking, mut ailing) = (Breaking { left, error }, Ailing { left });
+            if !is_broken(alloc, Some(vector.origin()?), &mut breaking)?
+                || !is_broken(alloc, Some(vector.origin()?), &mut ailing)?
             {
                 return Ok(false);
             }
@@ -186,7 +206,8 @@ fn is_kept_under(
     }
 }
 
-/// Whether the canonical text that an input is answered is read back under other origins and its own.
+/// Whether the canonical text that an input is answered is read back under other origins and its
+/// own.
 pub(super) fn is_kept(
     alloc: Global,
     form: Form<'_>,

@@ -1,17 +1,18 @@
-//! Zone transfers: what `normalise` and `normalise_bytes` answer to a stream, and what is read of it in pieces.
+//! Zone transfers: what `normalise` and `normalise_bytes` answer to a stream, and what is read of
+//! it in pieces.
 use crate::form::Form;
 use crate::order::Order;
 use crate::run::run;
 use crate::tests::parsing::octets_of;
 use crate::tests::pieces::{Fed, MOST, is_right_in_two, is_right_singly};
 use crate::tests::readings::{Given, is_read, line_of};
-use crate::tests::runs::{is_kept, is_wanted};
+use crate::tests::runs::{is_broken_anywhere, is_kept, is_wanted};
 use crate::tests::scripts::{Script, Step, wrong_script};
 use crate::tests::streams::{
     FIFTH_STREAMS, FIRST_STREAMS, FOURTH_STREAMS, SECOND_STREAMS, SIXTH_STREAMS, THIRD_STREAMS,
 };
 use crate::tests::vectors::Answer;
-use crate::tests::{Case, Named, first_wrong_name, had_memory, is_explained, roomy};
+use crate::tests::{Case, Named, first_wrong, first_wrong_name, had_memory, is_explained, roomy};
 use crate::{normalise, normalise_bytes};
 use std::alloc::Global;
 use std::test::Fail;
@@ -36,7 +37,8 @@ fn written(alloc: Global, octets: &[u8]) -> Result<Result<Vec<u8>, Stop>, Fail> 
     }
 }
 
-/// Whether a run over the stream has the status of this answer, writes what it says and tells what it says.
+/// Whether a run over the stream has the status of this answer, writes what it says and tells what
+/// it says.
 fn is_ran(alloc: Global, answer: &Answer, octets: &[u8]) -> Result<bool, Fail> {
     let mut reader = octets;
     let (mut output, mut told) = (roomy(alloc)?, roomy(alloc)?);
@@ -68,6 +70,7 @@ impl Case for Stream {
             is_wanted(alloc, &self.answer, answered)?
                 && is_wanted(alloc, &self.answer, written(alloc, &octets)?)?
                 && is_ran(alloc, &self.answer, &octets)?
+                && is_broken_anywhere(alloc, &octets)?
                 && is_kept(alloc, Form::Transfer, &octets, &self.answer)?,
         )
     }
@@ -77,6 +80,48 @@ impl Named for Stream {
     fn name(&self) -> &'static str {
         self.name
     }
+}
+
+/// The rest of a transfer's message after its flags.
+const AFTER_FLAGS: &str =
+    "000100030000000001780000fc0001c00c0006000100000e10001c016ec00c0168c00c0000000100000002000000030000000400000005c00c0002000100000e100002c01fc00c0006000100000e100018c01fc0230000000100000002000000030000000400000005";
+
+/// A message with this error code (RFC 1035 4.1.1).
+struct Coded(u8);
+
+impl Case for Coded {
+    fn is_right(&self, alloc: Global) -> Result<bool, Fail> {
+        let mut stream = octets_of(alloc, "006d000184")?;
+        stream.push(self.0)?;
+        stream.extend_from_slice(&octets_of(alloc, AFTER_FLAGS)?)?;
+        let answered = normalise_bytes(alloc, Form::Transfer, &stream);
+        let front = format!(in alloc; "F26 ErrorCode {} at message 1 offset 0", self.0)?;
+        is_explained(alloc, &answered.err().ok_or("accepted")?, front.as_str())
+    }
+}
+
+static CODED: [Coded; 15] = [
+    Coded(1),
+    Coded(2),
+    Coded(3),
+    Coded(4),
+    Coded(5),
+    Coded(6),
+    Coded(7),
+    Coded(8),
+    Coded(9),
+    Coded(10),
+    Coded(11),
+    Coded(12),
+    Coded(13),
+    Coded(14),
+    Coded(15),
+];
+
+#[test]
+fn error_codes_are_told(rt: HostRuntime) -> Result<(), Fail> {
+    assert_eq!(rt; first_wrong(rt.alloc(), &CODED)?, None);
+    Ok(())
 }
 
 #[test]
@@ -139,7 +184,8 @@ impl Fed for TransferSource {
     }
 }
 
-/// The name of the first stream that gives other records or another fault, where it is fed in pieces.
+/// The name of the first stream that gives other records or another fault, where it is fed in
+/// pieces.
 fn first_miscut(alloc: Global, streams: &[Stream]) -> Result<Option<&'static str>, Fail> {
     let root = Name::root();
     for stream in streams {

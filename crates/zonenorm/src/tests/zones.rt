@@ -1,4 +1,5 @@
-//! Records that make a zone, its records in order and its text (RFC 1035 5.2, RFC 2181 5, RFC 4034 6).
+//! Records that make a zone, its records in order and its text (RFC 1035 5.2, RFC 2181 5, RFC 4034
+//! 6).
 use crate::tests::{Case, first_wrong, is_explained};
 use std::alloc::Global;
 use std::test::Fail;
@@ -33,8 +34,8 @@ pub(super) fn taken(alloc: Global, mut reading: Reading) -> Result<Zone, Stop> {
 /// A record of the owner `x.` in class IN: its type, its TTL and its octets.
 struct Held(u16, u32, &'static [u8]);
 
-/// A zone of the apex `x.` in class IN: its canonical text, the octets that its records take in messages (RFC 1035 3.2.1:
-/// 13 beside the data, with an owner of three), and its records.
+/// A zone of the apex `x.` in class IN: its canonical text, the octets that its records take in
+/// messages (RFC 1035 3.2.1: 13 besides the data, with an owner of three), and its records.
 struct Whole(&'static [u8], u64, &'static [Held]);
 
 impl Whole {

@@ -1,4 +1,4 @@
--- Owner, middle and what stands behind them join to the line.
+-- Owner, middle and what follows them join to the line.
 use Rattle.std.proofs.Common.{subst, sym}
 use Rattle.std.proofs.lemmas.Result.{MatchResult-weaker}
 use Rattle.zone_set.specs.View.{record_of}

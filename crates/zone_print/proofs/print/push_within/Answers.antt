@@ -1,19 +1,20 @@
 -- A text over the limit is refused, and what else stops is want of memory.
-use Rattle.std.proofs.Common.{arith}
+use Rattle.std.proofs.Common.{◌≡◌, ◌++◌, [], arith, sym, ◌∙◌}
+use Rattle.std.proofs.lemmas.List.{append-nil}
 use Rattle.std.proofs.lemmas.Result.{err_from_is_err_and}
 use Rattle.zone_print.specs.Writing.{large, memory}
-use Rattle.zone_print.proofs.Stops.{of_memory}
+use Rattle.zone_print.proofs.Lines.{line_moves, line_ends}
 use Rattle.zone_print.proofs.print.push_within.Goals as goal
 
 pub returns-then-text_len-limit-clause-stopped : goal.returns-then-text_len-limit-clause-stopped
 returns-then-text_len-limit-clause-stopped c = large (omega (arith, c.len_within-text_len.ensures))
 
-pub returns-in_err-with_capacity-clause-stopped : goal.returns-in_err-with_capacity-clause-stopped
-returns-in_err-with_capacity-clause-stopped c =
+pub returns-in_err-text-clause-stopped : goal.returns-in_err-text-clause-stopped
+returns-in_err-text-clause-stopped c =
     let p = err_from_is_err_and c.from_residual.result c.from_residual.ensures.1 in
     rw (p.1, p.2) memory
 
-pub returns-in_err-write_lines-clause-stopped : goal.returns-in_err-write_lines-clause-stopped
-returns-in_err-write_lines-clause-stopped c =
-    let p = err_from_is_err_and c.from_residual-in_err-write_lines.result c.from_residual-in_err-write_lines.ensures.1 in
-    rw (p.1, p.2) (of_memory _ _ _ c.in_err-write_lines.ensures.stopped)
+pub returns-in_err-push_record-clause-stopped : goal.returns-in_err-push_record-clause-stopped
+returns-in_err-push_record-clause-stopped c =
+    let p = err_from_is_err_and c.from_residual-in_err-push_record.result c.from_residual-in_err-push_record.ensures.1 in
+    rw (p.1, p.2) memory

@@ -5,4 +5,8 @@ use Rattle.zone_print.proofs.Front.{Left}
 use Rattle.zone_print.proofs.print.write_lines.Given as goal
 
 abbrev pub invariant-loop-rr : goal.invariant-loop-rr
-invariant-loop-rr g l = Left (g.W.OctetWriter.contents l.initial.writer) (g.W.OctetWriter.contents l.writer) (canon l.zone) (l.buffer ++ lines l.rr-iterator)
+invariant-loop-rr g l =
+    record {
+      left : Left (g.W.OctetWriter.contents l.initial.writer) (g.W.OctetWriter.contents l.writer) (canon l.zone) (l.buffer ++ lines l.rr-iterator);
+      works : g.W.OctetWriter.Works l.initial.writer → g.W.OctetWriter.Works l.writer;
+    }

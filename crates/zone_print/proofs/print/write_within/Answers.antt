@@ -4,7 +4,7 @@ use Rattle.std.proofs.KnownBytes.{Keeps-refl}
 use Rattle.std.proofs.lemmas.Bool.{false≢true}
 use Rattle.zone_print.specs.Canonical.{canon}
 use Rattle.zone_print.specs.Writing.{large}
-use Rattle.zone_print.proofs.Stops.{stops_within}
+use Rattle.zone_print.proofs.Stops.{stops_within, tells_writing}
 use Rattle.zone_print.proofs.print.write_within.Goals as goal
 
 pub returns-then-not-text_fits_within-clause-stopped : goal.returns-then-not-text_fits_within-clause-stopped
@@ -15,4 +15,7 @@ returns-then-not-text_fits_within-clause-stopped g c =
 
 pub returns-clause-stopped : goal.returns-clause-stopped
 returns-clause-stopped g c =
-    stops_within _ c.args.limit _ _ _ c.write_lines.result (c.if-not-text_fits_within.ensures.0 refl) c.write_lines.ensures.stopped c.write_lines.ensures.front
+    stops_within _ _ c.args.limit _ _ _ c.write_lines.result (c.if-not-text_fits_within.ensures.0 refl) c.write_lines.ensures.stopped c.write_lines.ensures.part
+
+pub returns-clause-failed : goal.returns-clause-failed
+returns-clause-failed g c = tells_writing _ _ c.write_lines.result c.write_lines.ensures.stopped

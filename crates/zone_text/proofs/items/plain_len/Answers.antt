@@ -1,4 +1,6 @@
-use Rattle.std.proofs.Common.{sym, ◌∙◌, length, arith}
+use Rattle.std.proofs.Common.{◌≡◌, false, subst, take, sym, ◌∙◌, length, arith}
+use Rattle.std.specs.List.{All}
+use Rattle.std.proofs.lemmas.List.Elements.{All-more}
 use Rattle.zone_text.specs.Machine.ItemLengths.{ends_within, stops_within}
 use Rattle.zone_text.proofs.PieceEnds.{plain_on, plain_stops, end_stops, all_reached}
 use Rattle.zone_text.proofs.items.plain_len.Goals as goal
@@ -9,10 +11,19 @@ returns-then-stops_at-clause-stops c =
 
 pub loop-index-preserved : goal.loop-index-preserved
 loop-index-preserved c =
-    plain_on (ends_within c.args.extent) _ _ c.loop-index-test.true (sym c.stops_at.ensures ∙ c.if-stops_at.false) c.loop-index.invariant
+    let goes = sym c.stops_at.ensures ∙ c.if-stops_at.false in
+    record {
+      reaches = plain_on (ends_within c.args.extent) _ _ c.loop-index-test.true goes c.loop-index.invariant.reaches;
+      plain = All-more (λ d. stops_within c.args.extent d ≡ false) c.args.text.now c.loop-index.index 0 c.loop-index-test.true c.loop-index.invariant.plain goes;
+    }
 
 pub returns-clause-reaches : goal.returns-clause-reaches
-returns-clause-reaches c = all_reached (ends_within c.args.extent) _ c.loop-index.index c.loop-index-test.false c.loop-index.auto.index-end c.loop-index.invariant
+returns-clause-reaches c = all_reached (ends_within c.args.extent) _ c.loop-index.index c.loop-index-test.false c.loop-index.auto.index-end c.loop-index.invariant.reaches
 
 pub returns-clause-stops : goal.returns-clause-stops
 returns-clause-stops c = end_stops (stops_within c.args.extent) c.args.text.now (length c.args.text.now) (omega arith)
+
+pub returns-clause-plain : goal.returns-clause-plain
+returns-clause-plain c =
+    let same : c.loop-index.index ≡ length c.args.text.now = omega (arith, c.loop-index-test.false, c.loop-index.auto.index-end) in
+    subst (λ k. All (λ d. stops_within c.args.extent d ≡ false) (take k c.args.text.now)) same c.loop-index.invariant.plain

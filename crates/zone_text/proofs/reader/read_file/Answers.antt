@@ -2,7 +2,7 @@ use Rattle.std.proofs.Common.{◌≡◌, Result, Ok, Err, OnOk, is_ok, []}
 use Rattle.zone_text.proofs.Standing.{reads_whole}
 use Rattle.zone_text.proofs.reader.read_file.Goals as goal
 
--- what a call ensures of `Ok`, where `?` behind `map_err` found it
+-- what a call ensures of `Ok`, where `?` after `map_err` found it
 if_ok : {T E D P : Type 0} {x : T} (r : Result T E) (mapped : Result T D) → is_ok mapped ≡ is_ok r → mapped ≡ Ok x → OnOk r P → P
 if_ok (Ok y) mapped same is holds = holds
 if_ok (Err e) mapped same is holds = cc

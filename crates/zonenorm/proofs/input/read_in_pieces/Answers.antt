@@ -18,6 +18,7 @@ loop-count-init g c = record {
     fed_few = rw c.requires.unfed (search rules);
     taken = λ form begins. begun g.S.FedSource.Stands form _ _ _ _ c.new-taking.ensures.holds c.new-taking.ensures.refuses begins;
   };
+  works = λ worked. worked;
   going = c.requires.«open»;
 }
 
@@ -43,7 +44,7 @@ pub returns-then-is_empty-clause-stopped : goal.returns-then-is_empty-clause-sto
 returns-then-is_empty-clause-stopped g c = MatchResult-weaker c.finish.result c.finish.ensures.stopped (λ z h. h) of_reading
 
 pub returns-then-is_empty-clause-failed : goal.returns-then-is_empty-clause-failed
-returns-then-is_empty-clause-failed g c = MatchResult-weaker c.finish.result c.finish.ensures.stopped (λ z h. h) (tells_no_read _)
+returns-then-is_empty-clause-failed g c = MatchResult-weaker c.finish.result c.finish.ensures.stopped (λ z h. h) (λ stop. tells_no_read _ _ stop (λ worked. c.in_ok-given.ensures.works (c.loop-count.invariant.works worked)))
 
 pub returns-then-is_empty-clause-few : goal.returns-then-is_empty-clause-few
 returns-then-is_empty-clause-few g c =
@@ -70,6 +71,7 @@ loop-count-preserved g c =
         fed_few = search (rules, c.take.ensures.fed, fed.fed_few);
         taken = λ form begins. c.in_ok-take.ensures.taken form fed.given (fed.taken form begins);
       };
+      works = λ worked. c.in_ok-given.ensures.works (c.loop-count.invariant.works worked);
       going = c.in_ok-take.ensures.«open»;
     }
 

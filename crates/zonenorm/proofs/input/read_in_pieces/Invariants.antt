@@ -10,6 +10,7 @@ invariant-loop-count g l =
     let source = l.initial.source in
     record {
       fed : HasFed (BeginsAs g.S.FedSource.Stands (g.S.RrSource.pending source) (g.S.FedSource.held source)) (IsTakenOf g.S.FedSource.Stands (g.S.RrSource.pending l.source) (g.S.FedSource.held l.source) l.taking.builder l.taking.refusal) (remaining l.initial.reader) (remaining l.reader) l.count (g.S.FedSource.fed (g.S.FedSource.held l.source)) l.limit;
+      works : g.R.OctetReader.Works l.initial.reader → g.R.OctetReader.Works l.reader;
       going : g.S.FedSource.finished (g.S.FedSource.held l.source) ≡ false;
     }
 

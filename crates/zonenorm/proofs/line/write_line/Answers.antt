@@ -1,5 +1,5 @@
 use Rattle.std.proofs.Common.{[], ◌∷◌, ◌++◌, refl}
-use Rattle.zonenorm.specs.Run.{AppendsPart}
+use Rattle.zone_print.specs.Writing.{AppendsPart}
 use Rattle.zonenorm.proofs.Telling.{both_written, on_any_err, on_err, part_as, part_first, part_then}
 use Rattle.zonenorm.proofs.line.write_line.Goals as goal
 
@@ -16,8 +16,8 @@ returns-in_err-write_octets-2-clause-part g c =
 
 pub returns-clause-part : goal.returns-clause-part
 returns-clause-part g c =
-    on_err c.write_octets-3.result (AppendsPart (g.W.Write.contents c.write_octets-2.new.writer) (g.W.Write.contents c.write_octets-3.new.writer) (10 ∷ []))
-    (AppendsPart (g.W.Write.contents c.args.writer.now) (g.W.Write.contents c.write_octets-3.new.writer) (c.args.words.now ++ c.args.line.now ++ 10 ∷ []))
+    on_err c.write_octets-3.result (AppendsPart (g.W.OctetWriter.contents c.write_octets-2.new.writer) (g.W.OctetWriter.contents c.write_octets-3.new.writer) (10 ∷ []))
+    (AppendsPart (g.W.OctetWriter.contents c.args.writer.now) (g.W.OctetWriter.contents c.write_octets-3.new.writer) (c.args.words.now ++ c.args.line.now ++ 10 ∷ []))
     (λ part. part_then _ _ _ (c.args.words.now ++ c.args.line.now) (c.args.words.now ++ c.args.line.now) (10 ∷ []) refl
     (both_written _ _ _ _ _ c.args.words.now c.args.line.now c.as_bytes.ensures.value c.as_bytes-2.ensures.value c.in_ok-write_octets.ensures.written c.in_ok-write_octets-2.ensures.written) part)
     c.write_octets-3.ensures.part

@@ -12,7 +12,7 @@ returns-in-Err-clause-ran g c =
 
 pub returns-in-Err-explain-clause-ran : goal.returns-in-Err-explain-clause-ran
 returns-in-Err-explain-clause-ran g c =
-    rw c.in-Explain.is (explain_stopped c.in-Explain.origin _ c.with_origin-in-Explain.ensures _ _ c.in-Err-explain.stop _ c.in-Err-explain.ensures.failed c.in-Err-explain.ensures.part c.report-in-Err-explain.ensures)
+    rw c.in-Explain.is (explain_stopped c.in-Explain.origin _ c.with_origin-in-Explain.ensures _ _ c.in-Err-explain.stop _ c.in-Err-explain.ensures.failure c.in-Err-explain.ensures.part c.report-in-Err-explain.ensures)
 
 pub returns-in-Ok-compare-clause-ran : goal.returns-in-Ok-compare-clause-ran
 returns-in-Ok-compare-clause-ran g c =

@@ -1,7 +1,8 @@
-//! Equal records, the TTLs of a set, two SOA records, and owners outside the zone (RFC 2181 5, RFC 1035 5.2).
+//! Equal records, the TTLs of a set, two SOA records, and owners outside the zone (RFC 2181 5, RFC
+//! 1035 5.2).
 use crate::tests::vectors::{Answer, Vector};
 
-pub(super) static FILES: [Vector; 16] = [
+pub(super) static FILES: [Vector; 17] = [
     Vector {
         name: "ttl_differs_inside_a_set",
         origin: b"x.",
@@ -103,5 +104,11 @@ pub(super) static FILES: [Vector; 16] = [
         origin: b"x.",
         file: b"a. 60 IN NS n\nb. 60 IN NS n\n",
         answer: Answer::Refused("F42 NoSoa in the input"),
+    },
+    Vector {
+        name: "owner_outside_is_told_with_its_escapes",
+        origin: b"x.",
+        file: b"@ 60 SOA n h 1 2 3 4 5\nA\\.b\\000\\\".y. 60 NS n\n",
+        answer: Answer::Refused("F43 OutOfZone a\\.b\\000\\\".y. in the input"),
     },
 ];

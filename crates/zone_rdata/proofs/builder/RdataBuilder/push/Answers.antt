@@ -4,7 +4,7 @@ use Rattle.zone_rdata.proofs.Failings.{if_fault_passed}
 use Rattle.zone_rdata.proofs.builder.RdataBuilder.push.Goals as goal
 
 pub returns-then-not-is_next-clause-fault : goal.returns-then-not-is_next-clause-fault
-returns-then-not-is_next-clause-fault c = push_misplaced c.self.inside.class c.self.inside.kind c.self.inside.count c.self.inside.octets.items _ (value_of c.args.part) _ c.self.view_is c.self.invariant c.if-not-is_next.true c.is_next.ensures
+returns-then-not-is_next-clause-fault c = rw c.of.ensures (push_misplaced c.self.inside.class c.self.inside.kind c.self.inside.count c.self.inside.octets.items _ (value_of c.args.part) _ c.self.view_is c.self.invariant c.if-not-is_next.true c.is_next.ensures)
 
 pub returns-in_err-append-clause-fault : goal.returns-in_err-append-clause-fault
 returns-in_err-append-clause-fault c =

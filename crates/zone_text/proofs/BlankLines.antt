@@ -1,0 +1,196 @@
+-- Lines without items: what is cut of them, and what follows from octets with such lines after them.
+use Rattle.std.proofs.Common.{◌≡◌, ◌≢◌, ℕ, suc, ◌+◌, ◌≤◌, List, [], ◌∷◌, ◌++◌, ◌==◌, if◌then◌else◌, ◌<◌, length, drop, None, refl, sym, ap, ◌∙◌, subst, arith, append_assoc, length-append}
+use Rattle.std.specs.List.{AllByRecursion, flat_map}
+use Rattle.std.proofs.lemmas.Bool.{cond_both, eqb-true, eqb-false, ne_eqb}
+use Rattle.std.proofs.lemmas.List.{append-nil}
+use Rattle.std.proofs.lemmas.List.Sums.{sum_by-cons}
+use Rattle.zone_name.specs.Common.{Labels}
+use Rattle.zone_text.specs.Defaults.{AreDefaults}
+use Rattle.zone_text.specs.Entries.{Entry, entry_of, item_of}
+use Rattle.zone_text.specs.Forms.{no_items, form_by, form_of}
+use Rattle.zone_text.specs.Pieces.{Piece, comment, line_feed, Cuts}
+use Rattle.zone_text.specs.Machine.Blank.{AreBlankLines, IsBlankLine, IsComment, line_feed as fed_line, commented, no_lines, one_line_more}
+use Rattle.zone_text.specs.Machine.Cutting.{before_line_feed}
+use Rattle.zone_text.specs.Machine.EntryReading.{LeavesNoRecord, decides_none}
+use Rattle.zone_text.specs.Machine.Feeding.{Follow, IsIntake, ReadsOctets, ScansTo}
+use Rattle.zone_text.specs.Machine.Scan.{beginning, further, scan_of}
+use Rattle.zone_text.specs.declared.ended.EndedEntries.{EndedEntries}
+use Rattle.zone_text.specs.declared.intake.Intake.{Intake}
+use Rattle.zone_text.specs.declared.scan.Mode.TheVariants.{Comment}
+use Rattle.zone_text.specs.declared.scan.Scanned.{Scanned}
+use Rattle.zone_text.specs.declared.scan.Step.TheVariants.{Ends}
+use Rattle.zone_text.proofs.Cuttings.{one_cut}
+use Rattle.zone_text.proofs.EntryTaken.{lines_behind, takes_entry}
+use Rattle.zone_text.proofs.Followed.{follow_entry}
+use Rattle.zone_text.proofs.Inheriting.{leaves, same_default, same_origin}
+use Rattle.zone_text.proofs.Left.{line_feeds}
+use Rattle.zone_text.proofs.FedPieces.{HasFed, fed_more}
+use Rattle.zone_text.proofs.PartTaken.{FollowsOn}
+
+-- ---- a comment at the front
+
+abbrev pub IsFront : List ℕ → List ℕ → Type 0
+IsFront octets front =
+    (octets ≡ front ++ drop (length front) octets) × (AllByRecursion (λ c. c ≢ 10) front × ((c : ℕ) (rest : List ℕ) → drop (length front) octets ≡ c ∷ rest → c ≡ 10))
+
+pub comment_front : (octets : List ℕ) → IsFront octets (before_line_feed octets)
+unfolding before_line_feed
+comment_front [] = (refl, (tt, λ c rest e. absurd (let t : ⊥ = cc in t)))
+comment_front (c ∷ octets) =
+    let more = comment_front octets in
+    cond_both (c == 10) [] (c ∷ before_line_feed octets) (IsFront (c ∷ octets))
+    (λ e. (refl, (tt, λ d rest same. let first : d ≡ c = cc in first ∙ eqb-true c 10 e)))
+    (λ e. (ap (λ t. c ∷ t) more.0, ((eqb-false c 10 e, more.1.0), more.1.1)))
+
+pub comment_ended : (octets behind rest : List ℕ) (n c : ℕ) → n ≡ length (before_line_feed octets) → behind ≡ drop n octets → behind ≡ c ∷ rest → IsComment octets rest
+comment_ended octets behind rest n c len back first =
+    let front = comment_front octets in
+    let left : drop (length (before_line_feed octets)) octets ≡ c ∷ rest = ap (λ k. drop k octets) (sym len) ∙ sym back ∙ first in
+    let is : c ≡ 10 = front.1.1 c rest left in
+    record {
+      comment = before_line_feed octets;
+      inside = front.1.0;
+      whole = front.0 ∙ ap (λ t. before_line_feed octets ++ t) (left ∙ ap (λ d. d ∷ rest) is);
+    }
+
+-- ---- a line as an entry
+
+-- octets up to a line feed that ends them as an entry without items
+record IsEmpty (octets : List ℕ) : Type 0 where
+  scanned : ScansTo beginning octets Ends
+  pieces : List Piece
+  cut : Cuts octets pieces
+  none : flat_map item_of pieces ≡ []
+  count : 1 ≡ line_feeds octets
+  some : 1 ≤ length octets
+
+fed_scanned : ScansTo beginning (10 ∷ []) Ends
+unfolding scan_of
+fed_scanned = refl
+
+fed_alone : IsEmpty (10 ∷ [])
+fed_alone = record {
+  scanned = fed_scanned;
+  pieces = line_feed ∷ [];
+  cut = record { whole = refl; each = (tt, tt); follow = tt; balanced = refl };
+  none = refl;
+  count = refl;
+  some = omega arith;
+}
+
+one_further : (n : ℕ) → further 1 (record { taken = n; step = Ends }) ≡ record { taken = suc n; step = Ends }
+one_further n = let e : 1 + n ≡ suc n = omega arith in ap (λ k. let f : Scanned = record { taken = k; step = Ends } in f) e
+
+in_comment : (octets : List ℕ) → AllByRecursion (λ c. c ≢ 10) octets → ScansTo (record { mode = Comment; depth = 0 }) (octets ++ 10 ∷ []) Ends
+unfolding scan_of
+in_comment [] each = refl
+in_comment (c ∷ octets) each =
+    rw (ne_eqb c 10 each.0) (ap (further 1) (in_comment octets each.1) ∙ one_further (length (octets ++ 10 ∷ [])))
+
+comment_scanned : (octets : List ℕ) → AllByRecursion (λ c. c ≢ 10) octets → ScansTo beginning (59 ∷ octets ++ 10 ∷ []) Ends
+unfolding scan_of
+comment_scanned octets each = ap (further 1) (in_comment octets each) ∙ one_further (length (octets ++ 10 ∷ []))
+
+one_fed : (octets : List ℕ) → AllByRecursion (λ c. c ≢ 10) octets → 1 ≡ line_feeds (octets ++ 10 ∷ [])
+one_fed [] each = refl
+one_fed (c ∷ octets) each =
+    let more = one_fed octets each.1 in
+    let first = sum_by-cons (λ c. if c == 10 then 1 else 0) c (octets ++ 10 ∷ []) in
+    first_not c (line_feeds (octets ++ 10 ∷ [])) each.0 more ∙ sym first
+  where
+    first_not : (c n : ℕ) → c ≢ 10 → 1 ≡ n → 1 ≡ (if c == 10 then 1 else 0) + n
+    first_not c n other one = rw (ne_eqb c 10 other) (let e : 1 ≡ 0 + n = omega (arith, one) in e)
+
+comment_alone : (octets : List ℕ) → AllByRecursion (λ c. c ≢ 10) octets → IsEmpty (59 ∷ octets ++ 10 ∷ [])
+comment_alone octets each = record {
+  scanned = comment_scanned octets each;
+  pieces = comment octets ∷ line_feed ∷ [];
+  cut = record { whole = refl; each = (each, (tt, tt)); follow = (tt, tt); balanced = refl };
+  none = refl;
+  count = one_fed octets each;
+  some = omega arith;
+}
+
+-- ---- what follows
+
+abbrev pub with_line : ℕ → EndedEntries → EndedEntries
+with_line line ended = record { decided = ended.decided; defaults = ended.defaults; line = line }
+
+-- an entry without items states nothing and leaves the defaults
+states_nothing : (origin : Labels) (before : List Entry) (entry : Entry) (old : EndedEntries) → entry.items ≡ [] → AreDefaults origin before old.defaults → LeavesNoRecord origin before entry old.defaults
+states_nothing origin before entry old none are =
+    let form : form_of entry ≡ no_items = ap (form_by entry.first) none in (
+      rw form tt,
+      leaves origin before entry no_items old.defaults old.defaults.origin old.defaults.default_ttl form refl refl are (same_origin origin before entry no_items old.defaults.origin form refl are.under) (same_default before entry no_items old.defaults.default_ttl form refl are.default_ttl),
+    )
+
+empty_read : (octets : List ℕ) (old : EndedEntries) → IsEmpty octets → old.decided.ending ≡ None → ReadsOctets octets old (with_line (old.line + 1) old)
+empty_read octets old is none =
+    takes_entry octets old (with_line (old.line + 1) old)
+    (λ origin before line pieces are cut. decides_none (states_nothing origin before (entry_of line pieces) old (ap (flat_map item_of) (one_cut octets pieces is.pieces cut is.cut) ∙ is.none) are) refl)
+    none
+    (lines_behind octets old (with_line (old.line + 1) old) 1 is.count is.some refl)
+
+empty_follows : (octets : List ℕ) (old : EndedEntries) → IsEmpty octets → old.decided.ending ≡ None → FollowsOn old [] (with_line (old.line + 1) old) [] octets
+empty_follows octets old is none origin fed given follow =
+    follow_entry origin old (with_line (old.line + 1) old) [] octets fed given is.scanned none (empty_read octets old is none) follow
+
+-- lines at the front of octets
+pub record TakesLines (octets rest : List ℕ) (n : ℕ) : Type 0 where
+  pub front : List ℕ
+  pub whole : octets ≡ front ++ rest
+  pub follow : (old : EndedEntries) → old.decided.ending ≡ None → FollowsOn old [] (with_line (old.line + n) old) [] front
+
+takes_none : (octets : List ℕ) → TakesLines octets octets 0
+takes_none octets = record {
+  front = [];
+  whole = refl;
+  follow = λ old none origin fed given follow.
+      let same : old.line ≡ old.line + 0 = omega arith in
+      subst (λ k. Follow origin (with_line k old) [] (fed ++ []) given) same (subst (λ t. Follow origin old [] t given) (sym (append-nil fed)) follow);
+}
+
+takes_more : (octets line rest more : List ℕ) (n : ℕ) → TakesLines octets line n → line ≡ more ++ rest → IsEmpty more → TakesLines octets rest (n + 1)
+takes_more octets line rest more n so_far cut is = record {
+  front = so_far.front ++ more;
+  whole = so_far.whole ∙ ap (λ t. so_far.front ++ t) cut ∙ sym (append_assoc so_far.front more rest);
+  follow = λ old none origin fed given follow.
+      let same : old.line + n + 1 ≡ old.line + (n + 1) = omega arith in
+      let next = empty_follows more (with_line (old.line + n) old) is none origin (fed ++ so_far.front) given (so_far.follow old none origin fed given follow) in
+      subst (λ k. Follow origin (with_line k old) [] (fed ++ (so_far.front ++ more)) given) same (subst (λ t. Follow origin (with_line (old.line + n + 1) old) [] t given) (append_assoc fed so_far.front more) next);
+}
+
+takes_line : (octets line rest : List ℕ) (n : ℕ) → TakesLines octets line n → IsBlankLine line rest → TakesLines octets rest (n + 1)
+takes_line octets line rest n so_far (fed_line e) = takes_more octets line rest (10 ∷ []) n so_far e fed_alone
+takes_line octets line rest n so_far (commented behind e is) =
+    takes_more octets line rest (59 ∷ is.comment ++ 10 ∷ []) n so_far (e ∙ ap (λ t. 59 ∷ t) (is.whole ∙ sym (append_assoc is.comment (10 ∷ []) rest))) (comment_alone is.comment is.inside)
+
+pub takes_lines : (octets rest : List ℕ) (n : ℕ) → AreBlankLines octets rest n → TakesLines octets rest n
+takes_lines octets _ _ no_lines = takes_none octets
+takes_lines octets _ _ (one_line_more line rest n before is) = takes_line octets line rest n (takes_lines octets line n before) is
+
+-- a line has an octet at least
+pub line_shorter : (line rest : List ℕ) → IsBlankLine line rest → length rest < length line
+line_shorter line rest (fed_line e) = let len = ap length e in omega (arith, len)
+line_shorter line rest (commented behind e is) =
+    let whole : length line ≡ length (59 ∷ behind) = ap length e in
+    let inside : length behind ≡ length is.comment + length (10 ∷ rest) = ap length is.whole ∙ length-append is.comment (10 ∷ rest) in
+    omega (arith, whole, inside)
+
+-- ---- lines at the front of a piece
+
+pub fed_lines : (old mid new : Intake) (piece rest after : List ℕ) (n : ℕ) → HasFed old mid piece rest → mid.ended.decided.ending ≡ None → mid.unfinished.items ≡ [] → AreBlankLines rest after n → n + length after ≤ length rest → new.ended ≡ with_line (mid.ended.line + n) mid.ended → new.at ≡ mid.at → new.unfinished.items ≡ mid.unfinished.items → HasFed old new piece after
+fed_lines old mid new piece rest after n before none empty are few ended at unfinished =
+    let lines = takes_lines rest after n are in
+    let len : length rest ≡ length lines.front + length after = ap length lines.whole ∙ length-append lines.front after in
+    let line : new.ended.line ≡ mid.ended.line + n = ap (λ (e : EndedEntries). e.line) ended in
+    let left : length new.unfinished.items ≡ length mid.unfinished.items = ap length unfinished in
+    let follow : FollowsOn mid.ended [] (with_line (mid.ended.line + n) mid.ended) [] lines.front = lines.follow mid.ended none in
+    let is : IsIntake new.ended new.at new.unfinished.items = record {
+      state = rw (at, unfinished) (before.is.state);
+      dropped = λ found e. unfinished ∙ empty;
+      line = omega (arith, line, before.is.line);
+    } in
+    fed_more old mid new piece rest lines.front after before none lines.whole len is
+    (omega (arith, line, left, len, few))
+    (rw (ended, unfinished, empty) follow)

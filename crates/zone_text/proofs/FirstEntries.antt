@@ -1,0 +1,221 @@
+-- The entry at the front of octets, piece by piece, without parentheses and escapes.
+use Rattle.std.proofs.Common.{◌≡◌, ◌≢◌, ℕ, zero, ◌+◌, ◌-◌, ◌<◌, ◌≤◌, Bool, true, false, ◌==◌, ◌||◌, List, [], ◌∷◌, ◌++◌, length, take, drop, map, None, refl, sym, ap, ◌∙◌, subst, arith, append_assoc, length-append}
+use Rattle.std.specs.List.{All, AllByRecursion, flat_map}
+use Rattle.std.proofs.Math.Seq.{take-append_seam}
+use Rattle.std.proofs.lemmas.Bool.{or_parts, eqb-false, eqb-true, both_ways, ne_eqb}
+use Rattle.std.proofs.lemmas.List.{append-nil, length-map, take-append-drop}
+use Rattle.std.proofs.lemmas.List.Elements.{recursion_from_All}
+use Rattle.zone_name.specs.Spelling.{Written, plain, escaped, decimal, written_text, IsUnit}
+use Rattle.zone_name.proofs.Units.{NoUnit, at_octet}
+use Rattle.zone_rdata.specs.Item.{RawItem}
+use Rattle.zone_rdata.specs.Item as raw
+use Rattle.zone_rdata.specs.Strings.{is_quote}
+use Rattle.zone_text.specs.Entries.{in_front_of, item_of}
+use Rattle.zone_text.specs.Pieces.{Piece, blank, opening, closing, line_feed, comment, bare, quoted, piece_text, is_blank, ends_item, Cuts, IsPiece}
+use Rattle.zone_text.specs.Machine.Cutting.{before_line_feed}
+use Rattle.zone_text.specs.Machine.ItemLengths.{EndsAt, EndsBefore}
+use Rattle.zone_text.specs.Machine.Line.{AreItems, IsInside, IsInFront, IsFirstEntry, IsQuoted}
+use Rattle.zone_text.specs.Machine.Feeding.{IsIntake, ReadsOctets}
+use Rattle.zone_text.specs.Machine.Scan.{IsOneEntry}
+use Rattle.zone_text.specs.declared.intake.Intake.{Intake}
+use Rattle.zone_text.proofs.BlankLines.{comment_front}
+use Rattle.zone_text.proofs.PartTaken.{FollowsOn}
+use Rattle.zone_text.proofs.Cuttings.{cuts, is_cut, one_cut, one_piece_more}
+use Rattle.zone_text.proofs.FedPieces.{HasFed, fed_more}
+use Rattle.zone_text.proofs.Followed.{follow_one}
+use Rattle.zone_text.proofs.Fronts.{Takes, Stops}
+
+-- ---- plain octets as written ones
+
+plain_text : (octets : List ℕ) → written_text (map plain octets) ≡ octets
+plain_text [] = refl
+plain_text (c ∷ octets) = ap (λ t. c ∷ t) (plain_text octets)
+
+plain_units : (ends : ℕ → Bool) (octets : List ℕ) → AllByRecursion (λ c. (ends c || c == 92) ≡ false) octets → AllByRecursion (IsUnit ends) (map plain octets)
+plain_units ends [] each = tt
+plain_units ends (c ∷ octets) each = let p = or_parts (ends c) (c == 92) each.0 in ((p.0, eqb-false c 92 p.1), plain_units ends octets each.1)
+
+-- ---- the piece at the front
+
+pub blank_in_front : (octets rest : List ℕ) (c : ℕ) → octets ≡ c ∷ rest → is_blank c ≡ true → IsInFront octets [] rest
+blank_in_front octets rest c whole is = record { piece = blank c; whole = whole; is = is; ends = tt; inside = tt; stated = refl }
+
+ends_at : (octets : List ℕ) → ((c : ℕ) (rest : List ℕ) → octets ≡ c ∷ rest → c ≡ 10) → EndsAt (λ c. c == 10) octets
+ends_at [] ends = tt
+ends_at (c ∷ rest) ends = rw (ends c rest refl) refl
+
+pub comment_in_front : (octets after rest : List ℕ) (c n : ℕ) → octets ≡ c ∷ after → c ≡ 59 → n ≡ length (before_line_feed after) → rest ≡ drop n after → IsInFront octets [] rest
+comment_in_front octets after rest c n whole is len back =
+    let front = comment_front after in
+    let left : rest ≡ drop (length (before_line_feed after)) after = back ∙ ap (λ k. drop k after) len in
+    record {
+      piece = comment (before_line_feed after);
+      whole = whole ∙ ap (λ d. d ∷ after) is ∙ ap (λ t. 59 ∷ t) (front.0 ∙ ap (λ t. before_line_feed after ++ t) (sym left));
+      is = front.1.0;
+      ends = subst (EndsAt (λ c. c == 10)) (sym left) (ends_at _ front.1.1);
+      inside = tt;
+      stated = refl;
+    }
+
+stops_or : (a b : Bool) → (a || b) ≡ true → b ≡ false → a ≡ true
+stops_or true b e none = refl
+stops_or false b e none = absurd (both_ways b none e)
+
+some_plain : (octets after : List ℕ) (c n : ℕ) → octets ≡ c ∷ after → (ends_item c || c == 92) ≡ false → EndsAt (λ d. ends_item d || d == 92) (drop n octets) → (n ≡ 0) → ⊥
+some_plain octets after c n whole goes ends none =
+    let e : drop n octets ≡ c ∷ after = ap (λ k. drop k octets) none ∙ whole in
+    both_ways (ends_item c || c == 92) goes (subst (EndsAt (λ d. ends_item d || d == 92)) e ends)
+
+pub bare_in_front : (octets after item rest more : List ℕ) (c next n : ℕ) → octets ≡ c ∷ after → (ends_item c || c == 92) ≡ false → n ≤ length octets → All (λ d. (ends_item d || d == 92) ≡ false) (take n octets) → EndsAt (λ d. ends_item d || d == 92) (drop n octets) → item ≡ take n octets → rest ≡ drop n octets → length item ≡ n → rest ≡ next ∷ more → next ≢ 92 → IsInFront octets (raw.bare item ∷ []) rest
+bare_in_front octets after item rest more c next n whole goes within each ends front back len first other =
+    let units : AllByRecursion (λ d. (ends_item d || d == 92) ≡ false) item = subst (AllByRecursion (λ d. (ends_item d || d == 92) ≡ false)) (sym front) (recursion_from_All (λ d. (ends_item d || d == 92) ≡ false) _ each) in
+    let stop : (ends_item next || next == 92) ≡ true = subst (EndsAt (λ d. ends_item d || d == 92)) (sym back ∙ first) ends in
+    let ended : ends_item next ≡ true = stops_or (ends_item next) (next == 92) stop (ne_eqb next 92 other) in
+    let some : n ≢ 0 = some_plain octets after c n whole goes ends in
+    record {
+      piece = bare (map plain item);
+      whole = sym (take-append-drop n octets) ∙ ap (λ t. t ++ drop n octets) (sym front ∙ sym (plain_text item)) ∙ ap (λ t. written_text (map plain item) ++ t) (sym back);
+      is = (let count : length (map plain item) ≡ length item = length-map item plain in omega (arith, count, len, some), plain_units ends_item item units);
+      ends = subst (EndsAt ends_item) (sym first) ended;
+      inside = tt;
+      stated = ap (λ t. raw.bare t ∷ []) (plain_text item);
+    }
+
+pub is_quoted : (octets inside close rest : List ℕ) (c n : ℕ) → All (λ d. (is_quote d || d == 92) ≡ false) (take n octets) → inside ≡ take n octets → close ≡ drop n octets → close ≡ c ∷ rest → c ≡ 34 → IsQuoted octets inside rest
+is_quoted octets inside close rest c n each front back first is = record {
+  plain = subst (All (λ d. (is_quote d || d == 92) ≡ false)) (sym front) each;
+  whole = sym (take-append-drop n octets) ∙ ap (λ t. t ++ drop n octets) (sym front) ∙ ap (λ t. inside ++ t) (sym back ∙ first ∙ ap (λ d. d ∷ rest) is);
+}
+
+pub quoted_in_front : (octets after inside rest : List ℕ) (c : ℕ) → octets ≡ c ∷ after → c ≡ 34 → IsQuoted after inside rest → IsInFront octets (raw.quoted inside ∷ []) rest
+quoted_in_front octets after inside rest c whole is found = record {
+  piece = quoted (map plain inside);
+  whole = whole ∙ ap (λ d. d ∷ after) is ∙ ap (λ t. 34 ∷ t) (found.whole ∙ sym (append_assoc inside (34 ∷ []) rest) ∙ ap (λ t. (t ++ 34 ∷ []) ++ rest) (sym (plain_text inside)));
+  is = plain_units is_quote inside (recursion_from_All (λ d. (is_quote d || d == 92) ≡ false) _ found.plain);
+  ends = tt;
+  inside = tt;
+  stated = ap (λ t. raw.quoted t ∷ []) (plain_text inside);
+}
+
+text_some : (units : List Written) → 0 < length units → 0 < length (written_text units)
+text_some [] some = absurd (omega (arith, some))
+text_some (plain c ∷ units) some = omega arith
+text_some (escaped c ∷ units) some = omega arith
+text_some (decimal x y z ∷ units) some = omega arith
+
+piece_long : (p : Piece) → IsPiece p → 0 < length (piece_text p)
+piece_long (blank c) is = omega arith
+piece_long opening is = omega arith
+piece_long closing is = omega arith
+piece_long line_feed is = omega arith
+piece_long (comment octets) is = omega arith
+piece_long (bare units) is = text_some units is.0
+piece_long (quoted units) is = omega arith
+
+pub in_front_shorter : (octets rest : List ℕ) (items : List RawItem) → IsInFront octets items rest → length rest < length octets
+in_front_shorter octets rest items found =
+    let len : length octets ≡ length (piece_text found.piece) + length rest = ap length found.whole ∙ length-append (piece_text found.piece) rest in
+    omega (arith, len, piece_long found.piece found.is)
+
+-- ---- pieces up to the line feed
+
+-- what stands before the rest, and what an entry that begins with it and ends within the rest states
+pub record IsCutTo (octets rest : List ℕ) (raws : List RawItem) : Type 0 where
+  pub front : List ℕ
+  pub whole : octets ≡ front ++ rest
+  pub goes : (tail after : List ℕ) (more : List Piece) → rest ≡ tail ++ after → 0 < length tail → IsOneEntry tail more → (pieces : List Piece) × IsOneEntry (front ++ tail) pieces × (flat_map item_of pieces ≡ raws ++ flat_map item_of more)
+
+pub cut_none : (octets : List ℕ) (raws : List RawItem) → raws ≡ [] → IsCutTo octets octets raws
+cut_none octets raws none = record {
+  front = [];
+  whole = refl;
+  goes = λ tail after more e some one. (more, one, ap (λ t. t ++ flat_map item_of more) (sym none));
+}
+
+ends_within : (ends : ℕ → Bool) (rest tail after : List ℕ) → rest ≡ tail ++ after → 0 < length tail → EndsAt ends rest → EndsAt ends tail
+ends_within ends rest [] after e some at = tt
+ends_within ends rest (c ∷ tail) after e some at = subst (EndsAt ends) e at
+
+comment_stops : (tail : List ℕ) → EndsAt (λ c. c == 10) tail → Stops (comment []) tail
+comment_stops [] at = tt
+comment_stops (c ∷ tail) at = eqb-true c 10 at
+
+bare_stops : (tail : List ℕ) → 0 < length tail → EndsAt ends_item tail → NoUnit ends_item tail
+bare_stops [] some at = absurd (omega (arith, some))
+bare_stops (c ∷ tail) some at = at_octet c tail refl at
+
+takes_piece : (p : Piece) (rest tail after : List ℕ) → IsPiece p → IsInside p → EndsBefore p rest → rest ≡ tail ++ after → 0 < length tail → Takes zero (piece_text p ++ tail) p tail
+takes_piece (blank c) rest tail after is inside at e some = record { whole = refl; piece = is; stop = tt; room = tt }
+takes_piece opening rest tail after is inside at e some = absurd inside
+takes_piece closing rest tail after is inside at e some = absurd inside
+takes_piece line_feed rest tail after is inside at e some = absurd inside
+takes_piece (comment octets) rest tail after is inside at e some = record { whole = refl; piece = is; stop = comment_stops tail (ends_within _ rest tail after e some at); room = tt }
+takes_piece (bare units) rest tail after is inside at e some = record { whole = refl; piece = is; stop = bare_stops tail some (ends_within _ rest tail after e some at); room = tt }
+takes_piece (quoted units) rest tail after is inside at e some = record { whole = refl; piece = is; stop = tt; room = tt }
+
+more_cut : (p : Piece) (tail : List ℕ) (more : List Piece) → IsInside p → Takes zero (piece_text p ++ tail) p tail → IsOneEntry tail more → IsOneEntry (piece_text p ++ tail) (p ∷ more)
+more_cut (blank c) tail more inside takes one = record { cut = cuts _ _ (one_piece_more zero _ tail (blank c) more None takes (is_cut tail more one.cut)); ended = ap (in_front_of (blank c)) one.ended }
+more_cut opening tail more inside takes one = absurd inside
+more_cut closing tail more inside takes one = absurd inside
+more_cut line_feed tail more inside takes one = absurd inside
+more_cut (comment octets) tail more inside takes one = record { cut = cuts _ _ (one_piece_more zero _ tail (comment octets) more None takes (is_cut tail more one.cut)); ended = ap (in_front_of (comment octets)) one.ended }
+more_cut (bare units) tail more inside takes one = record { cut = cuts _ _ (one_piece_more zero _ tail (bare units) more None takes (is_cut tail more one.cut)); ended = ap (in_front_of (bare units)) one.ended }
+more_cut (quoted units) tail more inside takes one = record { cut = cuts _ _ (one_piece_more zero _ tail (quoted units) more None takes (is_cut tail more one.cut)); ended = ap (in_front_of (quoted units)) one.ended }
+
+pub cut_more : (octets rest left : List ℕ) (raws items all : List RawItem) → IsCutTo octets rest raws → IsInFront rest items left → all ≡ raws ++ items → IsCutTo octets left all
+cut_more octets rest left raws items all so_far found every = record {
+  front = so_far.front ++ piece_text found.piece;
+  whole = so_far.whole ∙ ap (λ t. so_far.front ++ t) found.whole ∙ sym (append_assoc so_far.front (piece_text found.piece) left);
+  goes = λ tail after more e some one.
+      let takes = takes_piece found.piece left tail after found.is found.inside found.ends e some in
+      let next = more_cut found.piece tail more found.inside takes one in
+      let whole : rest ≡ (piece_text found.piece ++ tail) ++ after = found.whole ∙ ap (λ t. piece_text found.piece ++ t) e ∙ sym (append_assoc (piece_text found.piece) tail after) in
+      let long : 0 < length (piece_text found.piece ++ tail) = omega (arith, some, length-append (piece_text found.piece) tail) in
+      let before = so_far.goes (piece_text found.piece ++ tail) after (found.piece ∷ more) whole long next in
+      let stated : raws ++ (item_of found.piece ++ flat_map item_of more) ≡ all ++ flat_map item_of more = ap (λ t. raws ++ (t ++ flat_map item_of more)) found.stated ∙ sym (append_assoc raws items (flat_map item_of more)) ∙ ap (λ t. t ++ flat_map item_of more) (sym every) in
+      (before.0, subst (λ t. IsOneEntry t before.0) (sym (append_assoc so_far.front (piece_text found.piece) tail)) before.1, before.2 ∙ stated);
+}
+
+line_end : IsOneEntry (10 ∷ []) (line_feed ∷ [])
+line_end = record { cut = record { whole = refl; each = (tt, tt); follow = tt; balanced = refl }; ended = refl }
+
+pub cut_ended : (octets rest after : List ℕ) (raws : List RawItem) (c n : ℕ) → IsCutTo octets rest raws → rest ≡ c ∷ after → c ≡ 10 → n ≡ length octets - length after → IsFirstEntry octets n raws
+cut_ended octets rest after raws c n so_far first is count =
+    let fed : List ℕ = 10 ∷ [] in
+    let e : rest ≡ fed ++ after = first ∙ ap (λ d. d ∷ after) is in
+    let some : 0 < length fed = omega arith in
+    let found = so_far.goes fed after (line_feed ∷ []) e some line_end in
+    let whole : octets ≡ (so_far.front ++ fed) ++ after = so_far.whole ∙ ap (λ t. so_far.front ++ t) e ∙ sym (append_assoc so_far.front fed after) in
+    let len : length octets ≡ length (so_far.front ++ fed) + length after = ap length whole ∙ length-append (so_far.front ++ fed) after in
+    let last : length (so_far.front ++ fed) ≡ length so_far.front + length fed = length-append so_far.front fed in
+    let taken : n ≡ length (so_far.front ++ fed) = omega (arith, count, len) in
+    let entry : take n octets ≡ so_far.front ++ fed = rw (taken, whole) (take-append_seam (so_far.front ++ fed) after) in
+    record {
+      pieces = found.0;
+      one = subst (λ t. IsOneEntry t found.0) (sym entry) found.1;
+      stated = sym (found.2 ∙ append-nil raws);
+      some = omega (arith, taken, last);
+      within = omega (arith, taken, len);
+    }
+
+pub are_items : (octets part : List ℕ) (n : ℕ) (raws : List RawItem) → IsFirstEntry octets n raws → part ≡ take n octets → AreItems part raws
+are_items octets part n raws first front pieces cut =
+    first.stated ∙ ap (flat_map item_of) (one_cut part first.pieces pieces (subst (λ t. Cuts t first.pieces) (sym front) first.one.cut) cut)
+
+-- ---- the entry at the front of a piece
+
+pub fed_entry : (old mid new : Intake) (piece rest part after : List ℕ) (n : ℕ) (raws : List RawItem) → HasFed old mid piece rest → mid.ended.decided.ending ≡ None → mid.unfinished.items ≡ [] → IsFirstEntry rest n raws → part ≡ take n rest → after ≡ drop n rest → ReadsOctets part mid.ended new.ended → new.at ≡ mid.at → new.unfinished.items ≡ mid.unfinished.items → HasFed old new piece after
+fed_entry old mid new piece rest part after n raws before none empty first front back reads at unfinished =
+    let whole : rest ≡ part ++ after = sym (take-append-drop n rest) ∙ ap (λ t. t ++ drop n rest) (sym front) ∙ ap (λ t. part ++ t) (sym back) in
+    let len : length rest ≡ length part + length after = ap length whole ∙ length-append part after in
+    let left : length new.unfinished.items ≡ length mid.unfinished.items = ap length unfinished in
+    let one : IsOneEntry part first.pieces = subst (λ t. IsOneEntry t first.pieces) (sym front) first.one in
+    let follow : FollowsOn mid.ended [] new.ended [] part = λ origin fed given f. follow_one origin mid.ended new.ended [] part fed given first.pieces one none reads f in
+    let is : IsIntake new.ended new.at new.unfinished.items = record {
+      state = rw (at, unfinished) (before.is.state);
+      dropped = λ found e. unfinished ∙ empty;
+      line = omega (arith, reads.later, before.is.line);
+    } in
+    fed_more old mid new piece rest part after before none whole len is
+    (omega (arith, reads.near, left, len))
+    (rw (unfinished, empty) follow)

@@ -1,0 +1,42 @@
+-- Entries that are cut into items as their end is looked for: without parentheses and escapes (RFC 1035 5.1).
+use Rattle.std.specs.Prelude.{◌≡◌, ℕ, ◌<◌, ◌≤◌, List, ◌∷◌, ◌++◌, length, take, false, ◌==◌, ◌||◌, ⊤}
+use Rattle.std.specs.List.{All, flat_map}
+use Rattle.zone_rdata.specs.Spelling.{RawItem}
+use Rattle.zone_rdata.specs.Strings.{is_quote}
+use Rattle.zone_text.specs.Entries.{item_of}
+use Rattle.zone_text.specs.Pieces.{Piece, opening, closing, line_feed, piece_text, Cuts, IsPiece}
+use Rattle.zone_text.specs.Machine.ItemLengths.{EndsBefore}
+use Rattle.zone_text.specs.Machine.Scan.{IsOneEntry}
+
+-- these are the items of octets that are cut into pieces
+abbrev pub AreItems : List ℕ → List RawItem → Type 0
+AreItems octets items = (pieces : List Piece) → Cuts octets pieces → items ≡ flat_map item_of pieces
+
+-- neither a parenthesis nor a line feed
+abbrev pub IsInside : Piece → Type 0
+IsInside opening = ⊥
+IsInside closing = ⊥
+IsInside line_feed = ⊥
+IsInside p = ⊤
+
+-- such a piece at the front of octets, its items and the rest
+pub record IsInFront (octets : List ℕ) (items : List RawItem) (rest : List ℕ) : Type 0 where
+  pub piece : Piece
+  pub whole : octets ≡ piece_text piece ++ rest
+  pub is : IsPiece piece
+  pub ends : EndsBefore piece rest
+  pub inside : IsInside piece
+  pub stated : item_of piece ≡ items
+
+-- octets without quotes and backslashes, a quote, and the rest
+pub record IsQuoted (octets inside rest : List ℕ) : Type 0 where
+  pub plain : All (λ c. (is_quote c || c == 92) ≡ false) inside
+  pub whole : octets ≡ inside ++ 34 ∷ rest
+
+-- the first n octets are an entry with these items and the line feed that ends it
+pub record IsFirstEntry (octets : List ℕ) (n : ℕ) (items : List RawItem) : Type 0 where
+  pub pieces : List Piece
+  pub one : IsOneEntry (take n octets) pieces
+  pub stated : items ≡ flat_map item_of pieces
+  pub some : 0 < n
+  pub within : n ≤ length octets

@@ -1,0 +1,52 @@
+//! Lines without items, which state nothing and leave nothing (RFC 1035 5.1).
+ghost use Rattle.std.specs.Prelude.{◌≤◌, ◌+◌, length, IfSome};
+ghost use Rattle.zone_text.specs.Machine.Blank.{AreBlankLines, IsBlankLine, IsComment};
+
+use crate::items::comment_len;
+
+/// The lines without items at the front of octets.
+#[derive(Drop)]
+pub(crate) struct BlankLines<'t> {
+    /// Their number.
+    pub(crate) count: usize,
+    /// The octets after them.
+    pub(crate) rest: &'t [u8],
+}
+
+/// What follows the comment at the front, without its semicolon, and the line feed that ends it. `None`: none ends it.
+// Not inlined: so the loop over line feeds stays short.
+#[inline(never)]
+fn after_comment(octets: &[u8]) -> Option<&[u8]>
+    ensures { IfSome result (λ rest. IsComment octets.now rest.now) }
+{
+    let (_, line_feed) = octets.split_at(comment_len(octets));
+    let (_, rest) = line_feed.split_first()?;
+    Some(rest)
+}
+
+/// What follows the line at the front, if it is a line feed alone or a comment from its first octet on, and ended.
+#[inline(always)]
+fn after_blank_line(octets: &[u8]) -> Option<&[u8]>
+    ensures { IfSome result (λ rest. IsBlankLine octets.now rest.now) }
+{
+    let (first, rest) = octets.split_first()?;
+    match *first {
+        b'\n' => Some(rest),
+        b';' => after_comment(rest),
+        _ => None,
+    }
+}
+
+/// Takes line feeds and comments from the first octet of a line on, as far as a line feed ends them.
+pub(crate) fn blank_lines(octets: &[u8]) -> BlankLines<'_>
+    ensures are { AreBlankLines octets.now result.rest.now result.count }
+    ensures few { result.count + length result.rest.now ≤ length octets.now }
+{
+    let mut count = 0;
+    let mut rest = octets;
+    while let Some(after) = after_blank_line(rest) {
+        count += 1;
+        rest = after;
+    }
+    BlankLines { count, rest }
+}

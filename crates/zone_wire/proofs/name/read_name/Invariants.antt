@@ -1,0 +1,10 @@
+use Rattle.std.proofs.Common.{◌-◌}
+use Rattle.zone_wire.specs.Machine.Place.{spot_of}
+use Rattle.zone_wire.proofs.Carrying.{Carries}
+use Rattle.zone_wire.proofs.name.read_name.Given as goal
+
+abbrev pub invariant-places : goal.invariant-places
+invariant-places l = Carries l.message l.fn.offset (spot_of l.spot) l.labels l.end l.ticks
+
+abbrev pub decreases-places : goal.decreases-places
+decreases-places l = 400 - l.spot.octets - l.spot.pointers
