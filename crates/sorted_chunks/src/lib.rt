@@ -1,4 +1,5 @@
-//! An ordered list that is kept in chunks, so that putting an element anywhere moves few of the others.
+//! An ordered list that is kept in chunks, so that putting an element anywhere moves few of the
+//! others.
 #![tactic(auto)]
 
 mod chunk;

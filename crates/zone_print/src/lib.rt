@@ -1,4 +1,5 @@
-//! The canonical text of a zone (RFC 1035 5, RFC 4034 6).
+//! Writes the canonical text of a zone: a line for each record, in canonical order, with names
+//! absolute and in lower case (RFC 1035 5, RFC 4034 6).
 #![tactic(auto)]
 
 pub mod laws;

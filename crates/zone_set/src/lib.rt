@@ -1,4 +1,5 @@
-//! The records of a zone, kept in canonical order (RFC 1035 5.2, RFC 2181 5, RFC 4034 6).
+//! A zone as the set of its records in canonical order: records are added one by one, and one that
+//! can't stand with those before it is refused (RFC 1035 5.2, RFC 2181 5, RFC 4034 6).
 #![tactic(auto)]
 
 mod builder;

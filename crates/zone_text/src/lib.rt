@@ -1,4 +1,5 @@
-//! Master files (RFC 1035 5): from text to records and the first fault.
+//! Reads master files, whole or in pieces: the records that they state, each with its line, and the
+//! first fault (RFC 1035 5, RFC 2308 4, RFC 3597 5).
 #![tactic(auto)]
 
 mod blank;

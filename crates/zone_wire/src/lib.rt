@@ -1,4 +1,5 @@
-//! Names and records in messages, and zone transfers (RFC 1035 4.1, RFC 5936).
+//! Reads DNS messages and zone transfers, whole or in pieces: names with their pointers, records, and
+//! the first fault (RFC 1035 4.1, RFC 5936).
 #![tactic(auto)]
 
 mod answers;

@@ -1,4 +1,5 @@
-//! `zonenorm`: reads a zone and writes its canonical text.
+//! The program `zonenorm`: normalises, compares and explains zones that are given as master files or
+//! as captured zone transfers.
 #![tactic(auto)]
 
 mod command;
