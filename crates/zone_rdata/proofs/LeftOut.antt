@@ -258,9 +258,10 @@ after_item n item items kept short = record {
 }
 
 pub are_many : (n : ℕ) (items kept : List RawItem) → AreShortened n items kept → (n ≤ length items) × (n ≤ length kept)
-are_many n items kept short =
-    (omega (arith, short.many, ap length short.whole, length-append short.first short.more),
-    omega (arith, short.many, ap length short.are_kept, length-append short.first short.others))
+are_many n items kept short = (
+  omega (arith, short.many, ap length short.whole, length-append short.first short.more),
+  omega (arith, short.many, ap length short.are_kept, length-append short.first short.others),
+)
 
 pub at_least : (m n : ℕ) (items kept : List RawItem) → n ≤ m → AreShortened m items kept → AreShortened n items kept
 at_least m n items kept less short = record { first = short.first; more = short.more; others = short.others; whole = short.whole; are_kept = short.are_kept; many = omega (arith, less, short.many); out = short.out }
