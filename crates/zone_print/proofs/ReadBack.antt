@@ -202,9 +202,11 @@ text_back back origin z is short = record {
   short = short;
   placed = placed_from 1 z.records;
   states = back origin z.records is.compatible.each;
-  same = λ r. (subst (λ rs. Has rs r) (sym (same_records 1 z.records)), subst (λ rs. Has rs r) (same_records 1 z.records));
-  zone = is;
-  text_short = short;
+  makes = record {
+    zone = is;
+    same = λ r. (subst (λ rs. Has rs r) (sym (same_records 1 z.records)), subst (λ rs. Has rs r) (same_records 1 z.records));
+    text_short = short;
+  };
 }
 
 pub equal_texts : LinesBack
