@@ -3,12 +3,13 @@
 
     capture_transfer.py [--port N] [--timeout SECONDS] SERVER ZONE FILE
 
-FILE is written anew, or is standard output where it is `-`: the messages as they came over TCP, each after its length,
-up to the one with the closing SOA or to where the stream stopped. `zonenorm normalise transfer` reads it, and judges it:
-this script looks only for the end.
+FILE is written anew, or is standard output where it is `-`: the messages as they came over TCP,
+each after its length, up to the one with the closing SOA or to where the stream stopped.
+`zonenorm normalise transfer` reads it, and judges it: this script looks only for the end.
 
-Status 0: the closing SOA came. 1: the stream stopped before it, or the server answered with an error code; FILE has what
-came. 2: the command line is wrong. 4: the server can't be reached or FILE can't be written.
+Status 0: the closing SOA came. 1: the stream stopped before it, or the server answered with an
+error code; FILE has what came. 2: the command line is wrong. 4: the server can't be reached or
+FILE can't be written.
 
 It signs nothing (no TSIG) and checks no signature. ZONE is written without escapes."""
 import argparse

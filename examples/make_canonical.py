@@ -3,8 +3,9 @@
 
     make_canonical.py FILE ORIGIN
 
-This is how example.canonical was made: it is what zonenorm is compared with. It reads what dnspython reads, refuses no
-zone that zonenorm refuses, and knows the types of the example alone; any other is written in the generic form."""
+This is how example.canonical was made: it is what zonenorm is compared with. It reads what
+dnspython reads, refuses no zone that zonenorm refuses, and knows the types of the example alone;
+any other is written in the generic form."""
 import ipaddress
 import sys
 
@@ -13,7 +14,8 @@ import dns.zone
 
 
 def escaped(octets, special, blank):
-    """Printable octets, the special ones after a backslash; every other octet, and a space unless allowed, by number."""
+    """Printable octets, the special ones after a backslash; every other octet, and a space unless
+    allowed, by number."""
     return "".join(
         "\\" + chr(octet) if octet in special
         else chr(octet) if 33 <= octet <= 126 or (blank and octet == 32)
@@ -64,7 +66,8 @@ def line(owner, ttl, rdata):
 
 
 def place(record):
-    """The SOA first; then owners by their labels from the right (RFC 4034 6.1), types by number, data by octets (6.3)."""
+    """The SOA first; then owners by their labels from the right (RFC 4034 6.1), types by number,
+    data by octets (6.3)."""
     owner, _, rdata = record
     labels = [label.lower() for label in reversed(owner.labels)]
     return rdata.rdtype != dns.rdatatype.SOA, labels, rdata.rdtype, rdata.to_digestable()

@@ -1,10 +1,11 @@
 #!/usr/bin/env python3
-"""Writes a zone transfer as a server sends it over TCP: messages with compressed names, each after its length.
+"""Writes a zone transfer as a server sends it over TCP: messages with compressed names, each
+after its length.
 
     make_stream.py FILE ORIGIN > STREAM
 
-This is how example.axfr was made of example.zone. It needs dnspython. The question stands in the first message alone;
-the records come last owner first."""
+This is how example.axfr was made of example.zone. It needs dnspython. The question stands in the
+first message alone; the records come last owner first."""
 import struct
 import sys
 

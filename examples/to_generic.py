@@ -1,17 +1,21 @@
 #!/usr/bin/env python3
-"""Writes the records of a master file that zonenorm has no words for in the generic form (RFC 3597).
+"""Writes the records of a master file that zonenorm has no words for in the generic form (RFC
+3597).
 
     to_generic.py ORIGIN [FILE]
 
-FILE, or standard input, is read under ORIGIN, an absolute name; the result goes to standard output. Only the type and the
-data of such records are written anew. Every other entry stays as it is, octet for octet, and each entry stays on its
-line: so owners, TTLs and classes that are omitted are read by zonenorm by its own rules, with or without `$ORIGIN` and
-`$TTL`, and a fault names the line of FILE. A type that dnspython doesn't know stays too, and zonenorm refuses it (F7).
+FILE, or standard input, is read under ORIGIN, an absolute name; the result goes to standard
+output. Only the type and the data of such records are written anew. Every other entry stays as it
+is, octet for octet, and each entry stays on its line: so owners, TTLs and classes that are
+omitted are read by zonenorm by its own rules, with or without `$ORIGIN` and `$TTL`, and a fault
+names the line of FILE. A type that dnspython doesn't know stays too, and zonenorm refuses it
+(F7).
 
 It needs dnspython 2.3 or later (Debian: python3-dnspython).
 
-Status 0: all was written. 1: a record's data doesn't fit its type; a line tells which, and nothing was written. 2: the
-command line is wrong. 4: reading or writing failed, or dnspython is missing."""
+Status 0: all was written. 1: a record's data doesn't fit its type; a line tells which, and
+nothing was written. 2: the command line is wrong. 4: reading or writing failed, or dnspython is
+missing."""
 import argparse
 import re
 import sys
@@ -47,7 +51,7 @@ def entries(text):
 
 
 def split(whole, items):
-    """What stands before the type of a record, its class if it states one, its type, and its data."""
+    """What stands before a record's type, its class if it states one, its type, and its data."""
     at = 0 if whole[0] in " \t\r" else 1
     stated = None
     while at < len(items) and (TTL.fullmatch(items[at]) or CLASS.fullmatch(items[at])):
@@ -58,7 +62,7 @@ def split(whole, items):
 
 
 def in_ascii(data):
-    """The data, which has no octet over 127: dnspython would write such an octet of a string as two."""
+    """The data, which has no octet over 127: dnspython would write one of a string as two."""
     for it in re.finditer(r"\\([0-9]{3})|\\?([\x80-\xff])|\\.", data, re.DOTALL):
         if it[2] or it[1] and int(it[1]) > 127:
             raise Unfit("an octet over 127: write this record in the generic form by hand")
