@@ -232,7 +232,7 @@ head_long origin before entry kept head long has =
     let same : begin.item ≡ bare has.word = cc in
     let tails : begin.others ≡ head.items = cc in
     let written : AllByRecursion IsWritten (begin.item ∷ begin.rest) = subst (AllByRecursion IsWritten) begin.whole found.long.long.written in
-    let classes : class_word (with_items entry kept) ≡ class_word entry = rw (has.split, found.split, found.long.words) refl in
+    let classes : class_word (form_of (with_items entry kept)) ≡ class_word (form_of entry) = rw (has.split, found.split, found.long.words) refl in
     record {
       items = begin.rest;
       has = record {

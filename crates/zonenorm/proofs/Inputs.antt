@@ -11,8 +11,7 @@ use Rattle.zone_rdata.specs.declared.fault.Place.{Place}
 use Rattle.zone_rdata.specs.declared.fault.Place.TheVariants.{Whole}
 use Rattle.zone_rdata.specs.declared.record.Placed.{Placed}
 use Rattle.zone_text.specs.Entries.{Entry, entries_of}
-use Rattle.zone_text.specs.File.{FileStates, StateEach}
-use Rattle.zone_text.specs.Given.{gives_none, gives_one, refused}
+use Rattle.zone_text.specs.File.{FileStates, StateEach, states_none, states_one}
 use Rattle.zone_text.specs.FileReads.{FileReads}
 use Rattle.zone_set.specs.Refusal.{records_of}
 use Rattle.zone_set.specs.Zone.{Zone, IsZone, SameRecords}
@@ -25,10 +24,9 @@ use Rattle.zonenorm.specs.Refusal.{RefusesReading, IsRefusal, too_long, reading}
 
 -- what a file states are records
 each_fits : (origin : List (List ℕ)) (before entries : List Entry) (placed : List Placed) → StateEach origin before entries placed → AllByRecursion IsRecord (records_of placed)
-each_fits origin before [] placed none = subst (λ ps. AllByRecursion IsRecord (records_of ps)) (sym none.0) tt
-each_fits origin before (entry ∷ entries) placed (gives_none nothing others) = each_fits origin (entry ∷ before) entries placed others
-each_fits origin before (entry ∷ entries) placed (gives_one p others states at parts rest) = subst (λ ps. AllByRecursion IsRecord (records_of ps)) (sym parts) (states.fits, each_fits origin (entry ∷ before) entries others rest)
-each_fits origin before (entry ∷ entries) placed (refused fault never none at) = absurd never
+each_fits origin before [] placed none = subst (λ ps. AllByRecursion IsRecord (records_of ps)) (sym none) tt
+each_fits origin before (entry ∷ entries) placed (states_none nothing others) = each_fits origin (entry ∷ before) entries placed others
+each_fits origin before (entry ∷ entries) placed (states_one p others states at parts rest) = subst (λ ps. AllByRecursion IsRecord (records_of ps)) (sym parts) (states.fits, each_fits origin (entry ∷ before) entries others rest)
 
 pub file_fits : (origin : List (List ℕ)) (octets : List ℕ) (placed : List Placed) → FileStates origin octets placed → AllByRecursion IsRecord (records_of placed)
 file_fits origin octets placed states = each_fits origin [] (entries_of states.pieces) placed states.each
