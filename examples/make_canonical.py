@@ -13,7 +13,7 @@ import dns.zone
 
 
 def escaped(octets, special, blank):
-    """Printable octets, the special ones behind a backslash; every other octet, and a space unless allowed, by number."""
+    """Printable octets, the special ones after a backslash; every other octet, and a space unless allowed, by number."""
     return "".join(
         "\\" + chr(octet) if octet in special
         else chr(octet) if 33 <= octet <= 126 or (blank and octet == 32)

@@ -1,5 +1,5 @@
 #!/usr/bin/env python3
-"""Writes a zone transfer as a server sends it over TCP: messages with compressed names, each behind its length.
+"""Writes a zone transfer as a server sends it over TCP: messages with compressed names, each after its length.
 
     make_stream.py FILE ORIGIN > STREAM
 

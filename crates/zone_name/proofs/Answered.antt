@@ -4,6 +4,7 @@ use Rattle.std.specs.List.{AllByRecursion}
 use Rattle.std.specs.Cmp.Lexicographic.{pointwise, bytes_decides}
 use Rattle.std.proofs.lemmas.List.{length-map}
 use Rattle.std.proofs.lemmas.Bool.{false≢true, leb-true, leb-false}
+use Rattle.zone_name.specs.Common.{AreOctets}
 use Rattle.zone_name.specs.Name.{folded_label, folded_octet, wire, IsLabel, IsName}
 use Rattle.zone_name.specs.Spelling.{Written, plain, escaped, decimal, text_of, octet_of, IsUnit, is_dot, IsWrittenLabel, AreWrittenLabels, written_text, written_octets, dotted, parted, named, Writes, root, at_origin, absolute, relative, Spells, FaultAt, empty_label, long_label, bad_escape, IsRelative, FirstFault, within, unfounded, long_name}
 use Rattle.zone_name.specs.declared.fault.NameFault.{NameFault}
@@ -182,9 +183,6 @@ pub at-relative : (text : List ℕ) → text ≡ codes "@" → IsRelative text
 at-relative text e = ((plain 64 ∷ []) ∷ [], record { some = omega arith; each = (record { some = omega arith; each = ((refl, λ h. cc), tt) }, tt) }, (omega arith, tt), e)
 
 -- ---- the labels of a text of octets
-abbrev AreOctets : List ℕ → Type 0
-AreOctets text = AllByRecursion (λ c. c < 256) text
-
 octet_short : (w : Written) → IsUnit is_dot w → AreOctets (text_of w) → octet_of w < 256
 octet_short (plain c) is each = each.0
 octet_short (escaped c) is each = each.1.0
@@ -223,14 +221,25 @@ sized_is labels each = by (nat_le (length (wire labels)) 255) refl
     by true e = record { each = each; short = leb-true (length (wire labels)) 255 e }
     by false e = tt
 
+-- what is said of the labels that are read
+pub reading-says_ok : (text : List ℕ) (labels : List (List ℕ)) (is_absolute : Bool) → Says text (Ok (labels, is_absolute)) → reading text ≡ Ok (labels, is_absolute)
+reading-says_ok text labels true says = ap reading says.text_is ∙ reading-dotted says.written says.are says.short ∙ ap (λ t. Ok (t, true)) (sym says.labels_are)
+reading-says_ok text labels false says = ap reading says.text_is ∙ reading-parted says.written says.are says.short ∙ ap (λ t. Ok (t, false)) (sym says.labels_are)
+
+pub labels-says_ok : (text : List ℕ) (labels : List (List ℕ)) (is_absolute : Bool) → AreOctets text → Says text (Ok (labels, is_absolute)) → AllByRecursion IsLabel labels
+labels-says_ok text labels true octets says =
+    subst (AllByRecursion IsLabel) (sym says.labels_are) (dotted_are says.written says.are.each says.short (subst AreOctets says.text_is octets))
+labels-says_ok text labels false octets says =
+    subst (AllByRecursion IsLabel) (sym says.labels_are) (relative_are says.written says.are.each says.short (subst AreOctets says.text_is octets))
+
 under_is : (origin : Option (List (List ℕ))) (text : List ℕ) (found : Result (List (List ℕ) × Bool) NameFault) → IfSome origin IsName → AreOctets text → Says text found → IfOk (under origin found) IsName
 under_is origin text (Err fault) known octets says = tt
 under_is origin text (Ok (labels, true)) known octets says =
-    sized_is labels (subst (AllByRecursion IsLabel) (sym says.labels_are) (dotted_are says.written says.are.each says.short (subst AreOctets says.text_is octets)))
+    sized_is labels (labels-says_ok text labels true octets says)
 under_is None text (Ok (labels, false)) known octets says = tt
 under_is (Some above) text (Ok (labels, false)) known octets says =
     sized_is (labels ++ above)
-    (AllByRecursion-append IsLabel labels above (subst (AllByRecursion IsLabel) (sym says.labels_are) (relative_are says.written says.are.each says.short (subst AreOctets says.text_is octets))) known.each)
+    (AllByRecursion-append IsLabel labels above (labels-says_ok text labels false octets says) known.each)
 
 -- ---- one answer
 abbrev OneOf : Option (List (List ℕ)) → List ℕ → Type 0

@@ -46,7 +46,7 @@ plain_units : (text : List ℕ) → AllByRecursion (λ c. is_bare c ≡ true) te
 plain_units [] each = tt
 plain_units (c ∷ text) each = (bare_plain c each.0, plain_units text each.1)
 
-plain_text : (text : List ℕ) → text ≡ written_text (map plain text)
+pub plain_text : (text : List ℕ) → text ≡ written_text (map plain text)
 plain_text [] = refl
 plain_text (c ∷ text) = ap (λ t. c ∷ t) (plain_text text)
 

@@ -11,4 +11,5 @@ pub mod Answered
 pub mod Lawful
 pub mod Sinks
 pub mod Bare
+pub mod Plain
 pub mod Lengths

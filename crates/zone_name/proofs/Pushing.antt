@@ -57,7 +57,7 @@ IsLabel-folded label some short each = record {
 }
 
 -- frames, with one more after them
-frames_push : (labels : List (List ℕ)) (label : List ℕ) → flat_map with_length (labels ++ label ∷ []) ≡ flat_map with_length labels ++ with_length label
+pub frames_push : (labels : List (List ℕ)) (label : List ℕ) → flat_map with_length (labels ++ label ∷ []) ≡ flat_map with_length labels ++ with_length label
 frames_push labels label = flat_map-append with_length labels (label ∷ []) ∙ ap (λ t. flat_map with_length labels ++ t) (append-nil (with_length label))
 
 -- labels with one more after them, where there is room
@@ -66,6 +66,12 @@ IsName-push labels label name is room = record {
   each = AllByRecursion-append IsLabel labels (label ∷ []) name.each (is, tt);
   short = omega (arith, length-append (flat_map with_length (labels ++ label ∷ [])) (0 ∷ []), ap length (frames_push labels label), length-append (flat_map with_length labels) (with_length label));
 }
+
+-- frames hold the labels
+pub HoldsLabels-frames : (labels : List (List ℕ)) → IsName labels → HoldsLabels (flat_map with_length labels)
+HoldsLabels-frames labels name =
+    let back = labels_of-open labels name.each in
+    record { whole = ap (flat_map with_length) back; name = subst IsName (sym back) name }
 
 pub record Pushed (octets label new : List ℕ) : Type 0 where
   pub holds : HoldsLabels new
@@ -104,7 +110,7 @@ pushed_octets octets label pushed new n first after all =
     ∙ append_assoc octets (length label ∷ []) (map folded_octet label) ∙ ap (λ k. octets ++ (k ∷ map folded_octet label)) (sym (length-map label folded_octet))
 
 -- a length is no letter
-folded_length : (n : ℕ) → n ≤ 63 → folded_octet n ≡ n
+pub folded_length : (n : ℕ) → n ≤ 63 → folded_octet n ≡ n
 folded_length n short = grind (arith, nat_tests)
 
 -- a length and the octets after it, folded together
@@ -159,8 +165,12 @@ lowered : (octets : List ℕ) → map to_ascii_lowercase octets ≡ map folded_o
 lowered [] = refl
 lowered (c ∷ octets) = let same : to_ascii_lowercase c ≡ folded_octet c = grind (arith, nat_tests) in ap₂ (λ (x : ℕ) (t : List ℕ). x ∷ t) same (lowered octets)
 
+-- what is written over all octets takes their place
+pub refilled : (octets new : List ℕ) → length new ≡ length octets → refill (length octets) octets new ≡ new
+refilled octets new same = take_at new (drop (length new) octets) (length octets) same
+
 pub folded_again : (octets lower : List ℕ) → lower ≡ map to_ascii_lowercase octets → refill (length octets) octets lower ≡ map folded_octet octets
-folded_again octets lower e = take_at lower (drop (length lower) octets) (length octets) (ap length e ∙ length-map octets to_ascii_lowercase) ∙ e ∙ lowered octets
+folded_again octets lower e = refilled octets lower (ap length e ∙ length-map octets to_ascii_lowercase) ∙ e ∙ lowered octets
 
 -- the octets of a name after labels that are now folded
 pub ended_with : (octets lower ending new : List ℕ) → HoldsUnfolded octets → HoldsName ending → lower ≡ map folded_octet octets → new ≡ lower ++ ending → length lower + length ending ≤ 255 → HoldsName new × (sized (unfolded_labels octets ++ labels_of ending) ≡ Ok (labels_of new))

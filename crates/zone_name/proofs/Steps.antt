@@ -1,17 +1,15 @@
 -- The walk over a text: what was read so far, and what it leads to.
-use Rattle.std.proofs.Common.{◌≡◌, nat_eq, ◌-◌, ℕ, zero, suc, ◌+◌, ◌<◌, ◌≤◌, ◌||◌, Bool, true, false, if◌then◌else◌, List, [], ◌∷◌, ◌++◌, length, take, drop, get_or, Result, Ok, Err, refl, sym, ap, ◌∙◌, subst, inl, inr, arith, append_assoc, length-append}
+use Rattle.std.proofs.Common.{◌≡◌, ℕ, zero, suc, ◌<◌, ◌≤◌, ◌||◌, Bool, true, false, if◌then◌else◌, List, [], ◌∷◌, ◌++◌, length, Result, Ok, Err, refl, sym, ap, ◌∙◌, subst, inl, inr, arith, length-append}
 use Rattle.std.specs.List.{flat_map}
-use Rattle.std.specs.Cmp.Lexicographic.{pointwise, bytes_decides}
-use Rattle.std.proofs.lemmas.Bool.{lt-leb, le-leb, cases_lt, cases_Bool, eqb-true, both_ways}
-use Rattle.std.proofs.lemmas.List.{append-nil, length-take-le, take-append-drop, length-drop, get_or-drop}
+use Rattle.std.proofs.lemmas.Bool.{lt-leb, le-leb}
 use Rattle.std.proofs.lemmas.List.Concat.{flat_map-append}
 use Rattle.zone_name.specs.Name.{folded_label, with_length, wire}
-use Rattle.zone_name.specs.Spelling.{IsBadEscape, IsUnit, EndsLabel, plain, is_dot}
+use Rattle.zone_name.specs.Spelling.{IsBadEscape, EndsLabel}
 use Rattle.zone_name.specs.declared.fault.NameFault.{NameFault}
 use Rattle.zone_name.specs.declared.fault.NameFault.TheVariants.{EmptyLabel, LabelTooLong, NameTooLong, BadEscape, RelativeName}
 use Rattle.zone_name.specs.Machine.LabelWalk.{Ahead, at_end, at_dot, at_octet, at_fault, ahead_in, Step, done, failed, goes, step_at, read, reading, Collects}
 use Rattle.zone_name.specs.Machine.Seen.{Closes, Joins, Goes, Refuses, RefusesLabel, empty, long, EndsLabelAt}
-use Rattle.zone_name.proofs.Ahead.{Shrinks, ahead_shrinks, ahead-bad, ahead-unit}
+use Rattle.zone_name.proofs.Ahead.{Shrinks, ahead_shrinks, ahead-bad}
 
 -- ---- one step of the reading
 
@@ -92,96 +90,6 @@ Refuses-label text label rest LabelTooLong at short (long more) = absurd (omega 
 Refuses-label text label rest NameTooLong at short x = elim x [ ]
 Refuses-label text label rest BadEscape at short x = elim x [ ]
 Refuses-label text label rest RelativeName at short x = elim x [ ]
-
--- ---- a label of plain octets
-
--- each of the octets at the beginning is plain
-abbrev pub ArePlain : List ℕ → ℕ → Type 0
-ArePlain text len = (k : ℕ) → k < len → IsUnit is_dot (plain (get_or text k 0))
-
--- what follows them ends a label where it is no backslash
-abbrev pub begins_with : ℕ → List ℕ → Bool
-begins_with c rest = pointwise nat_eq (c ∷ []) (take 1 rest)
-
-plain_end : (rest : List ℕ) → begins_with 92 rest ≡ false → (0 < length rest → IsUnit is_dot (plain (get_or rest 0 0)) → ⊥) → EndsLabel rest
-plain_end [] other stops = inl refl
-plain_end (c ∷ rest) other stops = elim (cases_Bool (is_dot c)) [
-  | inl dot ↦ inr (rest, ap (λ t. t ∷ rest) (eqb-true c 46 dot))
-  | inr h ↦ absurd (stops (omega arith) (h, λ e. both_ways (begins_with 92 (c ∷ rest)) other ((bytes_decides (92 ∷ []) (c ∷ [])).1 (ap (λ t. t ∷ []) (sym e)))))
-]
-
-plain_stop : (text back : List ℕ) (len : ℕ) → begins_with 92 back ≡ false → back ≡ drop len text → (len < length text → IsUnit is_dot (plain (get_or text len 0)) → ⊥) → EndsLabel (drop len text)
-plain_stop text back len other e stops =
-    let more : length (drop len text) ≡ length text - len = length-drop len text in
-    plain_end (drop len text) (ap (begins_with 92) (sym e) ∙ other) (λ some is. stops (omega (arith, some, more)) (subst (λ t. IsUnit is_dot (plain t)) (get_or-drop len text 0 0 ∙ ap (λ k. get_or text k 0) (plus_zero len)) is))
-  where
-    plus_zero : (n : ℕ) → n + 0 ≡ n
-    plus_zero n = omega arith
-
-ahead-plain : (c : ℕ) (text : List ℕ) → IsUnit is_dot (plain c) → ahead_in (c ∷ text) ≡ at_octet c text
-ahead-plain c text is = ahead-unit (plain c) text is
-
-plain_by : (len fuel : ℕ) (labels : List (List ℕ)) (open_label text : List ℕ) → ArePlain text len → len ≤ length text → length text < fuel → length open_label + len ≤ 63 → (m : ℕ) × (length (drop len text) < m) × (read fuel labels open_label text ≡ read m labels (open_label ++ take len text) (drop len text))
-plain_by zero fuel labels open_label text each fits enough room = (fuel, enough, ap (λ t. read fuel labels t text) (sym (append-nil open_label)))
-plain_by (suc len) fuel labels open_label [] each fits enough room = absurd (omega arith)
-plain_by (suc len) zero labels open_label (c ∷ text) each fits enough room = absurd (omega arith)
-plain_by (suc len) (suc n) labels open_label (c ∷ text) each fits enough room =
-    let space : length open_label < 63 = omega arith in
-    let grown : length (open_label ++ c ∷ []) + len ≤ 63 = omega (arith, length-append open_label (c ∷ [])) in
-    let fits' : len ≤ length text = omega arith in
-    let enough' : length text < n = omega arith in
-    let next = plain_by len n labels (open_label ++ c ∷ []) text (λ k h. each (suc k) (omega (arith, h))) fits' enough' grown in (
-      next.0,
-      next.1,
-      read_step n labels open_label (c ∷ text) (at_octet c text) (ahead-plain c text (each 0 (omega arith))) ∙ octet_step n labels open_label text c space ∙ next.2
-          ∙ ap (λ t. read next.0 labels t (drop len text)) (append_assoc open_label (c ∷ []) (take len text)),
-    )
-
-long_by : (len fuel : ℕ) (labels : List (List ℕ)) (open_label text : List ℕ) → ArePlain text len → len ≤ length text → length text < fuel → length open_label ≤ 63 → 63 < length open_label + len → read fuel labels open_label text ≡ Err LabelTooLong
-long_by zero fuel labels open_label text each fits enough short over = absurd (omega arith)
-long_by (suc len) fuel labels open_label [] each fits enough short over = absurd (omega arith)
-long_by (suc len) zero labels open_label (c ∷ text) each fits enough short over = absurd (omega arith)
-long_by (suc len) (suc n) labels open_label (c ∷ text) each fits enough short over =
-    let fits' : len ≤ length text = omega arith in
-    let enough' : length text < n = omega arith in
-    let first : ahead_in (c ∷ text) ≡ at_octet c text = ahead-plain c text (each 0 (omega arith)) in
-    elim (cases_lt (length open_label) 63) [
-      | inl room ↦
-          let short' : length (open_label ++ c ∷ []) ≤ 63 = omega (arith, room, length-append open_label (c ∷ [])) in
-          let over' : 63 < length (open_label ++ c ∷ []) + len = omega (arith, over, length-append open_label (c ∷ [])) in
-          read_step n labels open_label (c ∷ text) (at_octet c text) first ∙ octet_step n labels open_label text c room ∙ long_by len n labels (open_label ++ c ∷ []) text (λ k h. each (suc k) (omega (arith, h))) fits' enough' short' over'
-      | inr full ↦ read_step n labels open_label (c ∷ text) (at_octet c text) first ∙ ap (after_step n) (full_step labels open_label text c full)
-    ]
-
--- what ends a plain label
-pub EndsLabelAt-plain : (text : List ℕ) (len : ℕ) → 0 < length text → ArePlain text len → len ≤ length text → EndsLabel (drop len text) → len ≤ 63 → EndsLabelAt text (take len text) (drop len text)
-EndsLabelAt-plain text len some each fits ends short = record {
-  goes = λ labels n enough. plain_by len n labels [] text each fits enough (omega (arith, short));
-  ends = ends;
-  some = omega (arith, some, ap length (take-append-drop len text), length-append (take len text) (drop len text));
-  behind = omega (arith, length-drop len text);
-}
-
-pub Refuses-plain : (text : List ℕ) (len : ℕ) (fault : NameFault) → 0 < length text → ArePlain text len → len ≤ length text → EndsLabel (drop len text) → RefusesLabel (take len text) fault → Refuses text fault
-Refuses-plain text len EmptyLabel some each fits ends (empty none) =
-    let short : len ≤ 63 = omega (arith, none, length-take-le len text fits) in
-    dot_refused text (take len text) (drop len text) (EndsLabelAt-plain text len some each fits ends short) none
-Refuses-plain text len LabelTooLong some each fits ends (long more) = λ labels n enough.
-    let over : 63 < length {A = ℕ} [] + len = omega (arith, more, length-take-le len text fits) in
-    long_by len n labels [] text each fits enough (omega arith) over
-Refuses-plain text len NameTooLong some each fits ends x = elim x [ ]
-Refuses-plain text len BadEscape some each fits ends x = elim x [ ]
-Refuses-plain text len RelativeName some each fits ends x = elim x [ ]
-
--- the same of the parts that a text was cut into
-pub EndsLabelAt-split : (text front back : List ℕ) (len : ℕ) → 0 < length text → ArePlain text len → len ≤ length text → (len < length text → IsUnit is_dot (plain (get_or text len 0)) → ⊥) → begins_with 92 back ≡ false → front ≡ take len text → back ≡ drop len text → length front ≤ 63 → EndsLabelAt text front back
-EndsLabelAt-split text front back len some each fits stops other front_is back_is short =
-    let low : len ≤ 63 = omega (arith, short, ap length front_is, length-take-le len text fits) in
-    rw (front_is, back_is) (EndsLabelAt-plain text len some each fits (plain_stop text back len other back_is stops) low)
-
-pub Refuses-split : (text front back : List ℕ) (len : ℕ) (fault : NameFault) → 0 < length text → ArePlain text len → len ≤ length text → (len < length text → IsUnit is_dot (plain (get_or text len 0)) → ⊥) → begins_with 92 back ≡ false → front ≡ take len text → back ≡ drop len text → RefusesLabel front fault → Refuses text fault
-Refuses-split text front back len fault some each fits stops other front_is back_is refused =
-    Refuses-plain text len fault some each fits (plain_stop text back len other back_is stops) (subst (λ t. RefusesLabel t fault) front_is refused)
 
 -- ---- the labels of a text
 

@@ -3,6 +3,7 @@
 pub mod Units
 pub mod LabelWalk
 pub mod Seen
+pub mod Plain
 pub mod Shown
 pub mod Joined
 pub mod Fitting

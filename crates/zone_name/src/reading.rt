@@ -1,11 +1,12 @@
 ghost use Rattle.std.specs.Prelude.{◌≡◌, ◌≤◌, ◌<◌, ◌↔◌, ◌++◌, [], ℕ, length, map, slice_index, option_copied};
-ghost use Rattle.std.specs.Prelude.{IsTrue, IfOk, IfErr, Ok, Err};
+ghost use Rattle.std.specs.Prelude.{IsTrue, IfSome, IfOk, IfErr, Ok, Err};
 ghost use Rattle.zone_name.specs.Common.{Labels};
 ghost use Rattle.zone_name.specs.Name.{HoldsName, IsName, folded_octet, labels_of};
 ghost use Rattle.zone_name.specs.Spelling.{IsUnit, is_dot, plain};
 ghost use Rattle.zone_name.specs.Machine.LabelWalk.{Collects, reading, under, sized};
+ghost use Rattle.zone_name.specs.Machine.Plain.{WritesLengths};
 ghost use Rattle.zone_name.specs.Machine.Seen.{Closes, EndsLabelAt, HasForm, HoldsUnfolded, IsClosable};
-ghost use Rattle.zone_name.specs.Machine.Seen.{Refuses, RefusesLabel, unfolded_labels};
+ghost use Rattle.zone_name.specs.Machine.Seen.{IsReadInto, Refuses, RefusesLabel, unfolded_labels};
 
 use crate::builder::check_label;
 use crate::escape::{NextUnit, next_unit};
@@ -65,6 +66,51 @@ fn plain_len(text: &[u8]) -> usize
     len
 }
 
+/// Writes the length of each label over the dot before it, and tells whether each label has 1 to 63
+/// octets and all are plain. If not, the octets say nothing.
+fn write_lengths(octets: &mut [u8]) -> bool
+    ensures { IsTrue result → WritesLengths octets.old octets.new [] }
+{
+    let mut start = 0;
+    while start < octets.len() {
+        if octets[start] != b'.' {
+            return false;
+        }
+        let len = plain_len(&octets[start + 1..]);
+        if len == 0 || len > MAX_LABEL_LEN {
+            return false;
+        }
+        octets[start] = len as u8;
+        start += len + 1;
+    }
+    true
+}
+
+/// Puts the labels of a text without escapes in place by one copy, their letters as they are.
+/// `None`: the text has an escape or a fault, and the octets say nothing.
+fn read_plain(octets: &mut ArrayVec<u8, MAX_NAME_LEN>, text: &[u8]) -> Option<Spelled>
+    requires { octets.old.items ≡ [] }
+    ensures holds { IfSome result (λ _. HoldsUnfolded octets.new.items) }
+    ensures labels { IfSome result (λ spelled. IsReadInto text.now octets.new.items spelled) }
+{
+    let (labels, is_absolute) = match text.strip_suffix(b".") {
+        Some(labels) => (labels, true),
+        None => (text, false),
+    };
+    if labels.len() + 2 > MAX_NAME_LEN {
+        return None;
+    }
+    octets.push(b'.');
+    let _ = octets.try_extend_from_slice(labels);
+    if !write_lengths(octets.as_mut_slice()) {
+        return None;
+    }
+    Some(Spelled {
+        is_too_long: false,
+        is_absolute,
+    })
+}
+
 /// Appends a label to the others, its letters as they are, and tells whether there was no room for
 /// it.
 fn close(octets: &mut ArrayVec<u8, MAX_NAME_LEN>, label: &[u8]) -> Result<bool, NameFault>
@@ -92,34 +138,10 @@ struct ReadLabel<'t> {
     behind: &'t [u8],
 }
 
-/// Puts the label that a text begins with in place.
-fn read_label<'t>(
-    octets: &mut ArrayVec<u8, MAX_NAME_LEN>,
-    text: &'t [u8],
-) -> Result<ReadLabel<'t>, NameFault>
-    requires some { 0 < length text.now }
-    requires holds { HoldsUnfolded octets.old.items }
-    ensures holds { HoldsUnfolded octets.new.items }
-    ensures ok { IfOk result (λ read. IsClosable text.now read.behind.now (λ label.
-        Closes (unfolded_labels octets.old.items) label read.is_left_out
-        (unfolded_labels octets.new.items))) }
-    ensures err { IfErr result (Refuses text.now) }
-{
-    let (label, behind) = text.split_at(plain_len(text));
-    if behind.starts_with(b"\\") {
-        return read_escaped_label(octets, text);
-    }
-    let is_left_out = close(octets, label)?;
-    Ok(ReadLabel {
-        is_left_out,
-        behind,
-    })
-}
-
-/// The same where the label may have escapes: octet by octet.
-// Not inlined: only such a label needs room of its own.
+/// Puts the label that a text begins with in place, octet by octet.
+// Not inlined: only a text with an escape or a fault needs room for a label of its own.
 #[inline(never)]
-fn read_escaped_label<'t>(
+fn read_label<'t>(
     octets: &mut ArrayVec<u8, MAX_NAME_LEN>,
     text: &'t [u8],
 ) -> Result<ReadLabel<'t>, NameFault>
@@ -174,9 +196,7 @@ fn open_label<'t>(
 fn read_labels(octets: &mut ArrayVec<u8, MAX_NAME_LEN>, text: &[u8]) -> Result<Spelled, NameFault>
     requires { octets.old.items ≡ [] }
     ensures holds { HoldsUnfolded octets.new.items }
-    ensures labels { IfOk result (λ spelled. (labels : Labels)
-        × (reading text.now ≡ Ok (labels, spelled.is_absolute))
-        × Collects (unfolded_labels octets.new.items) spelled.is_too_long labels) }
+    ensures labels { IfOk result (λ spelled. IsReadInto text.now octets.new.items spelled) }
     ensures fault { IfErr result (λ fault. reading text.now ≡ Err fault) }
 {
     if text.is_empty() {
@@ -272,7 +292,13 @@ fn read_into(
     ensures err { IfErr result
         (λ fault. under (option_copied origin.entry) (reading text.now) ≡ Err fault) }
 {
-    let spelled = read_labels(octets, text)?;
+    let spelled = match read_plain(octets, text) {
+        Some(spelled) => spelled,
+        None => {
+            octets.clear();
+            read_labels(octets, text)?
+        }
+    };
     finish(octets, spelled, origin)
 }
 

@@ -95,7 +95,7 @@ one_zone z w is_z is_w same =
 pub one_zone_of_file : (origin : List (List ℕ)) (octets : List ℕ) → ((a b : List Placed) → FileStates origin octets a → FileStates origin octets b → a ≡ b) → (z w : Zone) → Denotes origin octets z → Denotes origin octets w → z ≡ w
 one_zone_of_file origin octets one z w denotes other =
     let placed : denotes.placed ≡ other.placed = one denotes.placed other.placed denotes.states other.states in
-    one_zone z w denotes.zone other.zone (λ r. (
-      λ has. (other.same r).1 (subst (λ ps. Has (records_of ps) r) placed ((denotes.same r).0 has)),
-      λ has. (denotes.same r).1 (subst (λ ps. Has (records_of ps) r) (sym placed) ((other.same r).0 has)),
+    one_zone z w denotes.makes.zone other.makes.zone (λ r. (
+      λ has. (other.makes.same r).1 (subst (λ ps. Has (records_of ps) r) placed ((denotes.makes.same r).0 has)),
+      λ has. (denotes.makes.same r).1 (subst (λ ps. Has (records_of ps) r) (sym placed) ((other.makes.same r).0 has)),
     ))

@@ -16,8 +16,7 @@ use Rattle.zone_rdata.specs.Spelling.{States}
 use Rattle.zone_rdata.specs.Text.{data_items}
 use Rattle.zone_rdata.specs.Words.{IsClass, IsClassWord, IsKind, IsKindWord, class_text, kind_text}
 use Rattle.zone_text.specs.Entries.{Cut, Entry, and_last, cut_from, entries_of, entry_of, item_of, numbered}
-use Rattle.zone_text.specs.File.{FileStates, StateEach}
-use Rattle.zone_text.specs.Given.{gives_one}
+use Rattle.zone_text.specs.File.{FileStates, StateEach, states_one}
 use Rattle.zone_text.specs.Inherited.{IsOrigin}
 use Rattle.zone_text.specs.Lasting.{EndInLineFeed}
 use Rattle.zone_text.specs.Line.{IsItem, line_of, StatesWhole}
@@ -165,14 +164,14 @@ pub record WholeEntries : Type 0 where
   pub leaves : (origin above : Labels) (before : List Entry) (entry : Entry) (r : Record) → IsOrigin origin before above → StatesWhole entry r → IsOrigin origin (entry ∷ before) above
 
 states_each : WholeEntries → (origin : Labels) (before : List Entry) (number : ℕ) (ended : List (List Piece)) (records : List Record) → IsOrigin origin before origin → AreLines ended records → StateEach origin before (numbered number ended) (placed_from number records)
-states_each wholes origin before number [] [] under are = (refl, refl)
+states_each wholes origin before number [] [] under are = refl
 states_each wholes origin before number [] (r ∷ records) under are = absurd are
 states_each wholes origin before number (p ∷ ended) [] under are = absurd are
 states_each wholes origin before number (p ∷ ended) (r ∷ records) under are =
     let whole : StatesWhole (entry_of number p) r = at_line number p r are.0 in
     let next : StateEach origin (entry_of number p ∷ before) (numbered (number + 1) ended) (placed_from (number + 1) records) =
     states_each wholes origin (entry_of number p ∷ before) (number + 1) ended records (wholes.leaves origin origin before (entry_of number p) r under whole) are.2 in
-    gives_one (record { rr = r; place = Line number }) (placed_from (number + 1) records) (wholes.stated origin origin before (entry_of number p) r under whole) refl refl
+    states_one (record { rr = r; place = Line number }) (placed_from (number + 1) records) (wholes.stated origin origin before (entry_of number p) r under whole) refl refl
     (subst (λ n. StateEach origin (entry_of number p ∷ before) (numbered n ended) (placed_from (number + 1) records)) (ap (λ n. number + n) (sym are.1)) next)
 
 pub lines_back : ((r : Record) → IsRecord r → IsLineOf r (line r))
@@ -202,9 +201,11 @@ text_back back origin z is short = record {
   short = short;
   placed = placed_from 1 z.records;
   states = back origin z.records is.compatible.each;
-  same = λ r. (subst (λ rs. Has rs r) (sym (same_records 1 z.records)), subst (λ rs. Has rs r) (same_records 1 z.records));
-  zone = is;
-  text_short = short;
+  makes = record {
+    zone = is;
+    same = λ r. (subst (λ rs. Has rs r) (sym (same_records 1 z.records)), subst (λ rs. Has rs r) (same_records 1 z.records));
+    text_short = short;
+  };
 }
 
 pub equal_texts : LinesBack

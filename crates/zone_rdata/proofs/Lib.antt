@@ -45,3 +45,4 @@ pub mod AddressChoice
 pub mod ItemChoice
 pub mod StatedOctets
 pub mod PrintedWords
+pub mod LeftOut

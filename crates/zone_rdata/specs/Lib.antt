@@ -1,4 +1,5 @@
 pub mod Fault
+pub mod Cause
 pub mod Item
 pub mod Strings
 pub mod Address
@@ -20,3 +21,4 @@ pub mod Text
 pub mod Source
 pub mod Machine
 pub mod Builder
+pub mod Part

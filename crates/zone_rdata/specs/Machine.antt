@@ -1,6 +1,5 @@
 -- What private functions and proofs cite, and no public clause.
 pub mod AddressReading
-pub mod Pushed
 pub mod NarrowFailing
 pub mod Printing
 pub mod Appending
@@ -8,3 +7,4 @@ pub mod TimeProgress
 pub mod Building
 pub mod Fronts
 pub mod GenericLength
+pub mod LeftOut

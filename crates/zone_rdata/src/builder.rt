@@ -1,7 +1,7 @@
-ghost use Rattle.std.specs.Prelude.{◌≡◌, ◌↔◌, [], ◌≤◌, length, IsTrue, IfOk, IfErr, OnOk, OnErr};
+ghost use Rattle.std.specs.Prelude.{◌≡◌, ◌↔◌, [], ◌≤◌, length, IsTrue, IfOk, IfErr, IfSome, IfNone, OnOk, OnErr};
 ghost use Rattle.zone_rdata.specs.Builder.{Built, IsNext, IsPushFault, IsWhole, Pushes};
 ghost use Rattle.zone_rdata.specs.Machine.Building.{Grows, IsOver, IsReal, least_of};
-ghost use Rattle.zone_rdata.specs.Machine.Pushed.{value_of};
+ghost use Rattle.zone_rdata.specs.Part.{value_of};
 ghost use Rattle.zone_rdata.specs.Fault.{IfFault};
 ghost use Rattle.zone_rdata.specs.Field.{fixed, u32_value, name, octets_of, string, u16_value};
 ghost use Rattle.zone_rdata.specs.Layout.{layout};
@@ -10,7 +10,8 @@ use crate::class::Class;
 use crate::fault::{Failing, Fault};
 use crate::kind::Kind;
 use crate::layout::layout_of;
-use crate::narrow_failing::{Cause, NarrowFailing};
+use crate::cause::Cause;
+use crate::narrow_failing::NarrowFailing;
 use crate::rdata::Rdata;
 use crate::reading::are_octets;
 use crate::record::LONGEST_DATA;
@@ -46,13 +47,18 @@ impl Model for RdataBuilder {
     ghost invariant = { λ b. IsBuilt b.class b.kind b.count b.octets.items };
 }
 
-/// What a push hands in.
+/// A part of data that is pushed (RFC 1035 3.3).
 #[derive(Clone, Copy)]
-pub(crate) enum Pushed<'p> {
+pub enum Part<'p> {
+    /// An address, or the octets of opaque data.
     Octets(&'p [u8]),
+    /// A number of 16 bits.
     U16(u16),
+    /// A number of 32 bits, a serial or a time in seconds.
     U32(u32),
+    /// A name.
     Name(&'p Name),
+    /// A string, the next field or one more of several.
     String(&'p [u8]),
 }
 
@@ -83,7 +89,7 @@ impl RdataBuilder {
         ensures fault { IfErr result (IfFault (IsPushFault self.old (fixed octets.now))) }
         ensures err { OnErr result (self.new ≡ self.old) }
     {
-        Ok(self.push(Pushed::Octets(octets))?)
+        Ok(self.push(Part::Octets(octets))?)
     }
 
     /// Pushes a number of 16 bits. On an error the builder is unchanged.
@@ -97,7 +103,7 @@ impl RdataBuilder {
         ensures fault { IfErr result (IfFault (IsPushFault self.old (u16_value number))) }
         ensures err { OnErr result (self.new ≡ self.old) }
     {
-        Ok(self.push(Pushed::U16(number))?)
+        Ok(self.push(Part::U16(number))?)
     }
 
     /// Pushes a number of 32 bits, a serial or a time in seconds. On an error the
@@ -111,7 +117,7 @@ impl RdataBuilder {
         ensures fault { IfErr result (IfFault (IsPushFault self.old (u32_value number))) }
         ensures err { OnErr result (self.new ≡ self.old) }
     {
-        Ok(self.push(Pushed::U32(number))?)
+        Ok(self.push(Part::U32(number))?)
     }
 
     /// Pushes a name. On an error the builder is unchanged.
@@ -124,7 +130,7 @@ impl RdataBuilder {
         ensures fault { IfErr result (IfFault (IsPushFault self.old (name target.now))) }
         ensures err { OnErr result (self.new ≡ self.old) }
     {
-        Ok(self.push(Pushed::Name(target))?)
+        Ok(self.push(Part::Name(target))?)
     }
 
     /// Pushes a string, the next field or one more of several. On an error the
@@ -139,11 +145,15 @@ impl RdataBuilder {
         ensures fault { IfErr result (IfFault (IsPushFault self.old (string octets.now))) }
         ensures err { OnErr result (self.new ≡ self.old) }
     {
-        Ok(self.push(Pushed::String(octets))?)
+        Ok(self.push(Part::String(octets))?)
     }
 
-    /// Pushes a part.
-    fn push(&mut self, part: Pushed) -> Result<(), NarrowFailing>
+    /// Pushes a part, and answers in few octets. On an error the builder is unchanged.
+    ///
+    /// # Errors
+    ///
+    /// Those of `push_octets` and `push_string`.
+    pub fn push(&mut self, part: Part) -> Result<(), NarrowFailing>
         ensures ok { OnOk result (Pushes self.old (value_of part.entry) self.new) }
         ensures fault { IfErr result (IfFault (IsPushFault self.old (value_of part.entry))) }
         ensures err { OnErr result (self.new ≡ self.old) }
@@ -172,11 +182,27 @@ impl RdataBuilder {
         ensures err { IfErr result (λ f. (f ≡ Fault.BadRdata)
             × (IsWhole (layout self.class self.kind) self.parts → ⊥)) }
     {
+        match self.whole() {
+            Some(rdata) => Ok(rdata),
+            None => Err(Fault::BadRdata),
+        }
+    }
+
+    /// The data of the parts that were pushed. `None`: a part is missing.
+    pub fn whole(self) -> Option<Rdata>
+        ensures whole { IfSome result (λ _. IsWhole (layout self.class self.kind) self.parts) }
+        ensures some { IfSome result (λ d. d ≡ record {
+          class = self.class;
+          kind = self.kind;
+          octets = octets_of self.parts;
+        }) }
+        ensures none { IfNone result (IsWhole (layout self.class self.kind) self.parts → ⊥) }
+    {
         if self.count < least_parts(self.class, self.kind) {
-            return Err(Fault::BadRdata);
+            return None;
         }
         are_octets(&self.octets);
-        Ok(Rdata::of_octets(self.class, self.kind, self.octets))
+        Some(Rdata::of_octets(self.class, self.kind, self.octets))
     }
 }
 
@@ -191,11 +217,11 @@ fn least_parts(class: Class, kind: Kind) -> usize
 }
 
 /// Whether the part can be the next after `count` parts.
-fn is_next(class: Class, kind: Kind, count: usize, part: Pushed) -> bool
+fn is_next(class: Class, kind: Kind, count: usize, part: Part) -> bool
     ensures { IsTrue result ↔ IsNext (layout class kind) count (value_of part.entry) }
 {
     let Some(layout) = layout_of(class, kind) else {
-        return count == 0 && matches!(part, Pushed::Octets(_));
+        return count == 0 && matches!(part, Part::Octets(_));
     };
     match layout.part_at(count) {
         Some(field) => field.suits(part),
@@ -204,29 +230,29 @@ fn is_next(class: Class, kind: Kind, count: usize, part: Pushed) -> bool
 }
 
 /// What holds of every part.
-fn known(part: Pushed)
+fn known(part: Part)
     ensures { IsReal (value_of part.entry) }
 {
     match part {
-        Pushed::Octets(octets) | Pushed::String(octets) => are_octets(octets),
-        Pushed::Name(name) => name.known(),
-        Pushed::U16(_) | Pushed::U32(_) => {}
+        Part::Octets(octets) | Part::String(octets) => are_octets(octets),
+        Part::Name(name) => name.known(),
+        Part::U16(_) | Part::U32(_) => {}
     }
 }
 
 /// Appends the octets of a part. If it is refused, `out` is unchanged.
-fn append(part: Pushed, out: &mut Vec<u8>) -> Result<(), NarrowFailing>
+fn append(part: Part, out: &mut Vec<u8>) -> Result<(), NarrowFailing>
     requires { length out.old.items ≤ LONGEST_DATA }
     ensures ok { OnOk result (Grows out.old.items (value_of part.entry) out.new.items) }
     ensures fault { IfErr result (IfFault (IsOver out.old.items (value_of part.entry))) }
     ensures err { OnErr result (out.new.items ≡ out.old.items) }
 {
     match part {
-        Pushed::Octets(octets) => append_octets(octets, out),
-        Pushed::U16(number) => append_octets(&number.to_be_bytes(), out),
-        Pushed::U32(number) => append_octets(&number.to_be_bytes(), out),
-        Pushed::Name(name) => append_octets(name.wire(), out),
-        Pushed::String(octets) => append_string(octets, out),
+        Part::Octets(octets) => append_octets(octets, out),
+        Part::U16(number) => append_octets(&number.to_be_bytes(), out),
+        Part::U32(number) => append_octets(&number.to_be_bytes(), out),
+        Part::Name(name) => append_octets(name.wire(), out),
+        Part::String(octets) => append_string(octets, out),
     }
 }
 

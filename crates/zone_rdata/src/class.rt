@@ -43,6 +43,17 @@ impl Class {
         }
     }
 
+    /// The class of a number of 16 bits (RFC 6895 3.2). `None`: no zone data can have it.
+    pub fn of_number(number: u16) -> Option<Class>
+        ensures some { IfSome result (λ class. class ≡ number) }
+        ensures none { IfNone result (IsClass number → ⊥) }
+    {
+        match number {
+            0 | 254 | 255 => None,
+            _ => Some(Class { number }),
+        }
+    }
+
     /// The class of a word in any letter case: IN, CS, CH, HS or CLASS with a number. `None`: it is
     /// no such word.
     ///

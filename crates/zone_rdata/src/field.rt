@@ -1,6 +1,6 @@
 ghost use Rattle.std.specs.Prelude.{◌≡◌, ◌↔◌, ◌≤◌, Some, drop, length, map, IsTrue, IfOk, IfErr, OnOk, OnErr};
 ghost use Rattle.zone_rdata.specs.Field.{Suits, is_strings, IsFieldFault, field_at, own_items, field_text};
-ghost use Rattle.zone_rdata.specs.Machine.Pushed.{value_of};
+ghost use Rattle.zone_rdata.specs.Part.{value_of};
 ghost use Rattle.zone_rdata.specs.Fault.{IfFault};
 ghost use Rattle.zone_name.specs.Sink.{TakesSome};
 ghost use Rattle.zone_rdata.specs.Item.{raw};
@@ -19,10 +19,11 @@ mod strings;
 mod time;
 mod u16;
 
-use crate::builder::Pushed;
+use crate::builder::Part;
 use crate::fault::{Failing, Fault};
 use crate::item::Item;
-use crate::narrow_failing::{Cause, NarrowFailing};
+use crate::cause::Cause;
+use crate::narrow_failing::NarrowFailing;
 use crate::number::push_decimal;
 use crate::string::{push_string, push_string_text};
 use address::{push_address, push_address_text};
@@ -187,15 +188,15 @@ impl Field {
     }
 
     /// Whether the part is one for the field.
-    pub(crate) fn suits(self, part: Pushed) -> bool
+    pub(crate) fn suits(self, part: Part) -> bool
         ensures { IsTrue result ↔ Suits (Some self) (value_of part.entry) }
     {
         match (self, part) {
-            (Field::Octets(count), Pushed::Octets(octets)) => octets.len() == count && count > 0,
-            (Field::U16, Pushed::U16(_)) => true,
-            (Field::Serial | Field::Time, Pushed::U32(_)) => true,
-            (Field::Name, Pushed::Name(_)) => true,
-            (Field::OneString | Field::Strings, Pushed::String(_)) => true,
+            (Field::Octets(count), Part::Octets(octets)) => octets.len() == count && count > 0,
+            (Field::U16, Part::U16(_)) => true,
+            (Field::Serial | Field::Time, Part::U32(_)) => true,
+            (Field::Name, Part::Name(_)) => true,
+            (Field::OneString | Field::Strings, Part::String(_)) => true,
             _ => false,
         }
     }

@@ -50,6 +50,17 @@ impl Kind {
         }
     }
 
+    /// The type of a number of 16 bits (RFC 6895 3.1). `None`: no record can have it.
+    pub fn of_number(number: u16) -> Option<Kind>
+        ensures some { IfSome result (λ kind. kind ≡ number) }
+        ensures none { IfNone result (IsKind number → ⊥) }
+    {
+        match number {
+            0 | 41 | 128..=255 => None,
+            _ => Some(Kind { number }),
+        }
+    }
+
     /// The type of a word in any letter case: a mnemonic, or TYPE with a number.
     ///
     /// # Errors

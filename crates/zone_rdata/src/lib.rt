@@ -4,6 +4,7 @@
 
 mod address;
 mod builder;
+mod cause;
 mod class;
 mod fault;
 mod field;
@@ -28,7 +29,8 @@ mod time;
 mod uncompressed;
 mod word;
 
-pub use builder::RdataBuilder;
+pub use builder::{Part, RdataBuilder};
+pub use cause::Cause;
 pub use class::Class;
 pub use fault::{Failing, Fault, Place, Stop};
 pub use field::Field;
@@ -36,6 +38,7 @@ pub use item::Item;
 pub use kind::Kind;
 pub use layout::{Layout, layout_of};
 pub use lent::RdataRef;
+pub use narrow_failing::NarrowFailing;
 pub use rdata::Rdata;
 pub use record::{MAX_TTL, Placed, Rr};
 pub use source::{Reading, RrSource};

@@ -1,48 +1,36 @@
 ghost use Rattle.std.specs.Prelude.{◌≡◌};
-ghost use Rattle.zone_rdata.specs.Machine.NarrowFailing.{failing_of};
+ghost use Rattle.zone_rdata.specs.Cause.{fault_for};
+ghost use Rattle.zone_rdata.specs.declared.fault.Failing.TheVariants as failings;
 
-use crate::fault::{Failing, Fault};
+use crate::cause::Cause;
+use crate::fault::Failing;
 use std::alloc::AllocError;
 use std::marker::Model;
 use zone_name::NameFault;
 
-/// What items and parts of data can be refused for.
-#[derive(Clone, Copy, Debug)]
-pub(crate) enum Cause {
-    EmptyLabel,
-    LabelTooLong,
-    NameTooLong,
-    BadEscape,
-    RelativeName,
-    BadRdata,
-    StringTooLong,
-    RdataTooLong,
-    BadNumber,
-    Memory,
-}
-
-/// Why items state no data, or a part isn't taken, in one octet: a `Failing` has room for a name.
+/// Why a record or its data could not be made, in few octets: a `Failing` has room for a name.
 /// Contracts see the failing.
 #[derive(Debug, Drop)]
-pub(crate) struct NarrowFailing {
-    cause: Cause,
+pub struct NarrowFailing {
+    /// The cause of the fault. `None`: memory was refused.
+    cause: Option<Cause>,
 }
 
 impl Model for NarrowFailing {
-    ghost use Rattle.zone_rdata.specs.Machine.NarrowFailing.{failing_of};
+    ghost use Rattle.zone_rdata.specs.Cause.{failing_for};
     ghost use Rattle.zone_rdata.specs.declared.fault.Failing.{Failing};
 
     ghost Value = { Failing };
 
-    ghost view = { λ r. failing_of r.cause };
+    ghost view = { λ r. failing_for r.cause };
 }
 
 impl NarrowFailing {
-    /// The failing for the cause.
-    pub(crate) fn of(cause: Cause) -> NarrowFailing
-        ensures { result ≡ failing_of cause }
+    /// The failing for a fault.
+    pub fn of(cause: Cause) -> NarrowFailing
+        ensures { result ≡ failings.Fault (fault_for cause) }
     {
-        NarrowFailing { cause }
+        NarrowFailing { cause: Some(cause) }
     }
 
     /// The failing itself.
@@ -53,44 +41,35 @@ impl NarrowFailing {
         ensures { result ≡ self }
     {
         match self.cause {
-            Cause::EmptyLabel => Failing::Fault(Fault::EmptyLabel),
-            Cause::LabelTooLong => Failing::Fault(Fault::LabelTooLong),
-            Cause::NameTooLong => Failing::Fault(Fault::NameTooLong),
-            Cause::BadEscape => Failing::Fault(Fault::BadEscape),
-            Cause::RelativeName => Failing::Fault(Fault::RelativeName),
-            Cause::BadRdata => Failing::Fault(Fault::BadRdata),
-            Cause::StringTooLong => Failing::Fault(Fault::StringTooLong),
-            Cause::RdataTooLong => Failing::Fault(Fault::RdataTooLong),
-            Cause::BadNumber => Failing::Fault(Fault::BadNumber),
-            Cause::Memory => Failing::Memory,
+            Some(cause) => Failing::Fault(cause.widened()),
+            None => Failing::Memory,
         }
+    }
+}
+
+impl From<Cause> for NarrowFailing {
+    ghost from_gives = { λ cause e. e ≡ failings.Fault (fault_for cause) };
+
+    fn from(cause: Cause) -> NarrowFailing {
+        NarrowFailing::of(cause)
     }
 }
 
 impl From<NameFault> for NarrowFailing {
     ghost use Rattle.zone_rdata.specs.Fault.{fault_of};
-    ghost use Rattle.zone_rdata.specs.declared.fault.Failing.TheVariants as failings;
 
     ghost from_gives = { λ fault e. e ≡ failings.Fault (fault_of fault) };
 
     fn from(fault: NameFault) -> NarrowFailing {
-        match fault {
-            NameFault::EmptyLabel => NarrowFailing::of(Cause::EmptyLabel),
-            NameFault::LabelTooLong => NarrowFailing::of(Cause::LabelTooLong),
-            NameFault::NameTooLong => NarrowFailing::of(Cause::NameTooLong),
-            NameFault::BadEscape => NarrowFailing::of(Cause::BadEscape),
-            NameFault::RelativeName => NarrowFailing::of(Cause::RelativeName),
-        }
+        NarrowFailing::of(Cause::from(fault))
     }
 }
 
 impl From<AllocError> for NarrowFailing {
-    ghost use Rattle.zone_rdata.specs.declared.fault.Failing.TheVariants.{Memory};
-
-    ghost from_gives = { λ _ e. e ≡ Memory };
+    ghost from_gives = { λ _ e. e ≡ failings.Memory };
 
     fn from(_error: AllocError) -> NarrowFailing {
-        NarrowFailing::of(Cause::Memory)
+        NarrowFailing { cause: None }
     }
 }
 

@@ -74,9 +74,24 @@ impl Rr {
         if ttl > MAX_TTL {
             return Err(Fault::BadTtl);
         }
+        Ok(Rr::of_parts(owner, ttl, rdata))
+    }
+
+    /// The record of an owner, a TTL in seconds that was judged before, and data.
+    pub fn of_parts(owner: Name, ttl: u32, rdata: Rdata) -> Rr
+        requires { ttl ≤ MAX_TTL }
+        ensures value { result ≡ record {
+          owner = owner;
+          class = rdata.class;
+          kind = rdata.kind;
+          ttl = ttl;
+          octets = rdata.octets;
+        } }
+        ensures record { IsRecord result }
+    {
         owner.known();
         rdata.known();
-        Ok(Rr { owner, ttl, rdata })
+        Rr { owner, ttl, rdata }
     }
 
     /// The name that the record stands at.

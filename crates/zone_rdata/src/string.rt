@@ -8,7 +8,8 @@ ghost use Rattle.zone_rdata.specs.Machine.NarrowFailing.{IsFaultOf};
 
 use crate::fault::{Failing, Fault};
 use crate::item::Item;
-use crate::narrow_failing::{Cause, NarrowFailing};
+use crate::cause::Cause;
+use crate::narrow_failing::NarrowFailing;
 use crate::reading::are_octets;
 use arrayvec::ArrayVec;
 use std::alloc::AllocError;

@@ -8,8 +8,8 @@ use Rattle.zone_text.specs.Pieces.{Piece, Cuts, text}
 use Rattle.zone_text.specs.Breaks.{Breaks}
 use Rattle.zone_text.specs.Lasting.{BreaksForGood}
 use Rattle.zone_text.specs.Entries.{Entry, cut_from, and_last, entries_of, ended_entries, open_line}
-use Rattle.zone_text.specs.FileReads.{ReadEach, FileReads, whole, broken}
-use Rattle.zone_text.specs.Given.{Ending, gives_none, gives_one, refused}
+use Rattle.zone_text.specs.FileReads.{ReadEach, FileReads, whole, broken, Ending, stated, refused}
+use Rattle.zone_text.specs.File.{states_none, states_one}
 use Rattle.zone_text.specs.Decided.{ArePieces, Decided, decided, undecided, Stays}
 use Rattle.zone_text.specs.Machine.Lower.{Lower}
 use Rattle.zone_text.proofs.Cuttings.{one_cut, one_break, cut_not_broken, cut_or_broken}
@@ -41,15 +41,15 @@ reads_on lower origin behind before [] others a b e f x y = record {
   first = ap (λ t. t ++ b) (sym x.0);
   fault = λ found is. let end = x.1 in absurd (let t : ⊥ = cc in t);
 }
-reads_on lower origin behind before (entry ∷ entries) others a b e f (gives_none n xs) (gives_none m ys) = reads_on lower origin behind (entry ∷ before) entries others a b e f xs ys
-reads_on lower origin behind before (entry ∷ entries) others a b e f (gives_none n xs) (gives_one q more r at w ys) = absurd (nothing_or_record origin before entry q.rr n r)
-reads_on lower origin behind before (entry ∷ entries) others a b e f (gives_none n xs) (refused fault h u v) = absurd (nothing_or_fault lower origin before entry fault n h)
-reads_on lower origin behind before (entry ∷ entries) others a b e f (gives_one p more r at w xs) (gives_none m ys) = absurd (nothing_or_record origin before entry p.rr m r)
-reads_on lower origin behind before (entry ∷ entries) others a b e f (gives_one p more r at w xs) (gives_one q left s place v ys) =
+reads_on lower origin behind before (entry ∷ entries) others a b e f (stated (states_none n xs)) (stated (states_none m ys)) = reads_on lower origin behind (entry ∷ before) entries others a b e f xs ys
+reads_on lower origin behind before (entry ∷ entries) others a b e f (stated (states_none n xs)) (stated (states_one q more r at w ys)) = absurd (nothing_or_record origin before entry q.rr n r)
+reads_on lower origin behind before (entry ∷ entries) others a b e f (stated (states_none n xs)) (refused fault h u v) = absurd (nothing_or_fault lower origin before entry fault n h)
+reads_on lower origin behind before (entry ∷ entries) others a b e f (stated (states_one p more r at w xs)) (stated (states_none m ys)) = absurd (nothing_or_record origin before entry p.rr m r)
+reads_on lower origin behind before (entry ∷ entries) others a b e f (stated (states_one p more r at w xs)) (stated (states_one q left s place v ys)) =
     stays_on p q a b more left e f (record_once lower origin before entry p.rr q.rr r s) (at ∙ sym place) w v (reads_on lower origin behind (entry ∷ before) entries others more left e f xs ys)
-reads_on lower origin behind before (entry ∷ entries) others a b e f (gives_one p more r at w xs) (refused fault h u v) = absurd (record_or_fault lower origin before entry p.rr fault r h)
-reads_on lower origin behind before (entry ∷ entries) others a b e f (refused fault h u v) (gives_none m ys) = absurd (nothing_or_fault lower origin before entry fault m h)
-reads_on lower origin behind before (entry ∷ entries) others a b e f (refused fault h u v) (gives_one q more s place w ys) = absurd (record_or_fault lower origin before entry q.rr fault s h)
+reads_on lower origin behind before (entry ∷ entries) others a b e f (stated (states_one p more r at w xs)) (refused fault h u v) = absurd (record_or_fault lower origin before entry p.rr fault r h)
+reads_on lower origin behind before (entry ∷ entries) others a b e f (refused fault h u v) (stated (states_none m ys)) = absurd (nothing_or_fault lower origin before entry fault m h)
+reads_on lower origin behind before (entry ∷ entries) others a b e f (refused fault h u v) (stated (states_one q more s place w ys)) = absurd (record_or_fault lower origin before entry q.rr fault s h)
 reads_on lower origin behind before (entry ∷ entries) others a b e f (refused fault h u v) (refused other k s t) = record {
   others = [];
   first = s ∙ (sym u ∙ sym (append-nil a));

@@ -12,8 +12,8 @@ use Rattle.zone_text.specs.Pieces.{Piece, Cuts, text}
 use Rattle.zone_text.specs.Breaks.{Breaks}
 use Rattle.zone_text.specs.Lasting.{BreaksForGood}
 use Rattle.zone_text.specs.Entries.{Cut, Entry, cut_from, and_last, entry_of, numbered, entries_of, ended_entries, open_line}
-use Rattle.zone_text.specs.FileReads.{ReadEach, FileReads, whole, broken}
-use Rattle.zone_text.specs.Given.{Ending, gives_none, gives_one, refused}
+use Rattle.zone_text.specs.FileReads.{ReadEach, FileReads, whole, broken, Ending, stated, refused}
+use Rattle.zone_text.specs.File.{states_none, states_one}
 use Rattle.zone_text.specs.Decided.{ArePieces, Decided, decided, undecided}
 use Rattle.zone_text.proofs.Cuttings.{cut_or_broken}
 use Rattle.zone_text.proofs.Lasting.{breaks_for_good}
@@ -37,8 +37,8 @@ line_behind ended = 1 + line_feeds (flat_map text ended)
 -- what follows entries without a fault is the end
 no_fault_behind : (origin : List (List ℕ)) (behind : Ending) (before entries : List Entry) (placed : List Placed) → ReadEach origin behind before entries placed None → behind ≡ None
 no_fault_behind origin behind before [] placed read = sym read.1
-no_fault_behind origin behind before (entry ∷ entries) placed (gives_none n read) = no_fault_behind origin behind (entry ∷ before) entries placed read
-no_fault_behind origin behind before (entry ∷ entries) placed (gives_one p rest states place e read) = no_fault_behind origin behind (entry ∷ before) entries rest read
+no_fault_behind origin behind before (entry ∷ entries) placed (stated (states_none n read)) = no_fault_behind origin behind (entry ∷ before) entries placed read
+no_fault_behind origin behind before (entry ∷ entries) placed (stated (states_one p rest states place e read)) = no_fault_behind origin behind (entry ∷ before) entries rest read
 no_fault_behind origin behind before (entry ∷ entries) placed (refused fault h e f) = absurd (let t : ⊥ = cc in t)
 
 -- then the entries that were ended state the records

@@ -1,5 +1,6 @@
 -- An entry after others that state nothing or a record states nothing or a record itself, or has a
 -- first fault.
+use Rattle.std.specs.Prelude.{option_and_then}
 use Rattle.std.proofs.Common.{◌≡◌, ℕ, ◌<◌, Bool, true, false, if◌then◌else◌, List, [], ◌∷◌, ◌++◌, Option, Some, None, MatchOption, ◌⊎◌, inl, inr, refl, sym, ◌∙◌, subst, arith}
 use Rattle.std.specs.List.{AllByRecursion}
 use Rattle.std.proofs.lemmas.Bool.{cases_lt, cases_eq}
@@ -16,7 +17,7 @@ use Rattle.zone_rdata.specs.declared.fault.Fault.TheVariants.{BadTtl, BadClass}
 use Rattle.zone_text.specs.Entries.{Entry}
 use Rattle.zone_text.specs.EntryFault.{IsNameFaultBehind, WordFault, WordsFault}
 use Rattle.zone_text.specs.Forms.{EntryForm, no_items, sets_origin, sets_ttl, includes, unknown, owned, unowned, form_of, Word, ttl, class, Parts, parts_of, parts_in, parts_behind, class_among, word_behind, begins_with_digit, is_class_word, ttl_among, unless_stated}
-use Rattle.zone_text.specs.Inherited.{IsOrigin, SpellsBehind, IsLastOwner, IsOwner, HasClass, IsTtl, or_else, latest, origin_in, owner_in, owner_text, class_in, class_word}
+use Rattle.zone_text.specs.Inherited.{IsOrigin, SpellsBehind, IsLastOwner, IsOwner, HasClass, IsTtl, or_else, latest, origin_text, owner_text, class_word}
 use Rattle.zone_text.specs.Machine.Lower.{Lower, Choices}
 use Rattle.zone_text.specs.Outcome.{AllState, AreOctetItems}
 use Rattle.zone_text.specs.Records.{HasValue, StatesRecord, StatesNothing}
@@ -28,7 +29,7 @@ use Rattle.zone_text.proofs.Entered.{nothing_or_parts}
 abbrev OriginFact : List (List ℕ) → List Entry → Option (List ℕ) → Type 0
 OriginFact origin before o = (name : List (List ℕ)) × (MatchOption o (IsOrigin origin before name) (λ text. SpellsBehind origin before text name) × IsName name)
 
-origin_nothing : (origin : List (List ℕ)) (before : List Entry) (form : EntryForm) → StatesNothing origin before form → ((name : List (List ℕ)) × (IsOrigin origin before name × IsName name)) → OriginFact origin before (origin_in form)
+origin_nothing : (origin : List (List ℕ)) (before : List Entry) (form : EntryForm) → StatesNothing origin before form → ((name : List (List ℕ)) × (IsOrigin origin before name × IsName name)) → OriginFact origin before (origin_text form)
 origin_nothing origin before no_items h above = above
 origin_nothing origin before (sets_origin []) h above = above
 origin_nothing origin before (sets_origin (quoted text ∷ items)) h above = above
@@ -40,7 +41,7 @@ origin_nothing origin before unknown h above = above
 origin_nothing origin before (owned owner items) h above = above
 origin_nothing origin before (unowned items) h above = above
 
-origin_record : (origin : List (List ℕ)) (before : List Entry) (form : EntryForm) (parts : Parts) → parts_in form ≡ Some parts → ((name : List (List ℕ)) × (IsOrigin origin before name × IsName name)) → OriginFact origin before (origin_in form)
+origin_record : (origin : List (List ℕ)) (before : List Entry) (form : EntryForm) (parts : Parts) → parts_in form ≡ Some parts → ((name : List (List ℕ)) × (IsOrigin origin before name × IsName name)) → OriginFact origin before (origin_text form)
 origin_record origin before no_items parts e above = above
 origin_record origin before (sets_origin items) parts e above = absurd cc
 origin_record origin before (sets_ttl items) parts e above = above
@@ -62,7 +63,7 @@ origin_is origin (entry ∷ before) is states = origin_by origin before entry st
 abbrev pub OwnerChoice : List (List ℕ) → List Entry → Option (List ℕ) → Type 0
 OwnerChoice origin before o = ((name : List (List ℕ)) × (MatchOption o (IsLastOwner origin before name) (λ text. SpellsBehind origin before text name) × IsName name)) ⊎ ((name : List (List ℕ)) → MatchOption o (IsLastOwner origin before name) (λ text. SpellsBehind origin before text name) → ⊥)
 
-owner_nothing : (origin : List (List ℕ)) (before : List Entry) (form : EntryForm) → StatesNothing origin before form → OwnerChoice origin before None → OwnerChoice origin before (owner_in form)
+owner_nothing : (origin : List (List ℕ)) (before : List Entry) (form : EntryForm) → StatesNothing origin before form → OwnerChoice origin before None → OwnerChoice origin before (owner_text form)
 owner_nothing origin before no_items h last = last
 owner_nothing origin before (sets_origin items) h last = last
 owner_nothing origin before (sets_ttl items) h last = last
@@ -71,7 +72,7 @@ owner_nothing origin before unknown h last = last
 owner_nothing origin before (owned owner items) h last = absurd h
 owner_nothing origin before (unowned items) h last = last
 
-owner_record : (origin : List (List ℕ)) (before : List Entry) (form : EntryForm) (name : List (List ℕ)) → IsOwner origin before form name → OwnerChoice origin before None → OwnerChoice origin before (owner_in form)
+owner_record : (origin : List (List ℕ)) (before : List Entry) (form : EntryForm) (name : List (List ℕ)) → IsOwner origin before form name → OwnerChoice origin before None → OwnerChoice origin before (owner_text form)
 owner_record origin before no_items name h last = last
 owner_record origin before (sets_origin items) name h last = last
 owner_record origin before (sets_ttl items) name h last = last
@@ -81,7 +82,7 @@ owner_record origin before (owned (bare text) items) name h last = inl (name, (h
 owner_record origin before (owned (quoted text) items) name h last = absurd h
 owner_record origin before (unowned items) name h last = last
 
-owner_by : (origin : List (List ℕ)) (before : List Entry) (entry : Entry) → StatesNothing origin before (form_of entry) ⊎ ((r : Record) × StatesRecord origin before entry r) → OwnerChoice origin before None → OwnerChoice origin before (owner_text entry)
+owner_by : (origin : List (List ℕ)) (before : List Entry) (entry : Entry) → StatesNothing origin before (form_of entry) ⊎ ((r : Record) × StatesRecord origin before entry r) → OwnerChoice origin before None → OwnerChoice origin before (owner_text (form_of entry))
 owner_by origin before entry (inl n) last = owner_nothing origin before (form_of entry) n last
 owner_by origin before entry (inr s) last = owner_record origin before (form_of entry) s.0.owner s.1.head.owner last
 
@@ -111,7 +112,7 @@ class_among_words [] later have fact = fact
 class_among_words (ttl text ∷ words) later have fact = class_among_words words later have.1 fact
 class_among_words (class text ∷ words) later have fact = (have.0.0, (have.0.1.0, have.0.1.1))
 
-class_in_parts : (o : Option Parts) (later : Option (List ℕ)) → ((parts : Parts) → o ≡ Some parts → AllByRecursion HasValue parts.words) → ClassFact later → ClassFact (or_else (class_in o) later)
+class_in_parts : (o : Option Parts) (later : Option (List ℕ)) → ((parts : Parts) → o ≡ Some parts → AllByRecursion HasValue parts.words) → ClassFact later → ClassFact (or_else (option_and_then (λ (parts : Parts). class_among parts.words) o) later)
 class_in_parts None later have fact = fact
 class_in_parts (Some parts) later have fact = class_among_words parts.words later (have parts refl) fact
 

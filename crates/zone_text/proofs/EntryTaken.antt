@@ -15,7 +15,8 @@ use Rattle.zone_text.specs.declared.ended.EndedEntries.{EndedEntries}
 use Rattle.zone_text.specs.Entries.{Entry, entry_of}
 use Rattle.zone_text.specs.Defaults.{AreDefaults}
 use Rattle.zone_text.specs.EntryFault.{EntryFault}
-use Rattle.zone_text.specs.Given.{gives_none, gives_one, refused}
+use Rattle.zone_text.specs.File.{states_none, states_one}
+use Rattle.zone_text.specs.FileReads.{stated, refused}
 use Rattle.zone_text.specs.Machine.EntryReading.{DecidesEntry, Refuses, decides_fault, decides_none, decides_one}
 use Rattle.zone_text.specs.Machine.Feeding.{ReadsEntry, ReadsOctets}
 use Rattle.zone_text.specs.Pieces.{Piece, Cuts, text}
@@ -44,7 +45,7 @@ line_of octets old new pieces behind cut = behind.count ∙ ap (λ t. old.line +
 entry_read : (origin : Labels) (before : List Entry) (pieces : List Piece) (octets : List ℕ) (old new : EndedEntries) → old.decided.ending ≡ None → IsLineBehind octets old new → Cuts octets pieces → DecidesEntry origin before (entry_of old.line pieces) (Line old.line) old.decided new.decided new.defaults → ReadsEntry origin before pieces old new
 entry_read origin before pieces octets old new none behind cut (decides_none leaves same) = record {
   others = [];
-  read = gives_none leaves.0 (refl, ap (λ d. d.ending) same ∙ none);
+  read = stated (states_none leaves.0 (refl, ap (λ d. d.ending) same ∙ none));
   records = ap (λ d. d.placed.items) same ∙ sym (append-nil old.decided.placed.items);
   defaults = λ _. leaves.1;
   line = λ _. line_of octets old new pieces behind cut;
@@ -53,7 +54,7 @@ entry_read origin before pieces octets old new none behind cut (decides_one r st
     let p : Placed = record { rr = r; place = Line old.line } in
     record {
       others = p ∷ [];
-      read = gives_one p [] states refl refl (refl, same ∙ none);
+      read = stated (states_one p [] states refl refl (refl, same ∙ none));
       records = more;
       defaults = λ _. are;
       line = λ _. line_of octets old new pieces behind cut;

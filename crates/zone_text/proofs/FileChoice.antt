@@ -11,8 +11,8 @@ use Rattle.zone_name.specs.Spelling.{written_text}
 use Rattle.zone_text.specs.Breaks.{Breaks}
 use Rattle.zone_text.specs.Decided.{Decided, decided, undecided}
 use Rattle.zone_text.specs.Entries.{Entry, Cut, and_last, cut_from, item_of, numbered, entries_of, ended_entries, open_line}
-use Rattle.zone_text.specs.FileReads.{ReadEach, FileReads, whole, broken}
-use Rattle.zone_text.specs.Given.{Ending, gives_none, gives_one, refused}
+use Rattle.zone_text.specs.FileReads.{ReadEach, FileReads, whole, broken, Ending, stated, refused}
+use Rattle.zone_text.specs.File.{states_none, states_one}
 use Rattle.zone_text.specs.Lasting.{StaysBroken, BreaksAtEnd}
 use Rattle.zone_text.specs.Machine.Lower.{Lower, Choices}
 use Rattle.zone_text.specs.Outcome.{AllState, AreOctetItems}
@@ -78,11 +78,11 @@ Readings origin behind before entries = (placed : List Placed) × ((ending : End
 next_reading : (origin : List (List ℕ)) (behind : Ending) (before : List Entry) (entry : Entry) (entries : List Entry) → AllState origin before → Outcome origin before entry → (AllState origin (entry ∷ before) → Readings origin behind (entry ∷ before) entries) → Readings origin behind before (entry ∷ entries)
 next_reading origin behind before entry entries states (inl n) goes =
     let rest = goes (inl n, states) in
-    (rest.0, (rest.1.0, gives_none n rest.1.1))
+    (rest.0, (rest.1.0, stated (states_none n rest.1.1)))
 next_reading origin behind before entry entries states (inr (inl found)) goes =
     let rest = goes (inr found, states) in
     let p : Placed = record { rr = found.0; place = Line entry.line } in
-    (p ∷ rest.0, (rest.1.0, gives_one p rest.0 found.1 refl refl rest.1.1))
+    (p ∷ rest.0, (rest.1.0, stated (states_one p rest.0 found.1 refl refl rest.1.1)))
 next_reading origin behind before entry entries states (inr (inr bad)) goes = ([], (Some (bad.0, Line entry.line), refused bad.0 bad.1 refl refl))
 
 readings : Lower → Choices → (origin : List (List ℕ)) → IsName origin → (behind : Ending) (entries before : List Entry) → AllState origin before → AreLowEntries entries → Readings origin behind before entries

@@ -4,9 +4,8 @@ use Rattle.zone_rdata.specs.declared.fault.Fault.{Fault}
 use Rattle.zone_rdata.specs.declared.fault.Place.TheVariants.{Line}
 use Rattle.zone_rdata.specs.declared.record.Placed.{Placed}
 use Rattle.zone_text.specs.Entries.{Entry, entries_of, ended_entries, open_line}
-use Rattle.zone_text.specs.File.{StateEach, FileStates}
-use Rattle.zone_text.specs.FileReads.{ReadEach, FileReads, whole, broken}
-use Rattle.zone_text.specs.Given.{Ending, gives_none, gives_one, refused}
+use Rattle.zone_text.specs.File.{StateEach, FileStates, states_none, states_one}
+use Rattle.zone_text.specs.FileReads.{ReadEach, FileReads, whole, broken, Ending, stated, refused}
 use Rattle.zone_text.specs.Machine.Lower.{Lower, Once}
 use Rattle.zone_text.proofs.Cuttings.{one_cut, one_break, cut_not_broken}
 use Rattle.zone_text.proofs.Entered.{record_once, fault_once, record_or_fault, nothing_or_record, nothing_or_fault}
@@ -24,16 +23,16 @@ Both a b e f = (a ≡ b) × (e ≡ f)
 
 pub reads_once : Lower → (origin : List (List ℕ)) (behind : Ending) (before entries : List Entry) (a b : List Placed) (e f : Ending) → ReadEach origin behind before entries a e → ReadEach origin behind before entries b f → Both a b e f
 reads_once lower origin behind before [] a b e f x y = (x.0 ∙ sym y.0, x.1 ∙ sym y.1)
-reads_once lower origin behind before (entry ∷ entries) a b e f (gives_none n xs) (gives_none m ys) = reads_once lower origin behind (entry ∷ before) entries a b e f xs ys
-reads_once lower origin behind before (entry ∷ entries) a b e f (gives_none n xs) (gives_one q others r at w ys) = absurd (nothing_or_record origin before entry q.rr n r)
-reads_once lower origin behind before (entry ∷ entries) a b e f (gives_none n xs) (refused fault h u v) = absurd (nothing_or_fault lower origin before entry fault n h)
-reads_once lower origin behind before (entry ∷ entries) a b e f (gives_one p more r at w xs) (gives_none m ys) = absurd (nothing_or_record origin before entry p.rr m r)
-reads_once lower origin behind before (entry ∷ entries) a b e f (gives_one p more r at w xs) (gives_one q others s place v ys) =
+reads_once lower origin behind before (entry ∷ entries) a b e f (stated (states_none n xs)) (stated (states_none m ys)) = reads_once lower origin behind (entry ∷ before) entries a b e f xs ys
+reads_once lower origin behind before (entry ∷ entries) a b e f (stated (states_none n xs)) (stated (states_one q others r at w ys)) = absurd (nothing_or_record origin before entry q.rr n r)
+reads_once lower origin behind before (entry ∷ entries) a b e f (stated (states_none n xs)) (refused fault h u v) = absurd (nothing_or_fault lower origin before entry fault n h)
+reads_once lower origin behind before (entry ∷ entries) a b e f (stated (states_one p more r at w xs)) (stated (states_none m ys)) = absurd (nothing_or_record origin before entry p.rr m r)
+reads_once lower origin behind before (entry ∷ entries) a b e f (stated (states_one p more r at w xs)) (stated (states_one q others s place v ys)) =
     let rest : Both more others e f = reads_once lower origin behind (entry ∷ before) entries more others e f xs ys in
     (one_more p q a b more others (record_once lower origin before entry p.rr q.rr r s) (at ∙ sym place) w v rest.0, rest.1)
-reads_once lower origin behind before (entry ∷ entries) a b e f (gives_one p more r at w xs) (refused fault h u v) = absurd (record_or_fault lower origin before entry p.rr fault r h)
-reads_once lower origin behind before (entry ∷ entries) a b e f (refused fault h u v) (gives_none m ys) = absurd (nothing_or_fault lower origin before entry fault m h)
-reads_once lower origin behind before (entry ∷ entries) a b e f (refused fault h u v) (gives_one q others s place w ys) = absurd (record_or_fault lower origin before entry q.rr fault s h)
+reads_once lower origin behind before (entry ∷ entries) a b e f (stated (states_one p more r at w xs)) (refused fault h u v) = absurd (record_or_fault lower origin before entry p.rr fault r h)
+reads_once lower origin behind before (entry ∷ entries) a b e f (refused fault h u v) (stated (states_none m ys)) = absurd (nothing_or_fault lower origin before entry fault m h)
+reads_once lower origin behind before (entry ∷ entries) a b e f (refused fault h u v) (stated (states_one q others s place w ys)) = absurd (record_or_fault lower origin before entry q.rr fault s h)
 reads_once lower origin behind before (entry ∷ entries) a b e f (refused fault h u v) (refused other k s t) =
     let same : fault ≡ other = fault_once lower origin before entry fault other h k in
     (u ∙ sym s, v ∙ (ap (λ (x : Fault). let o : Ending = Some (x, Line entry.line) in o) same ∙ sym t))
@@ -52,17 +51,16 @@ file_reads_once lower origin octets a b e f (broken ps fault breaks xs) (broken 
 -- what is stated is read with no fault, and the other way
 
 pub states_read : (origin : List (List ℕ)) (before entries : List Entry) (placed : List Placed) → StateEach origin before entries placed → ReadEach origin None before entries placed None
-states_read origin before [] placed x = x
-states_read origin before (entry ∷ entries) placed (gives_none n xs) = gives_none n (states_read origin (entry ∷ before) entries placed xs)
-states_read origin before (entry ∷ entries) placed (gives_one p more r at e xs) = gives_one p more r at e (states_read origin (entry ∷ before) entries more xs)
-states_read origin before (entry ∷ entries) placed (refused fault never u v) = absurd never
+states_read origin before [] placed x = (x, refl)
+states_read origin before (entry ∷ entries) placed (states_none n xs) = stated (states_none n (states_read origin (entry ∷ before) entries placed xs))
+states_read origin before (entry ∷ entries) placed (states_one p more r at e xs) = stated (states_one p more r at e (states_read origin (entry ∷ before) entries more xs))
 
 pub read_states : (origin : List (List ℕ)) (behind : Ending) (before entries : List Entry) (placed : List Placed) (ending : Ending) → ending ≡ None → ReadEach origin behind before entries placed ending → StateEach origin before entries placed × (behind ≡ None)
-read_states origin behind before [] placed ending e x = ((x.0, refl), sym x.1 ∙ e)
-read_states origin behind before (entry ∷ entries) placed ending e (gives_none n xs) =
-    let rest = read_states origin behind (entry ∷ before) entries placed ending e xs in (gives_none n rest.0, rest.1)
-read_states origin behind before (entry ∷ entries) placed ending e (gives_one p more r at w xs) =
-    let rest = read_states origin behind (entry ∷ before) entries more ending e xs in (gives_one p more r at w rest.0, rest.1)
+read_states origin behind before [] placed ending e x = (x.0, sym x.1 ∙ e)
+read_states origin behind before (entry ∷ entries) placed ending e (stated (states_none n xs)) =
+    let rest = read_states origin behind (entry ∷ before) entries placed ending e xs in (states_none n rest.0, rest.1)
+read_states origin behind before (entry ∷ entries) placed ending e (stated (states_one p more r at w xs)) =
+    let rest = read_states origin behind (entry ∷ before) entries more ending e xs in (states_one p more r at w rest.0, rest.1)
 read_states origin behind before (entry ∷ entries) placed ending e (refused fault h u v) = absurd (let t : ⊥ = cc in t)
 
 pub file_states_read : (origin : List (List ℕ)) (octets : List ℕ) (placed : List Placed) → FileStates origin octets placed → FileReads origin octets placed None

@@ -14,7 +14,8 @@ use Rattle.zone_text.specs.Entries.{in_front_of, item_of}
 use Rattle.zone_text.specs.Pieces.{Piece, blank, opening, closing, line_feed, comment, bare, quoted, piece_text, is_blank, ends_item, Cuts, IsPiece}
 use Rattle.zone_text.specs.Machine.Cutting.{before_line_feed}
 use Rattle.zone_text.specs.Machine.ItemLengths.{EndsAt, EndsBefore}
-use Rattle.zone_text.specs.Machine.Line.{AreItems, IsInside, IsInFront, IsFirstEntry, IsQuoted}
+use Rattle.zone_text.specs.Machine.Kept.{AreKept, Keeps}
+use Rattle.zone_text.specs.Machine.Line.{KeepsItems, IsInside, IsInFront, IsFirstEntry, IsQuoted}
 use Rattle.zone_text.specs.Machine.Feeding.{IsIntake, ReadsOctets}
 use Rattle.zone_text.specs.Machine.Scan.{IsOneEntry}
 use Rattle.zone_text.specs.declared.intake.Intake.{Intake}
@@ -24,6 +25,7 @@ use Rattle.zone_text.proofs.Cuttings.{cuts, is_cut, one_cut, one_piece_more}
 use Rattle.zone_text.proofs.FedPieces.{HasFed, fed_more}
 use Rattle.zone_text.proofs.Followed.{follow_one}
 use Rattle.zone_text.proofs.Fronts.{Takes, Stops}
+use Rattle.zone_text.proofs.Kept.{keeps_more, none_kept}
 
 -- ---- plain octets as written ones
 
@@ -119,17 +121,22 @@ in_front_shorter octets rest items found =
 
 -- ---- pieces up to the line feed
 
--- what stands before the rest, and what an entry that begins with it and ends within the rest states
-pub record IsCutTo (octets rest : List ℕ) (raws : List RawItem) : Type 0 where
+-- what stands before the rest, the items of it, of which these are kept, and what an entry that
+-- begins with it and ends within the rest states
+pub record IsCutTo (octets rest : List ℕ) (kept : List RawItem) : Type 0 where
   pub front : List ℕ
   pub whole : octets ≡ front ++ rest
-  pub goes : (tail after : List ℕ) (more : List Piece) → rest ≡ tail ++ after → 0 < length tail → IsOneEntry tail more → (pieces : List Piece) × IsOneEntry (front ++ tail) pieces × (flat_map item_of pieces ≡ raws ++ flat_map item_of more)
+  pub so_far : List RawItem
+  pub are_kept : AreKept so_far kept
+  pub goes : (tail after : List ℕ) (more : List Piece) → rest ≡ tail ++ after → 0 < length tail → IsOneEntry tail more → (pieces : List Piece) × IsOneEntry (front ++ tail) pieces × (flat_map item_of pieces ≡ so_far ++ flat_map item_of more)
 
-pub cut_none : (octets : List ℕ) (raws : List RawItem) → raws ≡ [] → IsCutTo octets octets raws
-cut_none octets raws none = record {
+pub cut_none : (octets : List ℕ) (kept : List RawItem) → kept ≡ [] → IsCutTo octets octets kept
+cut_none octets kept none = record {
   front = [];
   whole = refl;
-  goes = λ tail after more e some one. (more, one, ap (λ t. t ++ flat_map item_of more) (sym none));
+  so_far = [];
+  are_kept = subst (AreKept []) (sym none) none_kept;
+  goes = λ tail after more e some one. (more, one, refl);
 }
 
 ends_within : (ends : ℕ → Bool) (rest tail after : List ℕ) → rest ≡ tail ++ after → 0 < length tail → EndsAt ends rest → EndsAt ends tail
@@ -162,19 +169,29 @@ more_cut (comment octets) tail more inside takes one = record { cut = cuts _ _ (
 more_cut (bare units) tail more inside takes one = record { cut = cuts _ _ (one_piece_more zero _ tail (bare units) more None takes (is_cut tail more one.cut)); ended = ap (in_front_of (bare units)) one.ended }
 more_cut (quoted units) tail more inside takes one = record { cut = cuts _ _ (one_piece_more zero _ tail (quoted units) more None takes (is_cut tail more one.cut)); ended = ap (in_front_of (quoted units)) one.ended }
 
-pub cut_more : (octets rest left : List ℕ) (raws items all : List RawItem) → IsCutTo octets rest raws → IsInFront rest items left → all ≡ raws ++ items → IsCutTo octets left all
-cut_more octets rest left raws items all so_far found every = record {
+more_by : (octets rest left : List ℕ) (kept new items : List RawItem) (so_far : IsCutTo octets rest kept) → IsInFront rest items left → AreKept (so_far.so_far ++ items) new → IsCutTo octets left new
+more_by octets rest left kept new items so_far found are_kept = record {
   front = so_far.front ++ piece_text found.piece;
   whole = so_far.whole ∙ ap (λ t. so_far.front ++ t) found.whole ∙ sym (append_assoc so_far.front (piece_text found.piece) left);
+  so_far = so_far.so_far ++ items;
+  are_kept = are_kept;
   goes = λ tail after more e some one.
       let takes = takes_piece found.piece left tail after found.is found.inside found.ends e some in
       let next = more_cut found.piece tail more found.inside takes one in
       let whole : rest ≡ (piece_text found.piece ++ tail) ++ after = found.whole ∙ ap (λ t. piece_text found.piece ++ t) e ∙ sym (append_assoc (piece_text found.piece) tail after) in
       let long : 0 < length (piece_text found.piece ++ tail) = omega (arith, some, length-append (piece_text found.piece) tail) in
       let before = so_far.goes (piece_text found.piece ++ tail) after (found.piece ∷ more) whole long next in
-      let stated : raws ++ (item_of found.piece ++ flat_map item_of more) ≡ all ++ flat_map item_of more = ap (λ t. raws ++ (t ++ flat_map item_of more)) found.stated ∙ sym (append_assoc raws items (flat_map item_of more)) ∙ ap (λ t. t ++ flat_map item_of more) (sym every) in
+      let stated : so_far.so_far ++ (item_of found.piece ++ flat_map item_of more) ≡ (so_far.so_far ++ items) ++ flat_map item_of more = ap (λ t. so_far.so_far ++ (t ++ flat_map item_of more)) found.stated ∙ sym (append_assoc so_far.so_far items (flat_map item_of more)) in
       (before.0, subst (λ t. IsOneEntry t before.0) (sym (append_assoc so_far.front (piece_text found.piece) tail)) before.1, before.2 ∙ stated);
 }
+
+pub cut_more : (octets rest left : List ℕ) (kept new : List RawItem) (item : RawItem) → IsCutTo octets rest kept → IsInFront rest (item ∷ []) left → Keeps item kept new → IsCutTo octets left new
+cut_more octets rest left kept new item so_far found keeps =
+    more_by octets rest left kept new (item ∷ []) so_far found (keeps_more found.piece so_far.so_far kept new item found.is (sym found.stated) so_far.are_kept keeps)
+
+pub cut_on : (octets rest left : List ℕ) (kept : List RawItem) → IsCutTo octets rest kept → IsInFront rest [] left → IsCutTo octets left kept
+cut_on octets rest left kept so_far found =
+    more_by octets rest left kept kept [] so_far found (subst (λ t. AreKept t kept) (sym (append-nil so_far.so_far)) so_far.are_kept)
 
 line_end : IsOneEntry (10 ∷ []) (line_feed ∷ [])
 line_end = record { cut = record { whole = refl; each = (tt, tt); follow = tt; balanced = refl }; ended = refl }
@@ -193,14 +210,14 @@ cut_ended octets rest after raws c n so_far first is count =
     record {
       pieces = found.0;
       one = subst (λ t. IsOneEntry t found.0) (sym entry) found.1;
-      stated = sym (found.2 ∙ append-nil raws);
+      stated = subst (λ t. AreKept t raws) (sym (found.2 ∙ append-nil so_far.so_far)) so_far.are_kept;
       some = omega (arith, taken, last);
       within = omega (arith, taken, len);
     }
 
-pub are_items : (octets part : List ℕ) (n : ℕ) (raws : List RawItem) → IsFirstEntry octets n raws → part ≡ take n octets → AreItems part raws
-are_items octets part n raws first front pieces cut =
-    first.stated ∙ ap (flat_map item_of) (one_cut part first.pieces pieces (subst (λ t. Cuts t first.pieces) (sym front) first.one.cut) cut)
+pub keeps_items : (octets part : List ℕ) (n : ℕ) (kept : List RawItem) → IsFirstEntry octets n kept → part ≡ take n octets → KeepsItems part kept
+keeps_items octets part n kept first front pieces cut =
+    subst (λ t. AreKept (flat_map item_of t) kept) (one_cut part first.pieces pieces (subst (λ t. Cuts t first.pieces) (sym front) first.one.cut) cut) first.stated
 
 -- ---- the entry at the front of a piece
 

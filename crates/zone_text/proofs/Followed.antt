@@ -18,8 +18,7 @@ use Rattle.zone_text.specs.Pieces.{Piece, Cuts, text}
 use Rattle.zone_text.specs.Lasting.{BreaksForGood}
 use Rattle.zone_text.specs.Defaults.{AreDefaults}
 use Rattle.zone_text.specs.Entries.{Entry, cut_from, entry_of, numbered}
-use Rattle.zone_text.specs.FileReads.{ReadEach, FileReads}
-use Rattle.zone_text.specs.Given.{Ending}
+use Rattle.zone_text.specs.FileReads.{ReadEach, FileReads, Ending}
 use Rattle.zone_text.specs.Decided.{Decided}
 use Rattle.zone_text.specs.Machine.Scan.{beginning, further, end_fault_of, IsOneEntry}
 use Rattle.zone_text.specs.Machine.Feeding.{ReadsEntry, ReadsOctets, Follow, ScansTo}

@@ -1,6 +1,6 @@
 -- What a record states before its data, where the defaults are known.
 use Rattle.std.proofs.Common.{◌≡◌, ℕ, List, [], ◌∷◌, drop, map, Option, Some, None, MatchOption, refl, sym, ap, ◌∙◌, subst}
-use Rattle.std.specs.Prelude.{IsSomeAnd, unwrap_or}
+use Rattle.std.specs.Prelude.{IsSomeAnd, unwrap_or, option_and_then}
 use Rattle.std.proofs.lemmas.List.{drop-map}
 use Rattle.zone_name.specs.Common.{Labels}
 use Rattle.zone_rdata.specs.Item.{RawItem, bare, quoted, raw}
@@ -11,8 +11,8 @@ use Rattle.zone_rdata.specs.declared.item.Item.{Item}
 use Rattle.zone_text.specs.Defaults.{IsTtlOrNone}
 use Rattle.zone_text.specs.Entries.{Entry}
 use Rattle.zone_text.specs.EntryFault.{EntryFault, of_words, of_kind, WordsFault, KindFault}
-use Rattle.zone_text.specs.Forms.{parts_behind, class_among}
-use Rattle.zone_text.specs.Inherited.{class_in, class_word, latest, or_else, ttl_in, ttl_text}
+use Rattle.zone_text.specs.Forms.{parts_behind, class_among, form_of, Parts, ttl_among}
+use Rattle.zone_text.specs.Inherited.{class_word, latest, or_else, ttl_text}
 use Rattle.zone_text.specs.Machine.EntryReading.{IsRecordEntry}
 use Rattle.zone_text.specs.Machine.WordValues.{ArePartsOf}
 use Rattle.zone_text.specs.Records.{HasHead}
@@ -55,14 +55,14 @@ has_head origin before entry d name items behind more values word class kind is 
   split = is.parts;
   owner = is.owner;
   words = are.words.each;
-  class = let own : class_word entry ≡ class_among (parts_behind [] items).words = ap class_in is.parts in rw own (class_last (class_among (parts_behind [] items).words) (latest class_word before) values.class d.class class are.words.class is.defaults.class e);
+  class = let own : class_word (form_of entry) ≡ class_among (parts_behind [] items).words = ap (λ (o : Option Parts). option_and_then (λ (parts : Parts). class_among parts.words) o) is.parts in rw own (class_last (class_among (parts_behind [] items).words) (latest class_word before) values.class d.class class are.words.class is.defaults.class e);
   rest = are.rest ∙ front;
   named = named;
   kind = good;
 }
 
-pub has_own_ttl : (origin : Labels) (before : List Entry) (entry : Entry) (d : Defaults) (name : Labels) (items behind : List RawItem) (values : Words) → IsRecordEntry origin before entry d name items → ArePartsOf (parts_behind [] items) values behind → IsTtlOrNone (ttl_text entry) values.ttl
-has_own_ttl origin before entry d name items behind values is are = subst (λ o. IsTtlOrNone (ttl_in o) values.ttl) (sym is.parts) are.words.ttl
+pub has_own_ttl : (origin : Labels) (before : List Entry) (entry : Entry) (d : Defaults) (name : Labels) (items behind : List RawItem) (values : Words) → IsRecordEntry origin before entry d name items → ArePartsOf (parts_behind [] items) values behind → IsTtlOrNone (ttl_text (form_of entry)) values.ttl
+has_own_ttl origin before entry d name items behind values is are = subst (λ o. IsTtlOrNone (option_and_then (λ (parts : Parts). ttl_among parts.words) o) values.ttl) (sym is.parts) are.words.ttl
 
 pub behind_words : (items rest : List Item) (n : ℕ) (more : List RawItem) → rest ≡ drop n items → map raw rest ≡ more → drop n (map raw items) ≡ more
 behind_words items rest n more back e = drop-map raw n items ∙ (ap (map raw) (sym back) ∙ e)

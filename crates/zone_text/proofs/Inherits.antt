@@ -20,7 +20,7 @@ spells_once lower Above one text a b x y =
 pub origin_once : Lower → (origin : List (List ℕ)) (before : List Entry) → Once (List (List ℕ)) (IsOrigin origin before)
 origin_once lower origin [] a b x y = x ∙ sym y
 origin_once lower origin (entry ∷ before) a b x y =
-    match_once (List ℕ) (List (List ℕ)) (origin_text entry) (IsOrigin origin before) (λ text name. (above : List (List ℕ)) × (IsOrigin origin before above × Spells (Some above) text name)) (origin_once lower origin before) (spells_once lower (IsOrigin origin before) (origin_once lower origin before)) a b x y
+    match_once (List ℕ) (List (List ℕ)) (origin_text (form_of entry)) (IsOrigin origin before) (λ text name. (above : List (List ℕ)) × (IsOrigin origin before above × Spells (Some above) text name)) (origin_once lower origin before) (spells_once lower (IsOrigin origin before) (origin_once lower origin before)) a b x y
 
 pub spells_behind_once : Lower → (origin : List (List ℕ)) (before : List Entry) (text : List ℕ) → Once (List (List ℕ)) (SpellsBehind origin before text)
 spells_behind_once lower origin before text = spells_once lower (IsOrigin origin before) (origin_once lower origin before) text
@@ -28,7 +28,7 @@ spells_behind_once lower origin before text = spells_once lower (IsOrigin origin
 pub last_owner_once : Lower → (origin : List (List ℕ)) (before : List Entry) → Once (List (List ℕ)) (IsLastOwner origin before)
 last_owner_once lower origin [] a b x y = absurd x
 last_owner_once lower origin (entry ∷ before) a b x y =
-    match_once (List ℕ) (List (List ℕ)) (owner_text entry) (IsLastOwner origin before) (SpellsBehind origin before) (last_owner_once lower origin before) (spells_behind_once lower origin before) a b x y
+    match_once (List ℕ) (List (List ℕ)) (owner_text (form_of entry)) (IsLastOwner origin before) (SpellsBehind origin before) (last_owner_once lower origin before) (spells_behind_once lower origin before) a b x y
 
 pub owner_once : Lower → (origin : List (List ℕ)) (before : List Entry) (form : EntryForm) → Once (List (List ℕ)) (IsOwner origin before form)
 owner_once lower origin before (owned (bare text) items) a b x y = spells_behind_once lower origin before text a b x y

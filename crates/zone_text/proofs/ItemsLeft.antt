@@ -12,8 +12,11 @@ use Rattle.zone_rdata.specs.Strings.{is_quote}
 use Rattle.zone_text.specs.Entries.{item_of}
 use Rattle.zone_text.specs.Machine.Cutting.{before_line_feed}
 use Rattle.zone_text.specs.Machine.ItemLengths.{EndsBefore, item_len}
+use Rattle.zone_text.specs.Machine.Kept.{AreKept, Keeps}
+use Rattle.zone_text.specs.Machine.Line.{KeepsItems}
 use Rattle.zone_text.specs.Pieces.{Piece, blank, opening, closing, line_feed, comment, bare, quoted, piece_text, text, is_blank, ends_item, Cuts, IsPiece, AllFollow}
 use Rattle.zone_text.proofs.Cuttings.{follow_behind}
+use Rattle.zone_text.proofs.Kept.{keeps_more, none_kept}
 use Rattle.zone_text.proofs.PieceEnds.{bare_ends, quoted_ends, item_len_of, comment_len_of}
 
 -- ---- the first octet of a token
@@ -180,44 +183,60 @@ ends_behind (comment octets) (comment more ∷ pieces) each follow = absurd foll
 ends_behind (comment octets) (bare more ∷ pieces) each follow = absurd follow.0
 ends_behind (comment octets) (quoted more ∷ pieces) each follow = absurd follow.0
 
--- the tokens that are left, and with their items all items
-pub record IsLeft (rest : List ℕ) (raws : List RawItem) (pieces : List Piece) : Type 0 where
+-- the tokens that are left, and the items of those before them, of which these are kept
+pub record IsLeft (rest : List ℕ) (kept : List RawItem) (pieces : List Piece) : Type 0 where
   pub more : List Piece
   pub whole : rest ≡ text more
   pub each : AllByRecursion IsPiece more
   pub follow : AllFollow more
-  pub items : raws ++ flat_map item_of more ≡ flat_map item_of pieces
+  pub so_far : List RawItem
+  pub are_kept : AreKept so_far kept
+  pub items : so_far ++ flat_map item_of more ≡ flat_map item_of pieces
 
 abbrev pub LeavesItems : List ℕ → List ℕ → List RawItem → Type 0
-LeavesItems entry rest raws = (pieces : List Piece) → Cuts entry pieces → IsLeft rest raws pieces
+LeavesItems entry rest kept = (pieces : List Piece) → Cuts entry pieces → IsLeft rest kept pieces
 
-left_by : (octets left : List ℕ) (raws item : List RawItem) (pieces more : List Piece) → 0 < length octets → FrontIs octets item left → octets ≡ text more → AllByRecursion IsPiece more → AllFollow more → raws ++ flat_map item_of more ≡ flat_map item_of pieces → IsLeft left (raws ++ item) pieces
-left_by octets left raws item pieces [] some front whole each follow items = absurd (let none : length octets ≡ 0 = ap length whole in omega arith)
-left_by octets left raws item pieces (p ∷ more) some front whole each follow items =
+pub all_left : (entry : List ℕ) → LeavesItems entry entry []
+all_left entry pieces cuts = record {
+  more = pieces;
+  whole = cuts.whole;
+  each = cuts.each;
+  follow = cuts.follow;
+  so_far = [];
+  are_kept = none_kept;
+  items = refl;
+}
+
+left_by : (octets left : List ℕ) (kept new item : List RawItem) (pieces more : List Piece) (so_far : List RawItem) → 0 < length octets → FrontIs octets item left → ((p : Piece) → IsPiece p → item ≡ item_of p → AreKept (so_far ++ item) new) → octets ≡ text more → AllByRecursion IsPiece more → AllFollow more → so_far ++ flat_map item_of more ≡ flat_map item_of pieces → IsLeft left new pieces
+left_by octets left kept new item pieces [] so_far some front keeps whole each follow items = absurd (let none : length octets ≡ 0 = ap length whole in omega arith)
+left_by octets left kept new item pieces (p ∷ more) so_far some front keeps whole each follow items =
     let found = front p (text more) each.0 (ends_behind p more each.1 follow) whole in
     record {
       more = more;
       whole = found.1;
       each = each.1;
       follow = follow_behind p more follow;
+      so_far = so_far ++ item;
+      are_kept = keeps p each.0 found.0;
       items = rw (append_assoc, found.0) items;
     }
 
-pub one_less : (entry octets left : List ℕ) (raws item : List RawItem) → 0 < length octets → FrontIs octets item left → LeavesItems entry octets raws → LeavesItems entry left (raws ++ item)
-one_less entry octets left raws item some front leaves pieces cuts =
+pub one_less : (entry octets left : List ℕ) (kept new : List RawItem) (item : RawItem) → 0 < length octets → FrontIs octets (item ∷ []) left → Keeps item kept new → LeavesItems entry octets kept → LeavesItems entry left new
+one_less entry octets left kept new item some front keeps leaves pieces cuts =
     let before = leaves pieces cuts in
-    left_by octets left raws item pieces before.more some front before.whole before.each before.follow before.items
+    left_by octets left kept new (item ∷ []) pieces before.more before.so_far some front (λ p is e. keeps_more p before.so_far kept new item is e before.are_kept keeps) before.whole before.each before.follow before.items
 
-pub none_less : (entry octets left : List ℕ) (raws : List RawItem) → 0 < length octets → FrontIs octets [] left → LeavesItems entry octets raws → LeavesItems entry left raws
-none_less entry octets left raws some front leaves =
-    subst (LeavesItems entry left) (append-nil raws) (one_less entry octets left raws [] some front leaves)
+pub none_less : (entry octets left : List ℕ) (kept : List RawItem) → 0 < length octets → FrontIs octets [] left → LeavesItems entry octets kept → LeavesItems entry left kept
+none_less entry octets left kept some front leaves pieces cuts =
+    let before = leaves pieces cuts in
+    left_by octets left kept kept [] pieces before.more before.so_far some front (λ p is e. subst (λ t. AreKept t kept) (sym (append-nil before.so_far)) before.are_kept) before.whole before.each before.follow before.items
 
-end_by : (raws : List RawItem) (pieces more : List Piece) → [] ≡ text more → AllByRecursion IsPiece more → raws ++ flat_map item_of more ≡ flat_map item_of pieces → raws ≡ flat_map item_of pieces
-end_by raws pieces [] whole each items = sym (append-nil raws) ∙ items
-end_by raws pieces (p ∷ more) whole each items = absurd (piece_some p (text more) each.0 whole)
+end_by : (so_far : List RawItem) (pieces more : List Piece) → [] ≡ text more → AllByRecursion IsPiece more → so_far ++ flat_map item_of more ≡ flat_map item_of pieces → so_far ≡ flat_map item_of pieces
+end_by so_far pieces [] whole each items = sym (append-nil so_far) ∙ items
+end_by so_far pieces (p ∷ more) whole each items = absurd (piece_some p (text more) each.0 whole)
 
 -- where nothing is left, the items are all
-pub all_taken : (entry rest : List ℕ) (raws : List RawItem) → rest ≡ [] → LeavesItems entry rest raws → (pieces : List Piece) → Cuts entry pieces → raws ≡ flat_map item_of pieces
-all_taken entry rest raws e leaves pieces cuts =
+pub all_taken : (entry rest : List ℕ) (kept : List RawItem) → rest ≡ [] → LeavesItems entry rest kept → KeepsItems entry kept
+all_taken entry rest kept e leaves pieces cuts =
     let before = leaves pieces cuts in
-    end_by raws pieces before.more (sym e ∙ before.whole) before.each before.items
+    subst (λ t. AreKept t kept) (end_by before.so_far pieces before.more (sym e ∙ before.whole) before.each before.items) before.are_kept

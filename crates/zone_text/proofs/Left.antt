@@ -13,8 +13,8 @@ use Rattle.zone_text.specs.Pieces.{Piece, Cuts, piece_text, text}
 use Rattle.zone_text.specs.Breaks.{Breaks}
 use Rattle.zone_text.specs.Lasting.{BreaksForGood, StaysBroken, BreaksAtEnd}
 use Rattle.zone_text.specs.Entries.{Cut, Entry, cut_from, entry_of, numbered}
-use Rattle.zone_text.specs.FileReads.{ReadEach}
-use Rattle.zone_text.specs.Given.{Ending, gives_none, gives_one, refused}
+use Rattle.zone_text.specs.FileReads.{ReadEach, Ending, stated, refused}
+use Rattle.zone_text.specs.File.{states_none, states_one}
 use Rattle.zone_text.specs.Decided.{ArePieces}
 use Rattle.zone_text.proofs.Cuttings.{cut_not_broken}
 use Rattle.zone_text.proofs.Lasting.{cut_joined, break_joined}
@@ -44,24 +44,24 @@ turned entry entries before =
 pub reads_then : (origin : List (List ℕ)) (behind : Ending) (before entries more : List Entry) (placed others : List Placed) (ending : Ending) → ReadEach origin None before entries placed None → ReadEach origin behind (reverse entries ++ before) more others ending → ReadEach origin behind before (entries ++ more) (placed ++ others) ending
 reads_then origin behind before [] more placed others ending read next =
     subst (λ t. ReadEach origin behind before more t ending) (ap (λ t. t ++ others) (sym read.0)) next
-reads_then origin behind before (entry ∷ entries) more placed others ending (gives_none n read) next =
-    gives_none n (reads_then origin behind (entry ∷ before) entries more placed others ending read (subst (λ t. ReadEach origin behind t more others ending) (turned entry entries before) next))
-reads_then origin behind before (entry ∷ entries) more placed others ending (gives_one p rest states place e read) next =
-    gives_one p (rest ++ others) states place (more_records p placed rest others e) (reads_then origin behind (entry ∷ before) entries more rest others ending read (subst (λ t. ReadEach origin behind t more others ending) (turned entry entries before) next))
+reads_then origin behind before (entry ∷ entries) more placed others ending (stated (states_none n read)) next =
+    stated (states_none n (reads_then origin behind (entry ∷ before) entries more placed others ending read (subst (λ t. ReadEach origin behind t more others ending) (turned entry entries before) next)))
+reads_then origin behind before (entry ∷ entries) more placed others ending (stated (states_one p rest states place e read)) next =
+    stated (states_one p (rest ++ others) states place (more_records p placed rest others e) (reads_then origin behind (entry ∷ before) entries more rest others ending read (subst (λ t. ReadEach origin behind t more others ending) (turned entry entries before) next)))
 reads_then origin behind before (entry ∷ entries) more placed others ending (refused fault h e f) next = absurd (none_is_some (fault, Line entry.line) f)
 
 -- entries of which one is refused, whatever follows them
 pub refused_before : (origin : List (List ℕ)) (behind : Ending) (before entries more : List Entry) (placed : List Placed) (found : Fault × Place) → ReadEach origin None before entries placed (Some found) → ReadEach origin behind before (entries ++ more) placed (Some found)
 refused_before origin behind before [] more placed found read = absurd (none_is_some found (sym read.1))
-refused_before origin behind before (entry ∷ entries) more placed found (gives_none n read) = gives_none n (refused_before origin behind (entry ∷ before) entries more placed found read)
-refused_before origin behind before (entry ∷ entries) more placed found (gives_one p rest states place e read) = gives_one p rest states place e (refused_before origin behind (entry ∷ before) entries more rest found read)
+refused_before origin behind before (entry ∷ entries) more placed found (stated (states_none n read)) = stated (states_none n (refused_before origin behind (entry ∷ before) entries more placed found read))
+refused_before origin behind before (entry ∷ entries) more placed found (stated (states_one p rest states place e read)) = stated (states_one p rest states place e (refused_before origin behind (entry ∷ before) entries more rest found read))
 refused_before origin behind before (entry ∷ entries) more placed found (refused fault h e f) = refused fault h e f
 
 -- the same entries, and what follows them
 pub reads_behind : (origin : List (List ℕ)) (behind : Ending) (before entries : List Entry) (placed : List Placed) → ReadEach origin None before entries placed None → ReadEach origin behind before entries placed behind
 reads_behind origin behind before [] placed read = (read.0, refl)
-reads_behind origin behind before (entry ∷ entries) placed (gives_none n read) = gives_none n (reads_behind origin behind (entry ∷ before) entries placed read)
-reads_behind origin behind before (entry ∷ entries) placed (gives_one p rest states place e read) = gives_one p rest states place e (reads_behind origin behind (entry ∷ before) entries rest read)
+reads_behind origin behind before (entry ∷ entries) placed (stated (states_none n read)) = stated (states_none n (reads_behind origin behind (entry ∷ before) entries placed read))
+reads_behind origin behind before (entry ∷ entries) placed (stated (states_one p rest states place e read)) = stated (states_one p rest states place e (reads_behind origin behind (entry ∷ before) entries rest read))
 reads_behind origin behind before (entry ∷ entries) placed (refused fault h e f) = absurd (none_is_some (fault, Line entry.line) f)
 
 -- ---- lines

@@ -35,6 +35,8 @@ pub mod ScanPieces
 pub mod Scanned
 pub mod PieceEnds
 pub mod ItemsLeft
+pub mod Kept
+pub mod KeptEntry
 pub mod WordsLeft
 pub mod Heads
 pub mod Inheriting

@@ -13,7 +13,7 @@ use Rattle.zone_text.specs.Defaults.{AreDefaults, IsOneOrNone, IsTtlOrNone}
 use Rattle.zone_text.specs.Entries.{Entry}
 use Rattle.zone_text.specs.EntryFault.{EntryFault, of_rdata, of_ttl, none, long}
 use Rattle.zone_text.specs.Forms.{owned, form_of, parts_in}
-use Rattle.zone_text.specs.Inherited.{IsLastOwner, IsOwner, owner_in, owner_text, ttl_text}
+use Rattle.zone_text.specs.Inherited.{IsLastOwner, IsOwner, owner_text, ttl_text}
 use Rattle.zone_text.specs.Machine.EntryReading.{HasOwnerOrNone, IsReadTo, IsRecordEntry, with_owner}
 use Rattle.zone_text.specs.Machine.Lower.{Lower}
 use Rattle.zone_text.specs.Records.{Head, HasHead, HasTtl, IsLastMinimum, StatesData, StatesRecord}
@@ -30,12 +30,12 @@ owned_entry origin before entry d held name owner items form so_far owns = recor
   parts = ap parts_in form;
 }
 
-owner_now : (origin : Labels) (before : List Entry) (entry : Entry) (name : Labels) (owner : RawItem) (items : List RawItem) → owner_text entry ≡ owner_in (owned owner items) → IsOwner origin before (owned owner items) name → IsLastOwner origin (entry ∷ before) name
+owner_now : (origin : Labels) (before : List Entry) (entry : Entry) (name : Labels) (owner : RawItem) (items : List RawItem) → owner_text (form_of entry) ≡ owner_text (owned owner items) → IsOwner origin before (owned owner items) name → IsLastOwner origin (entry ∷ before) name
 owner_now origin before entry name (bare text) items e owns = rw e owns
 owner_now origin before entry name (quoted text) items e owns = absurd owns
 
 owner_stated : (origin : Labels) (before : List Entry) (entry : Entry) (name : Labels) (owner : RawItem) (items : List RawItem) → form_of entry ≡ owned owner items → IsOwner origin before (owned owner items) name → IsLastOwner origin (entry ∷ before) name
-owner_stated origin before entry name owner items form owns = owner_now origin before entry name owner items (ap owner_in form) owns
+owner_stated origin before entry name owner items form owns = owner_now origin before entry name owner items (ap owner_text form) owns
 
 -- an entry states the owner that became the last one
 pub has_stated_owner : (origin : Labels) (before : List Entry) (entry : Entry) (d : Defaults) (name : Labels) (owner : RawItem) (items : List RawItem) → form_of entry ≡ owned owner items → AreDefaults origin before d → IsOwner origin before (owned owner items) name → HasOwnerOrNone origin before entry (with_owner (Some name) d) items
@@ -55,7 +55,7 @@ one_owner origin before entry d items name has e = subst (λ o. MatchOption o (E
 pub rdata_refused : (origin : Labels) (before : List Entry) (entry : Entry) (d : Defaults) (name : Labels) (items : List RawItem) (head : Head) (fault : Fault) → IsRecordEntry origin before entry d name items → HasHead origin before entry head → IsDataFault d.origin head.class head.kind head.items fault → EntryFault origin before entry fault
 rdata_refused origin before entry d name items head fault is has bad = of_rdata head d.origin has is.defaults.under bad
 
-pub read_to : (origin : Labels) (before : List Entry) (entry : Entry) (d : Defaults) (name : Labels) (items : List RawItem) (head : Head) (own : Option ℕ) (rdata : Data) (a stated soa last result found : Option ℕ) → IsRecordEntry origin before entry d name items → HasHead origin before entry head × IsTtlOrNone (ttl_text entry) own → rdata.class ≡ head.class → rdata.kind ≡ head.kind → States d.origin head.class head.kind head.items rdata.octets → a ≡ option_or own d.default_ttl → stated ≡ option_or a d.last_ttl → soa ≡ minimum rdata → last ≡ option_or soa d.minimum → result ≡ option_or stated last → result ≡ found → IsReadTo origin before entry d head own rdata last found
+pub read_to : (origin : Labels) (before : List Entry) (entry : Entry) (d : Defaults) (name : Labels) (items : List RawItem) (head : Head) (own : Option ℕ) (rdata : Data) (a stated soa last result found : Option ℕ) → IsRecordEntry origin before entry d name items → HasHead origin before entry head × IsTtlOrNone (ttl_text (form_of entry)) own → rdata.class ≡ head.class → rdata.kind ≡ head.kind → States d.origin head.class head.kind head.items rdata.octets → a ≡ option_or own d.default_ttl → stated ≡ option_or a d.last_ttl → soa ≡ minimum rdata → last ≡ option_or soa d.minimum → result ≡ option_or stated last → result ≡ found → IsReadTo origin before entry d head own rdata last found
 read_to origin before entry d name items head own rdata a stated soa last result found is has class kind states first second of_soa least third is_found = record {
   held = is.held;
   defaults = is.defaults;

@@ -11,8 +11,7 @@ use Rattle.zone_text.specs.declared.source.Status.{Status}
 use Rattle.zone_text.specs.declared.source.Status.TheVariants.{Open, Finished}
 use Rattle.zone_text.specs.Source.{counted, Gives, Held, Leave, SourceState, Stands}
 use Rattle.zone_text.specs.Decided.{Decided}
-use Rattle.zone_text.specs.FileReads.{FileReads}
-use Rattle.zone_text.specs.Given.{Ending}
+use Rattle.zone_text.specs.FileReads.{FileReads, Ending}
 use Rattle.zone_rdata.specs.Source.{Pending, answer_of, first_answer, after, others}
 use Rattle.zone_rdata.specs.declared.fault.Stop.{Stop}
 use Rattle.zone_rdata.specs.declared.source.Reading.{Reading}

@@ -39,22 +39,22 @@ class_behind words v text have no_digit none is =
 
 -- ---- one word more
 
-ttl_pushed : (words : List Word) (text : List ℕ) → is_some (ttl_among words) ≡ false → ttl_among (words ++ ttl text ∷ []) ≡ Some text
+pub ttl_pushed : (words : List Word) (text : List ℕ) → is_some (ttl_among words) ≡ false → ttl_among (words ++ ttl text ∷ []) ≡ Some text
 ttl_pushed [] text none = refl
 ttl_pushed (ttl other ∷ words) text none = absurd (let clash : ⊥ = cc in clash)
 ttl_pushed (class other ∷ words) text none = ttl_pushed words text none
 
-class_kept : (words : List Word) (text : List ℕ) → class_among (words ++ ttl text ∷ []) ≡ class_among words
+pub class_kept : (words : List Word) (text : List ℕ) → class_among (words ++ ttl text ∷ []) ≡ class_among words
 class_kept [] text = refl
 class_kept (ttl other ∷ words) text = class_kept words text
 class_kept (class other ∷ words) text = refl
 
-class_pushed : (words : List Word) (text : List ℕ) → is_some (class_among words) ≡ false → class_among (words ++ class text ∷ []) ≡ Some text
+pub class_pushed : (words : List Word) (text : List ℕ) → is_some (class_among words) ≡ false → class_among (words ++ class text ∷ []) ≡ Some text
 class_pushed [] text none = refl
 class_pushed (class other ∷ words) text none = absurd (let clash : ⊥ = cc in clash)
 class_pushed (ttl other ∷ words) text none = class_pushed words text none
 
-ttl_kept : (words : List Word) (text : List ℕ) → ttl_among (words ++ class text ∷ []) ≡ ttl_among words
+pub ttl_kept : (words : List Word) (text : List ℕ) → ttl_among (words ++ class text ∷ []) ≡ ttl_among words
 ttl_kept [] text = refl
 ttl_kept (class other ∷ words) text = ttl_kept words text
 ttl_kept (ttl other ∷ words) text = refl

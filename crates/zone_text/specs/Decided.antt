@@ -9,8 +9,7 @@ use Rattle.zone_text.specs.Breaks.{Breaks}
 use Rattle.zone_text.specs.Lasting.{BreaksForGood}
 use Rattle.zone_text.specs.Pieces.{Piece, Cuts}
 use Rattle.zone_text.specs.Entries.{ended_entries, open_line}
-use Rattle.zone_text.specs.FileReads.{ReadEach}
-use Rattle.zone_text.specs.Given.{Ending}
+use Rattle.zone_text.specs.FileReads.{ReadEach, Ending}
 
 -- the tokens of the octets, up to where they break if they do
 abbrev pub ArePieces : List ℕ → List Piece → Type 0

@@ -5,8 +5,7 @@ use Rattle.zone_rdata.specs.Record.{Record}
 use Rattle.zone_rdata.specs.declared.fault.Fault.{Fault}
 use Rattle.zone_rdata.specs.declared.fault.Place.TheVariants.{Line}
 use Rattle.zone_rdata.specs.declared.record.Placed.{Placed}
-use Rattle.zone_text.specs.FileReads.{FileReads}
-use Rattle.zone_text.specs.Given.{Ending}
+use Rattle.zone_text.specs.FileReads.{FileReads, Ending}
 
 -- the origin `x.`, and the name of one letter under a name
 abbrev pub x : List (List ℕ)

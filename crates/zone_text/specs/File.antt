@@ -1,18 +1,27 @@
 -- The records that a master file states (RFC 1035 5.1).
-use Rattle.std.specs.Prelude.{ℕ, List, [], None}
-use Rattle.zone_rdata.specs.declared.fault.Fault.{Fault}
+use Rattle.std.specs.Prelude.{◌≡◌, ℕ, List, [], ◌∷◌}
+use Rattle.zone_rdata.specs.declared.fault.Place.TheVariants.{Line}
 use Rattle.zone_rdata.specs.declared.record.Placed.{Placed}
+use Rattle.zone_text.specs.Forms.{form_of}
 use Rattle.zone_text.specs.Pieces.{Piece, Cuts}
 use Rattle.zone_text.specs.Entries.{Entry, entries_of}
-use Rattle.zone_text.specs.Given.{GiveEach}
+use Rattle.zone_text.specs.Records.{StatesNothing, StatesRecord}
 
--- no entry is refused
-abbrev pub RefusesNone : List Entry → Entry → Fault → Type 0
-RefusesNone before entry fault = ⊥
+-- an entry states nothing, or the first of the records, which stands at the entry's line; the
+-- others follow
+pub data StatesFirst (origin : List (List ℕ)) (before : List Entry) (entry : Entry)
+    (Others : List Placed → Type 0) (placed : List Placed) : Type 0 where
+  states_none : StatesNothing origin before (form_of entry) → Others placed
+      → StatesFirst origin before entry Others placed
+  states_one : (p : Placed) (others : List Placed) → StatesRecord origin before entry p.rr
+      → p.place ≡ Line entry.line → placed ≡ p ∷ others → Others others
+      → StatesFirst origin before entry Others placed
 
 -- every entry states nothing or its record, the entries before them known, the latest first
 abbrev pub StateEach : List (List ℕ) → List Entry → List Entry → List Placed → Type 0
-StateEach origin before entries placed = GiveEach RefusesNone origin None before entries placed None
+StateEach origin before [] placed = placed ≡ []
+StateEach origin before (entry ∷ entries) placed =
+    StatesFirst origin before entry (StateEach origin (entry ∷ before) entries) placed
 
 -- The text of a file states these records in this order, each at its line. A text that isn't cut
 -- into tokens states none, nor does one with an entry that states neither a record nor nothing.

@@ -9,7 +9,6 @@ pub mod Inherited
 pub mod Records
 pub mod Defaults
 pub mod EntryFault
-pub mod Given
 pub mod File
 pub mod FileReads
 pub mod Decided

@@ -5,6 +5,7 @@ pub mod EntryReading
 pub mod Feeding
 pub mod Form
 pub mod ItemLengths
+pub mod Kept
 pub mod Line
 pub mod Lower
 pub mod Scan

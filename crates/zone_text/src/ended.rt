@@ -3,7 +3,7 @@ ghost use Rattle.std.specs.Prelude.{◌≡◌, ◌+◌, ◌<◌, ◌≤◌, ◌^
 ghost use Rattle.zone_rdata.specs.Item.{raw};
 ghost use Rattle.zone_text.specs.Defaults.{AreDefaults};
 ghost use Rattle.zone_text.specs.Machine.Feeding.{ReadsOctets};
-ghost use Rattle.zone_text.specs.Machine.Line.{AreItems};
+ghost use Rattle.zone_text.specs.Machine.Line.{KeepsItems};
 
 use crate::defaults::Defaults;
 use crate::items::cut_items;
@@ -78,7 +78,7 @@ impl EndedEntries {
     ) -> Result<(), AllocError>
         requires undecided { self.old.decided.ending ≡ None }
         requires fits { self.old.line + length entry.now < 2 ^ 64 }
-        ensures { AreItems entry.now (map raw items.now)
+        ensures { KeepsItems entry.now (map raw items.now)
             → OnOk result (ReadsOctets entry.now self.old self.new) }
     {
         let place = Place::Line(self.line);

@@ -1,11 +1,13 @@
-ghost use Rattle.std.specs.Prelude.{◌≡◌, ◌≤◌, ◌<◌, List, [], ◌∷◌, ◌++◌, map, length, drop, take, false, not, IfNone, IfSome, OnOk, option_map, option_to_list};
-ghost use Rattle.std.specs.List.{All, flat_map};
-ghost use Rattle.zone_name.specs.Common.{Octets};
+ghost use Rattle.std.specs.Prelude.{◌≡◌, ◌≤◌, ◌<◌, List, [], ◌∷◌, ◌++◌, map, length, drop, take, false, not, IsTrue, IfNone, IfSome, OnOk, option_map, option_to_list};
+ghost use Rattle.std.specs.List.{All};
+ghost use Rattle.zone_name.specs.Common.{AreOctets, Octets};
 ghost use Rattle.zone_rdata.specs.Item.{raw};
 ghost use Rattle.zone_text.specs.Entries.{item_of};
-ghost use Rattle.zone_text.specs.Pieces.{Piece, Cuts, IsPiece, ends_item, is_blank, piece_text};
+ghost use Rattle.zone_text.specs.Pieces.{Piece, IsPiece, ends_item, is_blank, piece_text};
 ghost use Rattle.zone_text.specs.Machine.Cutting.{before_line_feed};
 ghost use Rattle.zone_text.specs.Machine.ItemLengths.{EndsAt, EndsBefore, Reaches, ends_within, item_len, stops_within};
+ghost use Rattle.zone_text.specs.Machine.Kept.{IsShort, Keeps};
+ghost use Rattle.zone_text.specs.Machine.Line.{KeepsItems};
 
 use crate::table::stops_bare;
 use std::alloc::AllocError;
@@ -136,20 +138,53 @@ fn split_piece(text: &[u8]) -> Option<(Option<Item<'_>>, &[u8])>
     }
 }
 
+/// More items than an entry has that states anything: an owner, a TTL, a class, a type, and data,
+/// of which all items but a few state an octet or more of 65,535.
+const MOST_ITEMS: usize = 65_552;
+
+/// Whether octets that are written so are no more than a string may have (RFC 1035 3.3).
+fn fit_string(text: &[u8]) -> bool
+    ensures few { IsTrue result → length text.now ≤ 255 }
+    ensures octets { AreOctets text.now }
+{
+    text.len() <= 255
+}
+
+/// Whether an item's text is no longer than a string may be.
+fn is_short(item: Item) -> bool
+    ensures { IsTrue result → IsShort (raw item.entry) }
+{
+    match item {
+        Item::Bare(text) | Item::Quoted(text) => fit_string(text),
+    }
+}
+
+/// Puts an item of an entry after those before it. After very many items a short one is left out:
+/// the entry has a fault, and it doesn't hang on this item. So an entry of many items takes no more
+/// memory than its octets.
+pub(crate) fn keep<'t>(item: Item<'t>, items: &mut Vec<Item<'t>>) -> Result<(), AllocError>
+    ensures { OnOk result
+        (Keeps (raw item.entry) (map raw items.old.items) (map raw items.new.items)) }
+{
+    if items.len() < MOST_ITEMS || !is_short(item) {
+        items.push(item)?;
+    }
+    Ok(())
+}
+
 /// Puts the items of an entry, which is known to be cut into tokens, in place of what `items` held.
 ///
 /// # Errors
 ///
 /// `AllocError`. `items` holds nothing that is used again.
 pub(crate) fn cut_items<'t>(entry: &'t [u8], items: &mut Vec<Item<'t>>) -> Result<(), AllocError>
-    ensures { (pieces : List Piece) → Cuts entry.now pieces
-        → OnOk result (map raw items.new.items ≡ flat_map item_of pieces) }
+    ensures { OnOk result (KeepsItems entry.now (map raw items.new.items)) }
 {
     items.clear();
     let mut rest = entry;
     while let Some((item, after)) = split_piece(rest) {
         if let Some(item) = item {
-            items.push(item)?;
+            keep(item, items)?;
         }
         rest = after;
     }

@@ -3,7 +3,7 @@ ghost use Rattle.std.specs.Prelude.{map, length, IfOk, IfSome, option_map, optio
 ghost use Rattle.zone_rdata.specs.Item.{raw};
 ghost use Rattle.zone_text.specs.Machine.Line.{IsFirstEntry, IsInFront, IsQuoted};
 
-use crate::items::{Extent, comment_len, is_blank, plain_len};
+use crate::items::{Extent, comment_len, is_blank, keep, plain_len};
 use crate::table::stops_bare;
 use std::alloc::AllocError;
 use zone_rdata::Item;
@@ -72,7 +72,7 @@ pub(crate) fn cut_line<'t>(
             return Ok(None);
         };
         if let Some(item) = item {
-            items.push(item)?;
+            keep(item, items)?;
         }
         rest = behind;
     }

@@ -1,3 +1,4 @@
+ghost use Rattle.zone_text.specs.Forms.{form_of};
 ghost use Rattle.std.specs.Prelude.{List, map, IfOk, IfErr, OnOk};
 ghost use Rattle.zone_name.specs.Common.{Labels};
 ghost use Rattle.zone_rdata.specs.Fault.{IfFault};
@@ -140,7 +141,7 @@ impl Defaults {
               class = head.class;
               kind = head.kind;
               items = map raw head.rdata.now;
-            }) × IsTtlOrNone (ttl_text entry) head.ttl) }
+            }) × IsTtlOrNone (ttl_text (form_of entry)) head.ttl) }
         ensures fault { (origin : Labels) (before : List Entry) (entry : Entry) (owner : Labels)
             → IsRecordEntry origin before entry self.now owner (map raw items.now)
             → IfErr result (EntryFault origin before entry) }

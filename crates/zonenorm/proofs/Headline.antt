@@ -31,12 +31,12 @@ ReadsBack = (origin : Labels) (z : Zone) → IsZone z → length (canon z) ≤ t
 pub equal_if_one : OneZone → ((z w : Zone) → IsZone z → IsZone w → (canon z ≡ canon w) ↔ (z ≡ w))
     → (a b : Input) (z w : Zone) → InputDenotes a z → InputDenotes b w → (canon z ≡ canon w) ↔ DenoteOne a b
 equal_if_one one equal a b z w of_a of_b = (
-  λ same. (z, of_a, subst (InputDenotes b) (sym ((equal z w of_a.zone of_b.zone).0 same)) of_b),
+  λ same. (z, of_a, subst (InputDenotes b) (sym ((equal z w of_a.makes.zone of_b.makes.zone).0 same)) of_b),
   λ (v, a_v, b_v). ap canon (one a z v of_a a_v ∙ one b v w b_v of_b),
 )
 
 back : ReadsBack → (input : Input) (z : Zone) (origin : Labels) → InputDenotes input z → InputDenotes (file origin (canon z)) z
-back reads input z origin denotes = reads origin z denotes.zone denotes.text_short
+back reads input z origin denotes = reads origin z denotes.makes.zone denotes.makes.text_short
 
 pub back_only : OneZone → ReadsBack → (input : Input) (z : Zone) (origin : Labels) → InputDenotes input z → DenotesOnly (file origin (canon z)) z
 back_only one reads input z origin denotes =

@@ -11,8 +11,7 @@ use Rattle.zone_rdata.specs.declared.fault.Place.{Place}
 use Rattle.zone_rdata.specs.declared.fault.Place.TheVariants.{Whole}
 use Rattle.zone_rdata.specs.declared.record.Placed.{Placed}
 use Rattle.zone_text.specs.Entries.{Entry, entries_of}
-use Rattle.zone_text.specs.File.{FileStates, StateEach}
-use Rattle.zone_text.specs.Given.{gives_none, gives_one, refused}
+use Rattle.zone_text.specs.File.{FileStates, StateEach, states_none, states_one}
 use Rattle.zone_text.specs.FileReads.{FileReads}
 use Rattle.zone_set.specs.Refusal.{records_of}
 use Rattle.zone_set.specs.Zone.{Zone, IsZone, SameRecords}
@@ -20,14 +19,14 @@ use Rattle.zone_print.specs.Canonical.{text_limit}
 use Rattle.zone_wire.specs.Stream.{StreamReads}
 use Rattle.zone_wire.specs.Transfer.{StreamStates}
 use Rattle.zonenorm.specs.Input.{Input, file, transfer, octets_of, IsInput, States, Reads, InputDenotes}
-use Rattle.zonenorm.specs.Refusal.{RefusesReading, MakesZone, IsRefusal, too_long, reading}
+use Rattle.zone_print.specs.Denotes.{MakesZone}
+use Rattle.zonenorm.specs.Refusal.{RefusesReading, IsRefusal, too_long, reading}
 
 -- what a file states are records
 each_fits : (origin : List (List ℕ)) (before entries : List Entry) (placed : List Placed) → StateEach origin before entries placed → AllByRecursion IsRecord (records_of placed)
-each_fits origin before [] placed none = subst (λ ps. AllByRecursion IsRecord (records_of ps)) (sym none.0) tt
-each_fits origin before (entry ∷ entries) placed (gives_none nothing others) = each_fits origin (entry ∷ before) entries placed others
-each_fits origin before (entry ∷ entries) placed (gives_one p others states at parts rest) = subst (λ ps. AllByRecursion IsRecord (records_of ps)) (sym parts) (states.fits, each_fits origin (entry ∷ before) entries others rest)
-each_fits origin before (entry ∷ entries) placed (refused fault never none at) = absurd never
+each_fits origin before [] placed none = subst (λ ps. AllByRecursion IsRecord (records_of ps)) (sym none) tt
+each_fits origin before (entry ∷ entries) placed (states_none nothing others) = each_fits origin (entry ∷ before) entries placed others
+each_fits origin before (entry ∷ entries) placed (states_one p others states at parts rest) = subst (λ ps. AllByRecursion IsRecord (records_of ps)) (sym parts) (states.fits, each_fits origin (entry ∷ before) entries others rest)
 
 pub file_fits : (origin : List (List ℕ)) (octets : List ℕ) (placed : List Placed) → FileStates origin octets placed → AllByRecursion IsRecord (records_of placed)
 file_fits origin octets placed states = each_fits origin [] (entries_of states.pieces) placed states.each
@@ -85,12 +84,12 @@ module _ (input : Input) where
   refused_or_denoted apart once is_read _ _ (reading a e fault place short reads refuses) z denotes =
       let same = once a denotes.placed e None reads (is_read denotes.placed denotes.states) in
       apart denotes.placed fault place (subst (λ ending. RefusesReading denotes.placed ending fault place) same.1 (subst (λ placed. RefusesReading placed e fault place) same.0 refuses))
-      z (record { zone = denotes.zone; same = denotes.same; text_short = denotes.text_short })
+      z denotes.makes
 
   pub one_zone : ((z w : Zone) → IsZone z → IsZone w → SameRecords z.records w.records → z ≡ w) → ((a b : List Placed) → States input a → States input b → a ≡ b) → (z w : Zone) → InputDenotes input z → InputDenotes input w → z ≡ w
   one_zone once lists z w left right =
-      let same = subst (λ placed. SameRecords z.records (records_of placed)) (lists left.placed right.placed left.states right.states) left.same in
-      once z w left.zone right.zone (λ r. ((λ has. (right.same r).1 ((same r).0 has)), (λ has. (same r).1 ((right.same r).0 has))))
+      let same = subst (λ placed. SameRecords z.records (records_of placed)) (lists left.placed right.placed left.states right.states) left.makes.same in
+      once z w left.makes.zone right.makes.zone (λ r. ((λ has. (right.makes.same r).1 ((same r).0 has)), (λ has. (same r).1 ((right.makes.same r).0 has))))
 
   abbrev pub Outcome : Type 0
   Outcome = ((fault : Fault) × (place : Place) × IsRefusal input fault place) ⊎ ((z : Zone) × InputDenotes input z)
@@ -109,7 +108,7 @@ module _ (input : Input) where
   within whole broken short placed None stated reads =
       let (states, fits) = stated reads in
       ⊎_elim (λ (fault, place, refuses). inl (fault, place, reading placed None fault place short reads refuses))
-      (λ (z, makes). inr (z, record { short = short; placed = placed; states = states; same = makes.same; zone = makes.zone; text_short = makes.text_short }))
+      (λ (z, makes). inr (z, record { short = short; placed = placed; states = states; makes = makes }))
       (whole placed fits)
   within whole broken short placed (Some ending) stated reads =
       let (fault, place, refuses) = broken placed ending in inl (fault, place, reading placed (Some ending) fault place short reads refuses)

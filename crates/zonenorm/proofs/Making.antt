@@ -19,7 +19,8 @@ use Rattle.zone_set.specs.Order.{canonical_cmp, Ascends}
 use Rattle.zone_set.specs.Refusal.{AllAccepted, records_of}
 use Rattle.zone_set.specs.Zone.{Has, SameRecords, AreCompatible, Zone, IsZone}
 use Rattle.zone_print.specs.Canonical.{canon, text_limit}
-use Rattle.zonenorm.specs.Refusal.{RefusesReading, MakesZone, refused, unread, unfinished, too_large}
+use Rattle.zone_print.specs.Denotes.{MakesZone}
+use Rattle.zonenorm.specs.Refusal.{RefusesReading, refused, unread, unfinished, too_large}
 use Rattle.zone_set.proofs.Together.{accepted_ttl, one_set}
 use Rattle.zonenorm.proofs.Parting.{all_class, all_ttl, all_soa}
 use Rattle.zonenorm.proofs.Deciding.{Settled, not_settled, same_owner, is_within, some_or_none, one_or_all}

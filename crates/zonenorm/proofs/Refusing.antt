@@ -17,7 +17,8 @@ use Rattle.zone_set.specs.Builder.{Accepts, IsRefusedFor, class, soa, ttl, HasNo
 use Rattle.zone_set.specs.Refusal.{AllAccepted, IsFirstRefused, records_of}
 use Rattle.zone_set.specs.Zone.{Has, SameRecords, Zone, IsZone}
 use Rattle.zone_print.specs.Canonical.{canon, text_limit}
-use Rattle.zonenorm.specs.Refusal.{RefusesReading, MakesZone, refused, unread, unfinished, too_large}
+use Rattle.zone_print.specs.Denotes.{MakesZone}
+use Rattle.zonenorm.specs.Refusal.{RefusesReading, refused, unread, unfinished, too_large}
 use Rattle.zone_set.proofs.Together.{stable_owner}
 use Rattle.zonenorm.proofs.Parting.{Partings, same, first, second, two_partings, Has-part, all_soa}
 

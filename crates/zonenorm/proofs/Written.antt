@@ -22,7 +22,7 @@ ReadIsStated = (input : Input) (placed : List Placed) → IsInput input → Read
 
 module _ (input : Input) (z : Zone) (reads : ReadsZoneWithin text_limit input z) where
   pub denotes_zone : ReadIsStated → IsInput input → length (canon z) ≤ text_limit → InputDenotes input z
-  denotes_zone stated is short = record { short = reads.short; placed = reads.reads.placed; states = stated input reads.reads.placed is reads.reads.reads; same = reads.reads.same; zone = reads.reads.zone; text_short = short }
+  denotes_zone stated is short = record { short = reads.short; placed = reads.reads.placed; states = stated input reads.reads.placed is reads.reads.reads; makes = record { zone = reads.reads.zone; same = reads.reads.same; text_short = short } }
 
   pub large : text_limit < length (canon z) → IsRefusal input ZoneTooLarge Whole
   large long = reading reads.reads.placed None ZoneTooLarge Whole reads.short reads.reads.reads (too_large z refl reads.reads.zone reads.reads.same long)

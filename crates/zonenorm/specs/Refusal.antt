@@ -30,14 +30,8 @@ pub data RefusesReading (placed : List Placed)
   too_large : (z : Zone) → ending ≡ None → IsZone z → SameRecords z.records (records_of placed)
       → text_limit < length (canon z) → RefusesReading placed ending ZoneTooLarge Whole
 
--- the records of a reading are those of the zone, as a set, and its canonical text is within the
--- limit
-pub record MakesZone (placed : List Placed) (z : Zone) : Type 0 where
-  pub zone : IsZone z
-  pub same : SameRecords z.records (records_of placed)
-  pub text_short : length (canon z) ≤ text_limit
-
--- why an input is refused, and where: it is longer than the limit, or else its reading is refused
+-- why an input is refused, and where: it is longer than a limit, or else its reading is refused (by
+-- the limit of canonical texts, which is the same for all)
 pub data IsRefusalWithin (limit : ℕ) (input : Input) : Fault → Place → Type 0 where
   too_long : limit < length (octets_of input) → IsRefusalWithin limit input InputTooLong Whole
   reading : (placed : List Placed) (ending : Option (Fault × Place)) (fault : Fault) (place : Place)

@@ -11,6 +11,7 @@ ghost use Rattle.zone_rdata.specs.declared.record.Placed.{Placed};
 ghost use Rattle.zone_set.specs.Refusal.{records_of};
 ghost use Rattle.zone_set.specs.Zone.{Zone};
 ghost use Rattle.zone_print.specs.Canonical.{canon};
+ghost use Rattle.zone_print.specs.Denotes.{MakesZone};
 ghost use Rattle.zone_wire.specs.Walk.{Visit};
 ghost use Rattle.zonenorm.specs.declared.compare.Verdict.{Verdict};
 ghost use Rattle.zonenorm.specs.declared.compare.Verdict.TheVariants.{Same};
@@ -20,7 +21,7 @@ ghost use Rattle.zonenorm.specs.Input.{file, Input, InputDenotes, InputForm, inp
 ghost use Rattle.zonenorm.specs.Machine.Input.{Decides, IsForm};
 ghost use Rattle.zonenorm.specs.Machine.Taking.{RefusesFront, RefusesRead};
 ghost use Rattle.zonenorm.specs.Normalise.{Normalises, NormalisesTo};
-ghost use Rattle.zonenorm.specs.Refusal.{IsRefusal, IsRefused, MakesZone, RefusesReading};
+ghost use Rattle.zonenorm.specs.Refusal.{IsRefusal, IsRefused, RefusesReading};
 
 /// A reading is refused for at most one fault, at one place.
 pub fn one_fault_of_a_reading()

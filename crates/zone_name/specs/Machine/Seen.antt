@@ -1,12 +1,13 @@
 -- The form of a text that the code saw, and what reading and closing a label does.
-use Rattle.std.specs.Prelude.{◌≡◌, ◌≢◌, codes, ℕ, ◌+◌, ◌<◌, ◌≤◌, Bool, true, false, List, [], ◌∷◌, ◌++◌, length, map, Err}
+use Rattle.std.specs.Prelude.{◌≡◌, ◌≢◌, codes, ℕ, ◌+◌, ◌<◌, ◌≤◌, Bool, true, false, List, [], ◌∷◌, ◌++◌, length, map, Ok, Err}
 use Rattle.zone_name.specs.Name.{folded_label, folded_octet, labels_of, wire, HoldsLabels}
 use Rattle.zone_name.specs.Spelling.{EndsLabel}
-use Rattle.zone_name.specs.Machine.LabelWalk.{read}
+use Rattle.zone_name.specs.Machine.LabelWalk.{Collects, read, reading}
 use Rattle.zone_name.specs.declared.fault.NameFault.{NameFault}
 use Rattle.zone_name.specs.declared.fault.NameFault.TheVariants.{EmptyLabel, LabelTooLong}
 use Rattle.zone_name.specs.declared.reading.NameForm.{NameForm}
 use Rattle.zone_name.specs.declared.reading.NameForm.TheVariants.{Root, Origin, Labels}
+use Rattle.zone_name.specs.declared.reading.Spelled.{Spelled}
 
 -- a dot alone, an `@` alone, or another text
 abbrev pub HasForm : List ℕ → NameForm → Type 0
@@ -20,6 +21,12 @@ HoldsUnfolded octets = HoldsLabels (map folded_octet octets)
 
 abbrev pub unfolded_labels : List ℕ → List (List ℕ)
 unfolded_labels octets = labels_of (map folded_octet octets)
+
+-- the labels that a text spells are in octets, or take too many octets for a name
+abbrev pub IsReadInto : List ℕ → List ℕ → Spelled → Type 0
+IsReadInto text octets spelled =
+    (labels : List (List ℕ)) × (reading text ≡ Ok (labels, spelled.is_absolute))
+    × Collects (unfolded_labels octets) spelled.is_too_long labels
 
 -- a label is added after others, or left out where it makes them too long
 abbrev pub Joins : List (List ℕ) → List ℕ → Bool → List (List ℕ) → Type 0

@@ -6,7 +6,8 @@ ghost use Rattle.zone_rdata.specs.Machine.Appending.{Appends};
 
 use crate::address::{ipv4_octets_of, ipv6_octets_of, push_ipv4, push_ipv6};
 use crate::fault::Fault;
-use crate::narrow_failing::{Cause, NarrowFailing};
+use crate::cause::Cause;
+use crate::narrow_failing::NarrowFailing;
 use zone_name::Sink;
 
 /// Appends the address of so many octets.

@@ -15,7 +15,8 @@ use super::prefix::push_prefix;
 use super::string::split_string;
 use crate::fault::{Failing, Fault};
 use crate::item::Item;
-use crate::narrow_failing::{Cause, NarrowFailing};
+use crate::cause::Cause;
+use crate::narrow_failing::NarrowFailing;
 use crate::string::{push_string, push_string_text};
 use zone_name::Sink;
 

@@ -78,7 +78,7 @@ pub record IsReadTo (origin : Labels) (before : List Entry) (entry : Entry) (d :
   pub held : Option Labels
   pub defaults : AreDefaults origin before (with_owner held d)
   pub has : HasHead origin before entry head
-  pub own_ttl : IsTtlOrNone (ttl_text entry) own
+  pub own_ttl : IsTtlOrNone (ttl_text (form_of entry)) own
   pub class : rdata.class ≡ head.class
   pub kind : rdata.kind ≡ head.kind
   pub states : States d.origin head.class head.kind head.items rdata.octets

@@ -6,11 +6,13 @@ use Rattle.zone_rdata.specs.Strings.{is_quote}
 use Rattle.zone_text.specs.Entries.{item_of}
 use Rattle.zone_text.specs.Pieces.{Piece, opening, closing, line_feed, piece_text, Cuts, IsPiece}
 use Rattle.zone_text.specs.Machine.ItemLengths.{EndsBefore}
+use Rattle.zone_text.specs.Machine.Kept.{AreKept}
 use Rattle.zone_text.specs.Machine.Scan.{IsOneEntry}
 
--- these are the items of octets that are cut into pieces
-abbrev pub AreItems : List ℕ → List RawItem → Type 0
-AreItems octets items = (pieces : List Piece) → Cuts octets pieces → items ≡ flat_map item_of pieces
+-- these are kept of the items of octets that are cut into pieces
+abbrev pub KeepsItems : List ℕ → List RawItem → Type 0
+KeepsItems octets kept =
+    (pieces : List Piece) → Cuts octets pieces → AreKept (flat_map item_of pieces) kept
 
 -- neither a parenthesis nor a line feed
 abbrev pub IsInside : Piece → Type 0
@@ -33,10 +35,10 @@ pub record IsQuoted (octets inside rest : List ℕ) : Type 0 where
   pub plain : All (λ c. (is_quote c || c == 92) ≡ false) inside
   pub whole : octets ≡ inside ++ 34 ∷ rest
 
--- the first n octets are an entry with these items and the line feed that ends it
-pub record IsFirstEntry (octets : List ℕ) (n : ℕ) (items : List RawItem) : Type 0 where
+-- the first n octets are an entry and the line feed that ends it, and these of its items are kept
+pub record IsFirstEntry (octets : List ℕ) (n : ℕ) (kept : List RawItem) : Type 0 where
   pub pieces : List Piece
   pub one : IsOneEntry (take n octets) pieces
-  pub stated : items ≡ flat_map item_of pieces
+  pub stated : AreKept (flat_map item_of pieces) kept
   pub some : 0 < n
   pub within : n ≤ length octets

@@ -5,8 +5,7 @@ ghost use Rattle.zone_name.specs.Name.{IsName};
 ghost use Rattle.zone_rdata.specs.declared.record.Placed.{Placed};
 ghost use Rattle.zone_text.specs.Decided.{Decided, Stays};
 ghost use Rattle.zone_text.specs.File.{FileStates};
-ghost use Rattle.zone_text.specs.FileReads.{FileReads};
-ghost use Rattle.zone_text.specs.Given.{Ending};
+ghost use Rattle.zone_text.specs.FileReads.{FileReads, Ending};
 ghost use Rattle.zone_text.specs.Source.{AreUnfinished};
 
 use crate::laws::entry::{lower_choices, lower_laws};

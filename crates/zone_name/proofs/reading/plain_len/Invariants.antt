@@ -1,5 +1,5 @@
 use Rattle.std.proofs.Common.{length, ◌-◌, ◌≤◌}
-use Rattle.zone_name.proofs.Steps.{ArePlain}
+use Rattle.zone_name.proofs.Plain.{ArePlain}
 use Rattle.zone_name.proofs.reading.plain_len.Given as goal
 
 abbrev pub invariant-loop-len : goal.invariant-loop-len

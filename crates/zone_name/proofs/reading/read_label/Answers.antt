@@ -1,14 +1,11 @@
-use Rattle.std.proofs.Common.{◌∙◌, sym}
+use Rattle.std.proofs.Common.{◌≤◌, length, ap, subst, arith}
 use Rattle.std.proofs.lemmas.Result.{err_from_is_err_and}
-use Rattle.zone_name.proofs.Steps.{EndsLabelAt-split, Refuses-split}
+use Rattle.zone_name.specs.Machine.Seen.{RefusesLabel}
+use Rattle.zone_name.proofs.Steps.{Refuses-label}
 use Rattle.zone_name.proofs.reading.read_label.Goals as goal
 
 pub returns-in_err-is_left_out-clause-err : goal.returns-in_err-is_left_out-clause-err
 returns-in_err-is_left_out-clause-err c =
-    let p = err_from_is_err_and c.from_residual.result c.from_residual.ensures.1 in
-    rw (p.1, p.2) (Refuses-split c.args.text.now c.split_at.result.0.now c.split_at.result.1.now c.plain_len.result _ c.requires.some c.plain_len.ensures.each c.plain_len.ensures.short c.plain_len.ensures.ends (sym c.starts_with.ensures.value ∙ c.if-starts_with.false) c.split_at.ensures.front c.split_at.ensures.back c.in_err-is_left_out.ensures.err)
-
-pub returns-clause-ok : goal.returns-clause-ok
-returns-clause-ok c =
-    let closes = c.in_ok-is_left_out.ensures.ok in
-    (c.split_at.result.0.now, EndsLabelAt-split c.args.text.now c.split_at.result.0.now c.split_at.result.1.now c.plain_len.result c.requires.some c.plain_len.ensures.each c.plain_len.ensures.short c.plain_len.ensures.ends (sym c.starts_with.ensures.value ∙ c.if-starts_with.false) c.split_at.ensures.front c.split_at.ensures.back closes.short, closes)
+    let p = err_from_is_err_and c.from_residual-in_err-is_left_out.result c.from_residual-in_err-is_left_out.ensures.1 in
+    let short : length c.open_label.new.label.items ≤ 63 = omega (arith, c.as_slice.ensures.fits, ap length c.as_slice.ensures.value) in
+    rw (p.1, p.2) (Refuses-label c.args.text.now c.open_label.new.label.items c.in_ok-behind.behind.now c.in_err-is_left_out.field-0.0 c.in_ok-behind.ensures.ok short (subst (λ t. RefusesLabel t c.in_err-is_left_out.field-0.0) c.as_slice.ensures.value c.in_err-is_left_out.ensures.err))

@@ -1,6 +1,6 @@
 use Rattle.std.proofs.Common.{sym, subst}
 use Rattle.zone_rdata.specs.Machine.Building.{IsOver}
-use Rattle.zone_rdata.specs.Machine.Pushed.{value_of}
+use Rattle.zone_rdata.specs.Part.{value_of}
 use Rattle.zone_rdata.proofs.Building.{over_as}
 use Rattle.zone_rdata.proofs.Failings.{IfErr-fault}
 use Rattle.zone_rdata.proofs.builder.append.Goals as goal

@@ -1,13 +1,11 @@
 use Rattle.std.proofs.Common.{◌<◌, length, arith}
-use Rattle.std.proofs.lemmas.List.{map-append}
-use Rattle.zone_text.proofs.ItemsLeft.{one_less, none_less, all_taken}
+use Rattle.zone_text.proofs.ItemsLeft.{all_left, one_less, none_less, all_taken}
 use Rattle.zone_text.proofs.items.cut_items.Goals as goal
 
-pub loop-item-preserved-in_ok-push : goal.loop-item-preserved-in_ok-push
-loop-item-preserved-in_ok-push c =
+pub loop-item-preserved-in_ok-keep : goal.loop-item-preserved-in_ok-keep
+loop-item-preserved-in_ok-keep c =
     let some : 0 < length c.loop-item.rest.now = omega (arith, c.in-Some.ensures.shorter) in
-    rw (c.in_ok-push.ensures.items, map-append)
-    (one_less _ _ _ _ _ some (rw c.in-Some-item.is at c.in-Some.ensures.found) c.loop-item.invariant)
+    one_less _ _ _ _ _ _ some (rw c.in-Some-item.is at c.in-Some.ensures.found) c.in_ok-keep.ensures c.loop-item.invariant
 
 pub loop-item-preserved : goal.loop-item-preserved
 loop-item-preserved c =

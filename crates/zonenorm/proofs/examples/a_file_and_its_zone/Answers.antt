@@ -38,9 +38,11 @@ returns-clause-zone c =
       short = lit≤ tt;
       placed = _;
       states = states;
-      same = λ r. (λ has. has, λ has. has);
-      zone = is_zone (file_fits x _ _ states);
-      text_short = short;
+      makes = record {
+        zone = is_zone (file_fits x _ _ states);
+        same = λ r. (λ has. has, λ has. has);
+        text_short = short;
+      };
     }
 
 pub returns-clause-text : goal.returns-clause-text

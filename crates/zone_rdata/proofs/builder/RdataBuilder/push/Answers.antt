@@ -1,4 +1,4 @@
-use Rattle.zone_rdata.specs.Machine.Pushed.{value_of}
+use Rattle.zone_rdata.specs.Part.{value_of}
 use Rattle.zone_rdata.proofs.Building.{push_misplaced, push_over, push_built, push_made}
 use Rattle.zone_rdata.proofs.Failings.{if_fault_passed}
 use Rattle.zone_rdata.proofs.builder.RdataBuilder.push.Goals as goal

@@ -2,8 +2,8 @@ use Rattle.std.proofs.Common.{refl, lit≤}
 use Rattle.zone_name.specs.Machine.Units.{units_by, units_first}
 use Rattle.zone_text.specs.Machine.Cutting.{before_line_feed, from_line_feed, front_of, cut_by, cutting}
 use Rattle.zone_text.specs.ExampleEntries.{x}
-use Rattle.zone_text.specs.FileReads.{whole}
-use Rattle.zone_text.specs.Given.{gives_one}
+use Rattle.zone_text.specs.FileReads.{whole, stated}
+use Rattle.zone_text.specs.File.{states_one}
 use Rattle.zone_text.proofs.Cuttings.{cut_is_read}
 use Rattle.zone_text.proofs.ExampleFacts.{x_name, at_spells, sixty, ch_class, is_ch, states_ns}
 use Rattle.zone_text.proofs.examples.entries.a_class_is_inherited.Goals as goal
@@ -11,4 +11,4 @@ use Rattle.zone_text.proofs.examples.entries.a_class_is_inherited.Goals as goal
 pub returns : goal.returns
 unfolding units_by units_first before_line_feed from_line_feed front_of cut_by cutting
 returns c =
-    whole _ (cut_is_read _ _ refl) (gives_one _ _ (states_ns x _ _ x x 3 60 _ refl (x, (refl, at_spells x x_name)) ((60, record { time = sixty; short = lit≤ tt }), ((3, (is_ch, ch_class)), tt)) is_ch refl sixty x_name ch_class (lit≤ tt)) refl refl (gives_one _ _ (states_ns x _ _ x x 3 60 _ refl (x, (refl, at_spells x x_name)) tt is_ch refl sixty x_name ch_class (lit≤ tt)) refl refl (refl, refl)))
+    whole _ (cut_is_read _ _ refl) (stated (states_one _ _ (states_ns x _ _ x x 3 60 _ refl (x, (refl, at_spells x x_name)) ((60, record { time = sixty; short = lit≤ tt }), ((3, (is_ch, ch_class)), tt)) is_ch refl sixty x_name ch_class (lit≤ tt)) refl refl (stated (states_one _ _ (states_ns x _ _ x x 3 60 _ refl (x, (refl, at_spells x x_name)) tt is_ch refl sixty x_name ch_class (lit≤ tt)) refl refl (refl, refl)))))

@@ -2,8 +2,8 @@ use Rattle.std.proofs.Common.{refl, lit≤}
 use Rattle.zone_name.specs.Machine.Units.{units_by, units_first}
 use Rattle.zone_text.specs.Machine.Cutting.{before_line_feed, from_line_feed, front_of, cut_by, cutting}
 use Rattle.zone_text.specs.ExampleEntries.{x}
-use Rattle.zone_text.specs.FileReads.{whole}
-use Rattle.zone_text.specs.Given.{gives_none, gives_one}
+use Rattle.zone_text.specs.FileReads.{whole, stated}
+use Rattle.zone_text.specs.File.{states_none, states_one}
 use Rattle.zone_text.proofs.Cuttings.{cut_is_read}
 use Rattle.zone_text.proofs.ExampleFacts.{x_name, at_spells, sixty, three_hundred}
 use Rattle.zone_text.proofs.ExampleRecords.{states_soa, states_ns_below}
@@ -14,10 +14,10 @@ unfolding units_by units_first before_line_feed from_line_feed front_of cut_by c
 returns c =
     record {
       by_a_record = whole _ (cut_is_read _ _ refl)
-          (gives_one _ _ (states_soa _ _ 60 _ refl (x, (refl, at_spells x x_name)) ((60, record { time = sixty; short = lit≤ tt }), tt) refl refl sixty (lit≤ tt)) refl refl
-          (gives_one _ _ (states_ns_below _ _ 60 _ refl (x, (refl, at_spells x x_name)) tt refl refl sixty (lit≤ tt)) refl refl (refl, refl)));
+          (stated (states_one _ _ (states_soa _ _ 60 _ refl (x, (refl, at_spells x x_name)) ((60, record { time = sixty; short = lit≤ tt }), tt) refl refl sixty (lit≤ tt)) refl refl
+          (stated (states_one _ _ (states_ns_below _ _ 60 _ refl (x, (refl, at_spells x x_name)) tt refl refl sixty (lit≤ tt)) refl refl (refl, refl)))));
       by_a_directive = whole _ (cut_is_read _ _ refl)
-          (gives_one _ _ (states_soa _ _ 60 _ refl (x, (refl, at_spells x x_name)) ((60, record { time = sixty; short = lit≤ tt }), tt) refl refl sixty (lit≤ tt)) refl refl
-          (gives_none (300, record { time = three_hundred; short = lit≤ tt })
-          (gives_one _ _ (states_ns_below _ _ 300 _ refl (x, (refl, at_spells x x_name)) tt refl refl three_hundred (lit≤ tt)) refl refl (refl, refl))));
+          (stated (states_one _ _ (states_soa _ _ 60 _ refl (x, (refl, at_spells x x_name)) ((60, record { time = sixty; short = lit≤ tt }), tt) refl refl sixty (lit≤ tt)) refl refl
+          (stated (states_none (300, record { time = three_hundred; short = lit≤ tt })
+          (stated (states_one _ _ (states_ns_below _ _ 300 _ refl (x, (refl, at_spells x x_name)) tt refl refl three_hundred (lit≤ tt)) refl refl (refl, refl)))))));
     }

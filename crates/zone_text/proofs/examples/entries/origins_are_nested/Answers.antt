@@ -2,8 +2,8 @@ use Rattle.std.proofs.Common.{refl, lit≤}
 use Rattle.zone_name.specs.Machine.Units.{units_by, units_first}
 use Rattle.zone_text.specs.Machine.Cutting.{before_line_feed, from_line_feed, front_of, cut_by, cutting}
 use Rattle.zone_text.specs.ExampleEntries.{x, under}
-use Rattle.zone_text.specs.FileReads.{whole}
-use Rattle.zone_text.specs.Given.{gives_none, gives_one}
+use Rattle.zone_text.specs.FileReads.{whole, stated}
+use Rattle.zone_text.specs.File.{states_none, states_one}
 use Rattle.zone_text.proofs.Cuttings.{cut_is_read}
 use Rattle.zone_text.proofs.ExampleFacts.{bax_name, at_spells, a_spells, b_spells, sixty, in_class, states_ns}
 use Rattle.zone_text.proofs.examples.entries.origins_are_nested.Goals as goal
@@ -11,4 +11,4 @@ use Rattle.zone_text.proofs.examples.entries.origins_are_nested.Goals as goal
 pub returns : goal.returns
 unfolding units_by units_first before_line_feed from_line_feed front_of cut_by cutting
 returns c =
-    whole _ (cut_is_read _ _ refl) (gives_none (under 97 x, (x, (refl, a_spells))) (gives_none (under 98 (under 97 x), (under 97 x, ((x, (refl, a_spells)), b_spells))) (gives_one _ _ (states_ns x _ _ (under 98 (under 97 x)) (under 98 (under 97 x)) 1 60 _ refl (under 98 (under 97 x), ((under 97 x, ((x, (refl, a_spells)), b_spells)), at_spells (under 98 (under 97 x)) bax_name)) ((60, record { time = sixty; short = lit≤ tt }), tt) refl (under 97 x, ((x, (refl, a_spells)), b_spells)) sixty bax_name in_class (lit≤ tt)) refl refl (refl, refl))))
+    whole _ (cut_is_read _ _ refl) (stated (states_none (under 97 x, (x, (refl, a_spells))) (stated (states_none (under 98 (under 97 x), (under 97 x, ((x, (refl, a_spells)), b_spells))) (stated (states_one _ _ (states_ns x _ _ (under 98 (under 97 x)) (under 98 (under 97 x)) 1 60 _ refl (under 98 (under 97 x), ((under 97 x, ((x, (refl, a_spells)), b_spells)), at_spells (under 98 (under 97 x)) bax_name)) ((60, record { time = sixty; short = lit≤ tt }), tt) refl (under 97 x, ((x, (refl, a_spells)), b_spells)) sixty bax_name in_class (lit≤ tt)) refl refl (refl, refl)))))))

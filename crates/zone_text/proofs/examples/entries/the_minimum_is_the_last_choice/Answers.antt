@@ -2,8 +2,8 @@ use Rattle.std.proofs.Common.{[], codes, refl, lit<, lit≤, inl, inr}
 use Rattle.zone_name.specs.Machine.Units.{units_by, units_first}
 use Rattle.zone_text.specs.Machine.Cutting.{before_line_feed, from_line_feed, front_of, cut_by, cutting}
 use Rattle.zone_text.specs.ExampleEntries.{x}
-use Rattle.zone_text.specs.FileReads.{whole}
-use Rattle.zone_text.specs.Given.{gives_one}
+use Rattle.zone_text.specs.FileReads.{whole, stated}
+use Rattle.zone_text.specs.File.{states_one}
 use Rattle.zone_text.proofs.Cuttings.{cut_is_read}
 use Rattle.zone_text.proofs.ExampleFacts.{x_name, at_spells, ns_has_no_minimum}
 use Rattle.zone_text.proofs.ExampleRecords.{five, states_soa, states_ns_below, states_minimum, minimum_five}
@@ -13,5 +13,5 @@ pub returns : goal.returns
 unfolding units_by units_first before_line_feed from_line_feed front_of cut_by cutting
 returns c =
     whole _ (cut_is_read _ _ refl)
-    (gives_one _ _ (states_soa [] _ 5 [] refl (x, (refl, at_spells x x_name)) tt refl refl (inl (states_minimum (codes "5") 5 [] _ [] five (lit< tt) minimum_five refl (x, (refl, at_spells x x_name)) tt refl refl)) (lit≤ tt)) refl refl
-    (gives_one _ _ (states_ns_below _ _ 5 [] refl (x, (refl, at_spells x x_name)) tt refl refl (inr (λ seconds states. ns_has_no_minimum c.kind_word_is_unique.ensures _ _ [] _ seconds refl states, inl (states_minimum (codes "5") 5 [] _ [] five (lit< tt) minimum_five refl (x, (refl, at_spells x x_name)) tt refl refl))) (lit≤ tt)) refl refl (refl, refl)))
+    (stated (states_one _ _ (states_soa [] _ 5 [] refl (x, (refl, at_spells x x_name)) tt refl refl (inl (states_minimum (codes "5") 5 [] _ [] five (lit< tt) minimum_five refl (x, (refl, at_spells x x_name)) tt refl refl)) (lit≤ tt)) refl refl
+    (stated (states_one _ _ (states_ns_below _ _ 5 [] refl (x, (refl, at_spells x x_name)) tt refl refl (inr (λ seconds states. ns_has_no_minimum c.kind_word_is_unique.ensures _ _ [] _ seconds refl states, inl (states_minimum (codes "5") 5 [] _ [] five (lit< tt) minimum_five refl (x, (refl, at_spells x x_name)) tt refl refl))) (lit≤ tt)) refl refl (refl, refl)))))

@@ -2,8 +2,8 @@ use Rattle.std.proofs.Common.{refl, lit≤}
 use Rattle.zone_name.specs.Machine.Units.{units_by, units_first}
 use Rattle.zone_text.specs.Machine.Cutting.{before_line_feed, from_line_feed, front_of, cut_by, cutting}
 use Rattle.zone_text.specs.ExampleEntries.{x}
-use Rattle.zone_text.specs.FileReads.{broken}
-use Rattle.zone_text.specs.Given.{gives_one}
+use Rattle.zone_text.specs.FileReads.{broken, stated}
+use Rattle.zone_text.specs.File.{states_one}
 use Rattle.zone_text.proofs.Cuttings.{broken_is_read}
 use Rattle.zone_text.proofs.ExampleFacts.{x_name, at_spells, sixty, in_class, states_ns}
 use Rattle.zone_text.proofs.examples.faults.breaks_come_first.Goals as goal
@@ -13,7 +13,7 @@ unfolding units_by units_first before_line_feed from_line_feed front_of cut_by c
 returns c =
     record {
       escape = broken _ _ (broken_is_read _ _ _ refl) (refl, refl);
-      parenthesis = broken _ _ (broken_is_read _ _ _ refl) (gives_one _ _ (states_ns x _ _ x x 1 60 _ refl (x, (refl, at_spells x x_name)) ((60, record { time = sixty; short = lit≤ tt }), tt) refl refl sixty x_name in_class (lit≤ tt)) refl refl (refl, refl));
-      quote = broken _ _ (broken_is_read _ _ _ refl) (gives_one _ _ (states_ns x _ _ x x 1 60 _ refl (x, (refl, at_spells x x_name)) ((60, record { time = sixty; short = lit≤ tt }), tt) refl refl sixty x_name in_class (lit≤ tt)) refl refl (refl, refl));
+      parenthesis = broken _ _ (broken_is_read _ _ _ refl) (stated (states_one _ _ (states_ns x _ _ x x 1 60 _ refl (x, (refl, at_spells x x_name)) ((60, record { time = sixty; short = lit≤ tt }), tt) refl refl sixty x_name in_class (lit≤ tt)) refl refl (refl, refl)));
+      quote = broken _ _ (broken_is_read _ _ _ refl) (stated (states_one _ _ (states_ns x _ _ x x 1 60 _ refl (x, (refl, at_spells x x_name)) ((60, record { time = sixty; short = lit≤ tt }), tt) refl refl sixty x_name in_class (lit≤ tt)) refl refl (refl, refl)));
       open_at_the_end = broken _ _ (broken_is_read _ _ _ refl) (refl, refl);
     }

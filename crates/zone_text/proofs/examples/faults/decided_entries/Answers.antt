@@ -3,7 +3,8 @@ use Rattle.zone_name.specs.Machine.Units.{units_by, units_first}
 use Rattle.zone_text.specs.Machine.Cutting.{before_line_feed, from_line_feed, front_of, cut_by, cutting}
 use Rattle.zone_text.specs.ExampleEntries.{x}
 use Rattle.zone_text.specs.EntryFault.{of_directive}
-use Rattle.zone_text.specs.Given.{gives_one, refused}
+use Rattle.zone_text.specs.File.{states_one}
+use Rattle.zone_text.specs.FileReads.{stated, refused}
 use Rattle.zone_text.proofs.Cuttings.{cut_is_read}
 use Rattle.zone_text.proofs.ExampleFacts.{x_name, at_spells, sixty, in_class, states_ns}
 use Rattle.zone_text.specs.Decided.{undecided}
@@ -13,4 +14,4 @@ use Rattle.zone_text.proofs.examples.faults.decided_entries.Goals as goal
 pub returns : goal.returns
 unfolding units_by units_first before_line_feed from_line_feed front_of cut_by cutting
 returns c =
-    undecided _ (inl (cut_is_read _ _ refl)) (λ fault good. cut_not_broken _ _ _ fault (cut_is_read _ _ refl) good.breaks) (gives_one _ _ (states_ns x _ _ x x 1 60 _ refl (x, (refl, at_spells x x_name)) ((60, record { time = sixty; short = lit≤ tt }), tt) refl refl sixty x_name in_class (lit≤ tt)) refl refl (refused _ (of_directive refl) refl refl))
+    undecided _ (inl (cut_is_read _ _ refl)) (λ fault good. cut_not_broken _ _ _ fault (cut_is_read _ _ refl) good.breaks) (stated (states_one _ _ (states_ns x _ _ x x 1 60 _ refl (x, (refl, at_spells x x_name)) ((60, record { time = sixty; short = lit≤ tt }), tt) refl refl sixty x_name in_class (lit≤ tt)) refl refl (refused _ (of_directive refl) refl refl)))

@@ -3,8 +3,8 @@ use Rattle.zone_name.specs.Machine.Units.{units_by, units_first}
 use Rattle.zone_text.specs.Machine.Cutting.{before_line_feed, from_line_feed, front_of, cut_by, cutting}
 use Rattle.zone_text.specs.ExampleEntries.{x}
 use Rattle.zone_text.specs.EntryFault.{of_directive}
-use Rattle.zone_text.specs.FileReads.{whole}
-use Rattle.zone_text.specs.Given.{gives_one, refused}
+use Rattle.zone_text.specs.FileReads.{whole, stated, refused}
+use Rattle.zone_text.specs.File.{states_one}
 use Rattle.zone_text.proofs.Cuttings.{cut_is_read}
 use Rattle.zone_text.proofs.ExampleFacts.{x_name, at_spells, sixty, in_class, states_ns, too_long, no_digit, empty_label_between}
 use Rattle.zone_name.specs.declared.fault.NameFault.TheVariants.{EmptyLabel}
@@ -14,7 +14,7 @@ pub returns : goal.returns
 unfolding units_by units_first before_line_feed from_line_feed front_of cut_by cutting
 returns c =
     record {
-      include = whole _ (cut_is_read _ _ refl) (gives_one _ _ (states_ns x _ _ x x 1 60 _ refl (x, (refl, at_spells x x_name)) ((60, record { time = sixty; short = lit≤ tt }), tt) refl refl sixty x_name in_class (lit≤ tt)) refl refl (refused _ (of_directive refl) refl refl));
+      include = whole _ (cut_is_read _ _ refl) (stated (states_one _ _ (states_ns x _ _ x x 1 60 _ refl (x, (refl, at_spells x x_name)) ((60, record { time = sixty; short = lit≤ tt }), tt) refl refl sixty x_name in_class (lit≤ tt)) refl refl (refused _ (of_directive refl) refl refl)));
       generate = whole _ (cut_is_read _ _ refl) (refused _ (of_directive refl) refl refl);
       dollar_alone = whole _ (cut_is_read _ _ refl) (refused _ (of_directive refl) refl refl);
       no_item = whole _ (cut_is_read _ _ refl) (refused _ (of_directive refl) refl refl);

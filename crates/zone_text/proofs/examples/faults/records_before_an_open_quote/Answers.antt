@@ -2,8 +2,8 @@ use Rattle.std.proofs.Common.{refl, lit≤}
 use Rattle.zone_name.specs.Machine.Units.{units_by, units_first}
 use Rattle.zone_text.specs.Machine.Cutting.{before_line_feed, from_line_feed, front_of, cut_by, cutting}
 use Rattle.zone_text.specs.ExampleEntries.{x, under}
-use Rattle.zone_text.specs.FileReads.{broken}
-use Rattle.zone_text.specs.Given.{gives_one}
+use Rattle.zone_text.specs.FileReads.{broken, stated}
+use Rattle.zone_text.specs.File.{states_one}
 use Rattle.zone_text.proofs.Cuttings.{broken_is_read}
 use Rattle.zone_text.proofs.ExampleFacts.{x_name, ax_name, at_spells, a_spells, sixty}
 use Rattle.zone_text.proofs.ExampleRecords.{sixty_one, states_soa, states_address}
@@ -13,6 +13,6 @@ pub returns : goal.returns
 unfolding units_by units_first before_line_feed from_line_feed front_of cut_by cutting
 returns c =
     broken _ _ (broken_is_read _ _ _ refl)
-    (gives_one _ _ (states_soa _ _ 60 _ refl (x, (refl, at_spells x x_name)) ((60, record { time = sixty; short = lit≤ tt }), tt) refl refl sixty (lit≤ tt)) refl refl
-    (gives_one _ _ (states_address _ _ (under 97 x) 60 _ refl (x, (refl, a_spells)) ((60, record { time = sixty; short = lit≤ tt }), tt) refl refl sixty ax_name (lit≤ tt)) refl refl
-    (gives_one _ _ (states_address _ _ (under 97 x) 61 _ refl (x, (refl, a_spells)) ((61, record { time = sixty_one; short = lit≤ tt }), tt) refl refl sixty_one ax_name (lit≤ tt)) refl refl (refl, refl))))
+    (stated (states_one _ _ (states_soa _ _ 60 _ refl (x, (refl, at_spells x x_name)) ((60, record { time = sixty; short = lit≤ tt }), tt) refl refl sixty (lit≤ tt)) refl refl
+    (stated (states_one _ _ (states_address _ _ (under 97 x) 60 _ refl (x, (refl, a_spells)) ((60, record { time = sixty; short = lit≤ tt }), tt) refl refl sixty ax_name (lit≤ tt)) refl refl
+    (stated (states_one _ _ (states_address _ _ (under 97 x) 61 _ refl (x, (refl, a_spells)) ((61, record { time = sixty_one; short = lit≤ tt }), tt) refl refl sixty_one ax_name (lit≤ tt)) refl refl (refl, refl)))))))

@@ -1,7 +1,7 @@
 use Rattle.std.proofs.Common.{◌≡◌, ◌==◌, ◌+◌, ℕ, List, [], length, true, false, refl, sym, ap, ◌∙◌, arith}
 use Rattle.std.proofs.lemmas.List.{take-append-drop}
 use Rattle.zone_text.proofs.BlankLines.{fed_lines}
-use Rattle.zone_text.proofs.FirstEntries.{are_items, fed_entry}
+use Rattle.zone_text.proofs.FirstEntries.{keeps_items, fed_entry}
 use Rattle.zone_text.proofs.Begun.{none_found, none_left, some_found}
 use Rattle.zone_text.proofs.FedPieces.{fed_more, fed_all, fed_fault, fed_settled, takes_part, depth_within}
 use Rattle.zone_text.proofs.intake.Intake.feed.Goals as goal
@@ -52,7 +52,7 @@ loop-self-preserved-in-Some c =
           (none_found mid.ended.decided.ending c.if-is_none.ensures)
           (none_left mid.unfinished.items mid.unfinished.len c.is_empty-in-loop-self.result mid.unfinished.ok.0 c.is_empty-in-loop-self.ensures c.if-is_empty.true)
           first c.split_at.ensures.front c.split_at.ensures.back
-          (c.in_ok-read_cut.ensures (rw c.deref.ensures.value (are_items _ _ _ _ first c.split_at.ensures.front))) refl refl;
+          (c.in_ok-read_cut.ensures (rw c.deref.ensures.value (keeps_items _ _ _ _ first c.split_at.ensures.front))) refl refl;
       nothing = λ none. absurd (not_empty c.loop-self.rest.now c.loop-self-test.ensures (c.loop-self.invariant.nothing none).1);
     }
 

@@ -1,9 +1,9 @@
--- What a push hands in, as a value.
-use Rattle.zone_rdata.specs.declared.builder.Pushed.{Pushed}
-use Rattle.zone_rdata.specs.declared.builder.Pushed.TheVariants.{Octets, U16, U32, Name, String}
+-- A part of data that is pushed, as the value of its field.
+use Rattle.zone_rdata.specs.declared.builder.Part.{Part}
+use Rattle.zone_rdata.specs.declared.builder.Part.TheVariants.{Octets, U16, U32, Name, String}
 use Rattle.zone_rdata.specs.Field.{FieldValue, name, u32_value, u16_value, fixed, string}
 
-abbrev pub value_of : Pushed → FieldValue
+abbrev pub value_of : Part → FieldValue
 value_of (Octets octets) = fixed octets.now
 value_of (U16 n) = u16_value n
 value_of (U32 n) = u32_value n

@@ -1,0 +1,178 @@
+-- A text without escapes, whose labels' lengths are written over the dots before them.
+use Rattle.std.proofs.Common.{◌≡◌, ℕ, zero, suc, ◌+◌, ◌-◌, ◌<◌, ◌≤◌, Bool, true, false, List, [], ◌∷◌, ◌++◌, length, take, drop, get_or, set, Ok, nat_eq, refl, sym, ap, ap₂, ◌∙◌, subst, arith, append_assoc, length-append}
+use Rattle.std.specs.Prelude.{map}
+use Rattle.std.specs.List.{flat_map, AllByRecursion}
+use Rattle.std.specs.Cmp.Lexicographic.{pointwise, bytes_decides}
+use Rattle.std.proofs.lemmas.List.{append-nil, length-map, length-set, length-take-le, length-drop, map-append, map_push, take-append-drop, drop_at, drop_more, set_at}
+use Rattle.std.proofs.lemmas.List.Concat.{flat_map-append}
+use Rattle.zone_name.specs.Common.{AreOctets}
+use Rattle.zone_name.specs.Name.{IsName, folded_label, folded_octet, labels_of, with_length}
+use Rattle.zone_name.specs.Spelling.{Written, plain, IsUnit, is_dot, IsWrittenLabel, octet_of, written_text, written_octets, dotted, parted, named}
+use Rattle.zone_name.specs.Machine.LabelWalk.{reading}
+use Rattle.zone_name.specs.Machine.Plain.{after_dots, WritesLengths}
+use Rattle.zone_name.specs.Machine.Seen.{HoldsUnfolded, unfolded_labels}
+use Rattle.zone_name.proofs.Octets.{labels_of-open}
+use Rattle.zone_name.proofs.Pushing.{AllByRecursion-append, HoldsLabels-frames, folded_length, frames_push}
+use Rattle.zone_name.proofs.Spelled.{AreShort, Says}
+use Rattle.zone_name.proofs.Answered.{reading-says_ok, labels-says_ok}
+use Rattle.zone_name.proofs.Bare.{plain_text}
+
+-- ---- one label more
+
+-- each of the octets at the beginning is plain
+abbrev pub ArePlain : List ℕ → ℕ → Type 0
+ArePlain text len = (k : ℕ) → k < len → IsUnit is_dot (plain (get_or text k 0))
+
+plain_each : (len : ℕ) (text : List ℕ) → ArePlain text len
+    → AllByRecursion (IsUnit is_dot) (map plain (take len text))
+plain_each zero text each = tt
+plain_each (suc len) [] each = tt
+plain_each (suc len) (c ∷ text) each =
+    (each 0 (omega arith), plain_each len text (λ k h. each (suc k) (omega (arith, h))))
+
+plain_octets : (text : List ℕ) → written_octets (map plain text) ≡ text
+plain_octets [] = refl
+plain_octets (c ∷ text) = ap (λ t. c ∷ t) (plain_octets text)
+
+-- a label of plain octets, whose length takes the place of the dot before it
+lengths_label : (old now next label rest : List ℕ) (start : ℕ)
+    → WritesLengths old now (46 ∷ (label ++ rest)) → AllByRecursion (IsUnit is_dot) (map plain label)
+    → 0 < length label → length label ≤ 63 → length now ≡ start + length (46 ∷ (label ++ rest))
+    → next ≡ set now start (length label) → WritesLengths old next rest
+lengths_label old now next label rest start w each some short at is =
+    let new : List Written = map plain label in
+    let all = w.written ++ new ∷ [] in
+    let dots = after_dots w.written in
+    let frames = flat_map with_length (map written_octets w.written) in
+    let front : length frames ≡ start = omega (arith, ap length w.lengths, length-append frames (46 ∷ (label ++ rest))) in
+    record {
+      written = all;
+      each = AllByRecursion-append IsWrittenLabel w.written (new ∷ []) w.each
+          (record { some = omega (arith, some, length-map label plain); each = each }, tt);
+      short = AllByRecursion-append (λ l. length l ≤ 63) w.written (new ∷ []) w.short
+          (omega (arith, short, length-map label plain), tt);
+      dots = w.dots ∙ ap (λ t. dots ++ (46 ∷ (t ++ rest))) (plain_text label)
+          ∙ sym (append_assoc dots (46 ∷ written_text new) rest)
+          ∙ ap (λ t. dots ++ t ++ rest) (sym (append-nil (46 ∷ written_text new)))
+          ∙ ap (λ t. t ++ rest) (sym (flat_map-append (λ (l : List Written). 46 ∷ written_text l) w.written (new ∷ [])));
+      lengths = is ∙ ap (λ t. set t start (length label)) w.lengths
+          ∙ set_at frames 46 (label ++ rest) (length label) start front
+          ∙ sym (append_assoc frames (with_length label) rest)
+          ∙ ap (λ t. t ++ rest) (sym (frames_push (map written_octets w.written) label)
+          ∙ ap (λ t. flat_map with_length (map written_octets w.written ++ t ∷ [])) (sym (plain_octets label))
+          ∙ ap (flat_map with_length) (sym (map_push written_octets w.written new)));
+    }
+
+-- the rest, as it is cut off at its place
+cut_at : (old next rest : List ℕ) (n : ℕ) → WritesLengths old next rest → length next ≡ n + length rest
+    → WritesLengths old next (drop n next)
+cut_at old next rest n w e =
+    let frames = flat_map with_length (map written_octets w.written) in
+    let front : length frames ≡ n = omega (arith, e, ap length w.lengths, length-append frames rest) in
+    subst (WritesLengths old next) (sym (ap (drop n) w.lengths ∙ drop_at frames rest n front)) w
+
+pub lengths_more : (old now next : List ℕ) (start len : ℕ) → WritesLengths old now (drop start now)
+    → start < length now → get_or now start 0 ≡ 46 → ArePlain (drop (start + 1) now) len
+    → len ≤ length (drop (start + 1) now) → 0 < len → len ≤ 63 → next ≡ set now start len
+    → WritesLengths old next (drop (start + (len + 1)) next)
+lengths_more old now next start len w inside dot each fits some short is =
+    let tail = drop (start + 1) now in
+    let label = take len tail in
+    let rest = drop len tail in
+    let count = length-take-le len tail fits in
+    let left : drop start now ≡ 46 ∷ (label ++ rest) =
+    drop_more now start 0 inside ∙ ap (λ c. c ∷ tail) dot ∙ ap (λ t. 46 ∷ t) (sym (take-append-drop len tail)) in
+    cut_at old next rest (start + (len + 1))
+    (lengths_label old now next label rest start (subst (WritesLengths old now) left w) (plain_each len tail each)
+    (omega (arith, some, count)) (omega (arith, short, count))
+    (omega (arith, inside, length-drop start now, ap length left)) (is ∙ ap (set now start) (sym count)))
+    (omega (arith, inside, fits, ap length is, length-set now start len, length-drop (start + 1) now, length-drop len tail))
+
+-- ---- the whole text
+
+dots-parted : (label : List Written) (labels : List (List Written))
+    → after_dots (label ∷ labels) ≡ 46 ∷ parted (label ∷ labels)
+dots-parted label [] = append-nil (46 ∷ written_text label)
+dots-parted label (next ∷ labels) =
+    ap (λ t. 46 ∷ written_text label ++ t) (dots-parted next labels)
+
+parted-dotted : (label : List Written) (labels : List (List Written))
+    → parted (label ∷ labels) ++ 46 ∷ [] ≡ dotted (label ∷ labels)
+parted-dotted label [] = sym (append-nil (written_text label ++ 46 ∷ []))
+parted-dotted label (next ∷ labels) =
+    append_assoc (written_text label) (46 ∷ parted (next ∷ labels)) (46 ∷ [])
+    ∙ ap (λ t. written_text label ++ 46 ∷ t) (parted-dotted next labels)
+    ∙ sym (append_assoc (written_text label) (46 ∷ []) (dotted (next ∷ labels)))
+
+-- a text, and what of it stands before a dot at its end
+abbrev pub IsCut : List ℕ → List ℕ → Bool → Type 0
+IsCut text front true = text ≡ front ++ 46 ∷ []
+IsCut text front false = text ≡ front
+
+pub cut_suffix : (text front : List ℕ) → pointwise nat_eq (drop (length text - 1) text) (46 ∷ []) ≡ true
+    → front ≡ take (length text - 1) text → text ≡ front ++ 46 ∷ []
+cut_suffix text front dot e =
+    sym (take-append-drop (length text - 1) text)
+    ∙ ap₂ (λ (s t : List ℕ). s ++ t) (sym e) ((bytes_decides (drop (length text - 1) text) (46 ∷ [])).0 dot)
+
+says_by : (text front : List ℕ) (is_absolute : Bool) (written : List (List Written))
+    → IsCut text front is_absolute → AllByRecursion IsWrittenLabel written → AreShort written
+    → 46 ∷ front ≡ after_dots written → Says text (Ok (named written, is_absolute))
+says_by text front is_absolute [] cut each short dots = absurd (cc)
+says_by text front true (label ∷ labels) cut each short dots =
+    let same : front ≡ parted (label ∷ labels) = cc (dots-parted label labels) in
+    record {
+      written = label ∷ labels;
+      are = record { some = omega arith; each = each };
+      short = short;
+      text_is = cut ∙ ap (λ t. t ++ 46 ∷ []) same ∙ parted-dotted label labels;
+      labels_are = refl;
+    }
+says_by text front false (label ∷ labels) cut each short dots =
+    let same : front ≡ parted (label ∷ labels) = cc (dots-parted label labels) in
+    record {
+      written = label ∷ labels;
+      are = record { some = omega arith; each = each };
+      short = short;
+      text_is = cut ∙ same;
+      labels_are = refl;
+    }
+
+-- the lengths stay when the letters are folded
+folded_frames : (written : List (List Written)) → AreShort written
+    → map folded_octet (flat_map with_length (map written_octets written)) ≡ flat_map with_length (named written)
+folded_frames [] short = refl
+folded_frames (label ∷ written) short =
+    let octets = written_octets label in
+    map-append folded_octet (with_length octets) (flat_map with_length (map written_octets written))
+    ∙ ap (λ k. (k ∷ folded_label octets) ++ map folded_octet (flat_map with_length (map written_octets written)))
+    (folded_length (length octets) (omega (arith, short.0, length-map label octet_of)) ∙ sym (length-map octets folded_octet))
+    ∙ ap (λ t. with_length (folded_label octets) ++ t) (folded_frames written short.1)
+
+-- what was read into octets, and what the text reads as
+pub record PlainRead (text new : List ℕ) (is_absolute : Bool) : Type 0 where
+  pub labels : List (List ℕ)
+  pub holds : HoldsUnfolded new
+  pub reads : reading text ≡ Ok (labels, is_absolute)
+  pub are : unfolded_labels new ≡ labels
+
+pub plain_read : (text front old new : List ℕ) (is_absolute : Bool) → IsCut text front is_absolute
+    → AreOctets text → old ≡ 46 ∷ front → WritesLengths old new [] → length old + 1 ≤ 255
+    → length new ≡ length old → PlainRead text new is_absolute
+plain_read text front old new is_absolute cut octets start w room same =
+    let labels = named w.written in
+    let says = says_by text front is_absolute w.written cut w.each w.short
+    (sym start ∙ w.dots ∙ append-nil (after_dots w.written)) in
+    let frames : map folded_octet new ≡ flat_map with_length labels =
+    ap (map folded_octet) (w.lengths ∙ append-nil (flat_map with_length (map written_octets w.written)))
+    ∙ folded_frames w.written w.short in
+    let name : IsName labels = record {
+      each = labels-says_ok text labels is_absolute octets says;
+      short = omega (arith, room, same, ap length frames, length-map new folded_octet, length-append (flat_map with_length labels) (0 ∷ []));
+    } in
+    record {
+      labels = labels;
+      holds = rw frames (HoldsLabels-frames labels name);
+      reads = reading-says_ok text labels is_absolute says;
+      are = ap labels_of frames ∙ labels_of-open labels name.each;
+    }

@@ -1,0 +1,19 @@
+-- How a text without escapes becomes octets: each label's length takes the place of the dot before
+-- it.
+use Rattle.std.specs.Prelude.{◌≡◌, ℕ, ◌≤◌, List, ◌∷◌, ◌++◌, length, map}
+use Rattle.std.specs.List.{flat_map, AllByRecursion}
+use Rattle.zone_name.specs.Name.{with_length}
+use Rattle.zone_name.specs.Spelling.{Written, IsWrittenLabel, written_text, written_octets}
+
+-- each label with a dot before it
+abbrev pub after_dots : List (List Written) → List ℕ
+after_dots labels = flat_map (λ label. 46 ∷ written_text label) labels
+
+-- labels of at most 63 octets with their dots, and the rest, are now their octets with their
+-- lengths, and the same rest
+pub record WritesLengths (old new rest : List ℕ) : Type 0 where
+  pub written : List (List Written)
+  pub each : AllByRecursion IsWrittenLabel written
+  pub short : AllByRecursion (λ label. length label ≤ 63) written
+  pub dots : old ≡ after_dots written ++ rest
+  pub lengths : new ≡ flat_map with_length (map written_octets written) ++ rest

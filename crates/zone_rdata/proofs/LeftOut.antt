@@ -1,0 +1,267 @@
+-- Of more items than any data can have, those that spell strings may be left out: the others have
+-- the same first fault, and state no data.
+use Rattle.std.proofs.Common.{◌≡◌, ℕ, ◌+◌, ◌<◌, ◌≤◌, List, [], ◌∷◌, ◌++◌, length, Option, Some, ◌⊎◌, inl, inr, refl, sym, ap, ◌∙◌, subst, arith, append_assoc, length-append}
+use Rattle.std.specs.List.{flat_map, AllByRecursion}
+use Rattle.hex.proofs.HexLemmas.{decode_of-ok}
+use Rattle.zone_name.specs.Name.{with_length}
+use Rattle.zone_name.proofs.Octets.{length-frames}
+use Rattle.zone_rdata.specs.declared.fault.Fault.{Fault}
+use Rattle.zone_rdata.specs.declared.field.Field.{Field}
+use Rattle.zone_rdata.specs.declared.field.Field.TheVariants.{Strings}
+use Rattle.zone_rdata.specs.DataFault.{FirstFieldFault, IsDataFault, IsFaultFor, IsFormFault, IsWordsFault, in_form, malformed, no_value, opaque_words, too_long, unspelt}
+use Rattle.zone_rdata.specs.DataFault as faults
+use Rattle.zone_rdata.specs.Field.{FieldValue, SpellsField, field_octets, octets_of, strings}
+use Rattle.zone_rdata.specs.Fields.Strings.{FirstStringFault, SpellEachString}
+use Rattle.zone_rdata.specs.Generic.{GenericFault, IsGenericForm, JoinTo, StatesGeneric, bad_digits, long_length, no_length}
+use Rattle.zone_rdata.specs.Item.{IsGeneric, RawItem, bare, quoted}
+use Rattle.zone_rdata.specs.Layout.{IsLayout, layout}
+use Rattle.zone_rdata.specs.Machine.LeftOut.{AreShortened, IsWritten, LeavesOut}
+use Rattle.zone_rdata.specs.Spelling.{SpellEach, States, StatesFor, in_octets, in_words}
+use Rattle.zone_rdata.specs.Strings.{SpellsString}
+use Rattle.zone_rdata.proofs.Tables.{table_row}
+
+-- ---- data has at most as many items as octets, but for a few
+
+first_written : (first more : List RawItem) → AllByRecursion IsWritten (first ++ more) → AllByRecursion IsWritten first
+first_written [] more each = tt
+first_written (item ∷ first) more each = (each.0, first_written first more each.1)
+
+joined_long : (first more : List RawItem) (octets : List ℕ) → AllByRecursion IsWritten first → JoinTo (first ++ more) octets → length first ≤ length octets
+joined_long [] more octets written h = omega arith
+joined_long (bare text ∷ first) more octets written h =
+    omega (arith, written.0, (decode_of-ok text h.0 h.2).2, joined_long first more h.1 written.1 h.4, ap length h.3, length-append h.0 h.1)
+joined_long (quoted text ∷ first) more octets written h = absurd h
+
+string_each : (items : List RawItem) (many : List (List ℕ)) → SpellEachString items many → length items ≤ length many
+string_each [] many h = omega arith
+string_each (item ∷ items) [] h = absurd h
+string_each (item ∷ items) (octets ∷ many) h = omega (arith, string_each items many h.1)
+
+spelt_long : (origin : List (List ℕ)) (fields : List Field) (items : List RawItem) (values : List FieldValue) → SpellEach origin fields items values → length items ≤ length fields + length (octets_of values)
+spelt_long origin [] [] values h = omega arith
+spelt_long origin [] (item ∷ items) values h = absurd h
+spelt_long origin (f ∷ fields) items [] h = absurd h
+spelt_long origin (Strings ∷ fields) items (strings many ∷ values) h =
+    omega (arith, string_each items many h.0.each, length-frames many, length-append (flat_map with_length many) (octets_of values))
+spelt_long origin (Strings ∷ fields) items (v ∷ values) h = absurd h.0
+spelt_long origin (f ∷ fields) [] (v ∷ values) h = omega arith
+spelt_long origin (f ∷ fields) (item ∷ items) (v ∷ values) h =
+    omega (arith, spelt_long origin fields items values h.1, length-append (field_octets v) (octets_of values))
+
+-- ---- words
+
+fault_after : (item : RawItem) (items others : List RawItem) (fault : Fault) → (FirstStringFault others fault → FirstStringFault items fault) → FirstStringFault (item ∷ others) fault → FirstStringFault (item ∷ items) fault
+fault_after item items others fault goes (inl bad) = inl bad
+fault_after item items others fault goes (inr h) = inr (h.0, h.1, goes h.2)
+
+strings_fault : (first more others : List RawItem) (fault : Fault) → LeavesOut more others → FirstStringFault (first ++ others) fault → FirstStringFault (first ++ more) fault
+strings_fault (item ∷ first) more others fault out (inl bad) = inl bad
+strings_fault (item ∷ first) more others fault out (inr h) = inr (h.0, h.1, strings_fault first more others fault out h.2)
+strings_fault [] [] others fault out bad = subst (λ t. FirstStringFault t fault) out bad
+strings_fault [] (item ∷ more) others fault (inr left) bad = inr (left.0, left.1, strings_fault [] more others fault left.2 bad)
+strings_fault [] (item ∷ more) others fault (inl kept) bad =
+    fault_after item more kept.0 fault (strings_fault [] more kept.0 fault kept.2) (subst (λ t. FirstStringFault t fault) kept.1 bad)
+
+abbrev SpellSome : List RawItem → Type 0
+SpellSome items = (many : List (List ℕ)) × SpellEachString items many
+
+string_before : (item : RawItem) (items others : List RawItem) (many : List (List ℕ)) → ((rest : List (List ℕ)) → SpellEachString others rest → SpellSome items) → SpellEachString (item ∷ others) many → SpellSome (item ∷ items)
+string_before item items others [] goes h = absurd h
+string_before item items others (octets ∷ many) goes h = let all = goes many h.1 in (octets ∷ all.0, (h.0, all.1))
+
+strings_more : (first more others : List RawItem) (many : List (List ℕ)) → LeavesOut more others → SpellEachString (first ++ others) many → SpellSome (first ++ more)
+strings_more (item ∷ first) more others [] out h = absurd h
+strings_more (item ∷ first) more others (octets ∷ many) out h = let all = strings_more first more others many out h.1 in (octets ∷ all.0, (h.0, all.1))
+strings_more [] [] others many out h = ([], tt)
+strings_more [] (item ∷ more) others many (inr left) h = let all = strings_more [] more others many left.2 h in (left.0 ∷ all.0, (left.1, all.1))
+strings_more [] (item ∷ more) others many (inl kept) h =
+    string_before item more kept.0 many (λ rest found. strings_more [] more kept.0 rest kept.2 found) (subst (λ t. SpellEachString t many) kept.1 h)
+
+all_strings : (origin : List (List ℕ)) (item : RawItem) (first more others : List RawItem) (value : FieldValue) → LeavesOut more others → SpellsField origin Strings (item ∷ first ++ others) value → (all : FieldValue) × SpellsField origin Strings (item ∷ first ++ more) all
+all_strings origin item first more others (strings many) out h =
+    let all = strings_more (item ∷ first) more others many out h.each in
+    (strings all.0, record { some = omega arith; each = all.1 })
+all_strings origin item first more others value out h = absurd h
+
+fields_fault : (origin : List (List ℕ)) (fields : List Field) (first more others : List RawItem) (fault : Fault) → length fields < length first → LeavesOut more others → FirstFieldFault origin fields (first ++ others) fault → FirstFieldFault origin fields (first ++ more) fault
+fields_fault origin fields [] more others fault few out bad = absurd (omega (arith, few))
+fields_fault origin [] (item ∷ first) more others fault few out bad = bad
+fields_fault origin (Strings ∷ fields) (item ∷ first) more others fault few out (inl bad) = inl (strings_fault (item ∷ first) more others fault out bad)
+fields_fault origin (Strings ∷ fields) (item ∷ first) more others fault few out (inr h) =
+    let all = all_strings origin item first more others h.0 out h.1 in
+    inr (all.0, all.1, h.2)
+fields_fault origin (f ∷ fields) (item ∷ first) more others fault few out (inl bad) = inl bad
+fields_fault origin (f ∷ fields) (item ∷ first) more others fault few out (inr h) = inr (h.0, h.1, fields_fault origin fields first more others fault (omega (arith, few)) out h.2)
+
+fields_more : (origin : List (List ℕ)) (fields : List Field) (first more others : List RawItem) (values : List FieldValue) → length fields < length first → LeavesOut more others → SpellEach origin fields (first ++ others) values → (all : List FieldValue) × SpellEach origin fields (first ++ more) all
+fields_more origin fields [] more others values few out h = absurd (omega (arith, few))
+fields_more origin [] (item ∷ first) more others values few out h = absurd h
+fields_more origin (f ∷ fields) (item ∷ first) more others [] few out h = absurd h
+fields_more origin (Strings ∷ fields) (item ∷ first) more others (v ∷ values) few out h =
+    let all = all_strings origin item first more others v out h.0 in
+    (all.0 ∷ values, (all.1, h.1))
+fields_more origin (f ∷ fields) (item ∷ first) more others (v ∷ values) few out h =
+    let all = fields_more origin fields first more others values (omega (arith, few)) out h.1 in
+    (v ∷ all.0, (h.0, all.1))
+
+words_fault : (origin : List (List ℕ)) (fields : List Field) (first more others : List RawItem) (fault : Fault) → length fields ≤ 7 → 65543 ≤ length first → LeavesOut more others → IsWordsFault origin fields (first ++ others) fault → IsWordsFault origin fields (first ++ more) fault
+words_fault origin fields first more others _ few many out (unspelt fault bad) =
+    unspelt fault (fields_fault origin fields first more others fault (omega (arith, few, many)) out bad)
+words_fault origin fields first more others _ few many out (too_long values spelt long) =
+    let all = fields_more origin fields first more others values (omega (arith, few, many)) out spelt in
+    too_long all.0 all.1 (omega (arith, few, many, spelt_long origin fields (first ++ more) all.0 all.1, length-append first more))
+
+-- ---- the generic form
+
+form_same : (a b : RawItem) (items others digits : List RawItem) (n : ℕ) → IsGenericForm (a ∷ b ∷ items) n digits → IsGenericForm (a ∷ b ∷ others) n others
+form_same a b items others digits n form = record { item = form.item; parts = (let e = form.parts in cc); states = form.states }
+
+digits_of : (a b : RawItem) (items digits : List RawItem) (n : ℕ) → IsGenericForm (a ∷ b ∷ items) n digits → digits ≡ items
+digits_of a b items digits n form = let e = form.parts in cc
+
+mark_same : (a : RawItem) (items others : List RawItem) → IsGeneric (a ∷ items) → IsGeneric (a ∷ others)
+mark_same a items others marked = (others, (let e = marked.1 in cc))
+
+generic_fault : (first more others : List RawItem) (fault : Fault) → AllByRecursion IsWritten first → 65543 ≤ length first → GenericFault (first ++ others) fault → GenericFault (first ++ more) fault
+generic_fault [] more others fault written many bad = absurd (omega (arith, many))
+generic_fault (a ∷ []) more others fault written many bad = absurd (omega (arith, many))
+generic_fault (a ∷ b ∷ digits) more others _ written many (no_length marked none) =
+    no_length (mark_same a _ _ marked) (λ n found form. none n (digits ++ others) (form_same a b _ _ found n form))
+generic_fault (a ∷ b ∷ digits) more others _ written many (long_length n found form over) =
+    long_length n (digits ++ more) (form_same a b _ _ found n form) over
+generic_fault (a ∷ b ∷ digits) more others _ written many (bad_digits n found form short bad) =
+    bad_digits n (digits ++ more) (form_same a b _ _ found n form) short
+    (λ octets joined count. absurd (omega (arith, joined_long digits more octets written.1.1 joined, count, short, many)))
+
+generic_never : (first others : List RawItem) (octets : List ℕ) → AllByRecursion IsWritten first → 65543 ≤ length first → StatesGeneric (first ++ others) octets → ⊥
+generic_never [] others octets written many h = omega (arith, many)
+generic_never (a ∷ []) others octets written many h = omega (arith, many)
+generic_never (a ∷ b ∷ digits) others octets written many h =
+    let joined : JoinTo (digits ++ others) octets = subst (λ t. JoinTo t octets) (digits_of a b (digits ++ others) h.digits (length octets) h.form) h.joined in
+    omega (arith, joined_long digits others octets written.1.1 joined, h.short, many)
+
+form_fault : (laid : Option (List Field)) (first more others : List RawItem) (fault : Fault) → AllByRecursion IsWritten first → 65543 ≤ length first → IsFormFault laid (first ++ others) fault → IsFormFault laid (first ++ more) fault
+form_fault laid first more others _ written many (malformed fault bad) = malformed fault (generic_fault first more others fault written many bad)
+form_fault laid first more others _ written many (no_value fields stated e states none) = absurd (generic_never first others stated written many states)
+
+-- ---- data
+
+abbrev AreFew : Option (List Field) → Type 0
+AreFew laid = (fields : List Field) → laid ≡ Some fields → length fields ≤ 7
+
+marked : (first more others : List RawItem) → 65543 ≤ length first → IsGeneric (first ++ others) → IsGeneric (first ++ more)
+marked [] more others many h = absurd (omega (arith, many))
+marked (a ∷ first) more others many h = mark_same a _ _ h
+
+fault_for : (origin : List (List ℕ)) (laid : Option (List Field)) (first more others : List RawItem) (fault : Fault) → AreFew laid → AllByRecursion IsWritten first → 65543 ≤ length first → LeavesOut more others → IsFaultFor origin laid (first ++ others) fault → IsFaultFor origin laid (first ++ more) fault
+fault_for origin laid first more others _ few written many out (in_form fault mark bad) =
+    in_form fault (marked first more others many mark) (form_fault laid first more others fault written many bad)
+fault_for origin laid first more others _ few written many out (faults.in_words fields fault e unmarked bad) =
+    faults.in_words fields fault e (λ h. unmarked (marked first others more many h)) (words_fault origin fields first more others fault (few fields e) many out bad)
+fault_for origin laid first more others _ few written many out (opaque_words e unmarked) =
+    opaque_words e (λ h. unmarked (marked first others more many h))
+
+never_for : (origin : List (List ℕ)) (laid : Option (List Field)) (first others : List RawItem) (octets : List ℕ) → AreFew laid → AllByRecursion IsWritten first → 65543 ≤ length first → StatesFor origin laid (first ++ others) octets → ⊥
+never_for origin laid first others octets few written many (in_words fields values e unmarked spelt is short) =
+    omega (arith, many, few fields e, short, ap length is, spelt_long origin fields (first ++ others) values spelt, length-append first others)
+never_for origin laid first others octets few written many (in_octets mark h) = generic_never first others h.0 written many h.1
+
+are_few : (class kind : ℕ) → AreFew (layout class kind)
+are_few class kind fields e = (table_row class kind fields e).few
+
+-- the others have the first fault of all items
+pub fault_of_all : (origin : List (List ℕ)) (class kind : ℕ) (items kept : List RawItem) (fault : Fault) → AllByRecursion IsWritten items → AreShortened 65543 items kept → IsDataFault origin class kind kept fault → IsDataFault origin class kind items fault
+fault_of_all origin class kind items kept fault written short bad =
+    let all : AllByRecursion IsWritten (short.first ++ short.more) = subst (AllByRecursion IsWritten) short.whole written in
+    let first = subst (λ t. IsFaultFor origin (layout class kind) t fault) short.are_kept bad.first in
+    let found = fault_for origin (layout class kind) short.first short.more short.others fault (are_few class kind) (first_written short.first short.more all) short.many short.out first in
+    record { first = subst (λ t. IsFaultFor origin (layout class kind) t fault) (sym short.whole) found }
+
+-- they state no data
+pub state_none : (origin : List (List ℕ)) (class kind : ℕ) (items kept : List RawItem) (octets : List ℕ) → AllByRecursion IsWritten items → AreShortened 65543 items kept → States origin class kind kept octets → ⊥
+state_none origin class kind items kept octets written short h =
+    let all : AllByRecursion IsWritten (short.first ++ short.more) = subst (AllByRecursion IsWritten) short.whole written in
+    never_for origin (layout class kind) short.first short.others octets (are_few class kind) (first_written short.first short.more all) short.many
+    (subst (λ t. StatesFor origin (layout class kind) t octets) short.are_kept h.stated)
+
+-- ---- one item more
+
+leaves_kept : (more others : List RawItem) (item : RawItem) → LeavesOut more others → LeavesOut (more ++ item ∷ []) (others ++ item ∷ [])
+leaves_kept [] others item out = inl ([], ap (λ t. t ++ item ∷ []) out, refl)
+leaves_kept (x ∷ more) others item (inl kept) = inl (kept.0 ++ item ∷ [], ap (λ t. t ++ item ∷ []) kept.1, leaves_kept more kept.0 item kept.2)
+leaves_kept (x ∷ more) others item (inr left) = inr (left.0, left.1, leaves_kept more others item left.2)
+
+leaves_less : (more others : List RawItem) (item : RawItem) (octets : List ℕ) → SpellsString item octets → LeavesOut more others → LeavesOut (more ++ item ∷ []) others
+leaves_less [] others item octets spells out = inr (octets, spells, out)
+leaves_less (x ∷ more) others item octets spells (inl kept) = inl (kept.0, kept.1, leaves_less more kept.0 item octets spells kept.2)
+leaves_less (x ∷ more) others item octets spells (inr left) = inr (left.0, left.1, leaves_less more others item octets spells left.2)
+
+-- the item is kept
+pub one_kept : (n : ℕ) (items kept : List RawItem) (item : RawItem) → AreShortened n items kept → AreShortened n (items ++ item ∷ []) (kept ++ item ∷ [])
+one_kept n items kept item short = record {
+  first = short.first;
+  more = short.more ++ item ∷ [];
+  others = short.others ++ item ∷ [];
+  whole = ap (λ t. t ++ item ∷ []) short.whole ∙ append_assoc short.first short.more (item ∷ []);
+  are_kept = ap (λ t. t ++ item ∷ []) short.are_kept ∙ append_assoc short.first short.others (item ∷ []);
+  many = short.many;
+  out = leaves_kept short.more short.others item short.out;
+}
+
+-- the item is left out
+pub one_left_out : (n : ℕ) (items kept : List RawItem) (item : RawItem) (octets : List ℕ) → SpellsString item octets → AreShortened n items kept → AreShortened n (items ++ item ∷ []) kept
+one_left_out n items kept item octets spells short = record {
+  first = short.first;
+  more = short.more ++ item ∷ [];
+  others = short.others;
+  whole = ap (λ t. t ++ item ∷ []) short.whole ∙ append_assoc short.first short.more (item ∷ []);
+  are_kept = short.are_kept;
+  many = short.many;
+  out = leaves_less short.more short.others item octets spells short.out;
+}
+
+-- ---- the first of the items
+
+-- both begin with the item
+pub record BeginWith (n : ℕ) (items kept : List RawItem) : Type 0 where
+  pub item : RawItem
+  pub rest : List RawItem
+  pub others : List RawItem
+  pub whole : items ≡ item ∷ rest
+  pub are_kept : kept ≡ item ∷ others
+  pub short : AreShortened n rest others
+
+begin_by : (n : ℕ) (items kept first more others : List RawItem) → items ≡ first ++ more → kept ≡ first ++ others → n < length first → LeavesOut more others → BeginWith n items kept
+begin_by n items kept [] more others whole are_kept many out = absurd (omega (arith, many))
+begin_by n items kept (item ∷ first) more others whole are_kept many out = record {
+  item = item;
+  rest = first ++ more;
+  others = first ++ others;
+  whole = whole;
+  are_kept = are_kept;
+  short = record { first = first; more = more; others = others; whole = refl; are_kept = refl; many = omega (arith, many); out = out };
+}
+
+pub begin_with : (m n : ℕ) (items kept : List RawItem) → n < m → AreShortened m items kept → BeginWith n items kept
+begin_with m n items kept less short = begin_by n items kept short.first short.more short.others short.whole short.are_kept (omega (arith, less, short.many)) short.out
+
+-- an item before both
+pub after_item : (n : ℕ) (item : RawItem) (items kept : List RawItem) → AreShortened n items kept → AreShortened n (item ∷ items) (item ∷ kept)
+after_item n item items kept short = record {
+  first = item ∷ short.first;
+  more = short.more;
+  others = short.others;
+  whole = ap (λ t. item ∷ t) short.whole;
+  are_kept = ap (λ t. item ∷ t) short.are_kept;
+  many = omega (arith, short.many);
+  out = short.out;
+}
+
+pub are_many : (n : ℕ) (items kept : List RawItem) → AreShortened n items kept → (n ≤ length items) × (n ≤ length kept)
+are_many n items kept short = (
+  omega (arith, short.many, ap length short.whole, length-append short.first short.more),
+  omega (arith, short.many, ap length short.are_kept, length-append short.first short.others),
+)
+
+pub at_least : (m n : ℕ) (items kept : List RawItem) → n ≤ m → AreShortened m items kept → AreShortened n items kept
+at_least m n items kept less short = record { first = short.first; more = short.more; others = short.others; whole = short.whole; are_kept = short.are_kept; many = omega (arith, less, short.many); out = short.out }

@@ -1,0 +1,91 @@
+ghost use Rattle.std.specs.Prelude.{◌≡◌};
+ghost use Rattle.zone_rdata.specs.Cause.{fault_for};
+
+use crate::fault::Fault;
+use zone_name::NameFault;
+
+/// What items, data and messages are refused for, in two octets: a `Fault` has room for a name.
+#[derive(Clone, Copy, Debug)]
+pub enum Cause {
+    EmptyLabel,
+    LabelTooLong,
+    NameTooLong,
+    BadEscape,
+    RelativeName,
+    BadClass,
+    MetaType,
+    BadRdata,
+    StringTooLong,
+    RdataTooLong,
+    BadNumber,
+    ShortMessage,
+    NotAResponse,
+    Truncated,
+    ErrorCode(u8),
+    BadCounts,
+    IdMismatch,
+    BadQuestion,
+    ReservedLabel,
+    BadPointer,
+    TooManyPointers,
+    CompressibleType,
+    TrailingOctets,
+    NoOpeningSoa,
+    SoaMismatch,
+    AfterClosing,
+}
+
+impl Cause {
+    /// The fault of the same name.
+    // Not inlined: only what is refused needs the room.
+    #[cold]
+    #[inline(never)]
+    pub fn widened(self) -> Fault
+        ensures { result ≡ fault_for self }
+    {
+        match self {
+            Cause::EmptyLabel => Fault::EmptyLabel,
+            Cause::LabelTooLong => Fault::LabelTooLong,
+            Cause::NameTooLong => Fault::NameTooLong,
+            Cause::BadEscape => Fault::BadEscape,
+            Cause::RelativeName => Fault::RelativeName,
+            Cause::BadClass => Fault::BadClass,
+            Cause::MetaType => Fault::MetaType,
+            Cause::BadRdata => Fault::BadRdata,
+            Cause::StringTooLong => Fault::StringTooLong,
+            Cause::RdataTooLong => Fault::RdataTooLong,
+            Cause::BadNumber => Fault::BadNumber,
+            Cause::ShortMessage => Fault::ShortMessage,
+            Cause::NotAResponse => Fault::NotAResponse,
+            Cause::Truncated => Fault::Truncated,
+            Cause::ErrorCode(code) => Fault::ErrorCode(code),
+            Cause::BadCounts => Fault::BadCounts,
+            Cause::IdMismatch => Fault::IdMismatch,
+            Cause::BadQuestion => Fault::BadQuestion,
+            Cause::ReservedLabel => Fault::ReservedLabel,
+            Cause::BadPointer => Fault::BadPointer,
+            Cause::TooManyPointers => Fault::TooManyPointers,
+            Cause::CompressibleType => Fault::CompressibleType,
+            Cause::TrailingOctets => Fault::TrailingOctets,
+            Cause::NoOpeningSoa => Fault::NoOpeningSoa,
+            Cause::SoaMismatch => Fault::SoaMismatch,
+            Cause::AfterClosing => Fault::AfterClosing,
+        }
+    }
+}
+
+impl From<NameFault> for Cause {
+    ghost use Rattle.zone_rdata.specs.Fault.{fault_of};
+
+    ghost from_gives = { λ fault e. fault_for e ≡ fault_of fault };
+
+    fn from(fault: NameFault) -> Cause {
+        match fault {
+            NameFault::EmptyLabel => Cause::EmptyLabel,
+            NameFault::LabelTooLong => Cause::LabelTooLong,
+            NameFault::NameTooLong => Cause::NameTooLong,
+            NameFault::BadEscape => Cause::BadEscape,
+            NameFault::RelativeName => Cause::RelativeName,
+        }
+    }
+}

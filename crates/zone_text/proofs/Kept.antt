@@ -1,0 +1,124 @@
+-- The items that are kept of an entry, one by one.
+use Rattle.std.proofs.Common.{◌≡◌, ℕ, ◌<◌, ◌≤◌, Bool, List, [], ◌∷◌, ◌++◌, length, inl, inr, refl, sym, ap, ◌∙◌, subst, arith, length-append}
+use Rattle.std.specs.List.{flat_map, AllByRecursion}
+use Rattle.std.proofs.lemmas.List.{append-nil}
+use Rattle.zone_name.specs.Common.{AreOctets}
+use Rattle.zone_name.specs.Spelling.{Written, plain, escaped, decimal, text_of, octet_of, written_text, written_octets, IsUnit, no_octet}
+use Rattle.zone_name.proofs.Pushing.{AllByRecursion-append}
+use Rattle.zone_rdata.specs.Item.{RawItem}
+use Rattle.zone_rdata.specs.Item as raw
+use Rattle.zone_rdata.specs.Machine.LeftOut.{IsWritten}
+use Rattle.zone_rdata.specs.Strings.{SpellsString, item_text}
+use Rattle.zone_rdata.proofs.LeftOut.{one_kept, one_left_out}
+use Rattle.zone_text.specs.Entries.{item_of}
+use Rattle.zone_text.specs.Machine.Kept.{AreKept, IsShort, Keeps}
+use Rattle.zone_text.specs.Pieces.{Piece, blank, opening, closing, line_feed, comment, bare, quoted, IsPiece}
+
+-- ---- an item of a token
+
+abbrev Low : List ℕ → Type 0
+Low octets = AllByRecursion (λ c. c < 256) octets
+
+low_front : (octets more : List ℕ) → Low (octets ++ more) → Low octets
+low_front [] more low = tt
+low_front (c ∷ octets) more low = (low.0, low_front octets more low.1)
+
+low_back : (octets more : List ℕ) → Low (octets ++ more) → Low more
+low_back [] more low = low
+low_back (c ∷ octets) more low = low_back octets more low.1
+
+unit_anywhere : (out : ℕ → Bool) (w : Written) → IsUnit out w → IsUnit no_octet w
+unit_anywhere out (plain c) is = (refl, is.1)
+unit_anywhere out (escaped c) is = is
+unit_anywhere out (decimal x y z) is = is
+
+units_anywhere : (out : ℕ → Bool) (units : List Written) → AllByRecursion (IsUnit out) units → AllByRecursion (IsUnit no_octet) units
+units_anywhere out [] each = tt
+units_anywhere out (w ∷ units) each = (unit_anywhere out w each.0, units_anywhere out units each.1)
+
+octet_low : (out : ℕ → Bool) (w : Written) → IsUnit out w → Low (text_of w) → octet_of w < 256
+octet_low out (plain c) is low = low.0
+octet_low out (escaped c) is low = low.1.0
+octet_low out (decimal x y z) is low = omega (arith, is.3)
+
+octets_low : (out : ℕ → Bool) (units : List Written) → AllByRecursion (IsUnit out) units → Low (written_text units) → Low (written_octets units)
+octets_low out [] each low = tt
+octets_low out (w ∷ units) each low =
+    (octet_low out w each.0 (low_front (text_of w) (written_text units) low), octets_low out units each.1 (low_back (text_of w) (written_text units) low))
+
+unit_some : (w : Written) → 0 < length (text_of w)
+unit_some (plain c) = omega arith
+unit_some (escaped c) = omega arith
+unit_some (decimal x y z) = omega arith
+
+no_longer : (units : List Written) → length (written_octets units) ≤ length (written_text units)
+no_longer [] = omega arith
+no_longer (w ∷ units) = omega (arith, unit_some w, no_longer units, length-append (text_of w) (written_text units))
+
+units_spell : (out : ℕ → Bool) (units : List Written) (item : RawItem) → AllByRecursion (IsUnit out) units → item_text item ≡ written_text units → IsShort item → SpellsString item (written_octets units)
+units_spell out units item each text short = record {
+  units = units;
+  each = units_anywhere out units each;
+  text = text;
+  value = refl;
+  string = record {
+    short = omega (arith, short.few, ap length text, no_longer units);
+    each = octets_low out units each (subst Low text short.octets);
+  };
+}
+
+same_item : (a b : RawItem) → a ∷ [] ≡ b ∷ [] → a ≡ b
+same_item a b e = cc
+
+-- a short item spells a string
+pub short_spells : (p : Piece) (item : RawItem) → IsPiece p → item ∷ [] ≡ item_of p → IsShort item → (octets : List ℕ) × SpellsString item octets
+short_spells (blank c) item is e short = absurd cc
+short_spells opening item is e short = absurd cc
+short_spells closing item is e short = absurd cc
+short_spells line_feed item is e short = absurd cc
+short_spells (comment octets) item is e short = absurd cc
+short_spells (bare units) item is e short = (written_octets units, units_spell _ units item is.1 (ap item_text (same_item item _ e)) short)
+short_spells (quoted units) item is e short = (written_octets units, units_spell _ units item is (ap item_text (same_item item _ e)) short)
+
+-- ---- items of tokens
+
+bare_written : (units : List Written) → 0 < length units → 0 < length (written_text units)
+bare_written [] some = absurd (omega (arith, some))
+bare_written (w ∷ units) some = omega (arith, unit_some w, length-append (text_of w) (written_text units))
+
+piece_written : (p : Piece) → IsPiece p → AllByRecursion IsWritten (item_of p)
+piece_written (blank c) is = tt
+piece_written opening is = tt
+piece_written closing is = tt
+piece_written line_feed is = tt
+piece_written (comment octets) is = tt
+piece_written (bare units) is = (bare_written units is.0, tt)
+piece_written (quoted units) is = (tt, tt)
+
+pub items_written : (pieces : List Piece) → AllByRecursion IsPiece pieces → AllByRecursion IsWritten (flat_map item_of pieces)
+items_written [] each = tt
+items_written (p ∷ pieces) each = AllByRecursion-append IsWritten (item_of p) (flat_map item_of pieces) (piece_written p each.0) (items_written pieces each.1)
+
+-- ---- one item more
+
+pub none_kept : AreKept [] []
+none_kept = inl refl
+
+-- an item of a token comes after those kept, or is left out
+pub keeps_more : (p : Piece) (items kept new : List RawItem) (item : RawItem) → IsPiece p → item ∷ [] ≡ item_of p → AreKept items kept → Keeps item kept new → AreKept (items ++ item ∷ []) new
+keeps_more p items kept new item is e (inl all) (inl more) = inl (more ∙ ap (λ t. t ++ item ∷ []) all)
+keeps_more p items kept new item is e (inl all) (inr less) =
+    let spells = short_spells p item is e less.2 in
+    inr (record {
+      first = kept;
+      more = item ∷ [];
+      others = [];
+      whole = ap (λ t. t ++ item ∷ []) (sym all);
+      are_kept = less.0 ∙ sym (append-nil kept);
+      many = less.1;
+      out = inr (spells.0, spells.1, refl);
+    })
+keeps_more p items kept new item is e (inr short) (inl more) = inr (rw more (one_kept _ items kept item short))
+keeps_more p items kept new item is e (inr short) (inr less) =
+    let spells = short_spells p item is e less.2 in
+    inr (rw (less.0) (one_left_out _ items kept item spells.0 spells.1 short))

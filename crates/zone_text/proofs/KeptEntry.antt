@@ -1,0 +1,290 @@
+-- An entry of very many items has the fault that it has where some that spell strings are left out,
+-- and states nothing.
+use Rattle.std.proofs.Common.{◌≡◌, ℕ, ◌+◌, ◌≤◌, Bool, true, false, if◌then◌else◌, ◌==◌, List, [], ◌∷◌, ◌++◌, length, Option, Some, None, MatchOption, Result, Ok, Err, inl, inr, refl, sym, ap, ◌∙◌, subst, arith, length-append}
+use Rattle.std.specs.List.{AllByRecursion, flat_map}
+use Rattle.std.specs.Prelude.{bytes_eq, codes, is_some, OnOk, ⊤}
+use Rattle.zone_name.specs.Common.{Labels}
+use Rattle.zone_name.specs.Name.{folded_label}
+use Rattle.zone_rdata.specs.Item.{RawItem, bare, quoted}
+use Rattle.zone_rdata.specs.Machine.LeftOut.{AreShortened, IsWritten, LeavesOut}
+use Rattle.zone_rdata.specs.Record.{Record}
+use Rattle.zone_rdata.specs.declared.fault.Fault.{Fault}
+use Rattle.zone_rdata.specs.declared.fault.Place.{Place}
+use Rattle.zone_rdata.specs.declared.source.Reading.{Reading}
+use Rattle.zone_rdata.proofs.LeftOut.{BeginWith, after_item, are_many, at_least, begin_with, fault_of_all, state_none}
+use Rattle.zone_text.specs.Entries.{Entry, entry_of, first_octet, item_of}
+use Rattle.zone_text.specs.EntryFault.{DefaultTtlFault, DirectiveFault, EntryFault, KindFault, OriginFault, OwnerFault, WordsFault, of_directive, of_kind, of_owner, of_rdata, of_ttl, of_words}
+use Rattle.zone_text.specs.Forms.{EntryForm, Parts, Word, begins_with_digit, class, class_among, directive, form_by, form_of, includes, is_class_word, no_items, owned, parts_behind, parts_in, parts_of, sets_origin, sets_ttl, ttl, ttl_among, unknown, unless_stated, unowned, word_behind}
+use Rattle.zone_text.specs.Inherited.{IsOwner, class_word, latest, one_bare, or_else}
+use Rattle.zone_rdata.specs.Words.{IsClassWord}
+use Rattle.zone_text.specs.Machine.EntryReading.{DecidesEntry, decides_fault, decides_none, decides_one}
+use Rattle.zone_text.specs.Machine.Kept.{AreKept}
+use Rattle.zone_text.specs.Pieces.{Cuts, Piece, is_blank}
+use Rattle.zone_text.specs.Records.{HasHead, HasValue, Head, StatesNothing, StatesRecord, head_of}
+use Rattle.zone_text.specs.declared.defaults.Defaults.{Defaults}
+use Rattle.zone_text.proofs.Kept.{items_written}
+use Rattle.zone_text.proofs.WordsLeft.{class_kept, class_pushed, parts_by, ttl_kept, ttl_pushed}
+
+-- ---- forms
+
+-- many items, written ones, and those that are kept
+pub record Long (n : ℕ) (items kept : List RawItem) : Type 0 where
+  pub short : AreShortened n items kept
+  pub written : AllByRecursion IsWritten items
+
+-- two forms of many items each, of which some are kept
+abbrev LongForms : EntryForm → EntryForm → Type 0
+LongForms (sets_origin items) (sets_origin kept) = (2 ≤ length items) × (2 ≤ length kept)
+LongForms (sets_ttl items) (sets_ttl kept) = (2 ≤ length items) × (2 ≤ length kept)
+LongForms includes includes = ⊤
+LongForms unknown unknown = ⊤
+LongForms (owned owner items) (owned other kept) = (owner ≡ other) × Long 65551 items kept
+LongForms (unowned items) (unowned kept) = Long 65551 items kept
+LongForms form other = ⊥
+
+word_long : (a b c : Bool) (items kept : List RawItem) → (2 ≤ length items) × (2 ≤ length kept) → LongForms (if a then sets_origin items else if b then sets_ttl items else if c then includes else unknown) (if a then sets_origin kept else if b then sets_ttl kept else if c then includes else unknown)
+word_long true b c items kept many = many
+word_long false true c items kept many = many
+word_long false false true items kept many = tt
+word_long false false false items kept many = tt
+
+directive_long : (word : RawItem) (items kept : List RawItem) → Long 65551 items kept → LongForms (directive word items) (directive word kept)
+directive_long (quoted text) items kept long = tt
+directive_long (bare text) items kept long =
+    let many = are_many 65551 items kept long.short in
+    word_long (bytes_eq (folded_label text) (codes "$origin")) (bytes_eq (folded_label text) (codes "$ttl")) (bytes_eq (folded_label text) (codes "$include")) items kept (omega (arith, many.0), omega (arith, many.1))
+
+octet_long : (a b : Bool) (item : RawItem) (items kept : List RawItem) → IsWritten item → Long 65551 items kept → LongForms (if a then directive item items else if b then unowned (item ∷ items) else owned item items) (if a then directive item kept else if b then unowned (item ∷ kept) else owned item kept)
+octet_long true b item items kept is long = directive_long item items kept long
+octet_long false true item items kept is long = record { short = after_item 65551 item items kept long.short; written = (is, long.written) }
+octet_long false false item items kept is long = (refl, long)
+
+first_long : (first : Option ℕ) (item : RawItem) (items kept : List RawItem) → IsWritten item → Long 65551 items kept → LongForms (form_by first (item ∷ items)) (form_by first (item ∷ kept))
+first_long None item items kept is long = (refl, long)
+first_long (Some c) item items kept is long = octet_long (c == 36) (is_blank c) item items kept is long
+
+forms_long : (first : Option ℕ) (items kept : List RawItem) → Long 65552 items kept → LongForms (form_by first items) (form_by first kept)
+forms_long first items kept long =
+    let begin = begin_with 65552 65551 items kept (omega arith) long.short in
+    let written : AllByRecursion IsWritten (begin.item ∷ begin.rest) = subst (AllByRecursion IsWritten) begin.whole long.written in
+    let found = first_long first begin.item begin.rest begin.others written.0 (record { short = begin.short; written = written.1 }) in
+    let half = subst (λ t. LongForms (form_by first t) (form_by first (begin.item ∷ begin.others))) (sym begin.whole) found in
+    subst (λ t. LongForms (form_by first items) (form_by first t)) (sym begin.are_kept) half
+
+no_one_bare : (items : List RawItem) → 2 ≤ length items → one_bare items ≡ None
+no_one_bare [] many = absurd (omega (arith, many))
+no_one_bare (quoted text ∷ items) many = refl
+no_one_bare (bare text ∷ []) many = absurd (omega (arith, many))
+no_one_bare (bare text ∷ item ∷ items) many = refl
+
+directive_fault : (origin : Labels) (before : List Entry) (form other : EntryForm) (fault : Fault) → LongForms form other → DirectiveFault origin before other fault → DirectiveFault origin before form fault
+directive_fault origin before (sets_origin items) (sets_origin kept) fault h bad =
+    let none : OriginFault origin before None fault = subst (λ o. OriginFault origin before o fault) (no_one_bare kept h.1) bad in
+    subst (λ o. OriginFault origin before o fault) (sym (no_one_bare items h.0)) none
+directive_fault origin before (sets_ttl items) (sets_ttl kept) fault h bad =
+    let none : DefaultTtlFault None fault = subst (λ o. DefaultTtlFault o fault) (no_one_bare kept h.1) bad in
+    subst (λ o. DefaultTtlFault o fault) (sym (no_one_bare items h.0)) none
+directive_fault origin before includes includes fault h bad = bad
+directive_fault origin before unknown unknown fault h bad = bad
+directive_fault origin before (owned owner items) (owned other kept) fault h bad = absurd bad
+directive_fault origin before (unowned items) (unowned kept) fault h bad = absurd bad
+directive_fault origin before form other fault h bad = absurd h
+
+owner_fault : (origin : Labels) (before : List Entry) (form other : EntryForm) (fault : Fault) → LongForms form other → OwnerFault origin before other fault → OwnerFault origin before form fault
+owner_fault origin before (owned (bare text) items) (owned other kept) fault h bad = subst (λ o. OwnerFault origin before (owned o kept) fault) (sym h.0) bad
+owner_fault origin before (owned (quoted text) items) (owned other kept) fault h bad = subst (λ o. OwnerFault origin before (owned o kept) fault) (sym h.0) bad
+owner_fault origin before (unowned items) (unowned kept) fault h bad = bad
+owner_fault origin before (sets_origin items) (sets_origin kept) fault h bad = absurd bad
+owner_fault origin before (sets_ttl items) (sets_ttl kept) fault h bad = absurd bad
+owner_fault origin before includes includes fault h bad = absurd bad
+owner_fault origin before unknown unknown fault h bad = absurd bad
+owner_fault origin before form other fault h bad = absurd h
+
+is_owner : (origin : Labels) (before : List Entry) (form other : EntryForm) (name : Labels) → LongForms form other → IsOwner origin before other name → IsOwner origin before form name
+is_owner origin before (owned (bare text) items) (owned other kept) name h is = subst (λ o. IsOwner origin before (owned o kept) name) (sym h.0) is
+is_owner origin before (owned (quoted text) items) (owned other kept) name h is = subst (λ o. IsOwner origin before (owned o kept) name) (sym h.0) is
+is_owner origin before (unowned items) (unowned kept) name h is = is
+is_owner origin before (sets_origin items) (sets_origin kept) name h is = absurd is
+is_owner origin before (sets_ttl items) (sets_ttl kept) name h is = absurd is
+is_owner origin before includes includes name h is = absurd is
+is_owner origin before unknown unknown name h is = absurd is
+is_owner origin before form other name h is = absurd h
+
+none_stated : (origin : Labels) (before : List Entry) (form other : EntryForm) → LongForms form other → StatesNothing origin before other → ⊥
+none_stated origin before (sets_origin items) (sets_origin []) h n = n
+none_stated origin before (sets_origin items) (sets_origin (quoted text ∷ kept)) h n = n
+none_stated origin before (sets_origin items) (sets_origin (bare text ∷ [])) h n = omega (arith, h.1)
+none_stated origin before (sets_origin items) (sets_origin (bare text ∷ item ∷ kept)) h n = n
+none_stated origin before (sets_ttl items) (sets_ttl []) h n = n
+none_stated origin before (sets_ttl items) (sets_ttl (quoted text ∷ kept)) h n = n
+none_stated origin before (sets_ttl items) (sets_ttl (bare text ∷ [])) h n = omega (arith, h.1)
+none_stated origin before (sets_ttl items) (sets_ttl (bare text ∷ item ∷ kept)) h n = n
+none_stated origin before includes includes h n = n
+none_stated origin before unknown unknown h n = n
+none_stated origin before (owned owner items) (owned other kept) h n = n
+none_stated origin before (unowned items) (unowned kept) h n = n
+none_stated origin before form other h n = h
+
+-- ---- parts
+
+record LongParts (parts other : Parts) : Type 0 where
+  words : parts.words ≡ other.words
+  long : Long 65548 parts.rest other.rest
+
+free_one : Option (List ℕ) → ℕ
+free_one None = 1
+free_one (Some text) = 0
+
+-- how many words may still come
+abbrev free : List Word → ℕ
+free words = free_one (ttl_among words) + free_one (class_among words)
+
+stated_none : (o : Option (List ℕ)) (word found : Word) → unless_stated o word ≡ Some found → (o ≡ None) × (word ≡ found)
+stated_none None word found e = (refl, cc)
+stated_none (Some text) word found e = absurd cc
+
+ttl_less : (words : List Word) (text : List ℕ) (word : Word) → unless_stated (ttl_among words) (ttl text) ≡ Some word → free (words ++ word ∷ []) + 1 ≡ free words
+unfolding free_one
+ttl_less words text word e =
+    let parts = stated_none (ttl_among words) (ttl text) word e in
+    rw (sym parts.1, ttl_pushed words text (ap is_some parts.0), class_kept words text, parts.0) (omega arith)
+
+class_less : (words : List Word) (text : List ℕ) (word : Word) → unless_stated (class_among words) (class text) ≡ Some word → free (words ++ word ∷ []) + 1 ≡ free words
+unfolding free_one
+class_less words text word e =
+    let parts = stated_none (class_among words) (class text) word e in
+    rw (sym parts.1, class_pushed words text (ap is_some parts.0), ttl_kept words text, parts.0) (omega arith)
+
+bare_less : (a b : Bool) (words : List Word) (text : List ℕ) (word : Word) → (if a then unless_stated (ttl_among words) (ttl text) else if b then unless_stated (class_among words) (class text) else None) ≡ Some word → free (words ++ word ∷ []) + 1 ≡ free words
+bare_less true b words text word e = ttl_less words text word e
+bare_less false true words text word e = class_less words text word e
+bare_less false false words text word e = absurd cc
+
+free_less : (words : List Word) (item : RawItem) (word : Word) → word_behind words item ≡ Some word → free (words ++ word ∷ []) + 1 ≡ free words
+free_less words (quoted text) word e = absurd cc
+free_less words (bare text) word e = bare_less (begins_with_digit text) (is_class_word text) words text word e
+
+part_long : (words : List Word) (item : RawItem) (items kept : List RawItem) (o : Option Word) → word_behind words item ≡ o → Long 65548 (item ∷ items) (item ∷ kept) → ((word : Word) → word_behind words item ≡ Some word → LongParts (parts_behind (words ++ word ∷ []) items) (parts_behind (words ++ word ∷ []) kept)) → LongParts (parts_by words item items o) (parts_by words item kept o)
+part_long words item items kept None e long more = record { words = refl; long = long }
+part_long words item items kept (Some word) e long more = more word e
+
+parts_long : (words : List Word) (first more others : List RawItem) → 65548 + free words ≤ length first → AllByRecursion IsWritten (first ++ more) → LeavesOut more others → LongParts (parts_behind words (first ++ more)) (parts_behind words (first ++ others))
+parts_long words [] more others many written out = absurd (omega (arith, many))
+parts_long words (item ∷ first) more others many written out =
+    part_long words item (first ++ more) (first ++ others) (word_behind words item) refl
+    (record { short = record { first = item ∷ first; more = more; others = others; whole = refl; are_kept = refl; many = omega (arith, many); out = out }; written = written })
+    (λ word e. parts_long (words ++ word ∷ []) first more others (omega (arith, many, free_less words item word e)) written.1 out)
+
+owned_parts : (items kept : List RawItem) → Long 65551 items kept → LongParts (parts_behind [] items) (parts_behind [] kept)
+unfolding free_one
+owned_parts items kept long =
+    rw (long.short.whole, long.short.are_kept)
+    (parts_long [] long.short.first long.short.more long.short.others (omega (arith, long.short.many)) (subst (AllByRecursion IsWritten) long.short.whole long.written) long.short.out)
+
+-- the parts of all items, and those of the items that are kept
+record FormParts (form : EntryForm) (other : Parts) : Type 0 where
+  parts : Parts
+  split : parts_in form ≡ Some parts
+  long : LongParts parts other
+
+form_parts : (form other : EntryForm) (parts : Parts) → LongForms form other → parts_in other ≡ Some parts → FormParts form parts
+form_parts (owned owner items) (owned other kept) parts h e =
+    let same : parts_behind [] kept ≡ parts = cc in
+    record { parts = parts_behind [] items; split = refl; long = subst (LongParts (parts_behind [] items)) same (owned_parts items kept h.1) }
+form_parts (unowned items) (unowned kept) parts h e =
+    let same : parts_behind [] kept ≡ parts = cc in
+    record { parts = parts_behind [] items; split = refl; long = subst (LongParts (parts_behind [] items)) same (owned_parts items kept h) }
+form_parts (sets_origin items) (sets_origin kept) parts h e = absurd cc
+form_parts (sets_ttl items) (sets_ttl kept) parts h e = absurd cc
+form_parts includes includes parts h e = absurd cc
+form_parts unknown unknown parts h e = absurd cc
+form_parts form other parts h e = absurd h
+
+kind_of_first : (item : RawItem) (items kept : List RawItem) (fault : Fault) → KindFault (item ∷ kept) fault → KindFault (item ∷ items) fault
+kind_of_first (quoted text) items kept fault bad = bad
+kind_of_first (bare text) items kept fault bad = bad
+
+kind_fault : (items kept : List RawItem) (fault : Fault) → Long 65548 items kept → KindFault kept fault → KindFault items fault
+kind_fault items kept fault long bad =
+    let begin = begin_with 65548 65547 items kept (omega arith) long.short in
+    let first : KindFault (begin.item ∷ begin.others) fault = subst (λ t. KindFault t fault) begin.are_kept bad in
+    subst (λ t. KindFault t fault) (sym begin.whole) (kind_of_first begin.item begin.rest begin.others fault first)
+
+-- ---- the entry
+
+abbrev with_items : Entry → List RawItem → Entry
+with_items entry kept = record { line = entry.line; first = entry.first; items = kept }
+
+abbrev head_with : Head → List RawItem → Head
+head_with head items = record { owner = head.owner; class = head.class; kind = head.kind; items = items }
+
+record LongHead (origin : Labels) (before : List Entry) (entry : Entry) (head : Head) : Type 0 where
+  items : List RawItem
+  has : HasHead origin before entry (head_with head items)
+  long : Long 65543 items head.items
+
+head_long : (origin : Labels) (before : List Entry) (entry : Entry) (kept : List RawItem) (head : Head) → Long 65552 entry.items kept → HasHead origin before (with_items entry kept) head → LongHead origin before entry head
+head_long origin before entry kept head long has =
+    let forms = forms_long entry.first entry.items kept long in
+    let found = form_parts (form_of entry) (form_of (with_items entry kept)) has.parts forms has.split in
+    let begin = begin_with 65548 65547 found.parts.rest has.parts.rest (omega arith) found.long.long.short in
+    let firsts : begin.item ∷ begin.others ≡ bare has.word ∷ head.items = sym begin.are_kept ∙ has.rest in
+    let same : begin.item ≡ bare has.word = cc in
+    let tails : begin.others ≡ head.items = cc in
+    let written : AllByRecursion IsWritten (begin.item ∷ begin.rest) = subst (AllByRecursion IsWritten) begin.whole found.long.long.written in
+    let classes : class_word (form_of (with_items entry kept)) ≡ class_word (form_of entry) = rw (has.split, found.split, found.long.words) refl in
+    record {
+      items = begin.rest;
+      has = record {
+        parts = found.parts;
+        word = has.word;
+        split = found.split;
+        owner = is_owner origin before (form_of entry) (form_of (with_items entry kept)) head.owner forms has.owner;
+        words = subst (AllByRecursion HasValue) (sym found.long.words) has.words;
+        class = subst (λ o. MatchOption (or_else o (latest class_word before)) (head.class ≡ 1) (λ text. IsClassWord text head.class)) classes has.class;
+        rest = begin.whole ∙ ap (λ item. item ∷ begin.rest) same;
+        named = has.named;
+        kind = has.kind;
+      };
+      long = record { short = at_least 65547 65543 begin.rest head.items (omega arith) (subst (AreShortened 65547 begin.rest) tails begin.short); written = written.1 };
+    }
+
+fault_kept : (origin : Labels) (before : List Entry) (entry : Entry) (kept : List RawItem) (fault : Fault) → Long 65552 entry.items kept → EntryFault origin before (with_items entry kept) fault → EntryFault origin before entry fault
+fault_kept origin before entry kept fault long (of_directive bad) = of_directive (directive_fault origin before (form_of entry) _ fault (forms_long entry.first entry.items kept long) bad)
+fault_kept origin before entry kept fault long (of_owner bad) = of_owner (owner_fault origin before (form_of entry) _ fault (forms_long entry.first entry.items kept long) bad)
+fault_kept origin before entry kept fault long (of_words owner parts is split bad) =
+    let forms = forms_long entry.first entry.items kept long in
+    let found = form_parts (form_of entry) _ parts forms split in
+    of_words owner found.parts (is_owner origin before (form_of entry) _ owner forms is) found.split (subst (λ words. WordsFault words fault) (sym found.long.words) bad)
+fault_kept origin before entry kept fault long (of_kind owner parts is split have bad) =
+    let forms = forms_long entry.first entry.items kept long in
+    let found = form_parts (form_of entry) _ parts forms split in
+    of_kind owner found.parts (is_owner origin before (form_of entry) _ owner forms is) found.split (subst (AllByRecursion HasValue) (sym found.long.words) have) (kind_fault found.parts.rest parts.rest fault found.long.long bad)
+fault_kept origin before entry kept fault long (of_rdata head above has under bad) =
+    let found = head_long origin before entry kept head long has in
+    of_rdata (head_with head found.items) above found.has under (fault_of_all above head.class head.kind found.items head.items fault found.long.written found.long.short bad)
+fault_kept origin before entry kept fault long (of_ttl head octets has states bad) =
+    let found = head_long origin before entry kept head long has in
+    absurd (state_none states.above head.class head.kind found.items head.items octets found.long.written found.long.short states.states)
+
+record_kept : (origin : Labels) (before : List Entry) (entry : Entry) (kept : List RawItem) (r : Record) → Long 65552 entry.items kept → StatesRecord origin before (with_items entry kept) r → ⊥
+record_kept origin before entry kept r long states =
+    let found = head_long origin before entry kept (head_of r states.items) long states.head in
+    state_none states.rdata.above r.class r.kind found.items states.items r.octets found.long.written found.long.short states.rdata.states
+
+decides_by : (origin : Labels) (before : List Entry) (entry : Entry) (kept : List RawItem) (place : Place) (old new : Reading) (next : Defaults) → Long 65552 entry.items kept → DecidesEntry origin before (with_items entry kept) place old new next → DecidesEntry origin before entry place old new next
+decides_by origin before entry kept place old new next long (decides_none leaves same) = absurd (none_stated origin before (form_of entry) _ (forms_long entry.first entry.items kept long) leaves.0)
+decides_by origin before entry kept place old new next long (decides_one r states are more same) = absurd (record_kept origin before entry kept r long states)
+decides_by origin before entry kept place old new next long (decides_fault fault bad same ending) = decides_fault fault (fault_kept origin before entry kept fault long bad) same ending
+
+-- what is decided by the items that are kept, is decided by the entry
+pub decides_kept : (origin : Labels) (before : List Entry) (entry : Entry) (kept : List RawItem) (place : Place) (old new : Reading) (next : Defaults) → AllByRecursion IsWritten entry.items → AreKept entry.items kept → DecidesEntry origin before (with_items entry kept) place old new next → DecidesEntry origin before entry place old new next
+decides_kept origin before entry kept place old new next written (inl all) h = subst (λ items. DecidesEntry origin before (with_items entry items) place old new next) all h
+decides_kept origin before entry kept place old new next written (inr short) h = decides_by origin before entry kept place old new next (record { short = short; written = written }) h
+
+-- what an entry of these octets and items decides, an entry decides of whose items these are kept
+pub entry_kept : {T E : Type 0} (result : Result T E) (origin : Labels) (before : List Entry) (line : ℕ) (octets : List ℕ) (pieces : List Piece) (kept : List RawItem) (place : Place) (old new : Reading) (next : Defaults) → Cuts octets pieces → AreKept (flat_map item_of pieces) kept → OnOk result (DecidesEntry origin before (record { line = line; first = first_octet octets; items = kept }) place old new next) → OnOk result (DecidesEntry origin before (entry_of line pieces) place old new next)
+entry_kept (Ok x) origin before line octets pieces kept place old new next cut are h =
+    decides_kept origin before (entry_of line pieces) kept place old new next (items_written pieces cut.each) are
+    (subst (λ t. DecidesEntry origin before (record { line = line; first = first_octet t; items = kept }) place old new next) cut.whole h)
+entry_kept (Err e) origin before line octets pieces kept place old new next cut are h = tt
