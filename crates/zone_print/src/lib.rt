@@ -10,3 +10,6 @@ mod write;
 
 pub use print::{TEXT_LIMIT, canon_len, push_zone, text_fits, write_zone};
 pub use write::{OctetWriter, write_octets};
+
+#[cfg(test)]
+mod tests;

@@ -3,12 +3,12 @@ use Rattle.std.proofs.Common.{◌≡◌, ℕ, List, [], ◌∷◌, ◌++◌, sym
 use Rattle.std.specs.Prelude.{Option, Result, Ok, Err, OnErr, OnOk}
 use Rattle.std.specs.Io.KnownBytes.{Appends}
 use Rattle.std.proofs.KnownBytes.{Appends-trans}
-use Rattle.zonenorm.specs.Machine.Telling.{TellsFault}
-use Rattle.zonenorm.specs.Order.{line_text}
 use Rattle.zone_print.proofs.Front.{some_more}
-use Rattle.zone_print.specs.Writing.{AppendsPart}
-use Rattle.zonenorm.specs.Run.{AppendsThisLine}
-use Rattle.zonenorm.specs.declared.order.LineFault.{LineFault}
+use Rattle.zone_print.specs.Writing.{AppendsPart, IsFailedWrite}
+use Rattle.zone_rdata.specs.declared.fault.Stop.{Stop}
+use Rattle.zone_rdata.specs.declared.fault.Stop.TheVariants.{Refused, Read, Write, Memory}
+use Rattle.zonenorm.specs.Run.{Device, TellsLine}
+use Rattle.zonenorm.specs.Telling.{WritesLine, WritesPartOfLine}
 
 -- a part of the front of a text is a part of the text
 pub part_first : (old new : Option (List ℕ)) (piece front back : List ℕ) → piece ≡ front → AppendsPart old new piece → AppendsPart old new (front ++ back)
@@ -35,21 +35,21 @@ pub on_any_err : {X Y : Type 0} (r : Result X Y) (P : Type 0) → P → OnErr r 
 on_any_err (Ok x) P h = tt
 on_any_err (Err y) P h = h
 
--- words and digits that were written make this line
-pub this_line : (words digits line : List ℕ) (old new : Option (List ℕ)) → words ++ digits ≡ line → Appends old new (words ++ (digits ++ 10 ∷ [])) → AppendsThisLine line old new
-this_line words digits line old new is appended = subst (λ (t : List ℕ). Appends old new (t ++ 10 ∷ [])) is (subst (λ (t : List ℕ). Appends old new t) (sym (append_assoc words digits (10 ∷ []))) appended)
+-- words and digits that were written make this line, and part of them part of it
+pub this_line_on_ok : {X Y : Type 0} (r : Result X Y) (text line : List ℕ) (old new : Option (List ℕ)) → text ≡ line → OnOk r (WritesLine text old new) → OnOk r (WritesLine line old new)
+this_line_on_ok r text line old new is h = subst (λ (t : List ℕ). OnOk r (WritesLine t old new)) is h
 
-pub this_line_on_ok : {X Y : Type 0} (r : Result X Y) (words digits line : List ℕ) (old new : Option (List ℕ)) → words ++ digits ≡ line → OnOk r (Appends old new (words ++ (digits ++ 10 ∷ []))) → OnOk r (AppendsThisLine line old new)
-this_line_on_ok (Ok x) words digits line old new is h = this_line words digits line old new is h
-this_line_on_ok (Err y) words digits line old new is h = tt
+pub part_of_line_on_err : {X Y : Type 0} (r : Result X Y) (text line : List ℕ) (old new : Option (List ℕ)) → text ≡ line → OnErr r (WritesPartOfLine text old new) → OnErr r (WritesPartOfLine line old new)
+part_of_line_on_err r text line old new is h = subst (λ (t : List ℕ). OnErr r (WritesPartOfLine t old new)) is h
 
--- nor do words and digits of which a part was written make more than a part of it
-pub part_of_line : (words digits line : List ℕ) (old new : Option (List ℕ)) → words ++ digits ≡ line → AppendsPart old new (words ++ (digits ++ 10 ∷ [])) → AppendsPart old new (line ++ 10 ∷ [])
-part_of_line words digits line old new is part = part_as old new (words ++ (digits ++ 10 ∷ [])) (line ++ 10 ∷ []) (sym (append_assoc words digits (10 ∷ [])) ∙ ap (λ (l : List ℕ). l ++ 10 ∷ []) is) part
+-- a line that is told is told as any line that is the same, with a status that is
+pub told_as : (text line : List ℕ) (status other answer : ℕ) (writer : Device) → text ≡ line → status ≡ other → TellsLine text status writer answer → TellsLine line other writer answer
+told_as text line status other answer writer is same h =
+    subst (λ (t : List ℕ). TellsLine t other writer answer) is (subst (λ (n : ℕ). TellsLine text n writer answer) same h)
 
-pub part_of_line_on_err : {X Y : Type 0} (r : Result X Y) (words digits line : List ℕ) (old new : Option (List ℕ)) → words ++ digits ≡ line → OnErr r (AppendsPart old new (words ++ (digits ++ 10 ∷ []))) → OnErr r (AppendsPart old new (line ++ 10 ∷ []))
-part_of_line_on_err r words digits line old new is h = on_err r _ _ (part_of_line words digits line old new is) h
-
--- the text of a fault was not written whole
-pub not_told : (fault : LineFault) (old new : Option (List ℕ)) (text : List ℕ) → text ≡ line_text fault → AppendsPart old new (text ++ 10 ∷ []) → TellsFault fault old new 4
-not_told fault old new text is part = inr (refl, subst (λ (t : List ℕ). AppendsPart old new (t ++ 10 ∷ [])) is part)
+-- a write that failed
+pub failed_write : (failed : Type 0) (stop : Stop) → IsFailedWrite failed stop → failed
+failed_write failed (Refused fault place) never = absurd never
+failed_write failed Read never = absurd never
+failed_write failed Write h = h
+failed_write failed Memory never = absurd never

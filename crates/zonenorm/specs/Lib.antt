@@ -8,5 +8,6 @@ pub mod Examples
 pub mod Compare
 pub mod Order
 pub mod Telling
+pub mod Explain
 pub mod Run
 pub mod Machine

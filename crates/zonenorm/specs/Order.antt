@@ -4,6 +4,8 @@ use Rattle.std.specs.List.{AllByRecursion}
 use Rattle.clap.specs.Words.{App, Row, Rule, Text, new_rule, new_app, with_rule, with_subcommand, subcommand_of, first_of, fault_of}
 use Rattle.zone_name.specs.Common.{NothingIs}
 use Rattle.zone_name.specs.Spelling.{Spells}
+use Rattle.zone_rdata.specs.declared.fault.Stop.TheVariants.{Memory}
+use Rattle.zonenorm.specs.Telling.{stop_line}
 use Rattle.zonenorm.specs.declared.order.Source.{Source}
 use Rattle.zonenorm.specs.declared.order.Order.{Order}
 use Rattle.zonenorm.specs.declared.order.Order.TheVariants.{Normalise, Explain, Compare}
@@ -118,4 +120,4 @@ abbrev pub line_text : LineFault → List ℕ
 line_text line_faults.BadOrigin =
     codes "F46 BadOrigin: an origin is an absolute name or the word transfer"
 line_text (line_faults.Clap told) = string_bytes told
-line_text line_faults.Memory = codes "out of memory"
+line_text line_faults.Memory = stop_line Memory

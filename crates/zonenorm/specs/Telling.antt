@@ -1,5 +1,7 @@
--- The lines that tell people why a call stopped (this project's own). `docs/FAULTS.md` lists the faults.
-use Rattle.std.specs.Prelude.{ℕ, List, [], ◌∷◌, ◌++◌, codes, decimal}
+-- The lines that tell people what was found and why a call stopped, and what is written of them (this project's own).
+-- `docs/FAULTS.md` lists the faults.
+use Rattle.std.specs.Prelude.{ℕ, List, [], ◌∷◌, ◌++◌, codes, decimal, Option}
+use Rattle.std.specs.Io.KnownBytes.{Appends}
 use Rattle.zone_name.specs.Text.{name_text}
 use Rattle.zone_rdata.specs.declared.fault.Fault.{Fault}
 use Rattle.zone_rdata.specs.declared.fault.Fault.TheVariants as faults
@@ -7,6 +9,11 @@ use Rattle.zone_rdata.specs.declared.fault.Place.{Place}
 use Rattle.zone_rdata.specs.declared.fault.Place.TheVariants.{Line, Message, Whole}
 use Rattle.zone_rdata.specs.declared.fault.Stop.{Stop}
 use Rattle.zone_rdata.specs.declared.fault.Stop.TheVariants.{Refused, Read, Write, Memory}
+use Rattle.zone_print.specs.Writing.{AppendsPart}
+use Rattle.zonenorm.specs.declared.compare.Verdict.{Verdict}
+use Rattle.zonenorm.specs.declared.compare.Verdict.TheVariants.{Same, Different}
+use Rattle.zonenorm.specs.declared.compare.Which.{Which}
+use Rattle.zonenorm.specs.declared.compare.Which.TheVariants.{First, Second}
 
 -- a row of the table of faults: number, name, and what is wrong
 pub record Row : Type 0 where
@@ -88,3 +95,36 @@ stop_line (Refused fault place) = refusal_line fault place
 stop_line Read = codes "read failed"
 stop_line Write = codes "write failed"
 stop_line Memory = codes "out of memory"
+
+-- what a line on this input of a comparison begins with
+abbrev pub which_words : Which → List ℕ
+which_words First = codes "first: "
+which_words Second = codes "second: "
+
+-- the exit status of a run that stopped
+abbrev pub stop_status : Stop → ℕ
+stop_status (Refused fault place) = 3
+stop_status Read = 4
+stop_status Write = 4
+stop_status Memory = 4
+
+-- the line on an input that is accepted: how many records its zone has
+abbrev pub records_line : ℕ → List ℕ
+records_line count = codes "accepted, records: " ++ decimal count
+
+-- the line of a comparison's verdict, and its exit status
+abbrev pub verdict_line : Verdict → List ℕ
+verdict_line Same = codes "same"
+verdict_line (Different line) = codes "different at line " ++ decimal line
+
+abbrev pub verdict_status : Verdict → ℕ
+verdict_status Same = 0
+verdict_status (Different line) = 1
+
+-- a line was written with its line feed, and nothing else
+abbrev pub WritesLine : List ℕ → Option (List ℕ) → Option (List ℕ) → Type 0
+WritesLine line old new = Appends old new (line ++ 10 ∷ [])
+
+-- a proper prefix of that was written
+abbrev pub WritesPartOfLine : List ℕ → Option (List ℕ) → Option (List ℕ) → Type 0
+WritesPartOfLine line old new = AppendsPart old new (line ++ 10 ∷ [])

@@ -3,9 +3,10 @@ ghost use Rattle.std.specs.List.{AllByRecursion};
 ghost use Rattle.zone_name.specs.Text.{name_text};
 ghost use Rattle.zone_print.specs.Canonical.{text_limit};
 ghost use Rattle.zone_print.specs.Writing.{TellsWrite};
+ghost use Rattle.zonenorm.specs.Explain.{Explains, StopsExplain};
 ghost use Rattle.zonenorm.specs.Form.{form_of};
 ghost use Rattle.zonenorm.specs.Normalise.{ReadsWhole};
-ghost use Rattle.zonenorm.specs.Run.{Explains, IsExplanation, IsFailure, KeepsUnlessWrite, ReadsFew, TellsPart};
+ghost use Rattle.zonenorm.specs.Run.{ReadsFew};
 ghost use Rattle.zonenorm.specs.Stops.{TellsRead};
 ghost use Rattle.zonenorm.specs.Telling.{argument_of, place_words, refusal_line, row_of, stop_line};
 
@@ -19,6 +20,12 @@ use std::alloc::{AllocError, Global};
 use zone_name::Name;
 use zone_print::OctetWriter;
 use zone_rdata::{Fault, Place, Stop};
+
+/// What a user is told where reading failed.
+pub(crate) const READ_FAILED: &str = "read failed";
+
+/// What a user is told where writing failed.
+pub(crate) const WRITE_FAILED: &str = "write failed";
 
 /// What a user is told where memory was refused.
 pub(crate) const OUT_OF_MEMORY: &str = "out of memory";
@@ -39,11 +46,7 @@ pub fn explain<R: OctetReader, W: OctetWriter>(
 ) -> Result<u8, Stop>
     ensures explained { IfOk result (Explains (form_of form.entry) (R.remaining reader.old)
         (W.contents writer.old) (W.contents writer.new)) }
-    ensures failure { IfErr result IsFailure }
-    ensures kept { IfErr result (λ stop.
-        KeepsUnlessWrite stop (W.contents writer.old) (W.contents writer.new)) }
-    ensures part { OnErr result
-        (TellsPart (IsExplanation (form_of form.entry) (R.remaining reader.old))
+    ensures stopped { IfErr result (StopsExplain (form_of form.entry) (R.remaining reader.old)
         (W.contents writer.old) (W.contents writer.new)) }
     ensures few { ReadsFew (R.remaining reader.old) (R.remaining reader.new) }
     ensures whole { OnOk result
@@ -80,14 +83,18 @@ pub fn explain_line(alloc: Global, stop: &Stop) -> Result<String, AllocError>
 {
     match stop {
         Stop::Refused(fault, place) => refusal_line(alloc, fault, *place),
-        Stop::Read => String::from_str(alloc, "read failed"),
-        Stop::Write => String::from_str(alloc, "write failed"),
+        Stop::Read => String::from_str(alloc, READ_FAILED),
+        Stop::Write => String::from_str(alloc, WRITE_FAILED),
         Stop::Memory => String::from_str(alloc, OUT_OF_MEMORY),
     }
 }
 
 /// Number, name and argument of the fault, its place, and what is wrong.
-fn refusal_line(alloc: Global, fault: &Fault, place: Place) -> Result<String, AllocError>
+///
+/// # Errors
+///
+/// Want of memory.
+pub(crate) fn refusal_line(alloc: Global, fault: &Fault, place: Place) -> Result<String, AllocError>
     ensures { IfOk result (λ line. string_bytes line ≡ refusal_line fault.now place) }
 {
     let FaultRow { number, name, text } = fault_row(fault);

@@ -1,7 +1,7 @@
 //! Lines for people.
-ghost use Rattle.std.specs.Prelude.{◌++◌, ◌∷◌, [], IfErr, OnErr, OnOk};
-ghost use Rattle.std.specs.Io.KnownBytes.{Appends};
-ghost use Rattle.zone_print.specs.Writing.{AppendsPart, IsFailedWrite};
+ghost use Rattle.std.specs.Prelude.{◌++◌, IfErr, OnErr, OnOk};
+ghost use Rattle.zone_print.specs.Writing.{IsFailedWrite};
+ghost use Rattle.zonenorm.specs.Telling.{WritesLine, WritesPartOfLine};
 
 use zone_print::{OctetWriter, write_octets};
 use zone_rdata::Stop;
@@ -17,10 +17,10 @@ pub(crate) fn write_line<W: OctetWriter>(
     words: &str,
     line: &str,
 ) -> Result<(), Stop>
-    ensures written { OnOk result (Appends (W.contents writer.old) (W.contents writer.new)
-        (words.now ++ line.now ++ 10 ∷ [])) }
-    ensures part { OnErr result (AppendsPart (W.contents writer.old) (W.contents writer.new)
-        (words.now ++ line.now ++ 10 ∷ [])) }
+    ensures written { OnOk result
+        (WritesLine (words.now ++ line.now) (W.contents writer.old) (W.contents writer.new)) }
+    ensures part { OnErr result
+        (WritesPartOfLine (words.now ++ line.now) (W.contents writer.old) (W.contents writer.new)) }
     ensures works { OnOk result (W.Works writer.old → W.Works writer.new) }
     ensures failed { IfErr result (IsFailedWrite (W.Works writer.old → W.Failed writer.new)) }
 {

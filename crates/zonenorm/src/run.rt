@@ -1,11 +1,13 @@
-ghost use Rattle.std.specs.Prelude.{◌≡◌, ◌++◌, ◌∷◌, [], OnErr, OnOk};
-ghost use Rattle.zonenorm.specs.Machine.Telling.{which_words, TellsFault, TellsStop, TellsVerdict};
-ghost use Rattle.zone_print.specs.Writing.{AppendsPart};
-ghost use Rattle.zonenorm.specs.Run.{devices, verdict_line, verdict_status, AppendsThisLine, ReadsFew, ReadsSecond, Runs};
+ghost use Rattle.std.specs.Prelude.{◌≡◌, ◌++◌, IfErr, OnErr, OnOk};
+ghost use Rattle.zone_print.specs.Writing.{IsFailedWrite};
+ghost use Rattle.zonenorm.specs.Machine.Telling.{IsReported, TellsVerdict};
+ghost use Rattle.zonenorm.specs.Order.{line_status, line_text};
+ghost use Rattle.zonenorm.specs.Run.{device, devices, ReadsFew, ReadsSecond, Runs, TellsLine};
+ghost use Rattle.zonenorm.specs.Telling.{verdict_line, verdict_status, which_words, WritesLine, WritesPartOfLine};
 
 use crate::compare::{Verdict, Which, compare};
 use crate::engine::normalise;
-use crate::explain::{OUT_OF_MEMORY, explain, explain_line};
+use crate::explain::{OUT_OF_MEMORY, READ_FAILED, WRITE_FAILED, explain, refusal_line};
 use crate::form::Form;
 use crate::line::write_line;
 use crate::octets::OctetReader;
@@ -21,10 +23,11 @@ use zone_rdata::Stop;
 /// answers the exit status: 0 where the canonical text was written, the zone was accepted or both
 /// are the same; 1 where two zones differ; 3 where an input is refused; 4 where reading, writing or
 /// memory failed. Of 3 and 4 a line on the error writer tells why, of a comparison after the name
-/// of the input; `explain` tells of 3 on the writer. Where that can't be told the status is 4. With
-/// 4 the writer got nothing, or a prefix of the text or line that the order writes. No writer is
-/// flushed.
-#[tactic(auto, using(crate::proofs::Running::normalised, crate::proofs::Running::normalise_stopped, crate::proofs::Running::explained, crate::proofs::Running::explain_stopped, crate::proofs::Running::compared, crate::proofs::Running::compare_stopped))]
+/// of the input; `explain` tells of 3 on the writer. Where that can't be told the status is 4: a
+/// proper prefix of the line was written, or, where memory was refused for it, the line
+/// `out of memory`. With 4 the writer got nothing, or a proper prefix of the text or line that the
+/// order writes. With 0 and 1 the error writer got nothing. No writer is flushed, and a reader or a
+/// writer that failed isn't called again.
 pub fn run<R1: OctetReader, R2: OctetReader, W: OctetWriter, E: OctetWriter>(
     alloc: Global,
     order: &Order,
@@ -34,10 +37,15 @@ pub fn run<R1: OctetReader, R2: OctetReader, W: OctetWriter, E: OctetWriter>(
     errors: &mut E,
 ) -> u8
     ensures ran { Runs order.now
-        (devices (R1.remaining first.old) (R2.remaining second.old) (W.contents output.old)
-        (E.contents errors.old))
-        (devices (R1.remaining first.new) (R2.remaining second.new) (W.contents output.new)
-        (E.contents errors.new))
+        (devices
+        (device (R1.remaining first.old) (R1.remaining first.new)
+        (R1.Works first.old → R1.Works first.new) (R1.Works first.old → R1.Failed first.new))
+        (device (R2.remaining second.old) (R2.remaining second.new)
+        (R2.Works second.old → R2.Works second.new) (R2.Works second.old → R2.Failed second.new))
+        (device (W.contents output.old) (W.contents output.new)
+        (W.Works output.old → W.Works output.new) (W.Works output.old → W.Failed output.new))
+        (device (E.contents errors.old) (E.contents errors.new)
+        (E.Works errors.old → E.Works errors.new) (E.Works errors.old → E.Failed errors.new)))
         result }
     ensures first { ReadsFew (R1.remaining first.old) (R1.remaining first.new) }
     ensures second { ReadsSecond order.now (R2.remaining second.old) (R2.remaining second.new) }
@@ -75,12 +83,16 @@ fn tell_verdict<W: OctetWriter, E: OctetWriter>(
     output: &mut W,
     errors: &mut E,
 ) -> u8
-    ensures { TellsVerdict verdict (W.contents output.old) (W.contents output.new)
-        (E.contents errors.old) (E.contents errors.new) result }
+    ensures { TellsVerdict verdict
+        (device (W.contents output.old) (W.contents output.new)
+        (W.Works output.old → W.Works output.new) (W.Works output.old → W.Failed output.new))
+        (device (E.contents errors.old) (E.contents errors.new)
+        (E.Works errors.old → E.Works errors.new) (E.Works errors.old → E.Failed errors.new))
+        result }
 {
     match write_verdict(verdict, output) {
         Ok(()) => status_of(verdict),
-        Err(_) => report(alloc, "", &Stop::Write, errors),
+        Err(stop) => report(alloc, "", &stop, errors),
     }
 }
 
@@ -88,12 +100,14 @@ fn tell_verdict<W: OctetWriter, E: OctetWriter>(
 ///
 /// # Errors
 ///
-/// `Write`. A front of the line was written, but not all of it.
+/// `Write` where the writer failed. A proper prefix of the line was written.
 fn write_verdict<W: OctetWriter>(verdict: Verdict, output: &mut W) -> Result<(), Stop>
     ensures written { OnOk result
-        (AppendsThisLine (verdict_line verdict) (W.contents output.old) (W.contents output.new)) }
-    ensures part { OnErr result (AppendsPart (W.contents output.old) (W.contents output.new)
-        (verdict_line verdict ++ 10 ∷ [])) }
+        (WritesLine (verdict_line verdict) (W.contents output.old) (W.contents output.new)) }
+    ensures part { OnErr result
+        (WritesPartOfLine (verdict_line verdict) (W.contents output.old) (W.contents output.new)) }
+    ensures works { OnOk result (W.Works output.old → W.Works output.new) }
+    ensures failed { IfErr result (IsFailedWrite (W.Works output.old → W.Failed output.new)) }
 {
     match verdict {
         Verdict::Same => write_line(output, "", "same"),
@@ -124,31 +138,44 @@ fn words_of(which: Which) -> &'static str
     }
 }
 
-/// Tells why a run stopped, behind these words, and answers its status: 4 also where that could not be told.
+/// Tells why a run stopped, after these words, and answers its status. Only the line of a refusal
+/// takes memory, and where that is refused, want of memory is told.
 fn report<E: OctetWriter>(alloc: Global, words: &str, stop: &Stop, errors: &mut E) -> u8
-    ensures { TellsStop words.now stop.now (E.contents errors.old) (E.contents errors.new) result }
+    ensures { IsReported words.now
+        (device (E.contents errors.old) (E.contents errors.new)
+        (E.Works errors.old → E.Works errors.new) (E.Works errors.old → E.Failed errors.new))
+        stop.now result }
 {
-    let line = match stop {
-        Stop::Memory => None,
-        _ => explain_line(alloc, stop).ok(),
-    };
-    let Some(line) = line else {
-        // Want of memory is told without taking any.
-        let _ = write_line(errors, words, OUT_OF_MEMORY);
-        return status::FAILED;
-    };
-    match (write_line(errors, words, line.as_str()), stop) {
-        (Ok(()), Stop::Refused(..)) => status::REFUSED,
-        _ => status::FAILED,
+    match stop {
+        Stop::Refused(fault, place) => match refusal_line(alloc, fault, *place) {
+            Ok(line) => tell(words, line.as_str(), status::REFUSED, errors),
+            Err(_) => tell(words, OUT_OF_MEMORY, status::FAILED, errors),
+        },
+        Stop::Read => tell(words, READ_FAILED, status::FAILED, errors),
+        Stop::Write => tell(words, WRITE_FAILED, status::FAILED, errors),
+        Stop::Memory => tell(words, OUT_OF_MEMORY, status::FAILED, errors),
     }
 }
 
 /// Tells why a command line is no order, and answers the status: 4 where that could not be told.
 pub(crate) fn refuse<E: OctetWriter>(fault: &LineFault, errors: &mut E) -> u8
-    ensures { TellsFault fault.now (E.contents errors.old) (E.contents errors.new) result }
+    ensures { TellsLine (line_text fault.now) (line_status fault.now)
+        (device (E.contents errors.old) (E.contents errors.new)
+        (E.Works errors.old → E.Works errors.new) (E.Works errors.old → E.Failed errors.new))
+        result }
 {
-    match write_line(errors, "", fault.text()) {
-        Ok(()) => fault.status(),
+    tell("", fault.text(), fault.status(), errors)
+}
+
+/// Writes these words and the line, and answers this status: 4 where the writer failed.
+fn tell<E: OctetWriter>(words: &str, line: &str, answer: u8, errors: &mut E) -> u8
+    ensures { TellsLine (words.now ++ line.now) answer
+        (device (E.contents errors.old) (E.contents errors.new)
+        (E.Works errors.old → E.Works errors.new) (E.Works errors.old → E.Failed errors.new))
+        result }
+{
+    match write_line(errors, words, line) {
+        Ok(()) => answer,
         Err(_) => status::FAILED,
     }
 }

@@ -1,45 +1,23 @@
--- What the program tells of a run or a command line, and the exit status that goes with it.
-use Rattle.std.specs.Prelude.{◌≡◌, ℕ, List, [], ◌∷◌, ◌++◌, codes, Option, ◌⊎◌}
-use Rattle.std.specs.Io.KnownBytes.{Appends, Keeps}
+-- What private functions tell of a stop and of a verdict.
+use Rattle.std.specs.Prelude.{ℕ, List, ◌++◌}
+use Rattle.zone_rdata.specs.declared.fault.Fault.{Fault}
+use Rattle.zone_rdata.specs.declared.fault.Place.{Place}
 use Rattle.zone_rdata.specs.declared.fault.Stop.{Stop}
-use Rattle.zone_rdata.specs.declared.fault.Stop.TheVariants.{Refused, Read, Write, Memory}
-use Rattle.zonenorm.specs.Order.{line_status, line_text}
-use Rattle.zone_print.specs.Writing.{AppendsPart}
-use Rattle.zonenorm.specs.Run.{AppendsLine, AppendsThisLine, verdict_line, verdict_status}
+use Rattle.zone_rdata.specs.declared.fault.Stop.TheVariants.{Refused, Write, Memory}
+use Rattle.zonenorm.specs.Run.{Device, IsLeft, TellsLine}
+use Rattle.zonenorm.specs.Telling.{stop_line, stop_status, verdict_line, verdict_status, WritesLine, WritesPartOfLine}
 use Rattle.zonenorm.specs.declared.compare.Verdict.{Verdict}
-use Rattle.zonenorm.specs.declared.compare.Which.{Which}
-use Rattle.zonenorm.specs.declared.compare.Which.TheVariants.{First, Second}
-use Rattle.zonenorm.specs.declared.order.LineFault.{LineFault}
 
--- what a line on this input of a comparison begins with
-abbrev pub which_words : Which → List ℕ
-which_words First = codes "first: "
-which_words Second = codes "second: "
+-- why a run stopped is told after these words, or that memory was refused for the line of a refusal
+pub data IsReported (words : List ℕ) (errors : Device) : Stop → ℕ → Type 0 where
+  explained : (stop : Stop) (status : ℕ) → TellsLine (words ++ stop_line stop) (stop_status stop) errors status
+      → IsReported words errors stop status
+  unexplained : (fault : Fault) (place : Place) (status : ℕ) → TellsLine (words ++ stop_line Memory) 4 errors status
+      → IsReported words errors (Refused fault place) status
 
--- the exit status of a run that stopped: 3 where the input is refused, else 4
-abbrev pub status_of : Stop → ℕ
-status_of (Refused fault place) = 3
-status_of Read = 4
-status_of Write = 4
-status_of Memory = 4
-
--- why a run stopped was told after these words, with its status, or the answer is 4
-abbrev pub TellsStop : List ℕ → Stop → Option (List ℕ) → Option (List ℕ) → ℕ → Type 0
-TellsStop words stop old new answer =
-    (answer ≡ 4) ⊎ ((answer ≡ status_of stop) × AppendsLine words old new)
-
--- the verdict of a comparison was told, with its status and nothing on standard error, or not
--- whole, and the answer is 4
-abbrev pub TellsVerdict : Verdict → Option (List ℕ) → Option (List ℕ) → Option (List ℕ)
-    → Option (List ℕ) → ℕ → Type 0
-TellsVerdict verdict old new errors errors' answer =
-    ((answer ≡ verdict_status verdict) × AppendsThisLine (verdict_line verdict) old new
-    × Keeps errors errors')
-    ⊎ ((answer ≡ 4) × AppendsPart old new (verdict_line verdict ++ 10 ∷ []))
-
--- the text of a fault of the command line was told whole, with its status, or not whole, and the
--- answer is 4
-abbrev pub TellsFault : LineFault → Option (List ℕ) → Option (List ℕ) → ℕ → Type 0
-TellsFault fault old new answer =
-    ((answer ≡ line_status fault) × Appends old new (line_text fault ++ 10 ∷ []))
-    ⊎ ((answer ≡ 4) × AppendsPart old new (line_text fault ++ 10 ∷ []))
+-- the line of a verdict is told, or that writing it failed
+pub data TellsVerdict (verdict : Verdict) (output errors : Device) : ℕ → Type 0 where
+  told : WritesLine (verdict_line verdict) output.old output.new → output.works → IsLeft errors
+      → TellsVerdict verdict output errors (verdict_status verdict)
+  untold : (status : ℕ) → WritesPartOfLine (verdict_line verdict) output.old output.new → output.failed
+      → TellsLine (stop_line Write) 4 errors status → TellsVerdict verdict output errors status

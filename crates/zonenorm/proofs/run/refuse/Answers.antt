@@ -1,5 +1,5 @@
-use Rattle.zonenorm.proofs.Telling.{not_told}
+use Rattle.zonenorm.proofs.Telling.{told_as}
 use Rattle.zonenorm.proofs.run.refuse.Goals as goal
 
-pub returns-in-Err : goal.returns-in-Err
-returns-in-Err g c = not_told _ _ _ _ c.text.ensures c.in-Err.ensures.part
+pub returns : goal.returns
+returns g c = told_as _ _ _ _ _ _ c.text.ensures c.status.ensures c.tell.ensures

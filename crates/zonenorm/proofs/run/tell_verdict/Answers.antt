@@ -1,7 +1,10 @@
-use Rattle.std.proofs.Common.{[], inr}
-use Rattle.zone_rdata.specs.declared.fault.Stop.TheVariants.{Write}
-use Rattle.zonenorm.proofs.Running.{four_for_failure}
+use Rattle.std.proofs.KnownBytes.{Keeps-refl}
+use Rattle.zonenorm.specs.Machine.Telling.{told}
+use Rattle.zonenorm.proofs.Running.{not_told}
 use Rattle.zonenorm.proofs.run.tell_verdict.Goals as goal
 
+pub returns-in-Ok : goal.returns-in-Ok
+returns-in-Ok g c = rw c.status_of.ensures (told c.in-Ok.ensures.written c.in-Ok.ensures.works (Keeps-refl _, λ w. w))
+
 pub returns-in-Err : goal.returns-in-Err
-returns-in-Err g c = inr (four_for_failure [] Write (g.E.OctetWriter.contents c.args.errors.now) (g.E.OctetWriter.contents c.report.new.errors) c.report.result tt c.report.ensures, c.in-Err.ensures.part)
+returns-in-Err g c = not_told _ _ _ c.in-Err.stop _ c.in-Err.ensures.part c.in-Err.ensures.failed c.report.ensures
