@@ -17,9 +17,8 @@ use Rattle.zone_rdata.proofs.FieldLaws.{AreLow, AreLowItems, FieldChoice, FieldL
 use Rattle.zone_rdata.proofs.Standing.{Stands}
 use Rattle.zone_rdata.proofs.StringLaws.{fault-once}
 use Rattle.zone_rdata.proofs.Fields.Name.{laws as name_laws, front_once as name_front_once}
-use Rattle.zone_rdata.proofs.Fields.Serial.{laws as serial_laws}
+use Rattle.zone_rdata.proofs.Fields.Number.{serial_laws, u16_laws}
 use Rattle.zone_rdata.proofs.Fields.Time.{laws as time_laws}
-use Rattle.zone_rdata.proofs.Fields.U16.{laws as u16_laws}
 use Rattle.zone_rdata.proofs.Fields.Address.{laws as address_laws}
 use Rattle.zone_rdata.proofs.Fields.OneString.{laws as string_laws}
 use Rattle.zone_rdata.proofs.Fields.Strings.{laws as strings_laws, fault_once as strings_fault_once}

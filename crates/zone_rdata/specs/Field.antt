@@ -2,6 +2,7 @@
 -- octets, the items that spell them and the fault of items that don't. What is said of a kind
 -- stands in `Fields`, a file each.
 use Rattle.std.specs.Prelude.{◌≡◌, ℕ, ◌<◌, List, [], ◌∷◌, length, take, drop, map, decimal, Bool, true, false, ⊤, Option, Some}
+use Rattle.std.specs.Int.{w16, w32, to_be_bytes}
 use Rattle.std.specs.List.{flat_map}
 use Rattle.zone_name.specs.Name.{with_length, wire, labels_of, IsName}
 use Rattle.zone_name.specs.Spelling.{Spells}
@@ -14,10 +15,9 @@ use Rattle.zone_rdata.specs.Fault.{NoValue}
 use Rattle.zone_rdata.specs.Fields.Address.{AreFixed, IsAddress, address_text}
 use Rattle.zone_rdata.specs.Fields.Name.{IsNameFault, IsSentName}
 use Rattle.zone_rdata.specs.Fields.OneString.{string_at, string_item}
-use Rattle.zone_rdata.specs.Fields.Serial.{IsSerial, SpellsSerial, serial_at, serial_octets}
+use Rattle.zone_rdata.specs.Fields.Number.{IsNumber, SpellsNumber, number_at}
 use Rattle.zone_rdata.specs.Fields.Strings.{AreStrings, SpellsStrings, StringsFault, strings_of, strings_text}
 use Rattle.zone_rdata.specs.Fields.Time.{SpellsTime}
-use Rattle.zone_rdata.specs.Fields.U16.{IsU16, SpellsU16, u16_at, u16_octets}
 use Rattle.zone_rdata.specs.Item.{RawItem, bare, quoted}
 use Rattle.zone_rdata.specs.Strings.{IsString, SpellsString, StringFault, string_text}
 
@@ -34,8 +34,8 @@ pub data FieldValue : Type 0 where
 -- its octets: a name uncompressed, a number with the highest octet first, a string after its length
 abbrev pub field_octets : FieldValue → List ℕ
 field_octets (name labels) = wire labels
-field_octets (u32_value n) = serial_octets n
-field_octets (u16_value n) = u16_octets n
+field_octets (u32_value n) = to_be_bytes w32 n
+field_octets (u16_value n) = to_be_bytes w16 n
 field_octets (fixed octets) = octets
 field_octets (string octets) = with_length octets
 field_octets (strings many) = flat_map with_length many
@@ -46,9 +46,9 @@ octets_of values = flat_map field_octets values
 -- the value is one that the field can hold
 abbrev pub Holds : Field → FieldValue → Type 0
 Holds Name (name labels) = IsName labels
-Holds Serial (u32_value n) = IsSerial n
-Holds Time (u32_value n) = IsSerial n
-Holds U16 (u16_value n) = IsU16 n
+Holds Serial (u32_value n) = IsNumber w32 n
+Holds Time (u32_value n) = IsNumber w32 n
+Holds U16 (u16_value n) = IsNumber w16 n
 Holds (Octets n) (fixed octets) = AreFixed n octets
 Holds OneString (string octets) = IsString octets
 Holds Strings (strings many) = AreStrings many
@@ -64,9 +64,9 @@ HoldEach (f ∷ fields) (v ∷ values) = Holds f v × HoldEach fields values
 -- the value of a field at the beginning of octets; strings are all that is left
 abbrev pub field_at : Field → List ℕ → FieldValue
 field_at Name octets = name (labels_of octets)
-field_at Serial octets = u32_value (serial_at octets)
-field_at Time octets = u32_value (serial_at octets)
-field_at U16 octets = u16_value (u16_at octets)
+field_at Serial octets = u32_value (number_at w32 octets)
+field_at Time octets = u32_value (number_at w32 octets)
+field_at U16 octets = u16_value (number_at w16 octets)
 field_at (Octets n) octets = fixed (take n octets)
 field_at OneString octets = string (string_at octets)
 field_at Strings octets = strings (strings_of octets)
@@ -87,9 +87,9 @@ IsSent value octets = octets ≡ field_octets value
 -- time or an address; one item, bare or quoted, a string; one or more items strings, one each
 abbrev pub SpellsField : List (List ℕ) → Field → List RawItem → FieldValue → Type 0
 SpellsField origin Name (bare text ∷ []) (name labels) = Spells (Some origin) text labels
-SpellsField origin Serial (bare text ∷ []) (u32_value n) = SpellsSerial text n
+SpellsField origin Serial (bare text ∷ []) (u32_value n) = SpellsNumber w32 text n
 SpellsField origin Time (bare text ∷ []) (u32_value n) = SpellsTime text n
-SpellsField origin U16 (bare text ∷ []) (u16_value n) = SpellsU16 text n
+SpellsField origin U16 (bare text ∷ []) (u16_value n) = SpellsNumber w16 text n
 SpellsField origin (Octets n) (bare text ∷ []) (fixed octets) = IsAddress n text octets
 SpellsField origin OneString (item ∷ []) (string octets) = SpellsString item octets
 SpellsField origin Strings items (strings many) = SpellsStrings items many
@@ -113,9 +113,9 @@ IsFieldFault origin field [] fault = fault ≡ BadRdata
 IsFieldFault origin OneString (item ∷ items) fault = StringFault item fault
 IsFieldFault origin field (quoted text ∷ items) fault = fault ≡ BadRdata
 IsFieldFault origin Name (bare text ∷ items) fault = IsNameFault origin text fault
-IsFieldFault origin Serial (bare text ∷ items) fault = NoValue BadNumber (SpellsSerial text) fault
+IsFieldFault origin Serial (bare text ∷ items) fault = NoValue BadNumber (SpellsNumber w32 text) fault
 IsFieldFault origin Time (bare text ∷ items) fault = NoValue BadNumber (SpellsTime text) fault
-IsFieldFault origin U16 (bare text ∷ items) fault = NoValue BadNumber (SpellsU16 text) fault
+IsFieldFault origin U16 (bare text ∷ items) fault = NoValue BadNumber (SpellsNumber w16 text) fault
 IsFieldFault origin (Octets n) (bare text ∷ items) fault = NoValue BadRdata (IsAddress n text) fault
 
 -- the canonical text of a value: a name absolute and in lower case, a number in decimal digits, an

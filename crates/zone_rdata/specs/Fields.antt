@@ -1,8 +1,7 @@
 -- The kinds of fields, a file each.
 pub mod Name
-pub mod Serial
+pub mod Number
 pub mod Time
-pub mod U16
 pub mod Address
 pub mod OneString
 pub mod Strings

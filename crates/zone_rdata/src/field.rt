@@ -12,12 +12,11 @@ ghost use Rattle.zone_rdata.specs.Machine.Appending.{AppendsValue, BeginsWithNon
 
 mod address;
 mod name;
+mod number;
 mod prefix;
-mod serial;
 mod string;
 mod strings;
 mod time;
-mod u16;
 
 use crate::builder::Part;
 use crate::fault::{Failing, Fault};
@@ -28,12 +27,11 @@ use crate::number::push_decimal;
 use crate::string::{push_string, push_string_text};
 use address::{push_address, push_address_text};
 use name::{push_name, push_sent_name};
+use number::{push_u16, push_u32, split_u16, split_u32};
 use prefix::push_prefix;
-use serial::{push_serial, split_u32};
 use string::{push_sent_string, split_string};
 use strings::{push_sent_strings, push_strings, push_strings_text};
 use time::push_time;
-use u16::{push_u16, split_u16};
 use zone_name::{Name, NameRef, Sink};
 
 /// A field of record data (RFC 1035 3.3).
@@ -86,7 +84,7 @@ impl Field {
             (Field::OneString, Some(item)) => push_string(*item, octets)?,
             (_, None | Some(Item::Quoted(_))) => return Err(NarrowFailing::of(Cause::BadRdata)),
             (Field::Name, Some(Item::Bare(text))) => push_name(text, origin, octets)?,
-            (Field::Serial, Some(Item::Bare(text))) => push_serial(text, octets)?,
+            (Field::Serial, Some(Item::Bare(text))) => push_u32(text, octets)?,
             (Field::Time, Some(Item::Bare(text))) => push_time(text, octets)?,
             (Field::U16, Some(Item::Bare(text))) => push_u16(text, octets)?,
             (Field::Octets(count), Some(Item::Bare(text))) => push_address(count, text, octets)?,

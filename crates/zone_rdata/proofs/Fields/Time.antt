@@ -11,10 +11,10 @@ use Rattle.zone_rdata.proofs.FieldLaws.{FieldLaws, SizedField, bare_item, bare_o
 use Rattle.zone_rdata.proofs.GenericLaws.{decimal-is}
 use Rattle.zone_rdata.proofs.TimeChoice.{time_or_not}
 use Rattle.zone_rdata.proofs.TimeLaws.{one_time}
-use Rattle.zone_rdata.proofs.Fields.Serial as serial
+use Rattle.zone_rdata.proofs.Fields.Number.{serial_laws, serial_sized}
 
 pub sized : SizedField Time u32_value 4
-sized = record { plain = λ e. cc; single = λ e. cc; only = serial.sized.only; size = serial.sized.size; read = serial.sized.read }
+sized = record { plain = λ e. cc; single = λ e. cc; only = serial_sized.only; size = serial_sized.size; read = serial_sized.read }
 
 opens : (origin : List (List ℕ)) (items : List RawItem) (v : FieldValue) → SpellsField origin Time items v → (text : List ℕ) × (n : ℕ) × (items ≡ bare text ∷ []) × (v ≡ u32_value n)
 opens origin (bare text ∷ []) (u32_value n) h = (text, n, refl, refl)
@@ -22,11 +22,11 @@ opens origin items v h = absurd h
 
 pub laws : FieldLaws Time u32_value bare_item
 laws = record {
-  only = serial.laws.only;
+  only = serial_laws.only;
   opens = opens;
-  part = serial.laws.part;
-  back = λ n rest h last. serial.laws.back n rest h (λ e. absurd cc);
-  low = serial.laws.low;
+  part = serial_laws.part;
+  back = λ n rest h last. serial_laws.back n rest h (λ e. absurd cc);
+  low = serial_laws.low;
   short = λ n many fixed_size h. omega arith;
   front = sized_front Time 4 sized;
   holds = λ origin text n h. h.1;
@@ -35,7 +35,7 @@ laws = record {
   or_fault = λ names origin is. bare_or_fault origin Time (λ e. cc) (λ e. cc) (λ text each.
       value_or_fault origin Time text u32_value BadNumber (SpellsTime text) (λ n h. h) (λ none. (refl, none)) (below_or_not (IsTime text) 4294967296 (one_time text) (time_or_not text)));
   printed = λ names origin n rest fixed_size h last. ((plain (decimal-is n (omega arith)), h), refl);
-  stands = serial.laws.stands;
-  unmarked = serial.laws.unmarked;
-  few = serial.laws.few;
+  stands = serial_laws.stands;
+  unmarked = serial_laws.unmarked;
+  few = serial_laws.few;
 }

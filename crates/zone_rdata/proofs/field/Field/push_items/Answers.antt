@@ -2,7 +2,7 @@ use Rattle.std.proofs.Common.{refl, rules}
 use Rattle.zone_rdata.specs.Field.{fixed, name, string, u16_value, u32_value}
 use Rattle.zone_rdata.specs.declared.item.Item.TheVariants.{Bare}
 use Rattle.zone_rdata.proofs.Values.{all_appended, first_appended}
-use Rattle.zone_rdata.proofs.field.Field.push_items.Goals.{in-OneString-Some+in_ok-push_string-in-OneString-Some, in-Name-Some-Bare+in_ok-push_name-in-Name-Some-Bare, in-Serial-Some-Bare+in_ok-push_serial-in-Serial-Some-Bare, in-Time-Some-Bare+in_ok-push_time-in-Time-Some-Bare, in-U16-Some-Bare+in_ok-push_u16-in-U16-Some-Bare, in-Octets-Some-Bare+in_ok-push_address-in-Octets-Some-Bare}
+use Rattle.zone_rdata.proofs.field.Field.push_items.Goals.{in-OneString-Some+in_ok-push_string-in-OneString-Some, in-Name-Some-Bare+in_ok-push_name-in-Name-Some-Bare, in-Serial-Some-Bare+in_ok-push_u32-in-Serial-Some-Bare, in-Time-Some-Bare+in_ok-push_time-in-Time-Some-Bare, in-U16-Some-Bare+in_ok-push_u16-in-U16-Some-Bare, in-Octets-Some-Bare+in_ok-push_address-in-Octets-Some-Bare}
 use Rattle.zone_rdata.proofs.field.Field.push_items.Goals as goal
 
 pub returns-in-Strings-default-clause-found : goal.returns-in-Strings-default-clause-found
@@ -12,7 +12,7 @@ pub returns-clause-found : goal.returns-clause-found
 returns-clause-found c = elim c.match-self.branch [
   | in-OneString-Some+in_ok-push_string-in-OneString-Some w ↦ rw w.octets-is (first_appended string _ _ _ _ _ _ _ w.in-OneString-Some.is-0 w.in-OneString-Some.ensures.value (λ rest. refl) (λ x rest h. h) (λ x. refl) w.in_ok-push_string-in-OneString-Some.ensures.found)
   | in-Name-Some-Bare+in_ok-push_name-in-Name-Some-Bare w ↦ rw w.octets-is (first_appended name _ _ _ (Bare w.in-Name-Some-Bare.text) _ _ _ w.in-Name-Some-Bare.is-0 (search rules) (λ rest. refl) (λ x rest h. h) (λ x. refl) w.in_ok-push_name-in-Name-Some-Bare.ensures.found)
-  | in-Serial-Some-Bare+in_ok-push_serial-in-Serial-Some-Bare w ↦ rw w.octets-is (first_appended u32_value _ _ _ (Bare w.in-Serial-Some-Bare.text) _ _ _ w.in-Serial-Some-Bare.is-0 (search rules) (λ rest. refl) (λ x rest h. h) (λ x. refl) w.in_ok-push_serial-in-Serial-Some-Bare.ensures.found)
+  | in-Serial-Some-Bare+in_ok-push_u32-in-Serial-Some-Bare w ↦ rw w.octets-is (first_appended u32_value _ _ _ (Bare w.in-Serial-Some-Bare.text) _ _ _ w.in-Serial-Some-Bare.is-0 (search rules) (λ rest. refl) (λ x rest h. h) (λ x. refl) w.in_ok-push_u32-in-Serial-Some-Bare.ensures.found)
   | in-Time-Some-Bare+in_ok-push_time-in-Time-Some-Bare w ↦ rw w.octets-is (first_appended u32_value _ _ _ (Bare w.in-Time-Some-Bare.text) _ _ _ w.in-Time-Some-Bare.is-0 (search rules) (λ rest. refl) (λ x rest h. h) (λ x. refl) w.in_ok-push_time-in-Time-Some-Bare.ensures.found)
   | in-U16-Some-Bare+in_ok-push_u16-in-U16-Some-Bare w ↦ rw w.octets-is (first_appended u16_value _ _ _ (Bare w.in-U16-Some-Bare.text) _ _ _ w.in-U16-Some-Bare.is-0 (search rules) (λ rest. refl) (λ x rest h. h) (λ x. refl) w.in_ok-push_u16-in-U16-Some-Bare.ensures.found)
   | in-Octets-Some-Bare+in_ok-push_address-in-Octets-Some-Bare w ↦ rw w.octets-is (first_appended fixed _ _ _ (Bare w.in-Octets-Some-Bare.text) _ _ _ w.in-Octets-Some-Bare.is-0 (search rules) (λ rest. refl) (λ x rest h. h) (λ x. refl) w.in_ok-push_address-in-Octets-Some-Bare.ensures.found)

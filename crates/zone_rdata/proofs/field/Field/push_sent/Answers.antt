@@ -8,17 +8,16 @@ use Rattle.zone_rdata.proofs.Failings.{IfErr-fault}
 use Rattle.zone_rdata.proofs.Lists.{bytes_each}
 use Rattle.zone_rdata.proofs.FieldLaws.{SizedField, appends_sized}
 use Rattle.zone_rdata.proofs.Fields.Address as address
-use Rattle.zone_rdata.proofs.Fields.Serial as serial
+use Rattle.zone_rdata.proofs.Fields.Number.{serial_sized, u16_sized}
 use Rattle.zone_rdata.proofs.Fields.Time as time
-use Rattle.zone_rdata.proofs.Fields.U16 as u16
 use Rattle.zone_rdata.proofs.field.Field.push_sent.Goals as goal
 
 number_of_32 : (f : Field) → (f ≡ Serial) ⊎ (f ≡ Time) → SizedField f u32_value 4
-number_of_32 f (inl e) = subst (λ g. SizedField g u32_value 4) (sym e) serial.sized
+number_of_32 f (inl e) = subst (λ g. SizedField g u32_value 4) (sym e) serial_sized
 number_of_32 f (inr e) = subst (λ g. SizedField g u32_value 4) (sym e) time.sized
 
 number_of_16 : (f : Field) → f ≡ U16 → SizedField f u16_value 2
-number_of_16 f e = subst (λ g. SizedField g u16_value 2) (sym e) u16.sized
+number_of_16 f e = subst (λ g. SizedField g u16_value 2) (sym e) u16_sized
 
 octets_of_address : (f : Field) (n : ℕ) → f ≡ Octets n → SizedField f fixed n
 octets_of_address f n e = subst (λ g. SizedField g fixed n) (sym e) (address.sized n)
