@@ -8,3 +8,4 @@ pub mod Building
 pub mod Fronts
 pub mod GenericLength
 pub mod LeftOut
+pub mod NarrowFault

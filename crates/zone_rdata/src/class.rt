@@ -3,6 +3,7 @@ ghost use Rattle.zone_name.specs.Common.{NothingIs};
 ghost use Rattle.zone_rdata.specs.Words.{IsClass, IsClassWord, class_text};
 
 use crate::fault::Fault;
+use crate::narrow_fault::{NarrowCause, NarrowFault};
 use crate::table::{CLASSES, row_of};
 use crate::word::{number_of_word, push_numbered};
 use std::marker::Model;
@@ -28,6 +29,17 @@ impl Model for Class {
 }
 
 impl Class {
+    /// As `from_number`, with a narrow fault.
+    fn admitted(number: u64) -> Result<Class, NarrowFault>
+        ensures ok { IfOk result (λ class. class ≡ number) }
+        ensures err { IfErr result (λ fault. (fault ≡ Fault.BadClass) × (IsClass number → ⊥)) }
+    {
+        match u16::try_from(number) {
+            Ok(0 | 254 | 255) | Err(_) => Err(NarrowFault::of(NarrowCause::BadClass)),
+            Ok(number) => Ok(Class { number }),
+        }
+    }
+
     /// The class of a number (RFC 6895 3.2).
     ///
     /// # Errors
@@ -37,10 +49,7 @@ impl Class {
         ensures ok { IfOk result (λ class. class ≡ number) }
         ensures err { IfErr result (λ fault. (fault ≡ Fault.BadClass) × (IsClass number → ⊥)) }
     {
-        match u16::try_from(number) {
-            Ok(0 | 254 | 255) | Err(_) => Err(Fault::BadClass),
-            Ok(number) => Ok(Class { number }),
-        }
+        Ok(Class::admitted(number)?)
     }
 
     /// The class of a number of 16 bits (RFC 6895 3.2). `None`: no zone data can have it.
@@ -66,8 +75,22 @@ impl Class {
         ensures err { IfErr result (λ fault. (fault ≡ Fault.BadClass)
             × ((n : ℕ) × (IsClassWord word.now n × (IsClass n → ⊥)))) }
     {
+        Ok(Class::read_word(word)?)
+    }
+
+    /// As `from_word`, with a fault of one octet.
+    ///
+    /// # Errors
+    ///
+    /// `BadClass` where no zone data can have the class.
+    pub fn read_word(word: &[u8]) -> Result<Option<Class>, NarrowFault>
+        ensures found { IfOk result (λ class. IfSome class (IsClassWord word.now)) }
+        ensures none { IfOk result (λ class. IfNone class (NothingIs (IsClassWord word.now))) }
+        ensures err { IfErr result (λ fault. (fault ≡ Fault.BadClass)
+            × ((n : ℕ) × (IsClassWord word.now n × (IsClass n → ⊥)))) }
+    {
         match number_of_word(CLASSES, b"CLASS", word) {
-            Some(number) => Ok(Some(Class::from_number(number)?)),
+            Some(number) => Ok(Some(Class::admitted(number)?)),
             None => Ok(None),
         }
     }

@@ -4,6 +4,7 @@ ghost use Rattle.zone_rdata.specs.Words.{IsKind, IsKindWord, kind_text, IsWordFa
 use crate::class::Class;
 use crate::fault::Fault;
 use crate::layout::row_in;
+use crate::narrow_fault::{NarrowCause, NarrowFault};
 use crate::table::TYPES;
 use crate::word::{number_of_word, push_numbered};
 use std::marker::Model;
@@ -32,6 +33,19 @@ impl Model for Kind {
 const SOA: u16 = 6;
 
 impl Kind {
+    /// As `from_number`, with a narrow fault.
+    fn admitted(number: u64) -> Result<Kind, NarrowFault>
+        ensures ok { IfOk result (λ kind. kind ≡ number) }
+        ensures err { IfErr result (λ fault. (number < 65536 → fault ≡ Fault.MetaType)
+            × (65536 ≤ number → fault ≡ Fault.UnknownType) × (IsKind number → ⊥)) }
+    {
+        match u16::try_from(number) {
+            Ok(0 | 41 | 128..=255) => Err(NarrowFault::of(NarrowCause::MetaType)),
+            Ok(number) => Ok(Kind { number }),
+            Err(_) => Err(NarrowFault::unknown_type()),
+        }
+    }
+
     /// The type of a number (RFC 6895 3.1).
     ///
     /// # Errors
@@ -43,11 +57,7 @@ impl Kind {
         ensures err { IfErr result (λ fault. (number < 65536 → fault ≡ Fault.MetaType)
             × (65536 ≤ number → fault ≡ Fault.UnknownType) × (IsKind number → ⊥)) }
     {
-        match u16::try_from(number) {
-            Ok(0 | 41 | 128..=255) => Err(Fault::MetaType),
-            Ok(number) => Ok(Kind { number }),
-            Err(_) => Err(Fault::UnknownType),
-        }
+        Ok(Kind::admitted(number)?)
     }
 
     /// The type of a number of 16 bits (RFC 6895 3.1). `None`: no record can have it.
@@ -71,9 +81,22 @@ impl Kind {
         ensures found { IfOk result (IsKindWord word.now) }
         ensures err { IfErr result (IsWordFault word.now) }
     {
+        Ok(Kind::read_word(word)?)
+    }
+
+    /// As `from_word`, with a fault of one octet.
+    ///
+    /// # Errors
+    ///
+    /// `UnknownType` where it is no such word or the number is over 65535, and `MetaType` where no
+    /// record can have the type.
+    pub fn read_word(word: &[u8]) -> Result<Kind, NarrowFault>
+        ensures found { IfOk result (IsKindWord word.now) }
+        ensures err { IfErr result (IsWordFault word.now) }
+    {
         match number_of_word(TYPES, b"TYPE", word) {
-            Some(number) => Kind::from_number(number),
-            None => Err(Fault::UnknownType),
+            Some(number) => Kind::admitted(number),
+            None => Err(NarrowFault::unknown_type()),
         }
     }
 

@@ -15,7 +15,9 @@ use crate::defaults::Defaults;
 use crate::laws::entry::lower_laws;
 use crate::words::{split_bare, words_of};
 use std::alloc::{AllocError, Global};
-use zone_rdata::{Class, Failing, Fault, Item, Kind, Place, Placed, Rdata, Reading, Rr};
+use zone_rdata::{
+    Class, Failing, Fault, Item, Kind, NarrowFault, Place, Placed, Rdata, Reading, Rr,
+};
 
 /// What a record states after its owner: the words before its type, its type, and the items of its
 /// data.
@@ -133,7 +135,7 @@ impl Defaults {
     ///
     /// `BadTtl` and `BadClass` for the leftmost word before the type without a value; then
     /// `UnknownType` and `MetaType`.
-    fn head_of<'i, 't>(&self, items: &'i [Item<'t>]) -> Result<Head<'i, 't>, Fault>
+    fn head_of<'i, 't>(&self, items: &'i [Item<'t>]) -> Result<Head<'i, 't>, NarrowFault>
         ensures found { (origin : Labels) (before : List Entry) (entry : Entry) (owner : Labels)
             → IsRecordEntry origin before entry self.now owner (map raw items.now)
             → IfOk result (λ head. HasHead origin before entry (record {
@@ -149,9 +151,9 @@ impl Defaults {
         let (words, count) = words_of(items)?;
         let (_, rest) = items.split_at(count);
         let Some((word, rdata)) = split_bare(rest) else {
-            return Err(Fault::UnknownType);
+            return Err(NarrowFault::unknown_type());
         };
-        let kind = Kind::from_word(word)?;
+        let kind = Kind::read_word(word)?;
         kind.known();
         Ok(Head {
             ttl: words.ttl,

@@ -7,7 +7,7 @@ ghost use Rattle.zone_text.specs.Forms.{Word, begins_with_digit, parts_behind, w
 ghost use Rattle.zone_text.specs.Inherited.{IsTtl};
 ghost use Rattle.zone_text.specs.Machine.WordValues.{ArePartsOf, HaveValues};
 
-use zone_rdata::{Class, Fault, Item, MAX_TTL, seconds_of};
+use zone_rdata::{Class, Fault, Item, MAX_TTL, NarrowFault, seconds_of};
 
 /// The first item's text where the item is bare, and the items after it.
 pub(crate) fn split_bare<'i, 't>(items: &'i [Item<'t>]) -> Option<(&'t [u8], &'i [Item<'t>])>
@@ -35,13 +35,13 @@ fn begins_with_digit(text: &[u8]) -> bool
 /// # Errors
 ///
 /// `BadTtl` for a text that is no time or is over 2147483647.
-pub(crate) fn ttl_in(text: &[u8]) -> Result<u32, Fault>
+pub(crate) fn ttl_in(text: &[u8]) -> Result<u32, NarrowFault>
     ensures found { IfOk result (IsTtl text.now) }
     ensures fault { IfErr result (NoValue Fault.BadTtl (IsTtl text.now)) }
 {
     match seconds_of(text) {
         Some(seconds) if seconds <= u64::from(MAX_TTL) => Ok(seconds as u32),
-        _ => Err(Fault::BadTtl),
+        _ => Err(NarrowFault::bad_ttl()),
     }
 }
 
@@ -58,7 +58,7 @@ impl Words {
     /// # Errors
     ///
     /// `BadTtl` and `BadClass` for a word without a value.
-    fn with(&self, text: &[u8]) -> Result<Option<Words>, Fault>
+    fn with(&self, text: &[u8]) -> Result<Option<Words>, NarrowFault>
         ensures found { (words : List Word) → HaveValues words self.now → IfOk result (λ next.
             IfSome next (λ values. IsSomeAnd (word_behind words (bare text.now))
             (λ word. HaveValues (words ++ word ∷ []) values))) }
@@ -80,7 +80,7 @@ impl Words {
         if self.class.is_some() {
             return Ok(None);
         }
-        let Some(class) = Class::from_word(text)? else {
+        let Some(class) = Class::read_word(text)? else {
             return Ok(None);
         };
         class.known();
@@ -97,7 +97,7 @@ impl Words {
 /// # Errors
 ///
 /// `BadTtl` and `BadClass` for the leftmost word without a value.
-pub(crate) fn words_of(items: &[Item]) -> Result<(Words, usize), Fault>
+pub(crate) fn words_of(items: &[Item]) -> Result<(Words, usize), NarrowFault>
     ensures found { IfOk result (λ found.
         ArePartsOf (parts_behind [] (map raw items.now)) found.0
         (drop found.1 (map raw items.now))) }

@@ -1,4 +1,4 @@
-use Rattle.std.proofs.Common.{◌≤◌, refl, arith}
+use Rattle.std.proofs.Common.{◌≤◌, arith}
 use Rattle.zone_text.proofs.Seconds.{time_within, time_over}
 use Rattle.zone_text.proofs.words.ttl_in.Goals as goal
 use Rattle.zone_text.proofs.words.ttl_in.Goals.{in_default-via-in-Some+else-seconds-from, in_default-via-in_default}
@@ -10,7 +10,7 @@ returns-in-Some-clause-found c =
 
 pub returns-in_default-clause-fault : goal.returns-in_default-clause-fault
 returns-in_default-clause-fault c = (
-  refl,
+  c.bad_ttl.ensures,
   elim c.in_default.branch [
     | in_default-via-in-Some+else-seconds-from w ↦ time_over _ w.in-Some.seconds w.in-Some.ensures.found (omega arith)
     | in_default-via-in_default w ↦ λ value ttl. w.in_default.ensures.none value ttl.time

@@ -1,17 +1,7 @@
-use Rattle.std.proofs.Common.{◌≡◌, ℕ, min, arith}
-use Rattle.std.proofs.lemmas.Grind.{common_steps}
-use Rattle.std.proofs.lemmas.Result.{IfErr-weaker}
-use Rattle.zone_rdata.specs.Words.{IsKindWord, nameless}
-use Rattle.zone_rdata.proofs.Words.{kind_refused}
+use Rattle.std.proofs.lemmas.Result.{err_from_is_err_and}
 use Rattle.zone_rdata.proofs.kind.Kind.from_word.Goals as goal
 
-pub returns-in-Some-clause-err : goal.returns-in-Some-clause-err
-returns-in-Some-clause-err c = IfErr-weaker c.from_number.result _ _ (kind_refused c.args.word.now c.in-Some.number c.in-Some.ensures.found) c.from_number.ensures.err
-
-pub returns-in-None-clause-err : goal.returns-in-None-clause-err
-returns-in-None-clause-err c = nameless c.in-None.ensures.none
-
-pub returns-in-Some-clause-found : goal.returns-in-Some-clause-found
-returns-in-Some-clause-found c =
-    let found : (m : ℕ) × (IsKindWord c.args.word.now m × (c.in-Some.number ≡ min 4294967296 m)) = c.in-Some.ensures.found in
-    grind (arith, common_steps)
+pub returns-in_err-read_word-clause-err : goal.returns-in_err-read_word-clause-err
+returns-in_err-read_word-clause-err c =
+    let p = err_from_is_err_and c.from_residual.result c.from_residual.ensures.1 in
+    rw (p.1, p.2) (c.in_err-read_word.ensures.err)

@@ -1,0 +1,17 @@
+use Rattle.std.proofs.Common.{◌≡◌, ℕ, min, arith}
+use Rattle.std.proofs.lemmas.Grind.{common_steps}
+use Rattle.std.proofs.lemmas.Result.{IfErr-weaker}
+use Rattle.zone_rdata.specs.Words.{IsKindWord, nameless}
+use Rattle.zone_rdata.proofs.Words.{kind_refused}
+use Rattle.zone_rdata.proofs.kind.Kind.read_word.Goals as goal
+
+pub returns-in-Some-clause-err : goal.returns-in-Some-clause-err
+returns-in-Some-clause-err c = IfErr-weaker c.admitted.result _ _ (kind_refused c.args.word.now c.in-Some.number c.in-Some.ensures.found) c.admitted.ensures.err
+
+pub returns-in-None-clause-err : goal.returns-in-None-clause-err
+returns-in-None-clause-err c = rw c.unknown_type.ensures (nameless c.in-None.ensures.none)
+
+pub returns-in-Some-clause-found : goal.returns-in-Some-clause-found
+returns-in-Some-clause-found c =
+    let found : (m : ℕ) × (IsKindWord c.args.word.now m × (c.in-Some.number ≡ min 4294967296 m)) = c.in-Some.ensures.found in
+    grind (arith, common_steps)
