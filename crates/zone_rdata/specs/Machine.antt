@@ -8,4 +8,3 @@ pub mod Building
 pub mod Fronts
 pub mod GenericLength
 pub mod LeftOut
-pub mod NarrowFault

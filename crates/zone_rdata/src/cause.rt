@@ -4,7 +4,7 @@ ghost use Rattle.zone_rdata.specs.Cause.{fault_for};
 use crate::fault::Fault;
 use zone_name::NameFault;
 
-/// What items, data and messages are refused for, in two octets: a `Fault` has room for a name.
+/// What words, items, data and messages are refused for, in two octets: a `Fault` has room for a name.
 #[derive(Clone, Copy, Debug)]
 pub enum Cause {
     EmptyLabel,
@@ -13,11 +13,13 @@ pub enum Cause {
     BadEscape,
     RelativeName,
     BadClass,
+    UnknownType,
     MetaType,
     BadRdata,
     StringTooLong,
     RdataTooLong,
     BadNumber,
+    BadTtl,
     ShortMessage,
     NotAResponse,
     Truncated,
@@ -50,11 +52,13 @@ impl Cause {
             Cause::BadEscape => Fault::BadEscape,
             Cause::RelativeName => Fault::RelativeName,
             Cause::BadClass => Fault::BadClass,
+            Cause::UnknownType => Fault::UnknownType,
             Cause::MetaType => Fault::MetaType,
             Cause::BadRdata => Fault::BadRdata,
             Cause::StringTooLong => Fault::StringTooLong,
             Cause::RdataTooLong => Fault::RdataTooLong,
             Cause::BadNumber => Fault::BadNumber,
+            Cause::BadTtl => Fault::BadTtl,
             Cause::ShortMessage => Fault::ShortMessage,
             Cause::NotAResponse => Fault::NotAResponse,
             Cause::Truncated => Fault::Truncated,

@@ -2,8 +2,9 @@ ghost use Rattle.std.specs.Prelude.{[], ◌≡◌, ◌↔◌, ◌<◌, ℕ, IfSo
 ghost use Rattle.zone_name.specs.Common.{NothingIs};
 ghost use Rattle.zone_rdata.specs.Words.{IsClass, IsClassWord, class_text};
 
+use crate::cause::Cause;
 use crate::fault::Fault;
-use crate::narrow_fault::{NarrowCause, NarrowFault};
+use crate::narrow_fault::NarrowFault;
 use crate::table::{CLASSES, row_of};
 use crate::word::{number_of_word, push_numbered};
 use std::marker::Model;
@@ -29,13 +30,13 @@ impl Model for Class {
 }
 
 impl Class {
-    /// As `from_number`, with a narrow fault.
+    /// As `from_number`, with a fault of few octets.
     fn admitted(number: u64) -> Result<Class, NarrowFault>
         ensures ok { IfOk result (λ class. class ≡ number) }
         ensures err { IfErr result (λ fault. (fault ≡ Fault.BadClass) × (IsClass number → ⊥)) }
     {
         match u16::try_from(number) {
-            Ok(0 | 254 | 255) | Err(_) => Err(NarrowFault::of(NarrowCause::BadClass)),
+            Ok(0 | 254 | 255) | Err(_) => Err(NarrowFault::of(Cause::BadClass)),
             Ok(number) => Ok(Class { number }),
         }
     }
@@ -78,7 +79,7 @@ impl Class {
         Ok(Class::read_word(word)?)
     }
 
-    /// As `from_word`, with a fault of one octet.
+    /// As `from_word`, with a fault of few octets.
     ///
     /// # Errors
     ///

@@ -1,10 +1,11 @@
 ghost use Rattle.std.specs.Prelude.{[], ◌≡◌, ◌↔◌, ◌<◌, ℕ, IsTrue, IfSome, IfNone, IfOk, IfErr, OnOk, OnErr, ◌≤◌};
 ghost use Rattle.zone_rdata.specs.Words.{IsKind, IsKindWord, kind_text, IsWordFault};
 
+use crate::cause::Cause;
 use crate::class::Class;
 use crate::fault::Fault;
 use crate::layout::row_in;
-use crate::narrow_fault::{NarrowCause, NarrowFault};
+use crate::narrow_fault::NarrowFault;
 use crate::table::TYPES;
 use crate::word::{number_of_word, push_numbered};
 use std::marker::Model;
@@ -33,14 +34,14 @@ impl Model for Kind {
 const SOA: u16 = 6;
 
 impl Kind {
-    /// As `from_number`, with a narrow fault.
+    /// As `from_number`, with a fault of few octets.
     fn admitted(number: u64) -> Result<Kind, NarrowFault>
         ensures ok { IfOk result (λ kind. kind ≡ number) }
         ensures err { IfErr result (λ fault. (number < 65536 → fault ≡ Fault.MetaType)
             × (65536 ≤ number → fault ≡ Fault.UnknownType) × (IsKind number → ⊥)) }
     {
         match u16::try_from(number) {
-            Ok(0 | 41 | 128..=255) => Err(NarrowFault::of(NarrowCause::MetaType)),
+            Ok(0 | 41 | 128..=255) => Err(NarrowFault::of(Cause::MetaType)),
             Ok(number) => Ok(Kind { number }),
             Err(_) => Err(NarrowFault::unknown_type()),
         }
@@ -84,7 +85,7 @@ impl Kind {
         Ok(Kind::read_word(word)?)
     }
 
-    /// As `from_word`, with a fault of one octet.
+    /// As `from_word`, with a fault of few octets.
     ///
     /// # Errors
     ///

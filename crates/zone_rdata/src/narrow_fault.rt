@@ -1,38 +1,30 @@
 ghost use Rattle.std.specs.Prelude.{◌≡◌};
-ghost use Rattle.zone_rdata.specs.Machine.NarrowFault.{narrow_fault_of};
+ghost use Rattle.zone_rdata.specs.Cause.{fault_for};
 
+use crate::cause::Cause;
 use crate::fault::{Failing, Fault};
 use std::marker::Model;
 
-/// What a word before a record's data can be refused for.
-#[derive(Clone, Copy, Debug)]
-pub(crate) enum NarrowCause {
-    BadClass,
-    BadTtl,
-    MetaType,
-    UnknownType,
-}
-
 /// Why a word before a record's data is refused: its TTL, class or type (RFC 1035 5.1). It takes
-/// one octet, where a `Fault` has room for a name. Contracts see the fault.
+/// two octets, where a `Fault` has room for a name. Contracts see the fault.
 #[derive(Debug, Drop)]
 pub struct NarrowFault {
-    cause: NarrowCause,
+    cause: Cause,
 }
 
 impl Model for NarrowFault {
-    ghost use Rattle.zone_rdata.specs.Machine.NarrowFault.{narrow_fault_of};
+    ghost use Rattle.zone_rdata.specs.Cause.{fault_for};
     ghost use Rattle.zone_rdata.specs.declared.fault.Fault.{Fault};
 
     ghost Value = { Fault };
 
-    ghost view = { λ f. narrow_fault_of f.cause };
+    ghost view = { λ f. fault_for f.cause };
 }
 
 impl NarrowFault {
     /// The fault for the cause.
-    pub(crate) fn of(cause: NarrowCause) -> NarrowFault
-        ensures { result ≡ narrow_fault_of cause }
+    pub(crate) fn of(cause: Cause) -> NarrowFault
+        ensures { result ≡ fault_for cause }
     {
         NarrowFault { cause }
     }
@@ -41,14 +33,14 @@ impl NarrowFault {
     pub fn bad_ttl() -> NarrowFault
         ensures { result ≡ Fault.BadTtl }
     {
-        NarrowFault::of(NarrowCause::BadTtl)
+        NarrowFault::of(Cause::BadTtl)
     }
 
     /// `UnknownType`: the word of the type is missing or quoted, or is no such word (RFC 3597 5).
     pub fn unknown_type() -> NarrowFault
         ensures { result ≡ Fault.UnknownType }
     {
-        NarrowFault::of(NarrowCause::UnknownType)
+        NarrowFault::of(Cause::UnknownType)
     }
 
     /// The fault itself.
@@ -58,12 +50,7 @@ impl NarrowFault {
     fn widened(self) -> Fault
         ensures { result ≡ self }
     {
-        match self.cause {
-            NarrowCause::BadClass => Fault::BadClass,
-            NarrowCause::BadTtl => Fault::BadTtl,
-            NarrowCause::MetaType => Fault::MetaType,
-            NarrowCause::UnknownType => Fault::UnknownType,
-        }
+        self.cause.widened()
     }
 }
 
