@@ -12,3 +12,7 @@ pub mod Counting
 pub mod Adding
 pub mod Walking
 pub mod Interval
+pub mod LabelKey
+pub mod FirstOctets
+pub mod HintOrder
+pub mod HintWalk

@@ -4,3 +4,5 @@ pub mod Datums
 pub mod Held
 pub mod Records
 pub mod Refusal
+pub mod LabelKey
+pub mod Hint

@@ -6,6 +6,7 @@ mod builder;
 mod datum;
 mod datums;
 mod held;
+mod hint;
 mod key;
 mod order;
 mod records;
