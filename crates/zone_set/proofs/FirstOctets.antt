@@ -1,5 +1,5 @@
 -- Numbers of first octets: their order, their bound, and octets that are put before others.
-use Rattle.std.proofs.Common.{◌≡◌, ℕ, zero, suc, ◌+◌, ◌*◌, ◌/◌, ◌^◌, ◌<◌, ◌≤◌, List, [], ◌∷◌, ◌++◌, length, take, Ordering, Less, Equal, Greater, nat_cmp, refl, sym, ap, ◌∙◌, subst, arith, append_assoc, length-append}
+use Rattle.std.proofs.Common.{◌≡◌, ℕ, zero, suc, ◌+◌, ◌*◌, ◌/◌, ◌^◌, ◌<◌, ◌≤◌, List, [], ◌∷◌, ◌++◌, length, take, Ordering, Less, Equal, Greater, nat_cmp, refl, sym, ap, ◌∙◌, subst, arith, append_assoc}
 use Rattle.std.proofs.Math.Nat.{pow-suc, one-le-pow, mul-le-mul_right, mul_assoc}
 use Rattle.std.proofs.lemmas.Cmp.{ranked}
 use Rattle.std.specs.Cmp.Lexicographic.{slice_cmp}
@@ -95,8 +95,7 @@ put_front label m n put octets low is = put octets low is ∙ label_front 7 7 la
 pub put_next : (label left done before : List ℕ) (c m n k : ℕ) → AreOctets label → take 7 label ≡ left ++ done → left ≡ before ++ c ∷ [] → IsPutBefore (label_key done) m n → IsPutBefore (escaped_octet c) n k
     → (take 7 label ≡ before ++ c ∷ done) × IsPutBefore (label_key (c ∷ done)) m k
 put_next label left done before c m n k low so_far cut first second =
-    let low_done : AreOctets done = AllByRecursion-back (λ d. d < 256) left done (subst AreOctets so_far (low_take 7 label low)) in
-    (
+    let low_done : AreOctets done = AllByRecursion-back (λ d. d < 256) left done (subst AreOctets so_far (low_take 7 label low)) in (
       so_far ∙ ap (λ t. t ++ done) cut ∙ append_assoc before (c ∷ []) done,
       subst (λ t. IsPutBefore t m k) (sym (append_assoc (escaped_octet c) (flat_map escaped_octet done) (0 ∷ [])))
           (put_twice (label_key done) (escaped_octet c) m n k (label_low done low_done) first second),

@@ -51,7 +51,7 @@ module _ (base owner left : List (List ℕ)) (len key : ℕ) (walked : IsWalked 
     parts = walked.parts ∙ ap (λ ls. walked.done ++ ls) cut ∙ sym (append_assoc walked.done (label ∷ []) rest);
     counts = omega (arith, is, walked.counts, ap (λ ls. length (wire ls)) cut, length-wire label rest);
     gathers = put (owner_key walked.done) (owner_low walked.done (AllByRecursion-front IsLabel walked.done left (subst (AllByRecursion IsLabel) walked.parts name.each))) walked.gathers
-          ∙ ap (first_octets 7) (sym (owner_key-push walked.done label));
+        ∙ ap (first_octets 7) (sym (owner_key-push walked.done label));
     within = λ w. let before = walked.within w in within_rest base rest before.0 label (omega (arith, more, walked.counts, ap (λ ls. length (wire ls)) cut)) (sym cut ∙ before.1);
   }
 

@@ -1,4 +1,3 @@
-use Rattle.std.proofs.Common.{length}
 use Rattle.zone_set.proofs.HintWalk.{IsWalked}
 use Rattle.zone_set.proofs.hint.front_key.Given as goal
 
