@@ -3,17 +3,18 @@
 #![tactic(auto)]
 
 mod builder;
-mod datum;
-mod datums;
-mod held;
+mod entry;
 mod hint;
-mod key;
+mod lend;
+mod offered;
 mod order;
+mod put;
 mod records;
 mod refusal;
 mod rr;
 mod same;
 mod sets;
+mod stored;
 mod zone;
 
 pub use builder::ZoneBuilder;
