@@ -1,6 +1,5 @@
 -- Where the elements that pass a test end, from where they end among the first elements of the chunks and in one chunk.
 use Rattle.std.proofs.Common.{◌≡◌, ℕ, ◌+◌, ◌<◌, ◌≤◌, Bool, true, false, List, [], ◌∷◌, ◌++◌, length, take, drop, get_or, zero, suc, sym, ap, subst, ◌∙◌, refl, arith, true≢false}
-use Rattle.std.specs.Fn.{AlwaysReturns, Called, Mut}
 use Rattle.std.specs.List.{All, AllWithin}
 use Rattle.std.specs.List.Sorted.{IsPartitionedBy}
 use Rattle.std.proofs.lemmas.List.{append_assoc, get_or-append-add, get_or_append_left, get_or-drop, get_or-take, length-append, length-drop, length-take-le, get_or_at, get_or_default, take-append-drop}
@@ -8,10 +7,6 @@ use Rattle.std.proofs.lemmas.List.Elements.{All-append, All-cons, All-drop, All-
 use Rattle.sorted_chunks.specs.Chunks.{after, before, joined, AreChunks, IsChunk}
 use Rattle.sorted_chunks.specs.Starts.{starts}
 use Rattle.sorted_chunks.proofs.Placing.{joined_about, joined-append}
-
--- the answer of one call
-pub answers : {F X R : Type 0} (g : Mut F X R) (P : X → R → Type 0) (f : F) (a : X) (r : R) (f' : F) → Called g f a r f' → AlwaysReturns g P f → P a r
-answers g P f a r f' called always = (always.at (a ∷ []) r f' called).0
 
 module _ {X : Type 0} (p : X → Bool) where
   pub part_right : (a b : List X) → IsPartitionedBy p (a ++ b) → IsPartitionedBy p b
@@ -51,6 +46,13 @@ module _ {X : Type 0} (p : X → Bool) where
       All-from_get_or (λ y. p y ≡ false) z x (λ k lt. not_true (p (get_or z k x)) (λ passes.
       let there : p (get_or (a ++ x ∷ z) (n + suc k) x) ≡ true = ap p (get_or-append-add a (x ∷ z) (suc k) x) ∙ passes in
       true_false (p x) (sym (ap p (get_or_at a x z x n refl)) ∙ parts n (n + suc k) x (omega arith) (omega (arith, whole)) there) fails))
+
+  -- a step of a binary search: an element that passes tells of those before it, and one that fails of those after it
+  pub passes_upto : (xs : List X) (m : ℕ) (x : X) → m < length xs → x ≡ get_or xs m x → p x ≡ true → IsPartitionedBy p xs → AllWithin (λ y. p y ≡ true) xs 0 (m + 1)
+  passes_upto xs m x within is passes parts = λ k d low lt. parts k m d (omega arith) within (ap p (get_or_default xs m d x within ∙ sym is) ∙ passes)
+
+  pub fails_from_on : (xs : List X) (m : ℕ) (x : X) → m < length xs → x ≡ get_or xs m x → p x ≡ false → IsPartitionedBy p xs → AllWithin (λ y. p y ≡ false) xs m (length xs)
+  fails_from_on xs m x within is fails parts = λ k d low lt. not_true (p (get_or xs k d)) (λ passes. true_false (p x) (ap p (is ∙ get_or_default xs m x d within) ∙ parts m k d low lt passes) fails)
 
   -- what stands before a chunk whose first element passes
   passes_before_chunk : (a c z : List X) → 0 < length c → IsPartitionedBy p (a ++ (c ++ z)) → starts p c ≡ true → All (λ y. p y ≡ true) a

@@ -1,10 +1,11 @@
-ghost use Rattle.std.specs.Prelude.{◌≡◌, ◌++◌, ◌∷◌, ◌<◌, ◌≤◌, [], length, take, drop, insert, IfOk, OnOk, OnErr};
+ghost use Rattle.std.specs.Prelude.{◌≡◌, ◌++◌, ◌∷◌, ◌-◌, ◌<◌, ◌≤◌, [], length, take, drop, insert, slice_index_or, IfOk, OnOk, OnErr};
 ghost use Rattle.sorted_chunks.specs.Machine.Halves.{AreHalves};
 
 use std::alloc::{AllocError, Global};
 use std::marker::Model;
 
-/// A part of a list that is never empty: its first element stands beside the others. Contracts see all of them.
+/// A part of a list that is never empty: its first element stands beside the others. Contracts see
+/// all of them.
 #[derive(Drop)]
 pub struct Chunk<T> {
     pub(crate) head: T,
@@ -37,6 +38,32 @@ impl<T: Copy> Chunk<T> {
         ensures { result ≡ length self.now }
     {
         self.rest.len() + 1
+    }
+
+    /// The first element.
+    pub(crate) fn first(&self) -> &T
+        ensures { result.now ≡ slice_index_or self.now 0 result.now }
+    {
+        &self.head
+    }
+
+    /// The element at a place.
+    pub(crate) fn get(&self, offset: usize) -> &T
+        requires { offset < length self.now }
+        ensures { result.now ≡ slice_index_or self.now offset result.now }
+    {
+        if offset == 0 {
+            &self.head
+        } else {
+            &self.rest[offset - 1]
+        }
+    }
+
+    /// The last element.
+    pub(crate) fn last(&self) -> &T
+        ensures { result.now ≡ slice_index_or self.now (length self.now - 1) result.now }
+    {
+        self.get(self.rest.len())
     }
 
     /// Puts an element at a place. Where there is no room, room for `room` elements is made.

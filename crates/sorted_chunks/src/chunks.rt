@@ -1,12 +1,11 @@
-ghost use Rattle.std.specs.Prelude.{◌≡◌, ◌++◌, ◌∷◌, ◌+◌, ◌<◌, ◌≤◌, ◌↔◌, [], Bool, true, false, All, length, slice_index_or, IsTrue, OnOk, OnErr};
-ghost use Rattle.std.specs.Fn.{ComputesKey};
+ghost use Rattle.std.specs.Prelude.{◌≡◌, ◌++◌, ◌∷◌, ◌+◌, ◌-◌, ◌^◌, ◌<◌, ◌≤◌, ◌↔◌, [], List, true, false, All, length, min, slice_index_or, IsTrue, OnOk, OnErr, MatchOption};
 ghost use Rattle.std.specs.List.Sorted.{IsPartitionedBy};
 ghost use Rattle.sorted_chunks.specs.Chunks.{after, before, joined, IsPlace};
-ghost use Rattle.sorted_chunks.specs.Starts.{starts};
 
 use crate::chunk::Chunk;
 use crate::iter::Iter;
 use crate::position::Position;
+use crate::sought::{AmongChunks, Sought, count_before};
 use std::alloc::{AllocError, Global};
 use std::marker::Model;
 
@@ -57,32 +56,85 @@ impl<T: Copy, const LIMIT: usize> SortedChunks<T, LIMIT> {
         }
     }
 
-    /// The place after all elements that pass a test, where those come before all that fail it: a binary search
-    /// over the chunks' first elements, and then in a chunk.
-    pub fn partition_point<P: Fn(&T) -> bool>(&self, pred: P) -> Position
-        requires { P.IsAlwaysCallable pred }
-        ensures place { IsPlace self.now result }
-        ensures passing { (p : T → Bool) → ComputesKey P.FnMut p pred → IsPartitionedBy p (joined self.now)
-            → All (λ x. p x ≡ true) (before self.now result) }
-        ensures failing { (p : T → Bool) → ComputesKey P.FnMut p pred → IsPartitionedBy p (joined self.now)
-            → All (λ x. p x ≡ false) (after self.now result) }
+    /// How many elements there are, or 2^64 - 1 where there are more.
+    pub fn len(&self) -> u64
+        ensures { result ≡ min (length (joined self.now)) (2 ^ 64 - 1) }
     {
-        let passing = self.chunks.partition_point(
-            |chunk: &Chunk<T>| -> bool
-                requires { P.IsAlwaysCallable pred }
-                ensures { (p : T → Bool) → ComputesKey P.FnMut p pred → result ≡ starts p chunk.now }
-            { pred(&chunk.head) },
-        );
-        if passing == 0 {
+        let mut len: u64 = 0;
+        for chunk in self.chunks.as_slice() {
+            len = len.saturating_add(chunk.len() as u64);
+        }
+        len
+    }
+
+    /// The place of what is sought, where the elements that it comes after stand first: a binary
+    /// search over the chunks' first elements, and then in a chunk.
+    pub fn place_of<S: Sought<T>>(&self, sought: &S) -> Position
+        requires { All (S.knows sought.now) (joined self.now) }
+        ensures place { IsPlace self.now result }
+        ensures whole { before self.now result ++ after self.now result ≡ joined self.now }
+        ensures before { IsPartitionedBy (S.follows sought.now) (joined self.now)
+            → All (λ x. S.follows sought.now x ≡ true) (before self.now result) }
+        ensures after { IsPartitionedBy (S.follows sought.now) (joined self.now)
+            → All (λ x. S.follows sought.now x ≡ false) (after self.now result) }
+    {
+        let passed = count_before(self.chunks.as_slice(), &AmongChunks { sought });
+        if passed == 0 {
             return Position {
                 chunk: 0,
                 offset: 0,
             };
         }
-        // The first element of this chunk passes, and those of the chunks after it fail.
-        let chunk = passing - 1;
-        let offset = self.chunks[chunk].rest.partition_point(pred) + 1;
+        // It comes after the first element of this chunk, and before those of the chunks after it.
+        let chunk = passed - 1;
+        let offset = count_before(self.chunks[chunk].rest.as_slice(), sought) + 1;
         Position { chunk, offset }
+    }
+
+    /// The last element before a place.
+    pub fn last_before(&self, position: Position) -> Option<&T>
+        requires { IsPlace self.now position }
+        ensures { MatchOption result (before self.now position ≡ [])
+            (λ x. (front : List T) × (before self.now position ≡ front ++ x.now ∷ [])) }
+    {
+        let Position { chunk, offset } = position;
+        if offset > 0 {
+            return Some(self.chunks[chunk].get(offset - 1));
+        }
+        if chunk > 0 {
+            return Some(self.chunks[chunk - 1].last());
+        }
+        None
+    }
+
+    /// The first element after a place.
+    pub fn first_after(&self, position: Position) -> Option<&T>
+        requires { IsPlace self.now position }
+        ensures { MatchOption result (after self.now position ≡ [])
+            (λ x. (rest : List T) × (after self.now position ≡ x.now ∷ rest)) }
+    {
+        let Position { chunk, offset } = position;
+        if chunk >= self.chunks.len() {
+            return None;
+        }
+        if offset < self.chunks[chunk].len() {
+            return Some(self.chunks[chunk].get(offset));
+        }
+        if chunk + 1 < self.chunks.len() {
+            return Some(self.chunks[chunk + 1].first());
+        }
+        None
+    }
+
+    /// The last element.
+    pub fn last(&self) -> Option<&T>
+        ensures { MatchOption result (joined self.now ≡ [])
+            (λ x. (front : List T) × (joined self.now ≡ front ++ x.now ∷ [])) }
+    {
+        self.last_before(Position {
+            chunk: self.chunks.len(),
+            offset: 0,
+        })
     }
 
     /// Puts an element at a place.

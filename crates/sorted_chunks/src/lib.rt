@@ -6,6 +6,7 @@ mod chunk;
 mod chunks;
 mod iter;
 mod position;
+mod sought;
 #[cfg(test)]
 mod tests;
 
@@ -15,3 +16,4 @@ pub use chunk::Chunk;
 pub use chunks::SortedChunks;
 pub use iter::Iter;
 pub use position::Position;
+pub use sought::Sought;

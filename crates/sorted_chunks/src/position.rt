@@ -1,4 +1,4 @@
-/// A place in a list that is kept in chunks, as `SortedChunks::partition_point` answers it.
+/// A place in a list that is kept in chunks, as `SortedChunks::place_of` answers it.
 #[derive(Clone, Copy, Debug, PartialEq, Eq)]
 pub struct Position {
     /// Which chunk it is in.

@@ -1,12 +1,29 @@
-use crate::SortedChunks;
+use crate::{SortedChunks, Sought};
 use std::alloc::{AllocError, Global};
 use std::test::Fail;
 
-/// The numbers as a list holds them in which each was put before all that aren't less; at most four stand in a chunk.
+/// A number, which goes before all that aren't less.
+#[derive(Clone, Copy)]
+struct Number(u32);
+
+impl Sought<u32> for Number {
+    ghost use Rattle.std.specs.Prelude.{⊤, nat_lt};
+
+    ghost knows = { λ _ _. ⊤ };
+
+    ghost follows = { λ n held. nat_lt held n.0 };
+
+    fn is_after(&self, held: &u32) -> bool {
+        *held < self.0
+    }
+}
+
+/// The numbers as a list holds them in which each was put before all that aren't less; at most four
+/// stand in a chunk.
 fn listed(alloc: Global, numbers: &[u32]) -> Result<Vec<u32>, AllocError> {
     let mut list = SortedChunks::<u32, 4>::new(alloc);
     for number in numbers {
-        let place = list.partition_point(|held| *held < *number);
+        let place = list.place_of(&Number(*number));
         list.insert(place, *number)?;
     }
     let mut elements = Vec::new(alloc);
@@ -21,7 +38,7 @@ fn listed(alloc: Global, numbers: &[u32]) -> Result<Vec<u32>, AllocError> {
 fn a_new_list_is_empty(rt: HostRuntime) -> Result<(), Fail> {
     let mut list = SortedChunks::<u32, 4>::new(rt.alloc());
     assert!(rt; list.is_empty());
-    let place = list.partition_point(|_| true);
+    let place = list.place_of(&Number(7));
     list.insert(place, 7)?;
     assert!(rt; !list.is_empty());
     Ok(())
@@ -57,5 +74,30 @@ fn equal_numbers_stand_together(rt: HostRuntime) -> Result<(), Fail> {
     let numbers = [2, 1, 2, 3, 2, 1, 2, 3, 2];
     let list = listed(rt.alloc(), &numbers)?;
     assert_eq!(rt; list.as_slice(), [1, 1, 2, 2, 2, 2, 2, 3, 3].as_slice());
+    Ok(())
+}
+
+#[test]
+fn what_stands_about_a_place(rt: HostRuntime) -> Result<(), Fail> {
+    let mut list = SortedChunks::<u32, 4>::new(rt.alloc());
+    assert!(rt; list.last().is_none());
+    for number in [10, 20, 30, 40, 50, 60] {
+        let place = list.place_of(&Number(number));
+        list.insert(place, number)?;
+    }
+    assert_eq!(rt; list.len(), 6);
+    assert_eq!(rt; list.last().copied(), Some(60));
+    for (sought, before, after) in [
+        (5, None, Some(10)),
+        (10, None, Some(10)),
+        (15, Some(10), Some(20)),
+        (45, Some(40), Some(50)),
+        (50, Some(40), Some(50)),
+        (65, Some(60), None),
+    ] {
+        let place = list.place_of(&Number(sought));
+        assert_eq!(rt; list.last_before(place).copied(), before);
+        assert_eq!(rt; list.first_after(place).copied(), after);
+    }
     Ok(())
 }

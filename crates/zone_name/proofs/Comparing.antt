@@ -1,5 +1,5 @@
 -- Equality, order and containment of names, as the code decides them.
-use Rattle.std.proofs.Common.{◌≡◌, ℕ, ◌+◌, ◌-◌, ◌≤◌, ◌↔◌, Bool, IsTrue, List, [], ◌∷◌, ◌++◌, length, take, drop, reverse, Option, Some, None, MatchOption, refl, ap, sym, ◌∙◌, nat_eq, arith, length-append, length-drop}
+use Rattle.std.proofs.Common.{◌≡◌, ℕ, ◌+◌, ◌-◌, ◌≤◌, ◌↔◌, Bool, IsTrue, List, [], ◌∷◌, ◌++◌, length, take, drop, reverse, Option, Some, None, MatchOption, refl, ap, sym, ◌∙◌, nat_eq, true, arith, length-append, length-drop}
 use Rattle.std.specs.declared.cmp.Ordering.{Ordering}
 use Rattle.std.specs.declared.cmp.Ordering.TheVariants.{Less, Equal, Greater}
 use Rattle.std.specs.Ordering.{ordering_then, nat_cmp}
@@ -7,6 +7,7 @@ use Rattle.std.specs.Bool.{Decides, one_answer}
 use Rattle.std.specs.Cmp.Lexicographic.{pointwise, pointwise_decides, bytes_decides, slice_cmp}
 use Rattle.std.proofs.lemmas.List.{reverse-append, reverse-reverse, length-reverse, length-take, take-append-drop, drop_at, drop-drop}
 use Rattle.std.proofs.lemmas.Bool.Decides.{nat_tests}
+use Rattle.std.proofs.lemmas.Cmp.{lists_total, nat_list_cmp_total, on_total, tied_itself}
 use Rattle.zone_name.specs.Name.{wire, labels_of, IsWithin}
 use Rattle.zone_name.specs.Order.{label_cmp, name_cmp}
 
@@ -23,6 +24,12 @@ eq-from_octets a b octets others answer e left right back_a back_b =
     e ∙ one_answer (pointwise nat_eq octets others) (pointwise (pointwise nat_eq) (reverse a) (reverse b))
     (λ h. sym back_a ∙ ap labels_of (sym left ∙ same.0 h ∙ right) ∙ back_b, λ h. same.1 (left ∙ ap wire h ∙ sym right))
     (labels_decide a b)
+
+-- equal names compare so
+pub name_cmp-same : (a b : List (List ℕ)) (answer : Bool) → answer ≡ pointwise (pointwise nat_eq) (reverse a) (reverse b) → answer ≡ true → Equal ≡ name_cmp a b
+name_cmp-same a b answer is same =
+    let e : a ≡ b = (labels_decide a b).0 (sym is ∙ same) in
+    sym (ap (λ x. name_cmp x b) e ∙ tied_itself (on_total (reverse {A = List ℕ}) (lists_total nat_list_cmp_total)) b)
 
 -- the first that decides, of three
 then_assoc : (a b c : Ordering) → ordering_then (ordering_then a b) c ≡ ordering_then a (ordering_then b c)

@@ -40,7 +40,7 @@ impl PartialOrd for Name {
         (λ x y. lists_ties (slice_cmp nat_cmp) texts_ties (reverse x) (reverse y)) };
 
     fn partial_cmp(&self, other: &Name) -> Option<Ordering> {
-        Some(self.cmp(other))
+        self.lend().partial_cmp(&other.lend())
     }
 }
 
@@ -55,6 +55,39 @@ impl Ord for Name {
     ghost matches_eq = { λ x y. lists_ties (slice_cmp nat_cmp) texts_ties (reverse x) (reverse y) };
 
     fn cmp(&self, other: &Name) -> Ordering {
+        self.lend().cmp(&other.lend())
+    }
+}
+
+impl<'a> Eq for NameRef<'a> {
+    ghost laws = { Prim.search (comparing, rules) };
+}
+
+impl<'a> PartialOrd for NameRef<'a> {
+    ghost partial_cmp = { as_partial_cmp (on reverse (slice_cmp (slice_cmp nat_cmp))) };
+
+    ghost laws = { partial_order_from_own_ties (Prim.search (comparing, rules))
+        (λ x y. lists_ties (slice_cmp nat_cmp) texts_ties (reverse x) (reverse y)) };
+
+    fn partial_cmp(&self, other: &NameRef<'a>) -> Option<Ordering> {
+        Some(self.cmp(other))
+    }
+}
+
+/// The order of names (RFC 4034 6.1).
+impl<'a> Ord for NameRef<'a> {
+    ghost cmp = { on reverse (slice_cmp (slice_cmp nat_cmp)) };
+
+    ghost total = { Prim.search (comparing, rules) };
+
+    ghost matches_partial_cmp = { λ x y. refl };
+
+    ghost matches_eq = { λ x y. lists_ties (slice_cmp nat_cmp) texts_ties (reverse x) (reverse y) };
+
+    fn cmp(&self, other: &NameRef<'a>) -> Ordering {
+        if self == other {
+            return Ordering::Equal;
+        }
         let (len, other_len) = (self.labels().len(), other.labels().len());
         let mut labels = self.labels().past(len.saturating_sub(other_len));
         let mut others = other.labels().past(other_len.saturating_sub(len));

@@ -72,6 +72,14 @@ impl Kind {
         }
     }
 
+    /// The type of this number, which was judged before.
+    pub fn of_number(number: u16) -> Kind
+        requires { IsKind number }
+        ensures { result ≡ number }
+    {
+        Kind { number }
+    }
+
     /// The type of a word in any letter case: a mnemonic, or TYPE with a number.
     ///
     /// # Errors

@@ -1,132 +1,151 @@
 -- A record and the sets that are held: why it is refused, and what is held with it.
-use Rattle.std.proofs.Common.{◌≡◌, ◌≢◌, ◌⊎◌, ◌↔◌, ℕ, ◌+◌, ◌-◌, ◌^◌, min, Bool, true, if◌then◌else◌, List, [], ◌∷◌, Option, Some, None, Ordering, Less, Equal, Greater, refl, sym, ap, ◌∙◌, subst, inl}
-use Rattle.std.specs.BTreeMap.{insert_entry, is_at}
+use Rattle.std.proofs.Common.{◌≡◌, ◌≢◌, ◌⊎◌, ◌↔◌, ℕ, ◌+◌, ◌-◌, ◌^◌, min, Bool, true, false, if◌then◌else◌, List, [], ◌∷◌, ◌++◌, Option, Some, None, refl, sym, ap, ◌∙◌, subst, arith, inl, inr, ⊎_elim}
+use Rattle.std.proofs.lemmas.List.Sums.{sum_by-cons, sum_by-append}
 use Rattle.std.specs.List.{AllByRecursion}
-use Rattle.std.specs.List.Sorted.{IsStrictlySortedBy}
-use Rattle.std.specs.Map.{keys_of, lookup}
-use Rattle.std.specs.Option.{IfSome}
 use Rattle.std.specs.Prelude.{Result, Ok, Err, IfErr}
-use Rattle.std.specs.Ordering.{match_ordering}
 use Rattle.zone_rdata.specs.Record.{Record, IsRecord}
 use Rattle.zone_rdata.specs.declared.fault.Fault.TheVariants.{ClassMismatch, MultipleSoa, DifferingTtl}
-use Rattle.zone_set.proofs.Canonical.{class_of, all_ascend}
-use Rattle.zone_set.proofs.Counting.{octets_with, octets_counted}
-use Rattle.zone_set.proofs.Entries.{Has-append, first_of, stands_at, StandsAt, holds_one, kept_at, Grows, grows_first, grows_more, kept_with, has_with}
+use Rattle.zone_set.proofs.Between.{Has-with}
 use Rattle.zone_set.proofs.Inserting.{AreCompatible-with}
-use Rattle.zone_set.proofs.Together.{set_at, key_from_set, set_from_key, stable_number}
+use Rattle.zone_set.proofs.Together.{each_Has, stable_number}
 use Rattle.zone_rdata.specs.declared.record.Placed.{Placed}
-use Rattle.zone_set.specs.Builder.{OtherClass, OtherSoa, Accepts, Adds, IsRefusedFor, StopsAdd, fault, memory, class as by_class, soa as by_soa, ttl as by_ttl}
-use Rattle.zone_set.specs.Machine.Held.{SetData, with_datum, entry_records, all_records, class_or_none, IsNew, IsKept, HoldsSets, KeepsSets}
-use Rattle.zone_set.specs.Machine.Key.{RecordSet, set_cmp}
+use Rattle.zone_set.specs.Builder.{OtherClass, OtherSoa, OtherTtl, Accepts, Adds, IsRefusedFor, StopsAdd, fault, memory, class as by_class, soa as by_soa, ttl as by_ttl}
+use Rattle.zone_set.specs.Machine.Held.{all_records, class_or_none, entry_record, HoldsEntries, IsEntry, IsPut, KeepsSets}
 use Rattle.zone_set.specs.Message.{message_len, message_octets}
 use Rattle.zone_set.specs.Machine.Refusal.{IsOtherClass, IsRefusal, IsSetRefusal, stop_for}
+use Rattle.zone_set.specs.declared.entry.Entry.{Entry}
 use Rattle.zone_set.specs.declared.refusal.Refusal.{Refusal}
 use Rattle.zone_set.specs.declared.refusal.Refusal.TheVariants as refusal
-use Rattle.zone_set.specs.Zone.{Has}
+use Rattle.zone_set.specs.Order.{Ascends}
+use Rattle.zone_set.specs.Zone.{Has, AreCompatible}
+use Rattle.std.specs.Option.{IfSome}
 
-abbrev Entries : Type 0
-Entries = List (RecordSet × SetData)
+-- all records of entries are of the class
+classes : (class : ℕ) (octets : List ℕ) (es : List Entry) → AllByRecursion (λ r. r.class ≡ class) (all_records class octets es)
+classes class octets [] = tt
+classes class octets (e ∷ es) = (refl, classes class octets es)
 
-pub refused_class : (class : Option ℕ) (es : Entries) (r : Record) → HoldsSets class es → IsOtherClass class r.class → IsRefusedFor (all_records (class_or_none class) es) r ClassMismatch
-refused_class None es r held other = absurd other
-refused_class (Some d) [] r held other = absurd (held.some refl)
-refused_class (Some d) (e ∷ es) r held other =
-    let one = first_of d e.0 e.1 e.1.rdatas held.kept.0.datums.some in
-    let has : Has (all_records d (e ∷ es)) one.0 = (Has-append (entry_records d e) (all_records d es) one.0).1 (inl one.1) in
-    by_class (one.0, has, λ same. other (sym (class_of d (e ∷ es) one.0 has) ∙ same))
+pub class_of : (class : ℕ) (octets : List ℕ) (es : List Entry) (s : Record) → Has (all_records class octets es) s → s.class ≡ class
+class_of class octets es s has = each_Has (λ r. r.class ≡ class) (all_records class octets es) s (classes class octets es) has
 
-pub one_class : (class : Option ℕ) (es : Entries) (r : Record) → HoldsSets class es → (IsOtherClass class r.class → ⊥) → OtherClass (all_records (class_or_none class) es) r → ⊥
-one_class None es r held same (s, has, other) = subst (λ (fs : Entries). Has (all_records 0 fs) s) (held.none refl) has
-one_class (Some d) es r held same (s, has, other) = other (class_of d es s has ∙ stable_number d r.class same)
+module _ {base : List (List ℕ)} {octets : List ℕ} {es : List Entry} {counted : ℕ} (r : Record) where
+  pub refused_class : (class : Option ℕ) → KeepsSets class base octets es counted → IsOtherClass class r.class → IsRefusedFor (all_records (class_or_none class) octets es) r ClassMismatch
+  refused_class None keeps other = absurd other
+  refused_class (Some d) keeps other = by es (keeps.some)
+    where
+      by : (fs : List Entry) → (fs ≡ [] → ⊥) → IsRefusedFor (all_records d octets fs) r ClassMismatch
+      by [] some = absurd (some refl)
+      by (f ∷ fs) some = by_class (entry_record d octets f, inl refl, other)
+
+  pub one_class : (class : Option ℕ) → KeepsSets class base octets es counted → (IsOtherClass class r.class → ⊥) → OtherClass (all_records (class_or_none class) octets es) r → ⊥
+  one_class None keeps same (s, has, other) = subst (λ fs. Has (all_records 0 octets fs) s) (keeps.none refl) has
+  one_class (Some d) keeps same (s, has, other) = other (class_of d octets es s has ∙ stable_number d r.class same)
+
+  pub refused_soa : (class : Option ℕ) → KeepsSets class base octets es counted → (IsOtherClass class r.class → ⊥) → OtherSoa (all_records (class_or_none class) octets es) r → IsRefusedFor (all_records (class_or_none class) octets es) r MultipleSoa
+  refused_soa class keeps same other = by_soa (one_class class keeps same) other
 
 -- with no class known there is nothing, so the records are those of any class that may be
-pub same_records : (class : Option ℕ) (es : Entries) (r : Record) → HoldsSets class es → (IsOtherClass class r.class → ⊥) → all_records (class_or_none class) es ≡ all_records r.class es
-same_records None es r held same = ap (all_records 0) (held.none refl) ∙ sym (ap (all_records r.class) (held.none refl))
-same_records (Some d) es r held same = ap (λ c. all_records c es) (stable_number d r.class same)
+pub same_records : (class : Option ℕ) (octets : List ℕ) (es : List Entry) (r : Record) → (class ≡ None → es ≡ []) → (IsOtherClass class r.class → ⊥) → all_records r.class octets es ≡ all_records (class_or_none class) octets es
+same_records None octets es r none same = ap (all_records r.class octets) (none refl) ∙ sym (ap (all_records 0 octets) (none refl))
+same_records (Some d) octets es r none same = ap (λ c. all_records c octets es) (sym (stable_number d r.class same))
 
-pub refused_soa : (class : Option ℕ) (es : Entries) (r : Record) → HoldsSets class es → (IsOtherClass class r.class → ⊥) → OtherSoa (all_records (class_or_none class) es) r → IsRefusedFor (all_records (class_or_none class) es) r MultipleSoa
-refused_soa class es r held same other = by_soa (one_class class es r held same) other
+same_entries : (class : Option ℕ) (base : List (List ℕ)) (octets : List ℕ) (es : List Entry) (r : Record) → (class ≡ None → es ≡ []) → (IsOtherClass class r.class → ⊥) → AllByRecursion (IsEntry base (class_or_none class) octets) es → AllByRecursion (IsEntry base r.class octets) es
+same_entries None base octets es r none same each = subst (AllByRecursion (IsEntry base r.class octets)) (sym (none refl)) tt
+same_entries (Some d) base octets es r none same each = subst (λ c. AllByRecursion (IsEntry base c octets) es) (stable_number d r.class same) each
 
-some_insert : (es : Entries) (k : RecordSet) (w : SetData) → insert_entry set_cmp es k w ≢ []
-some_insert [] k w e = cc
-some_insert (f ∷ es) k w e = by (set_cmp k f.0) e
-  where
-    by : (o : Ordering) → match_ordering o ((k, w) ∷ f ∷ es) ((f.0, w) ∷ es) (f ∷ insert_entry set_cmp es k w) ≡ [] → ⊥
-    by Less is = cc
-    by Equal is = cc
-    by Greater is = cc
+back_entries : (class : Option ℕ) (base : List (List ℕ)) (octets : List ℕ) (es : List Entry) (r : Record) → (class ≡ None → es ≡ []) → (IsOtherClass class r.class → ⊥) → AllByRecursion (IsEntry base r.class octets) es → AllByRecursion (IsEntry base (class_or_none class) octets) es
+back_entries None base octets es r none same each = subst (AllByRecursion (IsEntry base 0 octets)) (sym (none refl)) tt
+back_entries (Some d) base octets es r none same each = subst (λ c. AllByRecursion (IsEntry base c octets) es) (sym (stable_number d r.class same)) each
 
--- a record that nothing speaks against but the TTL of its set
-pub record IsOffered (class : Option ℕ) (es : Entries) (r : Record) : Type 0 where
-  pub held : HoldsSets class es
-  pub ordered : IsStrictlySortedBy set_cmp (keys_of es)
-  pub same : IsOtherClass class r.class → ⊥
-  pub one_soa : OtherSoa (all_records (class_or_none class) es) r → ⊥
-  pub whole : IsRecord r
+-- where there is no entry, the base may be any name
+rebased : (base name : List (List ℕ)) (class : ℕ) (octets : List ℕ) (es : List Entry) → (es ≡ []) ⊎ (name ≡ base) → AllByRecursion (IsEntry base class octets) es → AllByRecursion (IsEntry name class octets) es
+rebased base name class octets es (inl none) each = subst (AllByRecursion (IsEntry name class octets)) (sym none) tt
+rebased base name class octets es (inr same) each = subst (λ b. AllByRecursion (IsEntry b class octets) es) (sym same) each
 
--- what its set holds already
-abbrev found : Entries → Record → Option SetData
-found es r = lookup (is_at (set_cmp (set_at r))) es
+-- what is held, as a record of the class that it may be sees it
+pub holds_for : {class : Option ℕ} {base : List (List ℕ)} {octets : List ℕ} {es : List Entry} {counted : ℕ} (r : Record) (name : List (List ℕ)) → KeepsSets class base octets es counted → (IsOtherClass class r.class → ⊥) → (es ≡ []) ⊎ (name ≡ base) → HoldsEntries name r.class octets es
+holds_for {class} {base} {octets} {es} r name keeps same any = record {
+  each = rebased base name r.class octets es any (same_entries class base octets es r keeps.none same keeps.holds.each);
+  compatible = subst AreCompatible (sym (same_records class octets es r keeps.none same)) keeps.holds.compatible;
+}
 
-module _ {class : Option ℕ} {es : Entries} {r : Record} (o : IsOffered class es r) where
-  refused_ttl : IsSetRefusal (found es r) r.ttl refusal.OtherTtl → IsRefusedFor (all_records (class_or_none class) es) r DifferingTtl
-  refused_ttl (d, is, other) =
-      let one = holds_one (class_or_none class) es (set_at r) d o.held.kept is in
-      by_ttl (one_class class es r o.held o.same) o.one_soa (one.one, one.held, set_from_key one.one r one.set, λ e. other (sym one.ttl ∙ e))
+-- a record that was put is held beside those before
+pub Adds-put : (old : List Record) (r : Record) (is_new : Bool) (new : List Record) → AreCompatible old → IsPut old r is_new new → Adds old r new
+Adds-put old r true new compatible (before, after, was, is, ascend) = record {
+  ascend = ascend;
+  same = λ s. subst (λ olds. Has new s ↔ ((s ≡ r) ⊎ Has olds s)) (sym was) (subst (λ news. Has news s ↔ ((s ≡ r) ⊎ Has (before ++ after) s)) (sym is) (Has-with before after r s));
+}
+Adds-put old r false new compatible (is, has) = record {
+  ascend = subst Ascends (sym is) compatible.ascend;
+  same = λ s. subst (λ news. Has news s ↔ ((s ≡ r) ⊎ Has old s)) (sym is) (λ h. inr h, λ h. ⊎_elim (λ same. subst (Has old) (sym same) has) (λ more. more) h);
+}
 
-  pub refused_put : (e : Refusal) → IsSetRefusal (found es r) r.ttl e → IsRefusal (all_records (class_or_none class) es) r e
-  refused_put refusal.OtherClass why = absurd why
-  refused_put refusal.OtherSoa why = absurd why
-  refused_put refusal.OtherTtl why = refused_ttl why
-  refused_put refusal.Memory why = tt
+octets_put : (old : List Record) (r : Record) (is_new : Bool) (new : List Record) → IsPut old r is_new new → message_octets new ≡ message_octets old + (if is_new then message_len r else 0)
+octets_put old r true new (before, after, was, is, ascend) =
+    let olds : message_octets old ≡ message_octets before + message_octets after = ap message_octets was ∙ sum_by-append message_len before after in
+    let news : message_octets new ≡ message_octets before + message_octets (r ∷ after) = ap message_octets is ∙ sum_by-append message_len before (r ∷ after) in
+    let one : message_octets (r ∷ after) ≡ message_len r + message_octets after = sum_by-cons message_len r after in
+    omega (arith, olds, news, one)
+octets_put old r false new (is, has) = let same : message_octets new ≡ message_octets old = ap message_octets is in omega (arith, same)
 
-  module _ (agrees : IfSome (found es r) (λ d. d.ttl ≡ r.ttl)) where
-    pub accepted : Accepts (all_records (class_or_none class) es) r
-    accepted = record {
-      one_class = one_class class es r o.held o.same;
-      one_soa = o.one_soa;
-      one_ttl = λ (s, has, one, other).
-          let stands : StandsAt (found es r) s.ttl =
-          subst (λ (q : RecordSet). StandsAt (lookup (is_at (set_cmp q)) es) s.ttl) (key_from_set s r one) (stands_at (class_or_none class) es s o.held.kept o.ordered has) in
-          other (stands.ttl ∙ subst (λ (d : Option SetData). IfSome d (λ d. d.ttl ≡ r.ttl)) stands.is agrees);
-    }
+octets_counted : (sum new more octets counted : ℕ) → octets ≡ min sum (2 ^ 64 - 1) → new ≡ sum + more → counted ≡ min (octets + more) (2 ^ 64 - 1) → counted ≡ min new (2 ^ 64 - 1)
+octets_counted sum new more octets counted is is_new is_counted = omega (arith, is, is_new, is_counted)
 
-    abbrev value : SetData
-    value = with_datum (found es r) r.ttl r.kind r.octets
+-- a record that nothing speaks against
+pub Accepts-all : (old : List Record) (r : Record) → (OtherClass old r → ⊥) → (OtherSoa old r → ⊥) → (OtherTtl old r → ⊥) → Accepts old r
+Accepts-all old r one_class one_soa one_ttl = record { one_class = one_class; one_soa = one_soa; one_ttl = one_ttl }
 
-    grows : (d : Option SetData) → found es r ≡ d → IfSome d (λ d. d.ttl ≡ r.ttl) → Grows r.class (set_at r) r d (with_datum d r.ttl r.kind r.octets)
-    grows None is agree = grows_first r
-    grows (Some d) is agree = grows_more r d (kept_at es (set_at r) d o.held.kept is) agree
+module _ {class : Option ℕ} {base : List (List ℕ)} {octets : List ℕ} {es : List Entry} {counted : ℕ} (r : Record) (keeps : KeepsSets class base octets es counted) (same : IsOtherClass class r.class → ⊥) where
+  abbrev Old : List Record
+  Old = all_records (class_or_none class) octets es
 
-    grown : Grows r.class (set_at r) r (found es r) value
-    grown = grows (found es r) refl agrees
+  abbrev Seen : List Record
+  Seen = all_records r.class octets es
 
-    module _ {new : Entries} (shape : new ≡ insert_entry set_cmp es (set_at r) value) (new_ordered : IsStrictlySortedBy set_cmp (keys_of new)) where
-      kept : AllByRecursion IsKept new
-      kept = subst (AllByRecursion IsKept) (sym shape) (kept_with r.class (set_at r) r value es grown.kept o.held.kept)
+  seen : Seen ≡ Old
+  seen = same_records class octets es r keeps.none same
 
-      with_one : (s : Record) → Has (all_records r.class new) s ↔ ((s ≡ r) ⊎ Has (all_records (class_or_none class) es) s)
-      with_one s =
-          subst (λ (old : List Record). Has (all_records r.class new) s ↔ ((s ≡ r) ⊎ Has old s)) (sym (same_records class es r o.held o.same))
-          (subst (λ (fs : Entries). Has (all_records r.class fs) s ↔ ((s ≡ r) ⊎ Has (all_records r.class es) s)) (sym shape) (has_with r.class (set_at r) r value es o.ordered grown s))
+  pub refused_put : (OtherSoa Old r → ⊥) → (e : Refusal) → IsSetRefusal Seen r e → IsRefusal Old r e
+  refused_put one_soa refusal.OtherClass why = absurd why
+  refused_put one_soa refusal.OtherSoa why = absurd why
+  refused_put one_soa refusal.OtherTtl why = by_ttl (one_class r class keeps same) one_soa (subst (λ rs. OtherTtl rs r) seen why)
+  refused_put one_soa refusal.Memory why = tt
 
-      pub Adds-with : Adds (all_records (class_or_none class) es) r (all_records r.class new)
-      Adds-with = record { ascend = all_ascend r.class new kept new_ordered; same = with_one }
-
-      HoldsSets-with : HoldsSets (Some r.class) new
-      HoldsSets-with = record {
-        kept = kept;
-        compatible = AreCompatible-with (all_records (class_or_none class) es) (all_records r.class new) r o.held.compatible accepted o.whole (λ s. (with_one s).0) (all_ascend r.class new kept new_ordered);
-        none = λ e. cc;
-        some = λ e. some_insert es (set_at r) value (sym shape ∙ e);
+  -- where memory was refused, the records are as before
+  pub KeepsSets-unchanged : (name : List (List ℕ)) (now : List ℕ) (fs : List Entry) → fs ≡ es → AllByRecursion (IsEntry name r.class now) fs → all_records r.class now fs ≡ all_records r.class octets es → KeepsSets class name now fs counted
+  KeepsSets-unchanged name now fs is each records =
+      let none : class ≡ None → fs ≡ [] = λ e. is ∙ keeps.none e in
+      let view = sym (same_records class now fs r none same) ∙ records ∙ same_records class octets es r keeps.none same in
+      record {
+        holds = record { each = back_entries class name now fs r none same each; compatible = subst AreCompatible (sym view) keeps.holds.compatible };
+        none = none;
+        some = subst (λ gs. IfSome class (λ _. gs ≢ [])) (sym is) keeps.some;
+        counts = keeps.counts ∙ ap (λ rs. min (message_octets rs) (2 ^ 64 - 1)) (sym view);
       }
 
-      pub KeepsSets-with : (before after : ℕ) (is_new : Bool) → before ≡ min (message_octets (all_records (class_or_none class) es)) (2 ^ 64 - 1) → (is_new ≡ true ↔ IsNew (found es r) r.octets) → after ≡ min (before + (if is_new then message_len r else 0)) (2 ^ 64 - 1) → KeepsSets (Some r.class) new after
-      KeepsSets-with before after is_new is told is_after =
-          let had : message_octets (all_records (class_or_none class) es) ≡ message_octets (all_records r.class es) = ap message_octets (same_records class es r o.held o.same) in
-          let now : message_octets (all_records r.class new) ≡ message_octets (all_records r.class es) + (if is_new then message_len r else 0) =
-          ap (λ (fs : Entries). message_octets (all_records r.class fs)) shape ∙ octets_with r.class es r o.ordered is_new told in
-          record { sets = HoldsSets-with; octets = octets_counted (message_octets (all_records r.class es)) (message_octets (all_records r.class new)) (if is_new then message_len r else 0) before after (is ∙ ap (λ n. min n (2 ^ 64 - 1)) had) now is_after }
+  pub view_unchanged : (now : List ℕ) (fs : List Entry) → fs ≡ es → all_records r.class now fs ≡ all_records r.class octets es → all_records (class_or_none class) now fs ≡ Old
+  view_unchanged now fs is records = sym (same_records class now fs r (λ e. is ∙ keeps.none e) same) ∙ records ∙ same_records class octets es r keeps.none same
+
+  module _ (one_soa : OtherSoa Old r → ⊥) (one_ttl : OtherTtl Seen r → ⊥) (whole : IsRecord r) (name : List (List ℕ)) (now : List ℕ) (fs : List Entry) (is_new : Bool) (each : AllByRecursion (IsEntry name r.class now) fs) (told : IsPut Seen r is_new (all_records r.class now fs)) where
+    abbrev New : List Record
+    New = all_records r.class now fs
+
+    was_put : IsPut Old r is_new New
+    was_put = subst (λ olds. IsPut olds r is_new New) seen told
+
+    pub accepted : Accepts Old r
+    accepted = Accepts-all Old r (one_class r class keeps same) one_soa (λ other. one_ttl (subst (λ rs. OtherTtl rs r) (sym seen) other))
+
+    pub added : Adds Old r New
+    added = Adds-put Old r is_new New keeps.holds.compatible was_put
+
+    pub KeepsSets-with : (after : ℕ) → after ≡ min (counted + (if is_new then message_len r else 0)) (2 ^ 64 - 1) → KeepsSets (Some r.class) name now fs after
+    KeepsSets-with after is_after = record {
+      holds = record { each = each; compatible = AreCompatible-with Old New r keeps.holds.compatible accepted whole (λ s. (added.same s).0) added.ascend };
+      none = λ e. cc;
+      some = λ e. let has : Has New r = (added.same r).1 (inl refl) in subst (λ gs. Has (all_records r.class now gs) r) e has;
+      counts = octets_counted (message_octets Old) (message_octets New) (if is_new then message_len r else 0) counted after keeps.counts (octets_put Old r is_new New was_put) is_after;
+    }
 
 -- the stop for a record that is handed back
 pub stops_add : (held : List Record) (p : Placed) (e : Refusal) → IsRefusal held p.rr e → StopsAdd held p (stop_for e p.place)

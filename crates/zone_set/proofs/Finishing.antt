@@ -26,6 +26,27 @@ IsFirstOutside-later apex owner r others within found = record {
   outside = found.outside;
 }
 
+-- what is outside, and that nothing is, is told by the records that are left
+pub record Walks (whole : List Record) (apex : List (List ℕ)) (left : List Record) : Type 0 where
+  pub inside : AllByRecursion (λ r. IsWithin r.owner apex) left → AllByRecursion (λ r. IsWithin r.owner apex) whole
+  pub outside : (owner : List (List ℕ)) → IsFirstOutside left apex owner → IsFirstOutside whole apex owner
+
+pub Walks-start : (whole left : List Record) (apex : List (List ℕ)) → left ≡ whole → Walks whole apex left
+Walks-start whole left apex is = record {
+  inside = subst (AllByRecursion (λ r. IsWithin r.owner apex)) is;
+  outside = λ owner found. subst (λ rs. IsFirstOutside rs apex owner) is found;
+}
+
+module _ (whole : List Record) (apex : List (List ℕ)) (left rest : List Record) (r : Record) (walks : Walks whole apex left) (step : left ≡ r ∷ rest) where
+  pub Walks-more : IsWithin r.owner apex → Walks whole apex rest
+  Walks-more within = record {
+    inside = λ each. walks.inside (subst (AllByRecursion (λ s. IsWithin s.owner apex)) (sym step) (within, each));
+    outside = λ owner found. walks.outside owner (subst (λ rs. IsFirstOutside rs apex owner) (sym step) (IsFirstOutside-later apex owner r rest within found));
+  }
+
+  pub Walks-found : (IsWithin r.owner apex → ⊥) → IsFirstOutside whole apex r.owner
+  Walks-found out = walks.outside r.owner (subst (λ rs. IsFirstOutside rs apex r.owner) (sym step) (record { before = []; first = r; others = rest; parts = refl; inside = tt; named = refl; outside = out }))
+
 pub no_soa_of_none : HasNoSoa []
 no_soa_of_none r has soa = has
 

@@ -5,7 +5,7 @@ use Rattle.std.proofs.lemmas.Map.Lookups.{CmpEqualImpliesEq, exact_unsigned, exa
 use Rattle.std.specs.Cmp.Lexicographic.{slice_cmp, pointwise, pointwise_decides, bytes_decides}
 use Rattle.std.specs.Ordering.{on, ordering_then}
 use Rattle.zone_name.specs.Order.{name_cmp}
-use Rattle.zone_set.specs.Machine.Key.{set_cmp}
+use Rattle.zone_set.specs.Machine.RecordSet.{set_cmp}
 
 pub both_equal : (o p : Ordering) → ordering_then o p ≡ Equal → (o ≡ Equal) × (p ≡ Equal)
 both_equal Less p h = cc

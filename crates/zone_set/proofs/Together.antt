@@ -8,7 +8,7 @@ use Rattle.zone_set.specs.Order.{canonical_cmp, Ascends}
 use Rattle.std.specs.Ordering.{ordering_then}
 use Rattle.zone_set.proofs.KeyOrder.{decides_owner}
 use Rattle.zone_set.specs.Builder.{AreTwoSoas, OtherSoa, Accepts}
-use Rattle.zone_set.specs.Machine.Key.{RecordSet, set_for}
+use Rattle.zone_set.specs.Machine.RecordSet.{RecordSet, set_for}
 use Rattle.zone_set.specs.Zone.{Has, InOneSet, AreCompatible}
 
 -- what holds of each record, and of each that is held

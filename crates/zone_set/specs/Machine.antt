@@ -1,6 +1,7 @@
 -- What only private functions, invariants and proofs cite.
-pub mod Key
-pub mod Datums
+pub mod RecordSet
+pub mod LabelKey
+pub mod Hint
+pub mod Stored
 pub mod Held
-pub mod Records
 pub mod Refusal

@@ -13,7 +13,6 @@ use zone_rdata::{Fault, Place, Placed, RrSource, Stop};
 /// The records of a zone so far. Contracts see their set, as its one list in canonical order.
 #[derive(Drop)]
 pub struct ZoneBuilder {
-    alloc: Global,
     sets: Sets,
 }
 
@@ -32,7 +31,6 @@ impl ZoneBuilder {
         ensures { result ≡ [] }
     {
         ZoneBuilder {
-            alloc,
             sets: Sets::new(alloc),
         }
     }
@@ -66,7 +64,7 @@ impl ZoneBuilder {
             (λ e. StopsAdd self.old placed.now (stop_for e placed.now.place)) }
         ensures unchanged { OnErr result (self.new ≡ self.old) }
     {
-        self.sets.add(self.alloc, &placed.rr)
+        self.sets.add(&placed.rr)
     }
 
     /// Takes all that a source has left to give.

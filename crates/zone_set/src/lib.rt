@@ -3,16 +3,18 @@
 #![tactic(auto)]
 
 mod builder;
-mod datum;
-mod datums;
-mod held;
-mod key;
+mod entry;
+mod hint;
+mod lend;
+mod offered;
 mod order;
+mod put;
 mod records;
 mod refusal;
 mod rr;
 mod same;
 mod sets;
+mod stored;
 mod zone;
 
 pub use builder::ZoneBuilder;

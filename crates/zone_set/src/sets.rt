@@ -1,49 +1,55 @@
-ghost use Rattle.std.specs.Prelude.{◌≡◌, ◌+◌, ◌-◌, ◌^◌, ◌↔◌, [], length, min, if◌then◌else◌, IsTrue, OnOk, OnErr, IfOk, IfErr, IfNone, IfSome};
-ghost use Rattle.std.specs.BTreeMap.{get, insert_entry, IsOrdered};
+ghost use Rattle.std.specs.Prelude.{◌≡◌, ◌⊎◌, ◌+◌, ◌-◌, ◌^◌, ◌↔◌, ◌∷◌, ◌++◌, [], List, length, min, if◌then◌else◌, IsTrue, OnOk, OnErr, IfErr, IfNone, IfSome, MatchOption};
 ghost use Rattle.std.specs.List.{AllByRecursion};
+ghost use Rattle.sorted_chunks.specs.Chunks.{joined};
 ghost use Rattle.zone_name.specs.Name.{IsWithin};
+ghost use Rattle.zone_rdata.specs.Record.{Record};
 ghost use Rattle.zone_set.specs.Builder.{Accepts, Adds, AreTwoSoas, OtherSoa};
-ghost use Rattle.zone_set.specs.Machine.Held.{with_datum, IsFirstOutside, IsNew};
-ghost use Rattle.zone_set.specs.Machine.Key.{set_cmp};
-ghost use Rattle.zone_set.specs.Machine.Refusal.{IsOtherClass, IsRefusal, IsSetRefusal};
+ghost use Rattle.zone_set.specs.Machine.Held.{IsFirstOutside};
+ghost use Rattle.zone_set.specs.Machine.Refusal.{IsOtherClass, IsRefusal};
 ghost use Rattle.zone_set.specs.Message.{message_len, message_octets};
 ghost use Rattle.zone_set.specs.View.{record_of};
 ghost use Rattle.zone_set.specs.Zone.{AreCompatible};
 
-use crate::datum::Datum;
-use crate::held::Held;
-use crate::key::SetKey;
+use crate::entry::Entry;
+use crate::put::{LIMIT, put};
 use crate::records::Records;
 use crate::refusal::Refusal;
 use crate::rr::RrRef;
 use crate::same::is_same_name;
+use crate::stored::record_at;
+use sorted_chunks::SortedChunks;
 use std::alloc::Global;
-use std::collections::BTreeMap;
-use std::collections::btree_map::Entry;
 use std::marker::Model;
 use zone_name::{Name, NameRef};
-use zone_rdata::{Class, Kind, Rr};
+use zone_rdata::{Class, Rr};
 
-/// Records that can stand together, by their sets. Contracts see them in canonical order.
+/// Records that can stand together. Contracts see them in canonical order.
 #[derive(Drop)]
 pub(crate) struct Sets {
     /// The class of all records; `None` where there are none.
     class: Option<Class>,
-    by_key: BTreeMap<SetKey, Held>,
+    /// The owner of the first record that came, which hints are relative to.
+    base: Name,
+    /// One copy of each record, in the order in which they came.
+    octets: Vec<u8>,
+    /// Where each record stands among the octets, in canonical order.
+    entries: SortedChunks<Entry, LIMIT>,
     /// What the records take in messages, or 2^64 - 1 where it is more.
-    octets: u64,
+    message_len: u64,
 }
 
 impl Model for Sets {
     ghost use Rattle.std.specs.Prelude.{List};
+    ghost use Rattle.sorted_chunks.specs.Chunks.{joined};
     ghost use Rattle.zone_rdata.specs.Record.{Record};
     ghost use Rattle.zone_set.specs.Machine.Held.{all_records, class_or_none, KeepsSets};
 
     ghost Value = { List Record };
 
-    ghost view = { λ s. all_records (class_or_none s.class) s.by_key.entries };
+    ghost view = { λ s. all_records (class_or_none s.class) s.octets.items (joined s.entries) };
 
-    ghost invariant = { λ s. KeepsSets s.class s.by_key.entries s.octets };
+    ghost invariant = { λ s.
+        KeepsSets s.class s.base s.octets.items (joined s.entries) s.message_len };
 }
 
 impl Sets {
@@ -53,8 +59,10 @@ impl Sets {
     {
         Sets {
             class: None,
-            by_key: BTreeMap::new(alloc),
-            octets: 0,
+            base: Name::root(),
+            octets: Vec::new(alloc),
+            entries: SortedChunks::new(alloc),
+            message_len: 0,
         }
     }
 
@@ -65,8 +73,8 @@ impl Sets {
     {
         Records {
             class: self.class,
-            told: None,
-            entries: self.by_key.iter(),
+            octets: self.octets.as_slice(),
+            entries: self.entries.iter(),
         }
     }
 
@@ -74,11 +82,7 @@ impl Sets {
     pub(crate) fn len(&self) -> u64
         ensures { result ≡ min (length self.now) (2 ^ 64 - 1) }
     {
-        let mut len: u64 = 0;
-        for (_, held) in self.by_key.iter() {
-            len = len.saturating_add(held.len() as u64);
-        }
-        len
+        self.entries.len()
     }
 
     /// The octets that the records take in messages where no name is compressed, or 2^64 - 1 where
@@ -86,7 +90,7 @@ impl Sets {
     pub(crate) fn message_len(&self) -> u64
         ensures { result ≡ min (message_octets self.now) (2 ^ 64 - 1) }
     {
-        self.octets
+        self.message_len
     }
 
     /// The first owner that lies outside the zone of an apex.
@@ -97,10 +101,9 @@ impl Sets {
         if self.lies_within(apex) {
             return None;
         }
-        for (key, _) in self.by_key.iter() {
-            let owner = key.owner();
-            if !owner.is_within(apex) {
-                return Some(owner);
+        for rr in self.iter() {
+            if !rr.owner.is_within(apex) {
+                return Some(rr.owner);
             }
         }
         None
@@ -108,15 +111,25 @@ impl Sets {
 
     /// Whether the first owner, the least after it and the greatest show that all lie within the
     /// zone of an apex: in the order of names those at or below an apex stand together, and after
-    /// an SOA sets are in that order.
+    /// an SOA records are in that order.
     fn lies_within(&self, apex: &Name) -> bool
         ensures { IsTrue result → AllByRecursion (λ r. IsWithin r.owner apex.now) self.now }
     {
-        let mut keys = self.by_key.keys();
-        let (first, least, greatest) = (keys.next(), keys.next(), keys.next_back());
-        is_none_outside(first, apex)
-            && is_none_outside(least, apex)
-            && is_none_outside(greatest, apex)
+        let mut records = self.iter();
+        let (first, second, last) = (records.next(), records.next(), self.last());
+        is_none_outside(&first, apex)
+            && is_none_outside(&second, apex)
+            && is_none_outside(&last, apex)
+    }
+
+    /// The last record in canonical order.
+    fn last(&self) -> Option<RrRef<'_>>
+        ensures { MatchOption result (self.now ≡ [])
+            (λ r. (front : List Record) × (self.now ≡ front ++ record_of r ∷ [])) }
+    {
+        let class = self.class?;
+        let entry = self.entries.last()?;
+        Some(record_at(class, self.octets.as_slice(), entry.at))
     }
 
     /// Takes a record. An equal one is dropped.
@@ -125,26 +138,22 @@ impl Sets {
     ///
     /// The first reason against it: class, then SOA, then TTL; or want of memory. Nothing is
     /// changed.
-    pub(crate) fn add(&mut self, alloc: Global, rr: &Rr) -> Result<(), Refusal>
+    pub(crate) fn add(&mut self, rr: &Rr) -> Result<(), Refusal>
         ensures accepted { OnOk result (Accepts self.old rr.now) }
         ensures taken { OnOk result (Adds self.old rr.now self.new) }
         ensures refused { IfErr result (IsRefusal self.old rr.now) }
         ensures unchanged { OnErr result (self.new ≡ self.old) }
     {
-        let (owner, ttl, rdata) = (rr.owner(), rr.ttl(), rr.rdata());
-        owner.known();
-        rdata.known();
         if is_other_class(self.class, rr.class()) {
             return Err(Refusal::OtherClass);
         }
         if self.has_other_soa(rr) {
             return Err(Refusal::OtherSoa);
         }
-        let key = SetKey::new(alloc, owner, rdata)?;
-        let datum = Datum::copy_of(alloc, rdata.octets())?;
-        let is_new = put(&mut self.by_key, alloc, key, ttl, rr.kind(), datum)?;
+        settle_base(&mut self.base, &self.entries, rr.owner());
+        let is_new = put(&mut self.entries, &mut self.octets, &self.base, rr)?;
         self.class = Some(rr.class());
-        self.octets = octets_with(self.octets, rr, is_new);
+        self.message_len = octets_with(self.message_len, rr, is_new);
         Ok(())
     }
 
@@ -163,13 +172,22 @@ impl Sets {
     }
 }
 
-/// Whether there is no set, or its owner lies within the zone of an apex.
-fn is_none_outside(key: Option<&SetKey>, apex: &Name) -> bool
-    ensures { IsTrue result ↔ IfSome key.entry (λ k. IsWithin k.now.owner apex.now) }
+/// Whether there is no record, or its owner lies within the zone of an apex.
+fn is_none_outside(rr: &Option<RrRef<'_>>, apex: &Name) -> bool
+    ensures { IsTrue result ↔ IfSome rr.now (λ r. IsWithin r.owner apex.now) }
 {
-    match key {
-        Some(key) => key.owner().is_within(apex),
+    match rr {
+        Some(rr) => rr.owner.is_within(apex),
         None => true,
+    }
+}
+
+/// Where there is no entry, this owner becomes the base.
+fn settle_base(base: &mut Name, entries: &SortedChunks<Entry, LIMIT>, owner: &Name)
+    ensures { (joined entries.now ≡ []) ⊎ (base.new ≡ base.old) }
+{
+    if entries.is_empty() {
+        *base = owner.copy();
     }
 }
 
@@ -213,40 +231,4 @@ fn len_in_messages(rr: &Rr) -> u64
     owner.known();
     // After the owner type, class, TTL and the length of the data.
     owner.wire().len() as u64 + 10 + rr.rdata().octets().len() as u64
-}
-
-/// Puts a datum under the key of its set, and tells whether it is new to it.
-///
-/// # Errors
-///
-/// `OtherTtl` where the set has another TTL, or want of memory. The map is unchanged.
-#[tactic(auto, using(crate::proofs::Entries::put_back))]
-fn put(
-    by_key: &mut BTreeMap<SetKey, Held>,
-    alloc: Global,
-    key: SetKey,
-    ttl: u32,
-    kind: Kind,
-    datum: Datum,
-) -> Result<bool, Refusal>
-    ensures told { IfOk result
-        (λ is_new. IsTrue is_new ↔ IsNew (get set_cmp by_key.old key) datum) }
-    ensures taken { OnOk result (by_key.new.entries
-        ≡ insert_entry set_cmp by_key.old.entries key
-        (with_datum (get set_cmp by_key.old key) ttl kind datum)) }
-    ensures one_ttl { OnOk result (IfSome (get set_cmp by_key.old key) (λ d. d.ttl ≡ ttl)) }
-    ensures refused { IfErr result (IsSetRefusal (get set_cmp by_key.old key) ttl) }
-    ensures unchanged { OnErr result (by_key.new.entries ≡ by_key.old.entries) }
-    ensures ordered { IsOrdered set_cmp by_key.old }
-    ensures new_ordered { IsOrdered set_cmp by_key.new }
-{
-    match by_key.entry(key) {
-        Err(_) => Err(Refusal::Memory),
-        // There is room for the entry.
-        Ok(Entry::Vacant(vacant)) => {
-            let _ = vacant.insert(Held::new(ttl, kind, datum));
-            Ok(true)
-        }
-        Ok(Entry::Occupied(mut occupied)) => occupied.get_mut().add(alloc, ttl, datum),
-    }
 }

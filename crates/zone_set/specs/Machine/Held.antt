@@ -1,76 +1,73 @@
--- What the map of sets holds.
-use Rattle.std.specs.Prelude.{◌≡◌, ◌≢◌, ℕ, ◌-◌, ◌^◌, ◌<◌, min, List, [], ◌∷◌, ◌++◌, length, map, Option, Some, None, ⊤}
-use Rattle.std.specs.BTreeSet.{insert_key}
-use Rattle.std.specs.Cmp.Lexicographic.{slice_cmp}
-use Rattle.std.specs.List.{AllByRecursion, flat_map}
+-- What the sets of a zone hold: octets of records, and entries in canonical order that tell where
+-- each record stands in them.
+use Rattle.std.specs.Prelude.{◌≡◌, ◌≢◌, ℕ, ◌-◌, ◌^◌, ◌<◌, min, Bool, true, false, List, [], ◌∷◌, ◌++◌, map, Option, Some, None}
+use Rattle.std.specs.List.{AllByRecursion}
 use Rattle.std.specs.Option.{IfSome}
-use Rattle.std.specs.Ordering.{nat_cmp}
+use Rattle.std.specs.declared.cmp.Ordering.TheVariants.{Less}
 use Rattle.zone_name.specs.Name.{IsWithin}
-use Rattle.zone_rdata.specs.Record.{Record}
-use Rattle.zone_set.specs.Machine.Datums.{AscendingOctets}
-use Rattle.zone_set.specs.Machine.Key.{RecordSet, set_for}
+use Rattle.zone_rdata.specs.Record.{Record, IsRecord}
+use Rattle.zone_set.specs.Machine.Hint.{hint}
+use Rattle.zone_set.specs.Machine.Stored.{record_from, IsStored}
 use Rattle.zone_set.specs.Message.{message_octets}
-use Rattle.zone_set.specs.Zone.{AreCompatible}
+use Rattle.zone_set.specs.Order.{canonical_cmp, Ascends}
+use Rattle.zone_set.specs.Zone.{Has, AreCompatible, InOneSet}
+use Rattle.zone_set.specs.declared.entry.Entry.{Entry}
 
--- what records of one set have in common, and the octets of their data
-pub record SetData : Type 0 where
-  pub ttl : ℕ
-  pub kind : ℕ
-  pub rdatas : List (List ℕ)
+-- the record of an entry
+abbrev pub entry_record : ℕ → List ℕ → Entry → Record
+entry_record class octets e = record_from class octets e.at
 
--- one or more data in ascending order
-pub record AreDatums (octets : List (List ℕ)) : Type 0 where
-  pub some : octets ≢ []
-  pub ordered : AscendingOctets octets
-
--- the data of a set, if it has any, and one more
-abbrev pub with_datum : Option SetData → ℕ → ℕ → List ℕ → SetData
-with_datum None ttl kind octets = record { ttl = ttl; kind = kind; rdatas = octets ∷ [] }
-with_datum (Some d) ttl kind octets =
-    record { ttl = d.ttl; kind = d.kind; rdatas = insert_key (slice_cmp nat_cmp) d.rdatas octets }
-
--- the data of a set, if it has any, are more with this one
-abbrev pub IsNew : Option SetData → List ℕ → Type 0
-IsNew None octets = ⊤
-IsNew (Some d) octets = length d.rdatas < length (insert_key (slice_cmp nat_cmp) d.rdatas octets)
-
--- the record of a set and class with these octets
-abbrev pub set_record : ℕ → RecordSet → SetData → List ℕ → Record
-set_record class s d octets =
-    record { owner = s.owner; class = class; kind = d.kind; ttl = d.ttl; octets = octets }
-
--- the records of an entry of the map
-abbrev pub entry_records : ℕ → RecordSet × SetData → List Record
-entry_records class e = map (set_record class e.0 e.1) e.1.rdatas
-
-abbrev pub all_records : ℕ → List (RecordSet × SetData) → List Record
-all_records class entries = flat_map (entry_records class) entries
+abbrev pub all_records : ℕ → List ℕ → List Entry → List Record
+all_records class octets entries = map (entry_record class octets) entries
 
 -- the class, and 0 where none is known yet
 abbrev pub class_or_none : Option ℕ → ℕ
 class_or_none None = 0
 class_or_none (Some class) = class
 
--- an entry holds one or more data in order, and all are of the set under which it stands
-pub record IsKept (e : RecordSet × SetData) : Type 0 where
-  pub datums : AreDatums e.1.rdatas
-  pub set : AllByRecursion
-      (λ octets. set_for e.0.owner (record { class = 0; kind = e.1.kind; octets = octets })
-      ≡ e.0) e.1.rdatas
+-- octets of a record stand where the entry says
+pub record IsLinked (class : ℕ) (octets : List ℕ) (e : Entry) : Type 0 where
+  pub stands : IsStored class octets e.at
+  pub whole : IsRecord (entry_record class octets e)
 
--- sets whose records stand together; there are none where no class is known, and some where one is
-pub record HoldsSets (class : Option ℕ) (entries : List (RecordSet × SetData)) : Type 0 where
-  pub kept : AllByRecursion IsKept entries
-  pub compatible : AreCompatible (all_records (class_or_none class) entries)
+-- and its hint is that of the record
+pub record IsEntry (base : List (List ℕ)) (class : ℕ) (octets : List ℕ) (e : Entry) : Type 0 where
+  pub linked : IsLinked class octets e
+  pub hinted : e.hint
+      ≡ hint base (entry_record class octets e).owner (entry_record class octets e).kind
+
+-- an entry that can be compared with a record of a hint: where the hints differ, they decide
+pub record IsComparable (octets : List ℕ) (hint : ℕ) (r : Record) (e : Entry) : Type 0 where
+  pub linked : IsLinked r.class octets e
+  pub before : e.hint < hint → canonical_cmp (entry_record r.class octets e) r ≡ Less
+  pub after : hint < e.hint → canonical_cmp r (entry_record r.class octets e) ≡ Less
+
+-- entries of records that can stand together
+pub record HoldsEntries (base : List (List ℕ)) (class : ℕ) (octets : List ℕ)
+    (entries : List Entry) : Type 0 where
+  pub each : AllByRecursion (IsEntry base class octets) entries
+  pub compatible : AreCompatible (all_records class octets entries)
+
+-- such entries, of which there are none where no class is known, and some where one is; and the
+-- octets that their records take in messages, as far as 64 bits count them
+pub record KeepsSets (class : Option ℕ) (base : List (List ℕ)) (octets : List ℕ)
+    (entries : List Entry) (counted : ℕ) : Type 0 where
+  pub holds : HoldsEntries base (class_or_none class) octets entries
   pub none : class ≡ None → entries ≡ []
   pub some : IfSome class (λ _. entries ≢ [])
+  pub counts : counted
+      ≡ min (message_octets (all_records (class_or_none class) octets entries)) (2 ^ 64 - 1)
 
--- such sets, and the octets that their records take in messages, as far as 64 bits count them
-pub record KeepsSets (class : Option ℕ) (entries : List (RecordSet × SetData))
-    (counted : ℕ) : Type 0 where
-  pub sets : HoldsSets class entries
-  pub octets : counted
-      ≡ min (message_octets (all_records (class_or_none class) entries)) (2 ^ 64 - 1)
+-- records of one set whose TTLs differ
+abbrev pub HasOtherTtl : Record → Record → Type 0
+HasOtherTtl s r = InOneSet s r × (s.ttl ≢ r.ttl)
+
+-- a record was put at its place among others, or an equal one was held
+abbrev pub IsPut : List Record → Record → Bool → List Record → Type 0
+IsPut old r true new =
+    (before after : List Record) × (old ≡ before ++ after) × (new ≡ before ++ r ∷ after)
+    × Ascends new
+IsPut old r false new = (new ≡ old) × Has old r
 
 -- the owner of the first of these records that lies outside the zone of the apex
 pub record IsFirstOutside (records : List Record) (apex owner : List (List ℕ)) : Type 0 where

@@ -1,12 +1,12 @@
 -- Why the map of sets does not take a record.
-use Rattle.std.specs.Prelude.{◌≡◌, ◌≢◌, ℕ, List, Option, Some, None, ⊤}
+use Rattle.std.specs.Prelude.{◌≢◌, ℕ, List, Option, Some, None, ⊤}
 use Rattle.zone_rdata.specs.Record.{Record}
 use Rattle.zone_rdata.specs.declared.fault.Fault.TheVariants.{ClassMismatch, MultipleSoa, DifferingTtl}
 use Rattle.zone_rdata.specs.declared.fault.Place.{Place}
 use Rattle.zone_rdata.specs.declared.fault.Stop.{Stop}
 use Rattle.zone_rdata.specs.declared.fault.Stop.TheVariants as stop
 use Rattle.zone_set.specs.Builder.{IsRefusedFor}
-use Rattle.zone_set.specs.Machine.Held.{SetData}
+use Rattle.zone_set.specs.Builder as builder
 use Rattle.zone_set.specs.declared.refusal.Refusal.{Refusal}
 use Rattle.zone_set.specs.declared.refusal.Refusal.TheVariants.{OtherClass, OtherSoa, OtherTtl, Memory}
 
@@ -22,12 +22,12 @@ IsRefusal held r OtherSoa = IsRefusedFor held r MultipleSoa
 IsRefusal held r OtherTtl = IsRefusedFor held r DifferingTtl
 IsRefusal held r Memory = ⊤
 
--- a set does not take a record with this TTL
-abbrev pub IsSetRefusal : Option SetData → ℕ → Refusal → Type 0
-IsSetRefusal found ttl OtherClass = ⊥
-IsSetRefusal found ttl OtherSoa = ⊥
-IsSetRefusal found ttl OtherTtl = (d : SetData) × (found ≡ Some d) × (d.ttl ≢ ttl)
-IsSetRefusal found ttl Memory = ⊤
+-- records do not take this one into its set, or memory was refused
+abbrev pub IsSetRefusal : List Record → Record → Refusal → Type 0
+IsSetRefusal held r OtherClass = ⊥
+IsSetRefusal held r OtherSoa = ⊥
+IsSetRefusal held r OtherTtl = builder.OtherTtl held r
+IsSetRefusal held r Memory = ⊤
 
 -- the stop at a place
 abbrev pub stop_for : Refusal → Place → Stop

@@ -1,10 +1,10 @@
-use Rattle.zone_set.proofs.Walking.{Walks}
+use Rattle.zone_set.proofs.Finishing.{Walks}
 use Rattle.zone_set.proofs.sets.Sets.first_outside.Given as goal
 
--- the sets that are left tell of the whole
-abbrev pub invariant-loop-key : goal.invariant-loop-key
-invariant-loop-key l = record {
-  can_next : (goal.iterator-loop-key).can_next l.key-iterator;
-  is_finite : (goal.iterator-loop-key).is_finite l.key-iterator;
-  walks : Walks l.fn.self l.apex l.key-iterator;
+-- the records that are left tell of the whole
+abbrev pub invariant-loop-rr : goal.invariant-loop-rr
+invariant-loop-rr l = record {
+  can_next : (goal.iterator-loop-rr).can_next l.rr-iterator;
+  is_finite : (goal.iterator-loop-rr).is_finite l.rr-iterator;
+  walks : Walks l.fn.self l.apex l.rr-iterator;
 }

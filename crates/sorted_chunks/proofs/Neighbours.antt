@@ -1,0 +1,111 @@
+-- What stands about a place.
+use Rattle.std.proofs.Common.{◌≡◌, ℕ, ◌+◌, ◌-◌, ◌<◌, ◌≤◌, List, [], ◌∷◌, ◌++◌, zero, suc, length, take, drop, get_or, sym, ap, ◌∙◌, arith, ⊎_elim}
+use Rattle.std.proofs.lemmas.Bool.{cases_eq}
+use Rattle.std.proofs.lemmas.List.{append-nil, append_assoc, take-append-drop, drop_more, drop_all, take_all, take_more, get_or_past, get_or_default}
+use Rattle.std.proofs.lemmas.List.Elements.{All-cons, All-from_recursion, All-nil, recursion_from_All}
+use Rattle.std.specs.List.{All, AllByRecursion}
+use Rattle.sorted_chunks.specs.Chunks.{after, before, joined}
+use Rattle.sorted_chunks.proofs.Placing.{joined-append, joined_about}
+
+module _ {X : Type 0} where
+  -- the chunk at a place, as an index lends it
+  pub lent : (cs inside : List (List X)) (i : ℕ) (c : List X) → inside ≡ cs → i < length inside → c ≡ get_or inside i c → c ≡ get_or cs i []
+  lent cs inside i c same within is = is ∙ get_or_default inside i c [] within ∙ ap (λ l. get_or l i []) same
+
+  -- what stands before a place and after it is the whole
+  pub whole_at : (cs : List (List X)) (i j : ℕ) → i ≤ length cs → before cs (record { chunk = i; offset = j }) ++ after cs (record { chunk = i; offset = j }) ≡ joined cs
+  whole_at cs i j le = ⊎_elim past within (cases_eq i (length cs))
+    where
+      c : List X
+      c = get_or cs i []
+
+      regrouped : before cs (record { chunk = i; offset = j }) ++ after cs (record { chunk = i; offset = j }) ≡ joined (take i cs) ++ (c ++ joined (drop (i + 1) cs))
+      regrouped =
+          append_assoc (joined (take i cs)) (take j c) (drop j c ++ joined (drop (i + 1) cs))
+          ∙ ap (λ l. joined (take i cs) ++ l) (sym (append_assoc (take j c) (drop j c) (joined (drop (i + 1) cs))) ∙ ap (λ l. l ++ joined (drop (i + 1) cs)) (take-append-drop j c))
+
+      past : i ≡ length cs → before cs (record { chunk = i; offset = j }) ++ after cs (record { chunk = i; offset = j }) ≡ joined cs
+      past at =
+          regrouped
+          ∙ ap (λ l. joined (take i cs) ++ (l ++ joined (drop (i + 1) cs))) (get_or_past cs i [] (omega arith))
+          ∙ ap (λ l. joined (take i cs) ++ joined l) (drop_all (i + 1) cs (omega arith))
+          ∙ append-nil (joined (take i cs))
+          ∙ ap joined (take_all i cs (omega arith))
+
+      within : (i ≡ length cs → ⊥) → before cs (record { chunk = i; offset = j }) ++ after cs (record { chunk = i; offset = j }) ≡ joined cs
+      within other = regrouped ∙ sym (joined_about cs i (omega (arith, other)))
+
+  -- a place after an element of a chunk is in that chunk
+  pub filled_within : (cs : List (List X)) (i j : ℕ) → 0 < j → j ≤ length (get_or cs i []) → i < length cs
+  filled_within [] i j some le = absurd (omega arith)
+  filled_within (c ∷ cs) zero j some le = omega arith
+  filled_within (c ∷ cs) (suc i) j some le = let more = filled_within cs i j some le in omega arith
+
+  -- the element before a place in a chunk
+  pub last_in : (cs : List (List X)) (i j : ℕ) (x : X) → 0 < j → j ≤ length (get_or cs i []) → x ≡ get_or (get_or cs i []) (j - 1) x → (front : List X) × (before cs (record { chunk = i; offset = j }) ≡ front ++ x ∷ [])
+  last_in cs i j x some le is =
+      let c = get_or cs i [] in
+      let next : j ≡ j - 1 + 1 = omega arith in (
+        joined (take i cs) ++ take (j - 1) c,
+        ap (λ n. joined (take i cs) ++ take n c) next
+            ∙ ap (λ l. joined (take i cs) ++ l) (take_more c (j - 1) x (omega arith) ∙ ap (λ y. take (j - 1) c ++ y ∷ []) (sym is))
+            ∙ sym (append_assoc (joined (take i cs)) (take (j - 1) c) (x ∷ [])),
+      )
+
+  -- the beginning of a chunk is after the end of the one before it
+  before_chunk : (cs : List (List X)) (i : ℕ) → 0 < i → i ≤ length cs → before cs (record { chunk = i; offset = 0 }) ≡ before cs (record { chunk = i - 1; offset = length (get_or cs (i - 1) []) })
+  before_chunk cs i some le =
+      let next : i ≡ i - 1 + 1 = omega arith in
+      let c = get_or cs (i - 1) [] in
+      append-nil (joined (take i cs))
+      ∙ ap (λ n. joined (take n cs)) next
+      ∙ ap joined (take_more cs (i - 1) [] (omega arith))
+      ∙ joined-append (take (i - 1) cs) (c ∷ [])
+      ∙ ap (λ l. joined (take (i - 1) cs) ++ l) (append-nil c ∙ sym (take_all (length c) c (omega arith)))
+
+  pub last_of_chunk : (cs : List (List X)) (i j : ℕ) (x : X) → j ≡ 0 → 0 < i → i ≤ length cs → 0 < length (get_or cs (i - 1) []) → x ≡ get_or (get_or cs (i - 1) []) (length (get_or cs (i - 1) []) - 1) x → (front : List X) × (before cs (record { chunk = i; offset = j }) ≡ front ++ x ∷ [])
+  last_of_chunk cs i j x start some le filled is =
+      let last = last_in cs (i - 1) (length (get_or cs (i - 1) [])) x filled (omega arith) is in
+      (last.0, ap (λ n. before cs (record { chunk = i; offset = n })) start ∙ before_chunk cs i some le ∙ last.1)
+
+  pub none_before : (cs : List (List X)) (i j : ℕ) → i ≡ 0 → j ≡ 0 → before cs (record { chunk = i; offset = j }) ≡ []
+  none_before cs i j first start = ap (λ n. joined (take n cs) ++ take j (get_or cs n [])) first ∙ ap (λ n. take n (get_or cs 0 [])) start
+
+  -- the element after a place in a chunk
+  pub first_in : (cs : List (List X)) (i j : ℕ) (x : X) → j < length (get_or cs i []) → x ≡ get_or (get_or cs i []) j x → (rest : List X) × (after cs (record { chunk = i; offset = j }) ≡ x ∷ rest)
+  first_in cs i j x within is =
+      let c = get_or cs i [] in
+      (drop (j + 1) c ++ joined (drop (i + 1) cs), ap (λ l. l ++ joined (drop (i + 1) cs)) (drop_more c j x within ∙ ap (λ y. y ∷ drop (j + 1) c) (sym is)))
+
+  -- the end of a chunk is before the next one
+  pub after_end : (cs : List (List X)) (i j : ℕ) → length (get_or cs i []) ≤ j → after cs (record { chunk = i; offset = j }) ≡ joined (drop (i + 1) cs)
+  after_end cs i j end = ap (λ l. l ++ joined (drop (i + 1) cs)) (drop_all j (get_or cs i []) end)
+
+  first_filled : (c : List X) (rest : List X) (x : X) → 0 < length c → x ≡ get_or c 0 x → (more : List X) × (c ++ rest ≡ x ∷ more)
+  first_filled [] rest x some is = absurd (omega (arith, some))
+  first_filled (y ∷ c) rest x some is = (c ++ rest, ap (λ z. z ∷ (c ++ rest)) (sym is))
+
+  pub first_of_chunk : (cs : List (List X)) (i j : ℕ) (x : X) → length (get_or cs i []) ≤ j → i + 1 < length cs → 0 < length (get_or cs (i + 1) []) → x ≡ get_or (get_or cs (i + 1) []) 0 x → (rest : List X) × (after cs (record { chunk = i; offset = j }) ≡ x ∷ rest)
+  first_of_chunk cs i j x end within some is =
+      let first = first_filled (get_or cs (i + 1) []) (joined (drop (i + 1 + 1) cs)) x some is in
+      (first.0, after_end cs i j end ∙ ap joined (drop_more cs (i + 1) [] within) ∙ first.1)
+
+  pub none_after : (cs : List (List X)) (i j : ℕ) → length (get_or cs i []) ≤ j → length cs ≤ i + 1 → after cs (record { chunk = i; offset = j }) ≡ []
+  none_after cs i j end past = after_end cs i j end ∙ ap joined (drop_all (i + 1) cs past)
+
+  pub none_past : (cs : List (List X)) (i j : ℕ) → length cs ≤ i → after cs (record { chunk = i; offset = j }) ≡ []
+  none_past cs i j past = none_after cs i j (let none = ap length (get_or_past cs i [] past) in omega (arith, none)) (omega arith)
+
+  pub before_all : (cs : List (List X)) → before cs (record { chunk = length cs; offset = 0 }) ≡ joined cs
+  before_all cs = append-nil (joined (take (length cs) cs)) ∙ ap joined (take_all (length cs) cs (omega arith))
+
+  -- what holds of each element holds of each of each chunk
+  pub each_chunk : (P : X → Type 0) (cs : List (List X)) → All P (joined cs) → All (λ c. All P c) cs
+  each_chunk P [] all = All-nil (λ c. All P c)
+  each_chunk P (c ∷ cs) all =
+      let both = parts c (joined cs) (recursion_from_All P (joined (c ∷ cs)) all) in
+      All-cons (λ d. All P d) c cs (All-from_recursion P c both.0) (each_chunk P cs (All-from_recursion P (joined cs) both.1))
+    where
+      parts : (xs ys : List X) → AllByRecursion P (xs ++ ys) → AllByRecursion P xs × AllByRecursion P ys
+      parts [] ys all = (tt, all)
+      parts (x ∷ xs) ys all = let more = parts xs ys all.1 in ((all.0, more.0), more.1)

@@ -1,0 +1,16 @@
+use Rattle.std.proofs.Common.{◌≡◌, ◌≤◌, ◌-◌, true, false, length}
+use Rattle.std.specs.List.{AllWithin}
+use Rattle.std.specs.List.Sorted.{IsPartitionedBy}
+use Rattle.sorted_chunks.proofs.sought.count_before.Given as goal
+
+-- what is sought comes after those below `low`, and not after those from `high` on
+abbrev pub invariant-loop-low : goal.invariant-loop-low
+invariant-loop-low g l = record {
+  ordered : l.low ≤ l.high;
+  bound : l.high ≤ length l.elements;
+  before : IsPartitionedBy (g.S.Sought.follows l.sought) l.elements → AllWithin (λ x. g.S.Sought.follows l.sought x ≡ true) l.elements 0 l.low;
+  others : IsPartitionedBy (g.S.Sought.follows l.sought) l.elements → AllWithin (λ x. g.S.Sought.follows l.sought x ≡ false) l.elements l.high (length l.elements);
+}
+
+abbrev pub decreases-loop-low : goal.decreases-loop-low
+decreases-loop-low g l = l.high - l.low

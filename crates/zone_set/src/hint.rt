@@ -1,0 +1,96 @@
+ghost use Rattle.std.specs.Prelude.{◌≡◌, ◌<◌, ◌++◌, ◌∷◌, ◌^◌, [], take, List, ℕ, IfNone, IfSome};
+ghost use Rattle.zone_name.specs.Name.{IsWithin};
+ghost use Rattle.zone_set.specs.Machine.Hint.{hint, first_octets, IsPutBefore};
+ghost use Rattle.zone_set.specs.Machine.LabelKey.{escaped_octet, label_key, owner_key};
+
+use std::cmp::Ordering;
+use zone_name::Name;
+use zone_rdata::Kind;
+
+/// The hint of an owner before the base, but for those at or below it.
+const BEFORE: u64 = 1 << 56;
+
+/// The least hint of an owner at or below the base.
+const WITHIN: u64 = 2 << 56;
+
+/// The hint of an owner after the base, but for those at or below it.
+const AFTER: u64 = 3 << 56;
+
+/// The hint of a record: a number that is never less than that of a record before it in canonical
+/// order. Most owners of a zone lie below its base, and these the first octets of the labels before
+/// the base's tell apart.
+pub(crate) fn hint_of(base: &Name, owner: &Name, kind: Kind) -> u64
+    ensures { result ≡ hint base.now owner.now kind }
+{
+    if kind.is_soa() {
+        return 0;
+    }
+    match front_key(base, owner) {
+        Some(key) => WITHIN + key,
+        None => match owner.cmp(base) {
+            Ordering::Less => BEFORE,
+            Ordering::Equal | Ordering::Greater => AFTER,
+        },
+    }
+}
+
+/// The first seven octets of the key of the labels before the base's. `None`: the owner doesn't lie
+/// at or below the base.
+fn front_key(base: &Name, owner: &Name) -> Option<u64>
+    ensures within { IfSome result (λ key. (front : List (List ℕ))
+        × (owner.now ≡ front ++ base.now) × (key ≡ first_octets 7 (owner_key front))) }
+    ensures short { IfSome result (λ key. key < 2 ^ 56) }
+    ensures none { IfNone result (IsWithin owner.now base.now → ⊥) }
+{
+    let (octets, ending) = (owner.wire(), base.wire());
+    let mut labels = owner.labels();
+    let (mut len, mut key) = (octets.len(), 0);
+    // The octets of the labels that are left become fewer, until they are as many as the base's.
+    while len > ending.len() {
+        let Some(label) = labels.next() else {
+            unreachable!();
+        };
+        len -= label.len() + 1;
+        key = put_label(label, key);
+    }
+    let (_, last) = octets.split_at(octets.len() - len);
+    if last == ending { Some(key) } else { None }
+}
+
+/// Puts a label and its end before the octets of a number.
+fn put_label(label: &[u8], after: u64) -> u64
+    ensures { IsPutBefore (label_key label.now) after result }
+{
+    let mut left = seven_octets(label);
+    let mut whole = put_octet(0, after);
+    while let Some((octet, before)) = left.split_last() {
+        whole = put_escaped(*octet, whole);
+        left = before;
+    }
+    whole
+}
+
+/// The first seven octets, after which no octet counts.
+fn seven_octets(label: &[u8]) -> &[u8]
+    ensures { result.now ≡ take 7 label.now }
+{
+    if label.len() > 7 { &label[..7] } else { label }
+}
+
+/// Puts an octet of a label before the octets of a number.
+fn put_escaped(octet: u8, after: u64) -> u64
+    ensures { IsPutBefore (escaped_octet octet) after result }
+{
+    if octet > 1 {
+        put_octet(octet, after)
+    } else {
+        put_octet(1, put_octet(octet + 1, after))
+    }
+}
+
+/// Puts an octet before the octets of a number, of which the last one goes.
+fn put_octet(octet: u8, after: u64) -> u64
+    ensures { IsPutBefore (octet ∷ []) after result }
+{
+    (octet as u64 * (1 << 48)) + after / 256
+}

@@ -1,0 +1,129 @@
+ghost use Rattle.std.specs.Prelude.{◌≡◌, ◌↔◌, false, IsTrue, IfOk, IfErr, IfSome, MatchOption, OnOk, OnErr};
+ghost use Rattle.std.specs.List.{AllByRecursion};
+ghost use Rattle.sorted_chunks.specs.Chunks.{joined};
+ghost use Rattle.zone_rdata.specs.Record.{data_of, IsRecord};
+ghost use Rattle.zone_set.specs.Builder.{OtherTtl};
+ghost use Rattle.zone_set.specs.Machine.Held.{all_records, entry_record, HoldsEntries, HasOtherTtl, IsEntry, IsLinked, IsPut};
+ghost use Rattle.zone_set.specs.Machine.Refusal.{IsSetRefusal};
+ghost use Rattle.zone_set.specs.View.{record_of};
+ghost use Rattle.zone_set.specs.Zone.{covered_octets};
+
+use crate::entry::Entry;
+use crate::hint::hint_of;
+use crate::lend::lend;
+use crate::offered::Offered;
+use crate::refusal::Refusal;
+use crate::rr::RrRef;
+use crate::same::is_same_name;
+use crate::stored::{append, record_at};
+use sorted_chunks::SortedChunks;
+use zone_name::Name;
+use zone_rdata::Rr;
+
+/// How many entries a chunk holds at most.
+pub(crate) const LIMIT: usize = 512;
+
+/// Puts a record at its place among those held, and tells whether it is new. An equal one is
+/// dropped.
+///
+/// # Errors
+///
+/// `OtherTtl` where a record of its set has another TTL, or want of memory. The records are
+/// unchanged.
+pub(crate) fn put(
+    entries: &mut SortedChunks<Entry, LIMIT>,
+    octets: &mut Vec<u8>,
+    base: &Name,
+    rr: &Rr,
+) -> Result<bool, Refusal>
+    requires { HoldsEntries base.now rr.now.class octets.old.items (joined entries.old) }
+    ensures each { AllByRecursion (IsEntry base.now rr.now.class octets.new.items)
+        (joined entries.new) }
+    ensures whole { IsRecord rr.now }
+    ensures told { IfOk result (λ is_new.
+        IsPut (all_records rr.now.class octets.old.items (joined entries.old)) rr.now is_new
+        (all_records rr.now.class octets.new.items (joined entries.new))) }
+    ensures one_ttl { OnOk result
+        (OtherTtl (all_records rr.now.class octets.old.items (joined entries.old)) rr.now → ⊥) }
+    ensures refused { IfErr result
+        (IsSetRefusal (all_records rr.now.class octets.old.items (joined entries.old)) rr.now) }
+    ensures same_entries { OnErr result (entries.new ≡ entries.old) }
+    ensures unchanged { OnErr result (all_records rr.now.class octets.new.items (joined entries.new)
+        ≡ all_records rr.now.class octets.old.items (joined entries.old)) }
+{
+    let hint = hint_of(base, rr.owner(), rr.kind());
+    let rr = lend(rr);
+    let held = octets.as_slice();
+    let place = entries.place_of(&Offered {
+        octets: held,
+        hint,
+        rr: &rr,
+    });
+    // The records of a set stand together, so a neighbour is one of them where any is held.
+    let last = entries.last_before(place).copied();
+    let first = entries.first_after(place).copied();
+    if is_of_other_ttl(held, last, &rr) {
+        return Err(Refusal::OtherTtl);
+    }
+    if is_of_other_ttl(held, first, &rr) {
+        return Err(Refusal::OtherTtl);
+    }
+    if is_equal(held, first, &rr) {
+        return Ok(false);
+    }
+    let at = append(octets, &rr)?;
+    entries.insert(place, Entry { hint, at })?;
+    Ok(true)
+}
+
+/// Whether there is an entry, and its record is of the same set with another TTL.
+fn is_of_other_ttl(octets: &[u8], entry: Option<Entry>, rr: &RrRef<'_>) -> bool
+    requires { IfSome entry (IsLinked rr.now.class octets.now) }
+    ensures { MatchOption entry (result ≡ false) (λ e. IsTrue result
+        ↔ HasOtherTtl (entry_record rr.now.class octets.now e) (record_of rr.now)) }
+{
+    match entry {
+        Some(entry) => has_other_ttl(&record_at(rr.class, octets, entry.at), rr),
+        None => false,
+    }
+}
+
+/// Whether there is an entry, and its record is this one.
+fn is_equal(octets: &[u8], entry: Option<Entry>, rr: &RrRef<'_>) -> bool
+    requires { IfSome entry (IsLinked rr.now.class octets.now) }
+    ensures { MatchOption entry (result ≡ false) (λ e. IsTrue result
+        ↔ (entry_record rr.now.class octets.now e ≡ record_of rr.now)) }
+{
+    match entry {
+        Some(entry) => record_at(rr.class, octets, entry.at).is_same(rr),
+        None => false,
+    }
+}
+
+/// Whether records are of one set, and their TTLs differ.
+fn has_other_ttl(held: &RrRef<'_>, rr: &RrRef<'_>) -> bool
+    ensures { IsTrue result ↔ HasOtherTtl (record_of held.now) (record_of rr.now) }
+{
+    held.ttl != rr.ttl
+        && held.kind == rr.kind
+        && covered(held) == covered(rr)
+        && is_same_name(&held.owner, &rr.owner)
+}
+
+/// The number of RRSIG (RFC 4034 3).
+const RRSIG: u16 = 46;
+
+/// The octets of the type that an RRSIG covers, as far as the data has them; of other types
+/// nothing.
+fn covered<'z>(rr: &RrRef<'z>) -> &'z [u8]
+    ensures { result.now ≡ covered_octets (data_of (record_of rr.now)) }
+{
+    let octets = rr.rdata.octets();
+    if rr.kind.number() != RRSIG {
+        &octets[..0]
+    } else if octets.len() < 2 {
+        octets
+    } else {
+        &octets[..2]
+    }
+}
