@@ -226,7 +226,12 @@ fn push_fields(
 impl<'m> RawRr<'m> {
     /// Pushes the record's data: the values of its layout, or the octets as they are where there is
     /// none (RFC 3597 3, 4).
-    fn push_data(&self, class: Class, kind: Kind, builder: &mut RdataBuilder) -> Result<(), NarrowFailing>
+    fn push_data(
+        &self,
+        class: Class,
+        kind: Kind,
+        builder: &mut RdataBuilder,
+    ) -> Result<(), NarrowFailing>
         requires class { class ≡ self.now.at.class }
         requires kind { kind ≡ self.now.at.kind }
         requires new { builder.old ≡ record { class = class; kind = kind; parts = [] } }
@@ -241,7 +246,12 @@ impl<'m> RawRr<'m> {
     }
 
     /// The record's data.
-    pub(crate) fn rdata(&self, alloc: Global, class: Class, kind: Kind) -> Result<Rdata, NarrowFailing>
+    pub(crate) fn rdata(
+        &self,
+        alloc: Global,
+        class: Class,
+        kind: Kind,
+    ) -> Result<Rdata, NarrowFailing>
         requires class { class ≡ self.now.at.class }
         requires kind { kind ≡ self.now.at.kind }
         ensures class { IfOk result (λ d. d.class ≡ class) }
