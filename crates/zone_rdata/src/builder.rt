@@ -6,11 +6,11 @@ ghost use Rattle.zone_rdata.specs.Fault.{IfFault};
 ghost use Rattle.zone_rdata.specs.Field.{fixed, u32_value, name, octets_of, string, u16_value};
 ghost use Rattle.zone_rdata.specs.Layout.{layout};
 
+use crate::cause::Cause;
 use crate::class::Class;
 use crate::fault::{Failing, Fault};
 use crate::kind::Kind;
 use crate::layout::layout_of;
-use crate::cause::Cause;
 use crate::narrow_failing::NarrowFailing;
 use crate::rdata::Rdata;
 use crate::reading::are_octets;

@@ -19,9 +19,9 @@ mod strings;
 mod time;
 
 use crate::builder::Part;
+use crate::cause::Cause;
 use crate::fault::{Failing, Fault};
 use crate::item::Item;
-use crate::cause::Cause;
 use crate::narrow_failing::NarrowFailing;
 use crate::number::push_decimal;
 use crate::string::{push_string, push_string_text};

@@ -2,8 +2,8 @@ ghost use Rattle.std.specs.Prelude.{[], ◌≡◌, ◌<◌, ◌≤◌, Some, dec
 ghost use Rattle.zone_name.specs.Common.{NothingIs};
 ghost use Rattle.zone_rdata.specs.Number.{IsCapped, IsDecimal};
 
-use crate::fault::{Failing, Fault};
 use crate::cause::Cause;
+use crate::fault::{Failing, Fault};
 use crate::narrow_failing::NarrowFailing;
 use itoa::Buffer;
 use zone_name::Sink;

@@ -6,10 +6,10 @@ ghost use Rattle.zone_rdata.specs.Item.{raw, IsGeneric};
 ghost use Rattle.zone_rdata.specs.Layout.{fields_of};
 ghost use Rattle.zone_rdata.specs.Machine.Appending.{AreSpelt};
 
+use crate::cause::Cause;
 use crate::fault::{Failing, Fault};
 use crate::item::Item;
 use crate::layout::Layout;
-use crate::cause::Cause;
 use crate::narrow_failing::NarrowFailing;
 use crate::record::LONGEST_DATA;
 use std::alloc::Global;

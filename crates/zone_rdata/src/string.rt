@@ -6,9 +6,9 @@ ghost use Rattle.zone_rdata.specs.Strings.{SpellsString, StringFault, item_text,
 ghost use Rattle.zone_rdata.specs.Machine.Appending.{Appends};
 ghost use Rattle.zone_rdata.specs.Machine.NarrowFailing.{IsFaultOf};
 
+use crate::cause::Cause;
 use crate::fault::{Failing, Fault};
 use crate::item::Item;
-use crate::cause::Cause;
 use crate::narrow_failing::NarrowFailing;
 use crate::reading::are_octets;
 use arrayvec::ArrayVec;

@@ -15,8 +15,8 @@ use Rattle.zone_rdata.specs.declared.fault.Fault.{Fault}
 use Rattle.zone_rdata.specs.declared.fault.Place.TheVariants.{Message}
 use Rattle.zone_rdata.specs.declared.record.Placed.{Placed}
 use Rattle.zone_wire.specs.AnswerFault.{AnswerFault, FirstAnswerFault}
-use Rattle.zone_wire.specs.Answers.{ZoneAsked, zone_of, AgreeWith, questions_of, handed_on, is_closed, StandsBehind, StandInOrder}
-use Rattle.zone_wire.specs.Machine.Transferring.{Among, Behind, Gains, Hands, Takes, TakesUpTo, TakesHead, HeadFault, other_id, other_zone, TakesWhole, StopsIn, IfNoMemory, TakesEach, TakesMessageUpTo, TakesMessage, zone_held, zone_with}
+use Rattle.zone_wire.specs.Answers.{ZoneAsked, zone_of, AgreeWith, questions_of, handed_on, is_closed, StandsBehind, follows, StandInOrder}
+use Rattle.zone_wire.specs.Machine.Transferring.{Among, Behind, Gains, Hands, Takes, TakesUpTo, TakesHead, HeadFault, other_id, other_zone, TakesWhole, StopsIn, IfNoMemory, TakesEach, TakesMessageUpTo, TakesMessage, ReadsNext, zone_held, zone_with}
 use Rattle.zone_wire.specs.Message.{QuestionAt, RecordAt, Sections, IsMessage}
 use Rattle.zone_wire.specs.MessageFault.{MessageFault}
 use Rattle.zone_wire.specs.Stream.{sections_in, asked_in, placed_in, first_id, opening_of, HasFirstId, AsksIn, AskBehind, of_structure, of_id, of_questions, of_answers}
@@ -384,6 +384,23 @@ other_gains questions placed rr offset old mid new among some other mid_is new_i
     (ap (λ (t : Transfer). t.id) new_is ∙ ap (λ (t : Transfer). t.id) mid_is)
     (ending ∙ ap (λ (t : Transfer). t.decided.ending) mid_is)
     (items ∙ ap (λ (t : Transfer). t.decided.placed.items ++ here_at rr t.messages offset ∷ []) mid_is)
+
+-- a record that is no SOA stands after the opening one, while the transfer isn't closed
+pub stands_after : (questions : List QuestionAt) (placed : List Placed) (rr : Record) (t : Transfer) → Among questions placed t → is_some t.opening ≡ true → t.closed ≡ false → (rr.kind ≡ 6 → ⊥) → StandsBehind questions placed rr
+stands_after questions placed rr t among some going other =
+    let has = some_of t.opening some in
+    let first = some_placed placed has.0 (sym has.1 ∙ among.opening) in
+    follows first.0 first.1 first.2 (sym among.closed ∙ going) (λ soa. absurd (other soa))
+
+-- a message is refused: its fault at its place ends the records
+pub stopped_next : (octets : List ℕ) (before : List StatedMessage) (old mid new : Transfer) (failing : Failing) (number offset : ℕ) → Behind before old → number ≡ old.messages + 1 → IfNoMemory (TakesMessageUpTo octets before old mid) (Err (failing, offset))
+    → (f : Fault) × (failing ≡ failings.Fault f) × (new ≡ record mid { decided = record mid.decided { ending = Some (f, Message number offset) } }) → ReadsNext octets before old new
+stopped_next octets before old mid new failing number offset behind count takes e =
+    let stops : StopsIn octets before old mid (e.0, offset) = subst (λ (f : Failing). IfNoMemory (TakesMessageUpTo octets before old mid) (Err (f, offset))) e.1 takes in
+    let ended : Transfer = record mid { decided = record mid.decided { ending = Some (e.0, Message number offset) } } in
+    let there : Message number offset ≡ Message (length before + 1) offset = ap (λ n. Message n offset) (count ∙ ap (λ n. n + 1) behind.count) in
+    let is : StopsIn octets before old ended (e.0, offset) = record { here = stops.here; next = stops.next; handed = stops.handed } in
+    subst (ReadsNext octets before old) (sym e.2) (offset, (is, there))
 
 -- the next answer is refused, or memory is wanting
 pub stopped_by : (octets : List ℕ) (answers : List RecordAt) (first : RawRecord) (left before : List RawRecord) (old mid new : Transfer) (failing : Failing) (offset : ℕ) → Pending octets answers before old mid → before ≡ first ∷ left → offset ≡ first.at.offset

@@ -5,18 +5,18 @@ use Rattle.std.proofs.lemmas.Result.{err_from_is_err_and}
 use Rattle.zone_rdata.specs.declared.fault.Failing.{Failing}
 use Rattle.zone_rdata.specs.declared.fault.Failing.TheVariants as failings
 use Rattle.zone_rdata.specs.declared.fault.Fault.{Fault}
-use Rattle.zone_rdata.specs.declared.fault.Fault.TheVariants.{BadClass, MetaType, UnknownType, CompressibleType}
+use Rattle.zone_rdata.specs.declared.fault.Fault.TheVariants.{BadClass, MetaType, CompressibleType}
 use Rattle.zone_rdata.specs.Builder.{Built}
 use Rattle.zone_rdata.specs.Fault.{IfFault}
 use Rattle.zone_rdata.specs.Field.{octets_of}
-use Rattle.zone_rdata.specs.Record.{Record}
+use Rattle.zone_rdata.specs.Record.{Record, Data, IsRecord}
 use Rattle.zone_rdata.specs.Words.{IsClass, IsKind}
 use Rattle.zone_wire.specs.AnswerFault.{OwnFault, of_class, of_kind, unread, of_data}
 use Rattle.zone_wire.specs.DataFault.{DataFault}
 use Rattle.zone_wire.specs.Machine.Data.{data_at}
 use Rattle.zone_wire.specs.Machine.DataReading.{IsRead}
 use Rattle.zone_wire.specs.Message.{RecordAt, IsRecordAt}
-use Rattle.zone_wire.specs.Transfer.{IsDataAt, IsReadable, StatesRecord}
+use Rattle.zone_wire.specs.Transfer.{IsDataAt, IsReadable, StatesRecord, ttl_of}
 use Rattle.zone_wire.specs.View.{RawRecord}
 use Rattle.zone_wire.proofs.AnswerFaults.{Bytes}
 use Rattle.zone_wire.proofs.DataFaults.{data_faults, data_refuses}
@@ -57,17 +57,11 @@ only_failing raw now view offset each at (Ok s) bad faults = absurd (let t : ⊥
 only_failing raw now view offset each at (Err e) bad faults = only_answer raw now view offset each at (Err e) tt faults
 
 -- ---- class, type and data
--- the answer of a `?` on a fault, where a fault is answered
-pub err_answered : {T : Type 0} (r : Result T Fault) (found : Fault) (P : Fault → Type 0) → IsErrAnd r (λ e. e ≡ found) → P found → IfErr r P
-err_answered r found P is holds =
-    let p = err_from_is_err_and r is in
-    subst (λ t. IfErr t P) (sym p.1) (subst P (sym p.2) holds)
+pub class_fault : (octets : List ℕ) (a : RecordAt) (number : ℕ) → number ≡ a.class → (IsClass number → ⊥) → OwnFault octets a BadClass
+class_fault octets a number is none = of_class (λ class. none (subst IsClass (sym is) class))
 
-pub class_fault : (octets : List ℕ) (a : RecordAt) (number : ℕ) (fault : Fault) → number ≡ a.class → (fault ≡ BadClass) × (IsClass number → ⊥) → OwnFault octets a fault
-class_fault octets a number fault is bad = subst (OwnFault octets a) (sym bad.0) (of_class (λ class. bad.1 (subst IsClass (sym is) class)))
-
-pub kind_fault : (octets : List ℕ) (a : RecordAt) (number : ℕ) (fault : Fault) → number ≡ a.kind → number < 65536 → IsClass a.class → (number < 65536 → fault ≡ MetaType) × (65536 ≤ number → fault ≡ UnknownType) × (IsKind number → ⊥) → OwnFault octets a fault
-kind_fault octets a number fault is short class bad = subst (OwnFault octets a) (sym (bad.0 short)) (of_kind class (λ kind. bad.2 (subst IsKind (sym is) kind)))
+pub kind_fault : (octets : List ℕ) (a : RecordAt) (number : ℕ) → number ≡ a.kind → IsClass a.class → (IsKind number → ⊥) → OwnFault octets a MetaType
+kind_fault octets a number is class none = of_kind class (λ kind. none (subst IsKind (sym is) kind))
 
 pub unread_fault : (octets : List ℕ) (a : RecordAt) (number : ℕ) (read : Bool) → number ≡ a.kind → IsClass a.class → IsKind a.kind → (IsTrue read ↔ IsReadable number) → read ≡ false → OwnFault octets a CompressibleType
 unread_fault octets a number read is class kind test refused = unread class kind (λ readable. let yes : read ≡ true = test.1 (subst IsReadable (sym is) readable) in cc)
@@ -82,3 +76,18 @@ data_is_refused raw now view offset each at fault e =
 pub data_is_read : (raw now : RawRecord) → raw ≡ now → (offset : ℕ) → Bytes raw.octets → IsRecordAt raw.octets offset raw.at → (b : Built) (canonical : List ℕ) → IsRead now.octets now.at b → canonical ≡ octets_of b.parts → IsDataAt now.octets now.at canonical
 data_is_read raw now view offset each at b canonical is same =
     subst (λ (v : RawRecord). data_at v.octets v.at ≡ Ok canonical → IsDataAt v.octets v.at canonical) view (data_shown raw.octets raw.at canonical each at.inside) (is.read ∙ ap Ok (sym same))
+
+-- the record of an answer that is made of its parts
+pub stated : (raw now : RawRecord) → raw ≡ now → (class kind ttl : ℕ) (d : Data) (r : Record)
+    → r ≡ record { owner = raw.at.owner; class = d.class; kind = d.kind; ttl = ttl; octets = d.octets }
+    → IsRecord r → d.class ≡ class → d.kind ≡ kind → class ≡ now.at.class → kind ≡ now.at.kind → ttl ≡ ttl_of raw.at.ttl
+    → IsDataAt now.octets now.at d.octets → IsReadable now.at.kind → StatesRecord now.octets now.at r
+stated raw now view class kind ttl d r made fits its_class its_kind is_class is_kind is_ttl stands readable = record {
+  owner = ap (λ (x : Record). x.owner) made ∙ ap (λ (v : RawRecord). v.at.owner) view;
+  class = ap (λ (x : Record). x.class) made ∙ its_class ∙ is_class;
+  kind = ap (λ (x : Record). x.kind) made ∙ its_kind ∙ is_kind;
+  ttl = ap (λ (x : Record). x.ttl) made ∙ is_ttl ∙ ap (λ (v : RawRecord). ttl_of v.at.ttl) view;
+  rdata = subst (IsDataAt now.octets now.at) (sym (ap (λ (x : Record). x.octets) made)) stands;
+  fits = fits;
+  readable = readable;
+}

@@ -1,5 +1,7 @@
 ghost use Rattle.std.specs.Prelude.{◌≡◌, ◌+◌, ◌<◌, ◌≤◌, [], Ok, Err, Some, length, IfOk, IfErr, OnOk};
+ghost use Rattle.zone_rdata.specs.Cause.{fault_for};
 ghost use Rattle.zone_rdata.specs.Fault.{IfFault};
+ghost use Rattle.zone_rdata.specs.declared.fault.Fault.TheVariants.{BadRdata};
 ghost use Rattle.zone_rdata.specs.Layout.{fields_of, layout};
 ghost use Rattle.zone_wire.specs.DataFault.{DataFault};
 ghost use Rattle.zone_wire.specs.Transfer.{IsDataAt};
@@ -12,16 +14,18 @@ use crate::number::{u16_at, u32_at};
 use crate::octets::are_octets;
 use std::alloc::Global;
 use zone_name::NameBuilder;
-use zone_rdata::{Class, Failing, Fault, Field, Kind, Layout, Rdata, RdataBuilder, layout_of};
+use zone_rdata::{
+    Cause, Class, Field, Kind, Layout, NarrowFailing, Part, Rdata, RdataBuilder, layout_of,
+};
 
 /// The offset after so many octets, in data that ends at another.
-fn offset_past(start: usize, size: usize, end: usize) -> Result<usize, Fault>
+fn offset_past(start: usize, size: usize, end: usize) -> Result<usize, Cause>
     requires { start ≤ end }
     ensures found { IfOk result (λ past. (past ≡ start + size) × (past ≤ end)) }
-    ensures fault { IfErr result (λ f. (f ≡ Fault.BadRdata) × (end < start + size)) }
+    ensures fault { IfErr result (λ c. (fault_for c ≡ BadRdata) × (end < start + size)) }
 {
     if size > end - start {
-        return Err(Fault::BadRdata);
+        return Err(Cause::BadRdata);
     }
     Ok(start + size)
 }
@@ -32,7 +36,7 @@ fn push_name(
     start: usize,
     end: usize,
     builder: &mut RdataBuilder,
-) -> Result<usize, Failing>
+) -> Result<usize, NarrowFailing>
     requires order { start ≤ end }
     requires inside { end ≤ length message.now }
     requires next { Awaits message.now end start builder.old Field.Name }
@@ -44,12 +48,12 @@ fn push_name(
     let mut labels = NameBuilder::new();
     let past = match read_name(message, start, &mut labels) {
         Ok((past, _)) => past,
-        Err((fault, _)) => return Err(Failing::Fault(fault.widened())),
+        Err((cause, _)) => return Err(NarrowFailing::of(cause)),
     };
     if past > end {
-        return Err(Failing::Fault(Fault::BadRdata));
+        return Err(NarrowFailing::of(Cause::BadRdata));
     }
-    builder.push_name(&labels.finish())?;
+    builder.push(Part::Name(&labels.finish()))?;
     Ok(past)
 }
 
@@ -59,7 +63,7 @@ fn push_u32(
     start: usize,
     end: usize,
     builder: &mut RdataBuilder,
-) -> Result<usize, Failing>
+) -> Result<usize, NarrowFailing>
     requires order { start ≤ end }
     requires inside { end ≤ length message.now }
     requires next { Awaits message.now end start builder.old Field.Serial }
@@ -69,7 +73,7 @@ fn push_u32(
         (IfFault (λ f. value_at message.now end start Field.Serial ≡ Err f)) }
 {
     let past = offset_past(start, 4, end)?;
-    builder.push_u32(u32_at(message, start))?;
+    builder.push(Part::U32(u32_at(message, start)))?;
     Ok(past)
 }
 
@@ -79,7 +83,7 @@ fn push_u16(
     start: usize,
     end: usize,
     builder: &mut RdataBuilder,
-) -> Result<usize, Failing>
+) -> Result<usize, NarrowFailing>
     requires order { start ≤ end }
     requires inside { end ≤ length message.now }
     requires next { Awaits message.now end start builder.old Field.U16 }
@@ -88,7 +92,7 @@ fn push_u16(
     ensures fault { IfErr result (IfFault (λ f. value_at message.now end start Field.U16 ≡ Err f)) }
 {
     let past = offset_past(start, 2, end)?;
-    builder.push_u16(u16_at(message, start))?;
+    builder.push(Part::U16(u16_at(message, start)))?;
     Ok(past)
 }
 
@@ -99,7 +103,7 @@ fn push_octets(
     end: usize,
     size: usize,
     builder: &mut RdataBuilder,
-) -> Result<usize, Failing>
+) -> Result<usize, NarrowFailing>
     requires order { start ≤ end }
     requires inside { end ≤ length message.now }
     requires next { Awaits message.now end start builder.old (Field.Octets size) }
@@ -109,7 +113,7 @@ fn push_octets(
         (IfFault (λ f. value_at message.now end start (Field.Octets size) ≡ Err f)) }
 {
     let past = offset_past(start, size, end)?;
-    builder.push_octets(&message[start..past])?;
+    builder.push(Part::Octets(&message[start..past]))?;
     Ok(past)
 }
 
@@ -120,7 +124,7 @@ fn push_string(
     start: usize,
     end: usize,
     builder: &mut RdataBuilder,
-) -> Result<usize, Failing>
+) -> Result<usize, NarrowFailing>
     requires order { start ≤ end }
     requires inside { end ≤ length message.now }
     requires next { Awaits message.now end start builder.old Field.OneString }
@@ -130,10 +134,10 @@ fn push_string(
         (IfFault (λ f. value_at message.now end start Field.OneString ≡ Err f)) }
 {
     if start == end {
-        return Err(Failing::Fault(Fault::BadRdata));
+        return Err(NarrowFailing::of(Cause::BadRdata));
     }
     let past = offset_past(start, 1 + message[start] as usize, end)?;
-    builder.push_string(&message[start + 1..past])?;
+    builder.push(Part::String(&message[start + 1..past]))?;
     Ok(past)
 }
 
@@ -144,7 +148,7 @@ fn push_strings(
     start: usize,
     end: usize,
     builder: &mut RdataBuilder,
-) -> Result<usize, Failing>
+) -> Result<usize, NarrowFailing>
     requires order { start ≤ end }
     requires inside { end ≤ length message.now }
     requires next { AwaitsStrings end start builder.old }
@@ -154,7 +158,7 @@ fn push_strings(
         (IfFault (λ f. value_at message.now end start Field.Strings ≡ Err f)) }
 {
     if start == end {
-        return Err(Failing::Fault(Fault::BadRdata));
+        return Err(NarrowFailing::of(Cause::BadRdata));
     }
     let mut place = start;
     while place < end {
@@ -171,7 +175,7 @@ fn push_field(
     start: usize,
     end: usize,
     builder: &mut RdataBuilder,
-) -> Result<usize, Failing>
+) -> Result<usize, NarrowFailing>
     requires order { start ≤ end }
     requires inside { end ≤ length message.now }
     requires next { IsReadyFor message.now end start builder.old field }
@@ -196,7 +200,7 @@ fn push_fields(
     start: usize,
     end: usize,
     builder: &mut RdataBuilder,
-) -> Result<(), Failing>
+) -> Result<(), NarrowFailing>
     requires order { start ≤ end }
     requires inside { end ≤ length message.now }
     requires short { end ≤ start + 65535 }
@@ -214,7 +218,7 @@ fn push_fields(
         count += 1;
     }
     if place < end {
-        return Err(Failing::Fault(Fault::BadRdata));
+        return Err(NarrowFailing::of(Cause::BadRdata));
     }
     Ok(())
 }
@@ -222,7 +226,12 @@ fn push_fields(
 impl<'m> RawRr<'m> {
     /// Pushes the record's data: the values of its layout, or the octets as they are where there is
     /// none (RFC 3597 3, 4).
-    fn push_data(&self, class: Class, kind: Kind, builder: &mut RdataBuilder) -> Result<(), Failing>
+    fn push_data(
+        &self,
+        class: Class,
+        kind: Kind,
+        builder: &mut RdataBuilder,
+    ) -> Result<(), NarrowFailing>
         requires class { class ≡ self.now.at.class }
         requires kind { kind ≡ self.now.at.kind }
         requires new { builder.old ≡ record { class = class; kind = kind; parts = [] } }
@@ -232,12 +241,17 @@ impl<'m> RawRr<'m> {
         are_octets(self.message);
         match layout_of(class, kind) {
             Some(layout) => push_fields(layout, self.message, self.start, self.end, builder),
-            None => builder.push_octets(&self.message[self.start..self.end]),
+            None => builder.push(Part::Octets(&self.message[self.start..self.end])),
         }
     }
 
     /// The record's data.
-    pub(crate) fn rdata(&self, alloc: Global, class: Class, kind: Kind) -> Result<Rdata, Failing>
+    pub(crate) fn rdata(
+        &self,
+        alloc: Global,
+        class: Class,
+        kind: Kind,
+    ) -> Result<Rdata, NarrowFailing>
         requires class { class ≡ self.now.at.class }
         requires kind { kind ≡ self.now.at.kind }
         ensures class { IfOk result (λ d. d.class ≡ class) }
@@ -248,6 +262,9 @@ impl<'m> RawRr<'m> {
         are_octets(self.message);
         let mut builder = RdataBuilder::new(alloc, class, kind);
         self.push_data(class, kind, &mut builder)?;
-        Ok(builder.finish()?)
+        match builder.whole() {
+            Some(rdata) => Ok(rdata),
+            None => Err(NarrowFailing::of(Cause::BadRdata)),
+        }
     }
 }

@@ -1,4 +1,5 @@
 ghost use Rattle.std.specs.Prelude.{◌≡◌, [], ◌∷◌, map, IfOk, IfErr, IsOk, MatchOption};
+ghost use Rattle.zone_rdata.specs.Cause.{fault_for};
 ghost use Rattle.zone_wire.specs.Message.{Sections, IsMessage};
 ghost use Rattle.zone_wire.specs.MessageFault.{MessageFault};
 ghost use Rattle.zone_wire.specs.View.{raw_at, asked};
@@ -10,7 +11,7 @@ use crate::place::{ANCOUNT, HEADER_LEN, QDCOUNT};
 use crate::structure::answers_start;
 use std::marker::Model;
 use zone_name::Name;
-use zone_rdata::Fault;
+use zone_rdata::{Cause, Fault};
 
 /// What a message asks for (RFC 1035 4.1.2).
 #[derive(Debug, Drop)]
@@ -57,6 +58,19 @@ impl<'m> Message<'m> {
         ensures found { IfOk result (λ m. IsMessage octets.now m.sections) }
         ensures only { (sections : Sections) → IsMessage octets.now sections → IsOk result }
         ensures fault { IfErr result (λ e. MessageFault octets.now e.0 e.1) }
+    {
+        match Message::read(octets) {
+            Ok(message) => Ok(message),
+            Err((cause, offset)) => Err((cause.widened(), offset)),
+        }
+    }
+
+    /// `parse`, with an answer of few octets.
+    pub(crate) fn read(octets: &'m [u8]) -> Result<Message<'m>, (Cause, usize)>
+        ensures octets { IfOk result (λ m. m.octets ≡ octets.now) }
+        ensures found { IfOk result (λ m. IsMessage octets.now m.sections) }
+        ensures only { (sections : Sections) → IsMessage octets.now sections → IsOk result }
+        ensures fault { IfErr result (λ e. MessageFault octets.now (fault_for e.0) e.1) }
     {
         let answers = answers_start(octets)?;
         Ok(Message { octets, answers })

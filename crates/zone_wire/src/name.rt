@@ -5,10 +5,10 @@ ghost use Rattle.zone_wire.specs.Machine.Walk.{walk};
 ghost use Rattle.zone_wire.specs.Walk.{Visit};
 ghost use Rattle.zone_wire.specs.WholeWalk.{IsWalk, NameFault};
 
-use crate::place::{PlaceFault, Spot, Standing, place_at};
+use crate::place::{Spot, Standing, place_at};
 use crate::ticks::Ticks;
 use zone_name::{Name, NameBuilder};
-use zone_rdata::Fault;
+use zone_rdata::{Cause, Fault};
 
 /// A name that was read from a message.
 #[derive(Debug, Drop)]
@@ -51,7 +51,7 @@ fn walked(message: &[u8], offset: usize) -> Result<Decoded, (Fault, u16)>
             end,
             steps,
         }),
-        Err((fault, steps)) => Err((fault.widened(), steps)),
+        Err((cause, steps)) => Err((cause.widened(), steps)),
     }
 }
 
@@ -64,7 +64,7 @@ pub(crate) fn read_name(
     message: &[u8],
     offset: usize,
     labels: &mut NameBuilder,
-) -> Result<(usize, u16), (PlaceFault, u16)>
+) -> Result<(usize, u16), (Cause, u16)>
     requires { labels.old ≡ [] }
     ensures { Tells result labels.new (outcome message.now (walk message.now offset)) }
 {
@@ -73,8 +73,8 @@ pub(crate) fn read_name(
     let mut spot = Spot::outset(offset);
     'places: loop {
         match place_at(message, spot, &mut ticks) {
-            Standing::Outside => return Err((PlaceFault::ShortMessage, ticks.count())),
-            Standing::Bad(fault) => return Err((fault, ticks.count())),
+            Standing::Outside => return Err((Cause::ShortMessage, ticks.count())),
+            Standing::Bad(cause) => return Err((cause, ticks.count())),
             Standing::Root => return Ok((end.unwrap_or(spot.offset + 1), ticks.count())),
             Standing::Label(size) => {
                 let start = spot.offset + 1;

@@ -1,13 +1,13 @@
 ghost use Rattle.std.specs.Prelude.{◌≡◌, ◌+◌, ◌^◌, ◌<◌, ◌≤◌, length, slice_index, Some};
 ghost use Rattle.zone_wire.specs.Name.{target_at};
-ghost use Rattle.zone_wire.specs.Machine.Place.{fault_here, spot_of, standing_of, ticks_at};
+ghost use Rattle.zone_wire.specs.Machine.Place.{spot_of, standing_of, ticks_at};
 ghost use Rattle.zone_wire.specs.Walk.{place_of, label_of, pointer_of};
 ghost use Rattle.zone_wire.specs.Machine.Walk.{outset, past_label, past_pointer};
 
 use crate::number::u16_at;
 use crate::ticks::Ticks;
 use zone_name::MAX_NAME_LEN;
-use zone_rdata::Fault;
+use zone_rdata::Cause;
 
 /// The octets of a message's header (RFC 1035 4.1.1).
 pub(crate) const HEADER_LEN: usize = 12;
@@ -46,34 +46,6 @@ pub(crate) struct Spot {
     pub(crate) octets: usize,
 }
 
-/// What is wrong at one place of a name, in one octet: a `Fault` has room for a name.
-#[derive(Clone, Copy, Debug)]
-pub(crate) enum PlaceFault {
-    ShortMessage,
-    ReservedLabel,
-    BadPointer,
-    TooManyPointers,
-    NameTooLong,
-}
-
-impl PlaceFault {
-    /// The fault itself.
-    // Not inlined: only what is refused needs the room.
-    #[cold]
-    #[inline(never)]
-    pub(crate) fn widened(self) -> Fault
-        ensures { result ≡ fault_here self }
-    {
-        match self {
-            PlaceFault::ShortMessage => Fault::ShortMessage,
-            PlaceFault::ReservedLabel => Fault::ReservedLabel,
-            PlaceFault::BadPointer => Fault::BadPointer,
-            PlaceFault::TooManyPointers => Fault::TooManyPointers,
-            PlaceFault::NameTooLong => Fault::NameTooLong,
-        }
-    }
-}
-
 /// What stands at one place of a name.
 #[derive(Clone, Copy, Debug)]
 pub(crate) enum Standing {
@@ -84,7 +56,7 @@ pub(crate) enum Standing {
     Label(usize),
     /// A pointer, and where it leads.
     Pointer(usize),
-    Bad(PlaceFault),
+    Bad(Cause),
 }
 
 /// What stands at a place, by its first octet. Where there is one, it counts a step before it looks
@@ -106,7 +78,7 @@ pub(crate) fn place_at(message: &[u8], spot: Spot, ticks: &mut Ticks) -> Standin
     match first {
         0 => Standing::Root,
         1..=63 => label_at(message, spot, first as usize),
-        64..=191 => Standing::Bad(PlaceFault::ReservedLabel),
+        64..=191 => Standing::Bad(Cause::ReservedLabel),
         _ => pointer_at(message, spot),
     }
 }
@@ -119,9 +91,9 @@ fn label_at(message: &[u8], spot: Spot, size: usize) -> Standing
     ensures { standing_of result ≡ Some (label_of message.now (spot_of spot) size) }
 {
     if size >= message.len() - spot.offset {
-        Standing::Bad(PlaceFault::ShortMessage)
+        Standing::Bad(Cause::ShortMessage)
     } else if spot.octets + size + 2 > MAX_NAME_LEN {
-        Standing::Bad(PlaceFault::NameTooLong)
+        Standing::Bad(Cause::NameTooLong)
     } else {
         Standing::Label(size)
     }
@@ -135,13 +107,13 @@ fn pointer_at(message: &[u8], spot: Spot) -> Standing
         (pointer_of message.now (spot_of spot) (target_at message.now spot.offset)) }
 {
     if message.len() - spot.offset < 2 {
-        return Standing::Bad(PlaceFault::ShortMessage);
+        return Standing::Bad(Cause::ShortMessage);
     }
     let target = (u16_at(message, spot.offset) - POINTER_BITS) as usize;
     if target < HEADER_LEN || target >= spot.bound {
-        Standing::Bad(PlaceFault::BadPointer)
+        Standing::Bad(Cause::BadPointer)
     } else if spot.pointers >= MAX_POINTERS {
-        Standing::Bad(PlaceFault::TooManyPointers)
+        Standing::Bad(Cause::TooManyPointers)
     } else {
         Standing::Pointer(target)
     }

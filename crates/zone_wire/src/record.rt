@@ -1,4 +1,5 @@
 ghost use Rattle.std.specs.Prelude.{◌≡◌, ◌↔◌, ◌≤◌, IsTrue, IfOk, IfErr};
+ghost use Rattle.zone_rdata.specs.Cause.{fault_for};
 ghost use Rattle.zone_rdata.specs.Fault.{IfFault};
 ghost use Rattle.zone_rdata.specs.Record.{Record};
 ghost use Rattle.zone_rdata.specs.Words.{IsClass, IsKind};
@@ -8,7 +9,7 @@ ghost use Rattle.zone_wire.specs.Transfer.{IsReadable, StatesRecord, ttl_of};
 use crate::answers::RawRr;
 use crate::octets::are_octets;
 use std::alloc::Global;
-use zone_rdata::{Class, Failing, Fault, Kind, MAX_TTL, Rr};
+use zone_rdata::{Cause, Class, Failing, Kind, MAX_TTL, NarrowFailing, Rr};
 
 /// The types whose data may hold compressed names and isn't read: MD, MF, MB, MG, MR and MINFO (RFC
 /// 1035 3.3), and RP, AFSDB, RT, SIG, PX and NXT (RFC 3597 4).
@@ -22,7 +23,7 @@ fn is_readable(kind: u16) -> bool
 }
 
 /// The TTL that a TTL in a message counts as: 0 where its top bit is set (RFC 2181 8).
-fn counted_ttl(ttl: u32) -> u32
+pub(crate) fn counted_ttl(ttl: u32) -> u32
     ensures value { result ≡ ttl_of ttl }
     ensures short { result ≤ MAX_TTL }
 {
@@ -30,19 +31,30 @@ fn counted_ttl(ttl: u32) -> u32
 }
 
 impl<'m> RawRr<'m> {
+    /// Whether the type is SOA (RFC 1035 3.3.13).
+    pub(crate) fn is_soa(&self) -> bool
+        ensures { IsTrue result ↔ (self.now.at.kind ≡ 6) }
+    {
+        self.kind == 6
+    }
+
     /// The class and the type, if a zone can have them and the type is read.
-    fn class_and_kind(&self) -> Result<(Class, Kind), Fault>
+    pub(crate) fn class_and_kind(&self) -> Result<(Class, Kind), Cause>
         ensures class { IfOk result (λ p. (p.0 ≡ self.now.at.class) × IsClass self.now.at.class) }
         ensures kind { IfOk result (λ p. (p.1 ≡ self.now.at.kind) × IsKind self.now.at.kind) }
         ensures readable { IfOk result (λ _. IsReadable self.now.at.kind) }
-        ensures fault { IfErr result (OwnFault self.now.octets self.now.at) }
+        ensures fault { IfErr result (λ c. OwnFault self.now.octets self.now.at (fault_for c)) }
     {
-        let class = Class::from_number(u64::from(self.class))?;
+        let Some(class) = Class::of_number(self.class) else {
+            return Err(Cause::BadClass);
+        };
         class.known();
-        let kind = Kind::from_number(u64::from(self.kind))?;
+        let Some(kind) = Kind::of_number(self.kind) else {
+            return Err(Cause::MetaType);
+        };
         kind.known();
         if !is_readable(self.kind) {
-            return Err(Fault::CompressibleType);
+            return Err(Cause::CompressibleType);
         }
         Ok((class, kind))
     }
@@ -63,9 +75,19 @@ impl<'m> RawRr<'m> {
             → IfOk result (λ s. s ≡ r) × IfErr result (λ e. e ≡ Failing.Memory) }
         ensures fault { IfErr result (IfFault (OwnFault self.now.octets self.now.at)) }
     {
+        Ok(self.read(alloc)?)
+    }
+
+    /// `to_rr`, with an answer of few octets.
+    pub(crate) fn read(&self, alloc: Global) -> Result<Rr, NarrowFailing>
+        ensures found { IfOk result (StatesRecord self.now.octets self.now.at) }
+        ensures only { (r : Record) → StatesRecord self.now.octets self.now.at r
+            → IfOk result (λ s. s ≡ r) × IfErr result (λ e. e ≡ Failing.Memory) }
+        ensures fault { IfErr result (IfFault (OwnFault self.now.octets self.now.at)) }
+    {
         are_octets(self.message);
         let (class, kind) = self.class_and_kind()?;
         let rdata = self.rdata(alloc, class, kind)?;
-        Ok(Rr::new(self.owner.copy(), counted_ttl(self.ttl), rdata)?)
+        Ok(Rr::of_parts(self.owner.copy(), counted_ttl(self.ttl), rdata))
     }
 }

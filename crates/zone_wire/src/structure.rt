@@ -1,63 +1,64 @@
-ghost use Rattle.std.specs.Prelude.{◌≡◌, ◌≤◌, length, MatchResult, Err};
+ghost use Rattle.std.specs.Prelude.{◌≡◌, ◌≤◌, length, MatchResult, Err, option_map};
+ghost use Rattle.zone_rdata.specs.Cause.{fault_for};
 ghost use Rattle.zone_wire.specs.Machine.Parsing.{IsParsed, name_end_of, part_end_of, run_end_of};
 ghost use Rattle.zone_wire.specs.Machine.Sections.{header_fault, question_at, record_at, questions_from, records_from, sections_of};
 ghost use Rattle.zone_wire.specs.Machine.Finding.{outcome};
-ghost use Rattle.zone_wire.specs.Machine.Place.{end_or_fault};
+ghost use Rattle.zone_wire.specs.Machine.Place.{end_or_fault, place_or_fault};
 ghost use Rattle.zone_wire.specs.Machine.Walk.{walk};
 
 use crate::number::u16_at;
 use crate::place::{
-    ANCOUNT, ARCOUNT, HEADER_LEN, NSCOUNT, PlaceFault, QDCOUNT, RECORD_HEAD_LEN, Spot, Standing,
-    place_at,
+    ANCOUNT, ARCOUNT, HEADER_LEN, NSCOUNT, QDCOUNT, RECORD_HEAD_LEN, Spot, Standing, place_at,
 };
 use crate::ticks::Ticks;
-use zone_rdata::Fault;
+use zone_rdata::Cause;
 
 /// The offset at which the answers of a message begin.
 ///
 /// # Errors
 ///
 /// The first fault of the message's structure and the offset at which it stands.
-pub(crate) fn answers_start(octets: &[u8]) -> Result<usize, (Fault, usize)>
-    ensures { MatchResult result (IsParsed octets.now) (λ e. sections_of octets.now ≡ Err e) }
+pub(crate) fn answers_start(octets: &[u8]) -> Result<usize, (Cause, usize)>
+    ensures { MatchResult result (IsParsed octets.now)
+        (λ e. sections_of octets.now ≡ Err (fault_for e.0, e.1)) }
 {
-    if let Some(fault) = header_fault(octets) {
-        return Err((fault, 0));
+    if let Some(cause) = header_cause(octets) {
+        return Err((cause, 0));
     }
     let answers = questions_end(octets, u16_at(octets, QDCOUNT), HEADER_LEN)?;
     let additional = records_end(octets, u16_at(octets, ANCOUNT), answers)?;
     let end = records_end(octets, u16_at(octets, ARCOUNT), additional)?;
     if end != octets.len() {
-        return Err((Fault::TrailingOctets, 0));
+        return Err((Cause::TrailingOctets, 0));
     }
     Ok(answers)
 }
 
 /// The first fault of a message's header.
 #[tactic(auto, unfolding(crate::specs::Machine::Sections::header_fault))]
-fn header_fault(octets: &[u8]) -> Option<Fault>
-    ensures { result ≡ header_fault octets.now }
+fn header_cause(octets: &[u8]) -> Option<Cause>
+    ensures { option_map fault_for result ≡ header_fault octets.now }
 {
     if octets.len() < HEADER_LEN {
-        return Some(Fault::ShortMessage);
+        return Some(Cause::ShortMessage);
     }
     // QR, of one bit, and the opcode, of four, stand above AA, TC and RD; RA and Z above RCODE, of
     // four (RFC 1035 4.1.1).
     if octets[2] >> 3 != 0b10000 {
-        Some(Fault::NotAResponse)
+        Some(Cause::NotAResponse)
     } else if octets[2] >> 1 & 1 != 0 {
-        Some(Fault::Truncated)
+        Some(Cause::Truncated)
     } else if octets[3] & 0x0f != 0 {
-        Some(Fault::ErrorCode(octets[3] & 0x0f))
+        Some(Cause::ErrorCode(octets[3] & 0x0f))
     } else if u16_at(octets, QDCOUNT) > 1 || u16_at(octets, NSCOUNT) != 0 {
-        Some(Fault::BadCounts)
+        Some(Cause::BadCounts)
     } else {
         None
     }
 }
 
 /// The offset after the name at an offset. The walk is the one that `read_name` makes, and keeps no label.
-fn walk_to_root(message: &[u8], offset: usize) -> Result<usize, PlaceFault>
+fn walk_to_root(message: &[u8], offset: usize) -> Result<usize, Cause>
     ensures { end_or_fault result ≡ name_end_of (outcome message.now (walk message.now offset)) }
 {
     let mut ticks = Ticks::new();
@@ -65,8 +66,8 @@ fn walk_to_root(message: &[u8], offset: usize) -> Result<usize, PlaceFault>
     let mut spot = Spot::outset(offset);
     'places: loop {
         match place_at(message, spot, &mut ticks) {
-            Standing::Outside => return Err(PlaceFault::ShortMessage),
-            Standing::Bad(fault) => return Err(fault),
+            Standing::Outside => return Err(Cause::ShortMessage),
+            Standing::Bad(cause) => return Err(cause),
             Standing::Root => return Ok(end.unwrap_or(spot.offset + 1)),
             Standing::Label(size) => spot = spot.past_label(size),
             Standing::Pointer(target) => {
@@ -78,28 +79,28 @@ fn walk_to_root(message: &[u8], offset: usize) -> Result<usize, PlaceFault>
 }
 
 /// The offset after the question at an offset: its name, type and class (RFC 1035 4.1.2).
-fn question_end(message: &[u8], offset: usize) -> Result<usize, PlaceFault>
+fn question_end(message: &[u8], offset: usize) -> Result<usize, Cause>
     ensures { end_or_fault result ≡ part_end_of (λ q. q.end) (question_at message.now offset) }
 {
     let end = walk_to_root(message, offset)?;
     if message.len() - end < 4 {
-        return Err(PlaceFault::ShortMessage);
+        return Err(Cause::ShortMessage);
     }
     Ok(end + 4)
 }
 
 /// The offset after the record at an offset: its name, type, class, TTL, and its data behind its length (RFC 1035 4.1.3).
-fn record_end(message: &[u8], offset: usize) -> Result<usize, PlaceFault>
+fn record_end(message: &[u8], offset: usize) -> Result<usize, Cause>
     ensures { end_or_fault result ≡ part_end_of (λ r. r.end) (record_at message.now offset) }
 {
     let end = walk_to_root(message, offset)?;
     if message.len() - end < RECORD_HEAD_LEN {
-        return Err(PlaceFault::ShortMessage);
+        return Err(Cause::ShortMessage);
     }
     let start = end + RECORD_HEAD_LEN;
     let size = u16_at(message, end + 8) as usize;
     if message.len() - start < size {
-        return Err(PlaceFault::ShortMessage);
+        return Err(Cause::ShortMessage);
     }
     Ok(start + size)
 }
@@ -109,16 +110,16 @@ fn record_end(message: &[u8], offset: usize) -> Result<usize, PlaceFault>
 /// # Errors
 ///
 /// The question's fault and the offset at which it begins.
-fn questions_end(message: &[u8], count: u16, offset: usize) -> Result<usize, (Fault, usize)>
+fn questions_end(message: &[u8], count: u16, offset: usize) -> Result<usize, (Cause, usize)>
     requires { count ≤ 1 }
-    ensures { result ≡ run_end_of (questions_from message.now count offset) }
+    ensures { place_or_fault result ≡ run_end_of (questions_from message.now count offset) }
 {
     if count == 0 {
         return Ok(offset);
     }
     match question_end(message, offset) {
         Ok(end) => Ok(end),
-        Err(fault) => Err((fault.widened(), offset)),
+        Err(cause) => Err((cause, offset)),
     }
 }
 
@@ -127,14 +128,14 @@ fn questions_end(message: &[u8], count: u16, offset: usize) -> Result<usize, (Fa
 /// # Errors
 ///
 /// The first fault and the offset at which its record begins.
-fn records_end(message: &[u8], count: u16, offset: usize) -> Result<usize, (Fault, usize)>
-    ensures { result ≡ run_end_of (records_from message.now count offset) }
+fn records_end(message: &[u8], count: u16, offset: usize) -> Result<usize, (Cause, usize)>
+    ensures { place_or_fault result ≡ run_end_of (records_from message.now count offset) }
 {
     let mut end = offset;
     for _ in 0..count {
         end = match record_end(message, end) {
             Ok(next) => next,
-            Err(fault) => return Err((fault.widened(), end)),
+            Err(cause) => return Err((cause, end)),
         };
     }
     Ok(end)

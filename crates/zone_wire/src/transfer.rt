@@ -1,7 +1,9 @@
 //! The messages of a zone transfer one after another, and what those before one fix (RFC 5936 2.2).
-ghost use Rattle.std.specs.Prelude.{◌≡◌, ◌+◌, ◌<◌, ◌≤◌, ◌^◌, [], ◌∷◌, ◌++◌, length, ◌↔◌, List, Some, None, IfErr, IsTrue, MatchOption, OnOk, ⊤};
+ghost use Rattle.std.specs.Prelude.{◌≡◌, ◌+◌, ◌<◌, ◌≤◌, ◌^◌, [], ◌∷◌, ◌++◌, length, ◌↔◌, List, Some, None, IfErr, IsTrue, MatchOption, OnOk, ⊤, option_map};
+ghost use Rattle.zone_rdata.specs.Cause.{fault_for};
 ghost use Rattle.zone_rdata.specs.Fault.{IfFault};
 ghost use Rattle.zone_rdata.specs.Record.{Record};
+ghost use Rattle.zone_rdata.specs.declared.fault.Fault.{Fault};
 ghost use Rattle.zone_rdata.specs.declared.fault.Place.TheVariants.{Message as in_message};
 ghost use Rattle.zone_rdata.specs.declared.record.Placed.{Placed};
 ghost use Rattle.zone_wire.specs.AnswerFault.{AnswerFault};
@@ -13,10 +15,11 @@ ghost use Rattle.zone_wire.specs.Transfer.{StatesRecord, StatedMessage};
 use crate::answers::RawRr;
 use crate::message::Message;
 use crate::place::HEADER_LEN;
+use crate::record::counted_ttl;
 use std::alloc::{AllocError, Global};
 use std::collections::VecDeque;
 use zone_name::Name;
-use zone_rdata::{Failing, Fault, Place, Placed, Reading, Rr};
+use zone_rdata::{Cause, Failing, NarrowFailing, Place, Placed, Reading, Rr};
 
 /// The number of the query type AXFR, of a whole zone (RFC 5936 2.1.2).
 const AXFR: u16 = 252;
@@ -84,18 +87,34 @@ impl Transfer {
         let number = self.messages + 1;
         match self.take_message(octets) {
             Ok(()) => Ok(()),
-            Err((failing, offset)) => match failing {
-                Failing::Fault(fault) => {
-                    self.decided.ending = Some((fault, Place::Message(number, offset)));
-                    Ok(())
-                }
-                Failing::Memory => Err(AllocError),
-            },
+            Err((failing, offset)) => self.stop(failing, Place::Message(number, offset)),
+        }
+    }
+
+    /// Ends the records with the fault at a place.
+    ///
+    /// # Errors
+    ///
+    /// Memory was refused.
+    // Not inlined: a fault has room for a name, and only what is refused needs it.
+    #[cold]
+    #[inline(never)]
+    fn stop(&mut self, failing: NarrowFailing, place: Place) -> Result<(), AllocError>
+        ensures count { self.new.messages ≡ self.old.messages }
+        ensures stopped { OnOk result ((f : Fault) × (failing ≡ Failing.Fault f) × (self.new
+            ≡ record self.old { decided = record self.old.decided { ending = Some (f, place) } })) }
+    {
+        match Failing::from(failing) {
+            Failing::Fault(fault) => {
+                self.decided.ending = Some((fault, place));
+                Ok(())
+            }
+            Failing::Memory => Err(AllocError),
         }
     }
 
     /// Takes the records of the message that octets are.
-    fn take_message(&mut self, octets: &[u8]) -> Result<(), (Failing, usize)>
+    fn take_message(&mut self, octets: &[u8]) -> Result<(), (NarrowFailing, usize)>
         requires fits { self.old.messages + 1 < 2 ^ 64 }
         requires short { length octets.now ≤ 65535 }
         ensures taken { (before : List StatedMessage) → Behind before self.old
@@ -103,33 +122,33 @@ impl Transfer {
         ensures ending { self.new.decided.ending ≡ self.old.decided.ending }
         ensures count { self.new.messages ≤ self.old.messages + 1 }
     {
-        let message = match Message::parse(octets) {
+        let message = match Message::read(octets) {
             Ok(message) => message,
-            Err((fault, offset)) => return Err((Failing::Fault(fault), offset)),
+            Err((cause, offset)) => return Err((NarrowFailing::of(cause), offset)),
         };
         match self.take_head(&message) {
             Ok(()) => self.take_answers(&message),
-            Err((fault, offset)) => Err((Failing::Fault(fault), offset)),
+            Err((cause, offset)) => Err((NarrowFailing::of(cause), offset)),
         }
     }
 
     /// Counts a message, and takes its ID and its question.
-    fn take_head(&mut self, message: &Message<'_>) -> Result<(), (Fault, usize)>
+    fn take_head(&mut self, message: &Message<'_>) -> Result<(), (Cause, usize)>
         requires { self.old.messages + 1 < 2 ^ 64 }
         ensures taken { OnOk result ((before : List StatedMessage) → Behind before self.old
             → TakesHead before message.now.sections self.old self.new) }
         ensures fault { IfErr result (λ e. (before : List StatedMessage) → Behind before self.old
-            → HeadFault before message.now.sections e) }
+            → HeadFault before message.now.sections (fault_for e.0, e.1)) }
         ensures decided { self.new.decided ≡ self.old.decided }
         ensures count { self.new.messages ≤ self.old.messages + 1 }
     {
         let id = message.id();
         if !self.has_id(id) {
-            return Err((Fault::IdMismatch, 0));
+            return Err((Cause::IdMismatch, 0));
         }
         if let Some(question) = message.question() {
             if question.kind != AXFR || !self.is_of_zone(&question.name, question.class) {
-                return Err((Fault::BadQuestion, HEADER_LEN));
+                return Err((Cause::BadQuestion, HEADER_LEN));
             }
             self.zone = Some(FixedZone {
                 name: question.name,
@@ -152,7 +171,7 @@ impl Transfer {
     }
 
     /// Takes the records of a message's answers up to the first fault.
-    fn take_answers(&mut self, message: &Message<'_>) -> Result<(), (Failing, usize)>
+    fn take_answers(&mut self, message: &Message<'_>) -> Result<(), (NarrowFailing, usize)>
         ensures taken { (questions : List QuestionAt) (placed : List Placed)
             → Among questions placed self.old
             → TakesEach message.now.octets message.now.sections.answers questions placed result
@@ -162,16 +181,46 @@ impl Transfer {
     {
         let mut answers = message.answers();
         while let Some(answer) = answers.next() {
-            match self.take_answer(&answer) {
+            let offset = answer.offset();
+            match self.take_answer(answer) {
                 Ok(()) => {}
-                Err(failing) => return Err((failing, answer.offset())),
+                Err(failing) => return Err((failing, offset)),
             }
         }
         Ok(())
     }
 
     /// Takes the record that an answer states.
-    fn take_answer(&mut self, answer: &RawRr<'_>) -> Result<(), Failing>
+    fn take_answer(&mut self, answer: RawRr<'_>) -> Result<(), NarrowFailing>
+        ensures taken { OnOk result ((questions : List QuestionAt) (placed : List Placed)
+            → Among questions placed self.old
+            → Takes answer.entry.octets answer.entry.at questions placed self.old self.new) }
+        ensures fault { IfErr result
+            (IfFault (λ f. (questions : List QuestionAt) (placed : List Placed)
+            → Among questions placed self.old
+            → AnswerFault answer.entry.octets questions placed answer.entry.at f)) }
+        ensures unchanged { IfErr result (IfFault (λ _. self.new ≡ self.old)) }
+        ensures count { self.new.messages ≡ self.old.messages }
+        ensures ending { self.new.decided.ending ≡ self.old.decided.ending }
+    {
+        if self.opening.is_none() || answer.is_soa() {
+            return self.take_soa(&answer);
+        }
+        let (class, kind) = answer.class_and_kind()?;
+        let rdata = answer.rdata(self.alloc, class, kind)?;
+        let offset = answer.offset();
+        let rr = Rr::of_parts(answer.owner, counted_ttl(answer.ttl), rdata);
+        if self.closed {
+            return Err(NarrowFailing::of(Cause::AfterClosing));
+        }
+        self.hand_on(rr, offset)?;
+        Ok(())
+    }
+
+    /// Takes the record that an answer states, where it may open or close the transfer.
+    #[cold]
+    #[inline(never)]
+    fn take_soa(&mut self, answer: &RawRr<'_>) -> Result<(), NarrowFailing>
         ensures taken { OnOk result ((questions : List QuestionAt) (placed : List Placed)
             → Among questions placed self.old
             → Takes answer.now.octets answer.now.at questions placed self.old self.new) }
@@ -183,9 +232,9 @@ impl Transfer {
         ensures count { self.new.messages ≡ self.old.messages }
         ensures ending { self.new.decided.ending ≡ self.old.decided.ending }
     {
-        let rr = answer.to_rr(self.alloc)?;
-        match self.order_fault(&rr) {
-            Some(fault) => Err(Failing::Fault(fault)),
+        let rr = answer.read(self.alloc)?;
+        match self.order_cause(&rr) {
+            Some(cause) => Err(NarrowFailing::of(cause)),
             None => Ok(self.take_record(rr, answer)?),
         }
     }
@@ -202,7 +251,7 @@ impl Transfer {
         ensures ending { self.new.decided.ending ≡ self.old.decided.ending }
     {
         if self.opening.is_none() {
-            match answer.to_rr(self.alloc) {
+            match answer.read(self.alloc) {
                 Ok(opening) => self.open(opening),
                 Err(_) => return Err(AllocError),
             }
@@ -244,18 +293,18 @@ impl Transfer {
     }
 
     /// The fault of a record after those before it.
-    fn order_fault(&self, rr: &Rr) -> Option<Fault>
+    fn order_cause(&self, rr: &Rr) -> Option<Cause>
         ensures { (questions : List QuestionAt) (placed : List Placed)
             → Among questions placed self.now
-            → result ≡ order_fault questions placed rr.now }
+            → option_map fault_for result ≡ order_fault questions placed rr.now }
     {
         match &self.opening {
-            None if !rr.kind().is_soa() => Some(Fault::NoOpeningSoa),
-            None if !self.is_of_zone(rr.owner(), rr.class().number()) => Some(Fault::BadQuestion),
+            None if !rr.kind().is_soa() => Some(Cause::NoOpeningSoa),
+            None if !self.is_of_zone(rr.owner(), rr.class().number()) => Some(Cause::BadQuestion),
             None => None,
-            Some(_) if self.closed => Some(Fault::AfterClosing),
+            Some(_) if self.closed => Some(Cause::AfterClosing),
             Some(opening) if rr.kind().is_soa() && !is_same(rr, opening) => Some(
-                Fault::SoaMismatch,
+                Cause::SoaMismatch,
             ),
             Some(_) => None,
         }

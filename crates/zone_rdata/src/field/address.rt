@@ -5,8 +5,8 @@ ghost use Rattle.zone_rdata.specs.Fields.Address.{IsAddress};
 ghost use Rattle.zone_rdata.specs.Machine.Appending.{Appends};
 
 use crate::address::{ipv4_octets_of, ipv6_octets_of, push_ipv4, push_ipv6};
-use crate::fault::Fault;
 use crate::cause::Cause;
+use crate::fault::Fault;
 use crate::narrow_failing::NarrowFailing;
 use zone_name::Sink;
 

@@ -2,11 +2,11 @@
 use Rattle.std.specs.Prelude.{◌≡◌, ℕ, suc, ◌+◌, List, [], ◌∷◌, Result, Ok, Err}
 use Rattle.zone_wire.specs.Name.{Found, label_at, found_by}
 use Rattle.zone_wire.specs.Walk.{at_root, at_label, at_pointer, at_fault, Visit}
+use Rattle.zone_rdata.specs.Cause.{fault_for}
+use Rattle.zone_rdata.specs.declared.cause.Cause.{Cause}
 use Rattle.zone_rdata.specs.declared.fault.Fault.{Fault}
 use Rattle.zone_rdata.specs.declared.fault.Fault.TheVariants.{ShortMessage}
-use Rattle.zone_wire.specs.Machine.Place.{fault_here}
 use Rattle.zone_wire.specs.declared.name.Decoded.{Decoded}
-use Rattle.zone_wire.specs.declared.place.PlaceFault.{PlaceFault}
 
 -- a name, or a fault with the number of steps
 pub data Outcome : Type 0 where
@@ -39,6 +39,6 @@ Says (Ok d) o = (pointers : ℕ) × (o ≡ named (found_by d pointers))
 Says (Err e) o = o ≡ refused e.0 e.1
 
 -- the end and the steps of a walk, and the labels that were kept, are what it finds
-abbrev pub Tells : Result (ℕ × ℕ) (PlaceFault × ℕ) → List (List ℕ) → Outcome → Type 0
+abbrev pub Tells : Result (ℕ × ℕ) (Cause × ℕ) → List (List ℕ) → Outcome → Type 0
 Tells (Ok r) labels o = (pointers : ℕ) × (o ≡ named (record { labels = labels; end = r.0; steps = r.1; pointers = pointers }))
-Tells (Err e) labels o = o ≡ refused (fault_here e.0) e.1
+Tells (Err e) labels o = o ≡ refused (fault_for e.0) e.1

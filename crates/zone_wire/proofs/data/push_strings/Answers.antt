@@ -4,7 +4,7 @@ use Rattle.zone_wire.proofs.StringReading.{next_string, string_put, string_past,
 use Rattle.zone_wire.proofs.data.push_strings.Goals as goal
 
 pub returns-then-start-end-clause-fault : goal.returns-then-start-end-clause-fault
-returns-then-start-end-clause-fault c = string_missing c.args.message.now (λ i. omega (arith, c.type_inv.message i)) c.args.end c.args.start c.requires.inside (omega arith)
+returns-then-start-end-clause-fault c = rw c.of.ensures (string_missing c.args.message.now (λ i. omega (arith, c.type_inv.message i)) c.args.end c.args.start c.requires.inside (omega arith))
 
 pub push_string-requires-clause-next : goal.push_string-requires-clause-next
 push_string-requires-clause-next c = next_string c.args.message.now (λ i. omega (arith, c.type_inv.message i)) c.args.end c.args.start c.requires.inside c.args.builder.now c.loop-place.builder c.loop-place.place c.requires.next c.loop-place.invariant

@@ -10,12 +10,12 @@ returns-in_err-past-clause-fault c =
     fault_answered c.from_residual.result _ _ c.from_residual.ensures.1
     (sized_refused c.args.message.now c.args.end c.args.start 2 U16 _ (two_sized _ _ _) c.in_err-past.ensures.fault)
 
-pub returns-in_err-push_u16-clause-fault : goal.returns-in_err-push_u16-clause-fault
-returns-in_err-push_u16-clause-fault c =
-    if_fault_passed c.from_residual-in_err-push_u16.result c.in_err-push_u16.field-0.0 _ _ c.from_residual-in_err-push_u16.ensures.1
+pub returns-in_err-push-clause-fault : goal.returns-in_err-push-clause-fault
+returns-in_err-push-clause-fault c =
+    if_fault_passed c.from_residual-in_err-push.result c.in_err-push.field-0.0 _ _ c.from_residual-in_err-push.ensures.1
     (λ fault bad. absurd (unrefused_sized c.args.message.now c.args.end c.args.start 2 c.in_ok-past.past c.args.builder.now U16 (u16_value c.u16_at.result) c.requires.next tt tt (two_sized _ _ _) c.in_ok-past.ensures.found.0 c.in_ok-past.ensures.found.1 (two_value c.args.message.now c.args.start c.in_ok-past.past c.u16_at.result c.in_ok-past.ensures.found.0 (omega (arith, c.in_ok-past.ensures.found.1)) c.u16_at.ensures) fault bad))
-    c.in_err-push_u16.ensures.fault
+    c.in_err-push.ensures.fault
 
 pub returns-clause-found : goal.returns-clause-found
 returns-clause-found c =
-    puts_sized c.args.message.now c.args.end c.args.start 2 c.in_ok-past.past U16 (u16_value c.u16_at.result) c.args.builder.now _ (two_sized _ _ _) c.in_ok-past.ensures.found.0 c.in_ok-past.ensures.found.1 (two_value c.args.message.now c.args.start c.in_ok-past.past c.u16_at.result c.in_ok-past.ensures.found.0 (omega (arith, c.in_ok-past.ensures.found.1)) c.u16_at.ensures) refl c.in_ok-push_u16.ensures.ok
+    puts_sized c.args.message.now c.args.end c.args.start 2 c.in_ok-past.past U16 (u16_value c.u16_at.result) c.args.builder.now _ (two_sized _ _ _) c.in_ok-past.ensures.found.0 c.in_ok-past.ensures.found.1 (two_value c.args.message.now c.args.start c.in_ok-past.past c.u16_at.result c.in_ok-past.ensures.found.0 (omega (arith, c.in_ok-past.ensures.found.1)) c.u16_at.ensures) refl c.in_ok-push.ensures.ok

@@ -1,6 +1,6 @@
 use Rattle.std.proofs.Common.{◌≡◌, ◌+◌, ◌-◌, ap, sym, ◌∙◌, arith, Err}
 use Rattle.zone_wire.specs.Machine.Finding.{refused}
-use Rattle.zone_wire.specs.Machine.Place.{fault_here}
+use Rattle.zone_rdata.specs.Cause.{fault_for}
 use Rattle.zone_rdata.specs.declared.fault.Fault.TheVariants.{ShortMessage}
 use Rattle.zone_wire.proofs.Carrying.{carries_start, carries_outside, carries_bad, carries_root, carries_label, carries_pointer, root_inside, label_shows, pointer_shows, push_fits, part_length}
 use Rattle.zone_wire.proofs.name.read_name.Goals as goal
@@ -18,7 +18,7 @@ pub returns-in-Outside : goal.returns-in-Outside
 returns-in-Outside c = carries_outside c.places.invariant (sym c.in-Outside.ensures.place) ∙ ap (refused ShortMessage) (omega (arith, c.count.ensures, c.in-Outside.ensures.ticks))
 
 pub returns-in-Bad : goal.returns-in-Bad
-returns-in-Bad c = carries_bad (fault_here c.in-Bad.fault) c.places.invariant (sym c.in-Bad.ensures.place) ∙ ap (refused (fault_here c.in-Bad.fault)) (omega (arith, c.count-in-Bad.ensures, c.in-Bad.ensures.ticks))
+returns-in-Bad c = carries_bad (fault_for c.in-Bad.cause) c.places.invariant (sym c.in-Bad.ensures.place) ∙ ap (refused (fault_for c.in-Bad.cause)) (omega (arith, c.count-in-Bad.ensures, c.in-Bad.ensures.ticks))
 
 pub overflow_add-spot : goal.overflow_add-spot
 overflow_add-spot c = let h = root_inside _ _ (sym c.in-Root.ensures.place) in omega (arith, h)

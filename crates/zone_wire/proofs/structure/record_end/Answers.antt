@@ -1,11 +1,11 @@
 use Rattle.std.proofs.Common.{arith}
 use Rattle.std.proofs.lemmas.Result.{err_from_is_err_and}
-use Rattle.zone_wire.specs.Machine.Place.{fault_here}
+use Rattle.zone_rdata.specs.Cause.{fault_for}
 use Rattle.zone_wire.proofs.Ends.{name_ends_inside, record_refused, record_ends, record_short}
 use Rattle.zone_wire.proofs.structure.record_end.Goals as goal
 
 pub returns-in_err-end : goal.returns-in_err-end
-returns-in_err-end c = let p = err_from_is_err_and c.from_residual.result c.from_residual.ensures.1 in rw (p.1, p.2) (record_refused c.args.message.now c.args.offset (fault_here c.in_err-end.field-0.0) c.in_err-end.ensures)
+returns-in_err-end c = let p = err_from_is_err_and c.from_residual.result c.from_residual.ensures.1 in rw (p.1, p.2) (record_refused c.args.message.now c.args.offset (fault_for c.in_err-end.field-0.0) c.in_err-end.ensures)
 
 pub overflow_sub-message : goal.overflow_sub-message
 overflow_sub-message c = name_ends_inside c.args.message.now c.args.offset (λ i. omega (arith, c.type_inv.message i)) c.in_ok-end.end c.in_ok-end.ensures

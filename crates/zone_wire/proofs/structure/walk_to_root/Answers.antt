@@ -1,6 +1,6 @@
 use Rattle.std.proofs.Common.{[], ap, sym, ◌++◌, ◌∷◌, arith}
 use Rattle.zone_wire.specs.Machine.Parsing.{name_end_of}
-use Rattle.zone_wire.specs.Machine.Place.{fault_here}
+use Rattle.zone_rdata.specs.Cause.{fault_for}
 use Rattle.zone_wire.specs.Name.{label_at}
 use Rattle.zone_wire.proofs.Carrying.{carries_start, carries_outside, carries_bad, carries_root, carries_label, carries_pointer, root_inside, label_shows, pointer_shows}
 use Rattle.zone_wire.proofs.structure.walk_to_root.Goals as goal
@@ -18,7 +18,7 @@ pub returns-in-Outside : goal.returns-in-Outside
 returns-in-Outside c = sym (ap name_end_of (carries_outside c.places.invariant.1 (sym c.in-Outside.ensures.place)))
 
 pub returns-in-Bad : goal.returns-in-Bad
-returns-in-Bad c = sym (ap name_end_of (carries_bad (fault_here c.in-Bad.fault) c.places.invariant.1 (sym c.in-Bad.ensures.place)))
+returns-in-Bad c = sym (ap name_end_of (carries_bad (fault_for c.in-Bad.cause) c.places.invariant.1 (sym c.in-Bad.ensures.place)))
 
 pub overflow_add-spot : goal.overflow_add-spot
 overflow_add-spot c = let h = root_inside _ _ (sym c.in-Root.ensures.place) in omega (arith, h)

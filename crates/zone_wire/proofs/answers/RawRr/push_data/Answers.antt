@@ -17,10 +17,10 @@ returns-in-Some-clause-fault c =
 
 pub returns-in-None-clause-found : goal.returns-in-None-clause-found
 returns-in-None-clause-found c =
-    on_ok_weaker c.push_octets.result (λ pushed. opaque_read _ c.args.self.now c.self.view_is c.args.class c.args.kind c.requires.class c.requires.kind c.args.builder.now c.requires.new c.push_octets.new.self c.in-None.ensures.fields pushed) c.push_octets.ensures.ok
+    on_ok_weaker c.push.result (λ pushed. opaque_read _ c.args.self.now c.self.view_is c.args.class c.args.kind c.requires.class c.requires.kind c.args.builder.now c.requires.new c.push.new.self c.in-None.ensures.fields pushed) c.push.ensures.ok
 
 pub returns-in-None-clause-fault : goal.returns-in-None-clause-fault
 returns-in-None-clause-fault c =
-    IfErr-fault c.push_octets.result _ _
+    IfErr-fault c.push.result _ _
     (λ fault bad. absurd (opaque_taken _ c.args.self.now c.self.view_is c.args.class c.args.kind c.requires.class c.requires.kind c.args.builder.now c.requires.new fault c.in-None.ensures.fields (data_short c.self.inside.message.now c.self.inside.offset _ c.are_octets.ensures c.self.invariant).1 bad))
-    c.push_octets.ensures.fault
+    c.push.ensures.fault

@@ -1,15 +1,32 @@
-use Rattle.std.proofs.Common.{sym}
-use Rattle.zone_wire.specs.AnswerFault.{of_order}
-use Rattle.zone_wire.proofs.AnswerFaults.{order_faults, order_stands}
+use Rattle.std.proofs.Common.{◌≡◌, ◌∙◌, sym, refl}
+use Rattle.zone_rdata.proofs.Failings.{fault_answered, if_fault_passed}
+use Rattle.zone_wire.specs.AnswerFault.{own, of_order, closed}
+use Rattle.zone_wire.proofs.Progress.{other_gains, stands_after}
+use Rattle.zone_wire.proofs.RecordReading.{own_data, stated}
 use Rattle.zone_wire.proofs.transfer.Transfer.take_answer.Goals as goal
 
-pub returns-in-Some-clause-fault : goal.returns-in-Some-clause-fault
-returns-in-Some-clause-fault c = λ questions placed among. of_order c.in_ok-rr.rr c.in_ok-rr.ensures.found (order_faults questions placed c.in_ok-rr.rr c.in-Some.fault (sym (c.in-Some.ensures questions placed among)))
+pub returns-in_err-class-clause-fault : goal.returns-in_err-class-clause-fault
+returns-in_err-class-clause-fault c = fault_answered c.from_residual.result _ _ c.from_residual.ensures.1 (λ questions placed among. own c.in_err-class.ensures.fault)
 
-pub returns-in_ok-take_record-in-None-clause-taken : goal.returns-in_ok-take_record-in-None-clause-taken
-returns-in_ok-take_record-in-None-clause-taken c = λ questions placed among. record {
-  rr = c.in_ok-rr.rr;
-  states = c.in_ok-rr.ensures.found;
-  stands = order_stands questions placed c.in_ok-rr.rr (sym (c.in-None.ensures questions placed among));
-  gains = c.in_ok-take_record-in-None.ensures.gains questions placed among;
-}
+pub returns-in_err-rdata-clause-fault : goal.returns-in_err-rdata-clause-fault
+returns-in_err-rdata-clause-fault c =
+    if_fault_passed c.from_residual-in_err-rdata.result c.in_err-rdata.field-0.0 _ _ c.from_residual-in_err-rdata.ensures.1
+    (λ fault bad. λ questions placed among. own (own_data c.args.answer.octets c.args.answer.at fault c.in_ok-class.ensures.class.1 c.in_ok-class.ensures.kind.1 c.in_ok-class.ensures.readable bad))
+    c.in_err-rdata.ensures.fault
+
+pub returns-then-self-clause-fault : goal.returns-then-self-clause-fault
+returns-then-self-clause-fault c =
+    let states = stated _ c.args.answer c.answer.view_is _ _ _ c.in_ok-rdata.rdata c.of_parts-rr.result c.of_parts-rr.ensures.value c.of_parts-rr.ensures.record c.in_ok-rdata.ensures.class c.in_ok-rdata.ensures.kind c.in_ok-class.ensures.class.0 c.in_ok-class.ensures.kind.0 c.counted_ttl.ensures.value c.in_ok-rdata.ensures.found c.in_ok-class.ensures.readable in
+    rw c.of.ensures (λ questions placed among. of_order c.of_parts-rr.result states (closed (sym among.closed ∙ c.if-self.true)))
+
+pub returns-clause-taken : goal.returns-clause-taken
+returns-clause-taken c = λ questions placed among.
+    let states = stated _ c.args.answer c.answer.view_is _ _ _ c.in_ok-rdata.rdata c.of_parts-rr.result c.of_parts-rr.ensures.value c.of_parts-rr.ensures.record c.in_ok-rdata.ensures.class c.in_ok-rdata.ensures.kind c.in_ok-class.ensures.class.0 c.in_ok-class.ensures.kind.0 c.counted_ttl.ensures.value c.in_ok-rdata.ensures.found c.in_ok-class.ensures.readable in
+    let other : c.of_parts-rr.result.kind ≡ 6 → ⊥ = λ soa. (let yes = c.is_soa.ensures.1 (sym states.kind ∙ soa) in let no = c.if-is_soa.false in let none : ⊥ = cc in none) in
+    let items = rw c.offset-offset.ensures at c.in_ok-hand_on.ensures.items in
+    record {
+      rr = c.of_parts-rr.result;
+      states = states;
+      stands = stands_after questions placed c.of_parts-rr.result c.args.self.now among c.if-is_none.ensures c.if-self.false other;
+      gains = other_gains questions placed c.of_parts-rr.result c.args.answer.at.offset c.args.self.now c.args.self.now c.hand_on.new.self among c.if-is_none.ensures other refl c.hand_on.ensures.others c.hand_on.ensures.ending items;
+    }

@@ -1,14 +1,15 @@
 use Rattle.std.proofs.Common.{◌++◌, subst}
+use Rattle.zone_rdata.specs.Cause.{fault_for}
 use Rattle.zone_wire.specs.Machine.Transferring.{TakesEach}
 use Rattle.zone_wire.specs.Stream.{asked_in, placed_in}
 use Rattle.zone_wire.proofs.Progress.{stops_in_structure, stops_in_head, message_taken}
 use Rattle.zone_wire.proofs.transfer.Transfer.take_message.Goals as goal
 
 pub returns-in-Err-clause-taken : goal.returns-in-Err-clause-taken
-returns-in-Err-clause-taken c = λ before behind. stops_in_structure c.args.octets.now before c.args.self.now (c.in-Err.fault, c.in-Err.offset) c.in-Err.ensures.fault
+returns-in-Err-clause-taken c = rw c.of.ensures (λ before behind. stops_in_structure c.args.octets.now before c.args.self.now (fault_for c.in-Err.cause, c.in-Err.offset) c.in-Err.ensures.fault)
 
 pub returns-in-Err-take_head-clause-taken : goal.returns-in-Err-take_head-clause-taken
-returns-in-Err-take_head-clause-taken c = λ before behind. stops_in_head c.args.octets.now before c.in-Ok.message.sections c.args.self.now c.take_head.new.self (c.in-Err-take_head.fault, c.in-Err-take_head.offset) c.in-Ok.ensures.found (c.in-Err-take_head.ensures.fault before behind) c.take_head.ensures.decided
+returns-in-Err-take_head-clause-taken c = rw c.of-in-Err-take_head.ensures (λ before behind. stops_in_head c.args.octets.now before c.in-Ok.message.sections c.args.self.now c.take_head.new.self (fault_for c.in-Err-take_head.cause, c.in-Err-take_head.offset) c.in-Ok.ensures.found (c.in-Err-take_head.ensures.fault before behind) c.take_head.ensures.decided)
 
 pub returns-in-Ok-take_head-clause-taken : goal.returns-in-Ok-take_head-clause-taken
 returns-in-Ok-take_head-clause-taken c = λ before behind.

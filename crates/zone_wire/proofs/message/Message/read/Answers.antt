@@ -1,8 +1,9 @@
 use Rattle.std.proofs.Common.{arith}
 use Rattle.std.proofs.lemmas.Result.{err_from_is_err_and}
+use Rattle.zone_rdata.specs.Cause.{fault_for}
 use Rattle.zone_wire.proofs.MessageFaults.{sections_fault}
 use Rattle.zone_wire.proofs.Sectioning.{sections_read}
-use Rattle.zone_wire.proofs.message.Message.parse.Goals as goal
+use Rattle.zone_wire.proofs.message.Message.read.Goals as goal
 
 pub returns-in_err-answers-clause-only : goal.returns-in_err-answers-clause-only
 returns-in_err-answers-clause-only c = λ sections is.
@@ -14,4 +15,4 @@ returns-in_err-answers-clause-only c = λ sections is.
 pub returns-in_err-answers-clause-fault : goal.returns-in_err-answers-clause-fault
 returns-in_err-answers-clause-fault c =
     let p = err_from_is_err_and c.from_residual.result c.from_residual.ensures.1 in
-    rw (p.1, p.2) (sections_fault c.args.octets.now (λ i. omega (arith, c.type_inv.octets i)) c.in_err-answers.field-0.0.0 c.in_err-answers.field-0.0.1 c.in_err-answers.ensures)
+    rw (p.1, p.2) (sections_fault c.args.octets.now (λ i. omega (arith, c.type_inv.octets i)) (fault_for c.in_err-answers.field-0.0.0) c.in_err-answers.field-0.0.1 c.in_err-answers.ensures)
