@@ -73,7 +73,7 @@ impl Kind {
     }
 
     /// The type of this number, which was judged before.
-    pub fn of_number(number: u16) -> Kind
+    pub fn of_judged(number: u16) -> Kind
         requires { IsKind number }
         ensures { result ≡ number }
     {

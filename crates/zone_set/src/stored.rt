@@ -56,7 +56,7 @@ pub(crate) fn record_at<'z>(class: Class, octets: &'z [u8], at: usize) -> RrRef<
     };
     let (owner, from) = from.split_at(*owner_len as usize);
     let (data, _) = from.split_at(u16::from_be_bytes(*data_len) as usize);
-    let kind = Kind::of_number(u16::from_be_bytes(*kind));
+    let kind = Kind::of_judged(u16::from_be_bytes(*kind));
     RrRef {
         owner: NameRef::of_wire(owner),
         class,
