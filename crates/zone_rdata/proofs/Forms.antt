@@ -7,7 +7,7 @@ use Rattle.zone_rdata.specs.declared.fault.Fault.{Fault}
 use Rattle.zone_rdata.specs.declared.fault.Fault.TheVariants.{BadRdata, BadGeneric}
 use Rattle.zone_rdata.specs.declared.field.Field.{Field}
 use Rattle.zone_rdata.specs.declared.layout.Layout.{Layout}
-use Rattle.zone_rdata.specs.DataFault.{IsFaultFor, IsFormFault, IsWordsFault, no_value, in_form, opaque_words}
+use Rattle.zone_rdata.specs.DataFault.{IsFaultFor, IsFormFault, IsWordsFault, no_value, opaque_words}
 use Rattle.zone_rdata.specs.DataFault as faults
 use Rattle.zone_rdata.specs.Fault.{IfFault}
 use Rattle.zone_rdata.specs.Generic.{StatesGeneric}
@@ -23,9 +23,6 @@ pub form_value : {T : Type 0} (laid : Option Layout) (own : Layout) (items : Lis
 form_value laid own items stated octets r e form is h =
     let laid_is : option_map fields_of laid ≡ Some (fields_of own) = ap (option_map fields_of) e in
     IfErr-fault r _ _ (λ fault bad. subst (IsFormFault (option_map fields_of laid) items) (sym bad.0) (no_value (fields_of own) stated laid_is form (λ canonical u. bad.1 canonical (subst (λ o. IsUncompressed (fields_of own) o canonical) (sym is) u)))) h
-
-pub in_form_fault : (origin : List (List ℕ)) (laid : Option (List Field)) (items : List RawItem) (b : Bool) (fault : Fault) → b ≡ true → (IsTrue b ↔ IsGeneric items) → IsFormFault laid items fault → IsFaultFor origin laid items fault
-in_form_fault origin laid items b fault marked test h = in_form fault (test.0 marked) h
 
 not_marked : (items : List RawItem) (b : Bool) → b ≡ false → (IsTrue b ↔ IsGeneric items) → IsGeneric items → ⊥
 not_marked items b plain_items test g = let marked = test.1 g in cc (sym plain_items ∙ marked)

@@ -64,14 +64,14 @@ joined_low [] octets h = subst AreLow (sym h) tt
 joined_low (bare text ∷ items) octets h = subst AreLow (sym h.3) (AllByRecursion-append (λ c. c < 256) h.0 h.1 (bytes_each h.0 (decode_of-ok text h.0 h.2).3) (joined_low items h.1 h.4))
 joined_low (quoted text ∷ items) octets h = absurd h
 
-canonical_item : (origin : List (List ℕ)) (row : List Field) (items : List RawItem) (stated : List ℕ) → IsGeneric items → StatesGeneric items stated → Choice (IsUncompressed row stated) → Outcome origin (Some row) items
-canonical_item origin row items stated marked form (inl found) = inl (found.0, in_octets marked (stated, form, found.1))
-canonical_item origin row items stated marked form (inr none) = inr (BadRdata, in_form BadRdata marked (no_value row stated refl form none))
+canonical_item : (origin : List (List ℕ)) (row : List Field) (items : List RawItem) (stated : List ℕ) → StatesGeneric items stated → Choice (IsUncompressed row stated) → Outcome origin (Some row) items
+canonical_item origin row items stated form (inl found) = inl (found.0, in_octets (stated, form, found.1))
+canonical_item origin row items stated form (inr none) = inr (BadRdata, in_form BadRdata (no_value row stated refl form none))
 
-form_by : (origin : List (List ℕ)) (class kind : ℕ) (laid : Option (List Field)) (items : List RawItem) → layout class kind ≡ laid → IsGeneric items → ((octets : List ℕ) × StatesGeneric items octets) ⊎ ((fault : Fault) × GenericFault items fault) → Outcome origin laid items
-form_by origin class kind laid items e marked (inr bad) = inr (bad.0, in_form bad.0 marked (malformed bad.0 bad.1))
-form_by origin class kind None items e marked (inl found) = inl (found.0, in_octets marked (found.0, found.1, refl))
-form_by origin class kind (Some row) items e marked (inl found) = canonical_item origin row items found.0 marked found.1 (canonical_or_not class kind row found.0 e (joined_low found.1.digits found.0 found.1.joined))
+form_by : (origin : List (List ℕ)) (class kind : ℕ) (laid : Option (List Field)) (items : List RawItem) → layout class kind ≡ laid → ((octets : List ℕ) × StatesGeneric items octets) ⊎ ((fault : Fault) × GenericFault items fault) → Outcome origin laid items
+form_by origin class kind laid items e (inr bad) = inr (bad.0, in_form bad.0 (malformed bad.0 bad.1))
+form_by origin class kind None items e (inl found) = inl (found.0, in_octets (found.0, found.1, refl))
+form_by origin class kind (Some row) items e (inl found) = canonical_item origin row items found.0 found.1 (canonical_or_not class kind row found.0 e (joined_low found.1.digits found.0 found.1.joined))
 
 -- the first item is the mark or not
 marked_or_not : (items : List RawItem) → Decided (IsGeneric items)
@@ -83,7 +83,7 @@ marked_or_not (bare text ∷ rest) = elim (same_or_not text mark) [
 marked_or_not (quoted text ∷ rest) = inr (λ h. absurd (let e = h.1 in cc))
 
 outcome_by : NameOrFault → (origin : List (List ℕ)) → IsName origin → (class kind : ℕ) (items : List RawItem) → AreLowItems items → Decided (IsGeneric items) → Outcome origin (layout class kind) items
-outcome_by names origin is class kind items low (inl marked) = form_by origin class kind (layout class kind) items refl marked (generic-or_fault items marked)
+outcome_by names origin is class kind items low (inl marked) = form_by origin class kind (layout class kind) items refl (generic-or_fault items marked)
 outcome_by names origin is class kind items low (inr unmarked) = words_or_fault names origin is (layout class kind) items low unmarked
 
 -- ---- data of a class and type

@@ -4,8 +4,8 @@ use Rattle.zone_rdata.specs.declared.fault.Fault.{Fault}
 use Rattle.zone_rdata.specs.declared.field.Field.{Field}
 use Rattle.zone_rdata.specs.DataFault.{FirstFieldFault, IsDataFault, IsFaultFor, IsFormFault, IsWordsFault, in_form, malformed, no_value, opaque_words, too_long, unspelt}
 use Rattle.zone_rdata.specs.Field.{FieldValue, items_behind, octets_of, own_items}
-use Rattle.zone_rdata.specs.Generic.{StatesGeneric}
-use Rattle.zone_rdata.specs.Item.{RawItem}
+use Rattle.zone_rdata.specs.Generic.{StatesGeneric, GenericFault, no_length, long_length, bad_digits}
+use Rattle.zone_rdata.specs.Item.{RawItem, IsGeneric}
 use Rattle.zone_rdata.specs.Layout.{layout}
 use Rattle.zone_rdata.specs.Spelling.{IsCanonicalOf, SpellEach, States, StatesFor, in_octets, in_words}
 use Rattle.zone_rdata.specs.Uncompressed.{IsUncompressed}
@@ -61,13 +61,26 @@ CanonicalOnce laid = (stated a b : List ℕ) → IsCanonicalOf laid stated a →
 same_row : (laid : Option (List Field)) (a b : List Field) → laid ≡ Some a → laid ≡ Some b → a ≡ b
 same_row laid a b x y = let e : Some a ≡ Some b = sym x ∙ y in cc
 
+-- items in the generic form, and those that have a fault of it, begin with the mark
+generic_marks : (items : List RawItem) (octets : List ℕ) → StatesGeneric items octets → IsGeneric items
+generic_marks items octets s = (s.form.item ∷ s.digits, s.form.parts)
+
+generic_fault_marks : (items : List RawItem) (fault : Fault) → GenericFault items fault → IsGeneric items
+generic_fault_marks items _ (no_length marked none) = marked
+generic_fault_marks items _ (long_length n digits form over) = (form.item ∷ digits, form.parts)
+generic_fault_marks items _ (bad_digits n digits form short none) = (form.item ∷ digits, form.parts)
+
+form_fault_marks : (laid : Option (List Field)) (items : List RawItem) (fault : Fault) → IsFormFault laid items fault → IsGeneric items
+form_fault_marks laid items _ (malformed fault bad) = generic_fault_marks items fault bad
+form_fault_marks laid items _ (no_value row stated e form none) = generic_marks items stated form
+
 for_once : NamesOnce → (origin : List (List ℕ)) (laid : Option (List Field)) (items : List RawItem) (a b : List ℕ) → CanonicalOnce laid → StatesFor origin laid items a → StatesFor origin laid items b → a ≡ b
 for_once names origin laid items a b once (in_words row vs e unmarked h is short) (in_words row' ws e' unmarked2 k is' short') =
     let same : row' ≡ row = same_row laid row' row e' e in
     is ∙ ap octets_of (each_once names origin row items vs ws h (subst (λ r. SpellEach origin r items ws) same k)) ∙ sym is'
-for_once names origin laid items a b once (in_words row vs e unmarked h is short) (in_octets marked stated) = absurd (unmarked marked)
-for_once names origin laid items a b once (in_octets marked stated) (in_words row vs e unmarked h is short) = absurd (unmarked marked)
-for_once names origin laid items a b once (in_octets marked h) (in_octets marked' k) =
+for_once names origin laid items a b once (in_words row vs e unmarked h is short) (in_octets stated) = absurd (unmarked (generic_marks items stated.0 stated.1))
+for_once names origin laid items a b once (in_octets stated) (in_words row vs e unmarked h is short) = absurd (unmarked (generic_marks items stated.0 stated.1))
+for_once names origin laid items a b once (in_octets h) (in_octets k) =
     once h.0 a b h.2 (subst (λ o. IsCanonicalOf laid o b) (generic-once items k.0 h.0 k.1 h.1) k.2)
 
 form_never : (laid : Option (List Field)) (items : List RawItem) (stated octets : List ℕ) (fault : Fault) → StatesGeneric items stated → IsCanonicalOf laid stated octets → IsFormFault laid items fault → ⊥
@@ -77,14 +90,14 @@ form_never laid items stated octets _ form canonical (no_value row stated' e for
     none octets (subst (λ o. IsUncompressed row o octets) (generic-once items stated stated' form form') here)
 
 for_never : NamesOnce → NamesNever → (origin : List (List ℕ)) (laid : Option (List Field)) (items : List RawItem) (octets : List ℕ) (fault : Fault) → StatesFor origin laid items octets → IsFaultFor origin laid items fault → ⊥
-for_never once names origin laid items octets _ (in_words row vs e unmarked h is short) (in_form fault marked bad) = unmarked marked
+for_never once names origin laid items octets _ (in_words row vs e unmarked h is short) (in_form fault bad) = unmarked (form_fault_marks laid items fault bad)
 for_never once names origin laid items octets _ (in_words row vs e unmarked h is short) (faults.in_words row' fault e' unmarked2 bad) =
     let same : row' ≡ row = same_row laid row' row e' e in
     words_never once names origin row items vs fault h (subst (λ o. length o ≤ 65535) is short) (subst (λ r. IsWordsFault origin r items fault) same bad)
 for_never once names origin laid items octets _ (in_words row vs e unmarked h is short) (opaque_words e' unmarked2) = let clash : Some row ≡ None = sym e ∙ e' in cc
-for_never once names origin laid items octets _ (in_octets marked h) (in_form fault marked' bad) = form_never laid items h.0 octets fault h.1 h.2 bad
-for_never once names origin laid items octets _ (in_octets marked h) (faults.in_words row fault e unmarked bad) = unmarked marked
-for_never once names origin laid items octets _ (in_octets marked h) (opaque_words e unmarked) = unmarked marked
+for_never once names origin laid items octets _ (in_octets h) (in_form fault bad) = form_never laid items h.0 octets fault h.1 h.2 bad
+for_never once names origin laid items octets _ (in_octets h) (faults.in_words row fault e unmarked bad) = unmarked (generic_marks items h.0 h.1)
+for_never once names origin laid items octets _ (in_octets h) (opaque_words e unmarked) = unmarked (generic_marks items h.0 h.1)
 
 form_fault_once : (laid : Option (List Field)) (items : List RawItem) (a b : Fault) → IsFormFault laid items a → IsFormFault laid items b → a ≡ b
 form_fault_once laid items _ _ (malformed fault bad) (malformed fault' bad') = generic_fault-once items fault fault' bad bad'
@@ -93,15 +106,15 @@ form_fault_once laid items _ _ (no_value row stated e form none) (malformed faul
 form_fault_once laid items _ _ (no_value row stated e form none) (no_value _ _ _ _ _) = refl
 
 for_fault_once : NamesNever → NameFaultOnce → (origin : List (List ℕ)) (laid : Option (List Field)) (items : List RawItem) (a b : Fault) → IsFaultFor origin laid items a → IsFaultFor origin laid items b → a ≡ b
-for_fault_once names once origin laid items _ _ (in_form fault marked bad) (in_form fault' marked' bad') = form_fault_once laid items fault fault' bad bad'
-for_fault_once names once origin laid items _ _ (in_form fault marked bad) (faults.in_words row fault' e unmarked bad') = absurd (unmarked marked)
-for_fault_once names once origin laid items _ _ (in_form fault marked bad) (opaque_words e unmarked) = absurd (unmarked marked)
-for_fault_once names once origin laid items _ _ (faults.in_words row fault e unmarked bad) (in_form fault' marked bad') = absurd (unmarked marked)
+for_fault_once names once origin laid items _ _ (in_form fault bad) (in_form fault' bad') = form_fault_once laid items fault fault' bad bad'
+for_fault_once names once origin laid items _ _ (in_form fault bad) (faults.in_words row fault' e unmarked bad') = absurd (unmarked (form_fault_marks laid items fault bad))
+for_fault_once names once origin laid items _ _ (in_form fault bad) (opaque_words e unmarked) = absurd (unmarked (form_fault_marks laid items fault bad))
+for_fault_once names once origin laid items _ _ (faults.in_words row fault e unmarked bad) (in_form fault' bad') = absurd (unmarked (form_fault_marks laid items fault' bad'))
 for_fault_once names once origin laid items _ _ (faults.in_words row fault e unmarked bad) (faults.in_words row' fault' e' unmarked2 bad') =
     let same : row' ≡ row = same_row laid row' row e' e in
     words_fault_once names once origin row items fault fault' bad (subst (λ r. IsWordsFault origin r items fault') same bad')
 for_fault_once names once origin laid items _ _ (faults.in_words row fault e unmarked bad) (opaque_words e' unmarked2) = let clash : Some row ≡ None = sym e ∙ e' in cc
-for_fault_once names once origin laid items _ _ (opaque_words e unmarked) (in_form fault marked bad) = absurd (unmarked marked)
+for_fault_once names once origin laid items _ _ (opaque_words e unmarked) (in_form fault bad) = absurd (unmarked (form_fault_marks laid items fault bad))
 for_fault_once names once origin laid items _ _ (opaque_words e unmarked) (faults.in_words row fault e' unmarked2 bad) = let clash : Some row ≡ None = sym e' ∙ e in cc
 for_fault_once names once origin laid items _ _ (opaque_words e unmarked) (opaque_words _ _) = refl
 

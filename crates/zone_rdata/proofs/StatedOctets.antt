@@ -27,11 +27,11 @@ stated_laid origin class kind None items octets e stated = tt
 stated_laid origin class kind (Some row) items octets e (in_words own values is words spelt written short) =
     let same : own ≡ row = cc in
     subst (AreLaidOut row) (sym written) (laid_out row values (table_row class kind row (sym e)).last (subst (λ r. HoldEach r values) same (spelt_hold origin own items values spelt)))
-stated_laid origin class kind (Some row) items octets e (in_octets marked h) = canonical_laid class kind (Some row) h.0 octets e h.2
+stated_laid origin class kind (Some row) items octets e (in_octets h) = canonical_laid class kind (Some row) h.0 octets e h.2
 
 stated_short : (origin : List (List ℕ)) (laid : Option (List Field)) (items : List RawItem) (octets : List ℕ) → StatesFor origin laid items octets → length octets ≤ 65535
 stated_short origin laid items octets (in_words own values e words spelt written short) = short
-stated_short origin laid items octets (in_octets marked h) = rw (canonical_length laid h.0 octets h.2) h.1.short
+stated_short origin laid items octets (in_octets h) = rw (canonical_length laid h.0 octets h.2) h.1.short
 
 -- what items state for the layout of a class and type is their data
 pub stated_data : (origin : List (List ℕ)) (class kind : ℕ) (laid : Option (List Field)) (items : List RawItem) (octets : List ℕ) → laid ≡ layout class kind → StatesFor origin laid items octets → AllByRecursion (λ c. c < 256) octets → IsData class kind octets
@@ -53,7 +53,7 @@ low_form (Some row) stated octets low is = subst AreLow (sym is.whole) (low_valu
 
 stated_low : (origin : List (List ℕ)) (laid : Option (List Field)) (items : List RawItem) (octets : List ℕ) → StatesFor origin laid items octets → AreLow octets
 stated_low origin laid items octets (in_words row values e unmarked spelt written short) = subst AreLow (sym written) (low_values row values (spelt_hold origin row items values spelt))
-stated_low origin laid items octets (in_octets marked h) = low_form laid h.0 octets (joined_low h.1.digits h.0 h.1.joined) h.2
+stated_low origin laid items octets (in_octets h) = low_form laid h.0 octets (joined_low h.1.digits h.0 h.1.joined) h.2
 
 pub stated_is_data : (origin : List (List ℕ)) (class kind : ℕ) (items : List RawItem) (octets : List ℕ) → States origin class kind items octets → IsData class kind octets
 stated_is_data origin class kind items octets x = stated_data origin class kind (layout class kind) items octets refl x.stated (stated_low origin (layout class kind) items octets x.stated)

@@ -151,7 +151,7 @@ fields_unmarked (f ∷ row) (v ∷ values) sized h g = field_unmarked f v (flat_
 -- ---- the items state the data
 
 stated_for : NamesPrinted → (origin : List (List ℕ)) (laid : Option (List Field)) (octets : List ℕ) → ((row : List Field) → laid ≡ Some row → IsLayout row) → length octets ≤ 65535 → AllByRecursion (λ c. c < 256) octets → AreFor laid octets → StatesFor origin laid (laid_out_items laid octets) octets
-stated_for names origin None octets table short each value = in_octets (bare (decimal (length octets)) ∷ digit_items octets, refl) (octets, printed-stated octets each short, refl)
+stated_for names origin None octets table short each value = in_octets (octets, printed-stated octets each short, refl)
 stated_for names origin (Some row) octets table short each value =
     let values = values_of row octets in
     let sound = table row refl in

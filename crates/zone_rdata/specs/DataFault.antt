@@ -41,8 +41,7 @@ pub data IsFormFault (laid : Option (List Field)) (items : List RawItem) : Fault
 -- words without a layout
 pub data IsFaultFor (origin : List (List ℕ)) (laid : Option (List Field))
     (items : List RawItem) : Fault → Type 0 where
-  in_form : (fault : Fault) → IsGeneric items → IsFormFault laid items fault
-      → IsFaultFor origin laid items fault
+  in_form : (fault : Fault) → IsFormFault laid items fault → IsFaultFor origin laid items fault
   in_words : (fields : List Field) (fault : Fault) → laid ≡ Some fields → (IsGeneric items → ⊥)
       → IsWordsFault origin fields items fault → IsFaultFor origin laid items fault
   opaque_words : laid ≡ None → (IsGeneric items → ⊥) → IsFaultFor origin laid items BadGeneric

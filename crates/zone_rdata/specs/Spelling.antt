@@ -32,7 +32,7 @@ pub data StatesFor (origin : List (List ℕ)) (laid : Option (List Field)) (item
   in_words : (fields : List Field) (values : List FieldValue) → laid ≡ Some fields
       → (IsGeneric items → ⊥) → SpellEach origin fields items values → octets ≡ octets_of values
       → length octets ≤ 65535 → StatesFor origin laid items octets
-  in_octets : IsGeneric items → StatesInForm laid items octets → StatesFor origin laid items octets
+  in_octets : StatesInForm laid items octets → StatesFor origin laid items octets
 
 -- the items state data of a class and type, given by its canonical octets, under an origin
 pub record States (origin : List (List ℕ)) (class kind : ℕ) (items : List RawItem)

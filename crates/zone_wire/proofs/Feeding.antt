@@ -126,13 +126,15 @@ behind_fault t unfinished other fed more given some each follow = record {
 -- the end of the stream after frames without a fault
 pub ends_with : (t : Transfer) (unfinished fed : List ℕ) (given : List Placed) (ending : Option (Fault × Place)) → (g : Going t unfinished fed given) → StreamEnd (length g.parts + 1) (placed_in g.parts) unfinished ending → StreamReads fed (given ++ t.decided.placed.items) ending
 ends_with t unfinished fed given ending g end = record {
-  messages = octets_in g.parts;
-  rest = unfinished;
-  framed = g.framed;
-  all = placed_in g.parts;
   first = None;
-  read = record { parts = g.parts; read = g.read; whole = refl; stated = refl };
-  stated = g.handed;
+  frames = record {
+    messages = octets_in g.parts;
+    rest = unfinished;
+    framed = g.framed;
+    all = placed_in g.parts;
+    read = record { parts = g.parts; read = g.read; whole = refl; stated = refl };
+    stated = g.handed;
+  };
   ends = subst (λ n. StreamEnd (n + 1) (placed_in g.parts) unfinished ending) (sym (length-map g.parts (λ (p : StatedMessage). p.octets))) end;
 }
 

@@ -71,26 +71,29 @@ module _ (stream : List ℕ) (each : Bytes stream) where
       let x = records_of [] [] r.messages in
       let number = length r.messages + 1 in
       record {
-        messages = r.messages;
-        rest = r.rest;
-        framed = r.framed;
-        all = x.placed;
         first = x.fault;
-        read = records_show r.messages [] (bytes_in r.messages r.rest r.framed.whole) r.framed.short;
-        stated = r.stated;
+        frames = record {
+          messages = r.messages;
+          rest = r.rest;
+          framed = r.framed;
+          all = x.placed;
+          read = records_show r.messages [] (bytes_in r.messages r.rest r.framed.whole) r.framed.short;
+          stated = r.stated;
+        };
         ends = subst (EndsWith number x.placed x.fault r.rest) (sym r.ends) (ends_show number x.placed x.fault r.rest);
       }
 
   pub stream_finds : (placed : List Placed) (ending : Option (Fault × Place)) → StreamReads stream placed ending → FindsReading stream placed ending
   stream_finds placed ending r =
-      let is = reading_is r.messages r.all r.first (bytes_in r.messages r.rest r.framed.whole) r.framed.short r.read in
-      let number = length r.messages + 1 in
+      let d = r.frames in
+      let is = reading_is d.messages d.all r.first (bytes_in d.messages d.rest d.framed.whole) d.framed.short d.read in
+      let number = length d.messages + 1 in
       record {
-        messages = r.messages;
-        rest = r.rest;
-        framed = r.framed;
-        stated = r.stated ∙ ap (λ (x : Finds). handed_on x.placed) (sym is);
-        ends = ends_are number r.all r.first r.rest ending r.ends ∙ ap (λ x. ending_of number x r.rest) (sym is);
+        messages = d.messages;
+        rest = d.rest;
+        framed = d.framed;
+        stated = d.stated ∙ ap (λ (x : Finds). handed_on x.placed) (sym is);
+        ends = ends_are number d.all r.first d.rest ending r.ends ∙ ap (λ x. ending_of number x d.rest) (sym is);
       }
 
   pub decision_shows : (placed : List Placed) (ending : Option (Fault × Place)) → FindsDecision stream placed ending → Decided stream placed ending
@@ -130,4 +133,4 @@ all_fit before messages placed None r = subst Fit (sym r.stated) (parts_fit befo
 all_fit before messages placed (Some e) r = subst Fit (sym r.stated) (all_append (λ (x : Placed). IsRecord x.rr) (placed_in r.parts) r.here (parts_fit before r.parts r.read) (here_fit (before ++ r.parts) r.octets r.here r.fault r.offset r.next))
 
 pub read_fits : (stream : List ℕ) (placed : List Placed) (ending : Option (Fault × Place)) → StreamReads stream placed ending → Fit placed
-read_fits stream placed ending r = subst Fit (sym r.stated) (handed_fit r.all (all_fit [] r.messages r.all r.first r.read))
+read_fits stream placed ending r = let d = r.frames in subst Fit (sym d.stated) (handed_fit d.all (all_fit [] d.messages d.all r.first d.read))

@@ -64,12 +64,14 @@ transfer_reads stream placed s =
     let kept : handed_on all ≡ s.opening ∷ s.others = handed_transfer s.opening s.others s.closing s.no_soa kind in
     let last : is_closed all ≡ true = any_append s.others (s.closing ∷ []) ∙ or_right (list_any is_soa s.others) (list_any is_soa (s.closing ∷ [])) (or_left (is_soa s.closing) _ soa) in
     record {
-      messages = octets_in s.parts;
-      rest = [];
-      framed = record { whole = s.framed ∙ framed_parts s.parts ∙ sym (append-nil (flat_map frame (octets_in s.parts))); short = short_parts s.id s.opening.rr 1 s.parts s.each; cut = lit< tt };
-      all = all;
       first = None;
-      read = record { parts = s.parts; read = read; whole = refl; stated = sym s.answers };
-      stated = s.stated ∙ sym kept;
+      frames = record {
+        messages = octets_in s.parts;
+        rest = [];
+        framed = record { whole = s.framed ∙ framed_parts s.parts ∙ sym (append-nil (flat_map frame (octets_in s.parts))); short = short_parts s.id s.opening.rr 1 s.parts s.each; cut = lit< tt };
+        all = all;
+        read = record { parts = s.parts; read = read; whole = refl; stated = sym s.answers };
+        stated = s.stated ∙ sym kept;
+      };
       ends = closed refl last;
     }

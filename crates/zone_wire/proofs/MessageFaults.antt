@@ -1,5 +1,5 @@
 -- The faults of messages are those at which the sections of a message stop being read.
-use Rattle.std.proofs.Common.{◌≡◌, ◌≢◌, ℕ, zero, suc, ◌/◌, ◌<◌, ◌≤◌, List, [], ◌∷◌, length, refl, ap, sym, ◌∙◌, subst, Bool, true, false, nat_le, nat_lt, inl, inr, arith}
+use Rattle.std.proofs.Common.{◌≡◌, ◌≢◌, ℕ, zero, suc, ◌+◌, ◌/◌, ◌<◌, ◌≤◌, List, [], ◌∷◌, ◌++◌, length, length-append, refl, ap, sym, ◌∙◌, subst, Bool, true, false, nat_le, nat_lt, inl, inr, arith}
 use Rattle.std.specs.Prelude.{get_or, slice_index, ◌==◌, ◌&&◌, ◌⊎◌, not, Option, Some, None, Result, Ok, Err, if◌then◌else◌}
 use Rattle.std.proofs.lemmas.Bool.{cond-true, cond-false, and_parts, and_from, leb-true, le-leb, leb-false, ltb-true, ltb-false, lt-ltb, le-ltb, eqb-true, eq-eqb, not-true, not-false, false_from_ne_true}
 use Rattle.zone_name.specs.Common.{IsVerdict}
@@ -9,7 +9,7 @@ use Rattle.zone_wire.specs.Machine.Finding.{Outcome, named, refused, outcome}
 use Rattle.zone_wire.specs.Machine.Sections.{and_then, header_fault, inside, question_at, record_at, at_offset, each_from, questions_from, records_from, to_the_end, behind_header, sections_of}
 use Rattle.zone_wire.specs.Machine.Walk.{walk}
 use Rattle.zone_wire.specs.Message.{tc_of, rcode_of, qdcount_of, ancount_of, arcount_of, nscount_of, IsResponse, HasCounts, HasHeader, question_by, QuestionAt, IsQuestionAt, record_by, RecordAt, IsRecordAt, AreAt, Sections, IsMessage}
-use Rattle.zone_wire.specs.MessageFault.{HeaderFault, short, no_response, truncated, error, counts, PartFault, of_name, past_end, QuestionFault, RecordFault, Stand, FirstFault, HasQuestions, HasAnswers, HasAdditional, FirstQuestionFault, FirstRecordFault, MessageFault, of_header, of_question, of_answer, of_additional, left_over}
+use Rattle.zone_wire.specs.MessageFault.{HeaderFault, short, no_response, truncated, error, counts, PartFault, of_name, past_end, QuestionFault, RecordFault, Stand, FirstFault, HasQuestions, HasRecords, record_count, FirstQuestionFault, FirstRecordFault, MessageFault, of_header, of_question, of_record, left_over}
 use Rattle.zone_wire.specs.Name.{Found}
 use Rattle.zone_wire.specs.Walk.{ending}
 use Rattle.zone_wire.specs.WholeWalk.{NameFault}
@@ -190,12 +190,48 @@ stand_inside Is end_of size inside_each (x ∷ parts) offset past begins are = s
 records_inside : (octets : List ℕ) (count offset past : ℕ) → offset ≤ length octets → Stand (IsRecordAt octets) (λ r. r.end) count offset past → past ≤ length octets
 records_inside octets count offset past begins s = stand_inside (IsRecordAt octets) (λ r. r.end) (length octets) (λ o r is. is.inside) s.0 offset past begins s.1.1
 
-additional_inside : (octets : List ℕ) (past : ℕ) → HasHeader octets → HasAdditional octets past → past ≤ length octets
-additional_inside octets past header s =
-    let answers = s.1.0 in
-    let questions = answers.1.0 in
-    let first : answers.0 ≤ length octets = stand_inside (IsQuestionAt octets) (λ q. q.end) (length octets) (λ o q is. is.inside) questions.0 12 answers.0 header.twelve questions.1.1 in
-    records_inside octets (arcount_of octets) s.0 past (records_inside octets (ancount_of octets) answers.0 s.0 first answers.1.1) s.1.1
+message_inside : (octets : List ℕ) (past : ℕ) → HasHeader octets → HasRecords octets past → past ≤ length octets
+message_inside octets past header s =
+    let questions = s.1.0 in
+    let first : s.0 ≤ length octets = stand_inside (IsQuestionAt octets) (λ q. q.end) (length octets) (λ o q is. is.inside) questions.0 12 s.0 header.twelve questions.1.1 in
+    records_inside octets (record_count octets) s.0 past first s.1.1
+
+-- parts one after another, and then others
+at_append : {X : Type 0} (Is : ℕ → X → Type 0) (end_of : X → ℕ) (front back : List X) (offset mid end : ℕ) → AreAt Is end_of offset front mid → AreAt Is end_of mid back end → AreAt Is end_of offset (front ++ back) end
+at_append Is end_of [] back offset mid end first next = subst (λ o. AreAt Is end_of o back end) (sym first) next
+at_append Is end_of (x ∷ front) back offset mid end first next = (first.0, at_append Is end_of front back (end_of x) mid end first.1 next)
+
+-- the first n of parts, and the others
+record Divided {X : Type 0} (Is : ℕ → X → Type 0) (end_of : X → ℕ) (n offset end : ℕ) (parts : List X) : Type 0 where
+  front : List X
+  back : List X
+  mid : ℕ
+  whole : parts ≡ front ++ back
+  count : length front ≡ n
+  first : AreAt Is end_of offset front mid
+  next : AreAt Is end_of mid back end
+
+divided : {X : Type 0} (Is : ℕ → X → Type 0) (end_of : X → ℕ) (n : ℕ) (parts : List X) (offset end : ℕ) → n ≤ length parts → AreAt Is end_of offset parts end → Divided Is end_of n offset end parts
+divided Is end_of zero parts offset end enough are = record { front = []; back = parts; mid = offset; whole = refl; count = refl; first = refl; next = are }
+divided Is end_of (suc n) [] offset end enough are = absurd (omega arith)
+divided Is end_of (suc n) (x ∷ parts) offset end enough are =
+    let d = divided Is end_of n parts (end_of x) end (omega arith) are.1 in
+    record { front = x ∷ d.front; back = d.back; mid = d.mid; whole = ap (λ xs. x ∷ xs) d.whole; count = ap suc d.count; first = (are.0, d.first); next = d.next }
+
+-- the first fault of some records is that of them with more after them, or with others before them
+sooner_fault : (octets : List ℕ) (count more offset : ℕ) (fault : Fault) (start : ℕ) → FirstRecordFault octets count offset fault start → FirstRecordFault octets (count + more) offset fault start
+sooner_fault octets count more offset fault start is = record { before = is.before; few = omega (arith, is.few); stand = is.stand; next = is.next }
+
+later_fault : (octets : List ℕ) (count more offset mid : ℕ) (fault : Fault) (start : ℕ) → Stand (IsRecordAt octets) (λ r. r.end) count offset mid → FirstRecordFault octets more mid fault start → FirstRecordFault octets (count + more) offset fault start
+later_fault octets count more offset mid fault start s is = record {
+  before = s.0 ++ is.before;
+  few = omega (arith, is.few, s.1.0, length-append s.0 is.before);
+  stand = at_append (IsRecordAt octets) (λ r. r.end) s.0 is.before offset mid start s.1.1 is.stand;
+  next = is.next;
+}
+
+both_stand : (octets : List ℕ) (count more offset mid past : ℕ) → Stand (IsRecordAt octets) (λ r. r.end) count offset mid → Stand (IsRecordAt octets) (λ r. r.end) more mid past → Stand (IsRecordAt octets) (λ r. r.end) (count + more) offset past
+both_stand octets count more offset mid past s t = (s.0 ++ t.0, (omega (arith, s.1.0, t.1.0, length-append s.0 t.0), at_append (IsRecordAt octets) (λ r. r.end) s.0 t.0 offset mid past s.1.1 t.1.1))
 
 module _ (octets : List ℕ) (each : (k : ℕ) → get_or octets k 0 < 256) where
   questions_fault : (count offset : ℕ) (fault : Fault) (start : ℕ) → questions_from octets count offset ≡ Err (fault, start) → FirstQuestionFault octets count offset fault start
@@ -210,11 +246,11 @@ module _ (octets : List ℕ) (each : (k : ℕ) → get_or octets k 0 < 256) wher
   records_stand : (count offset : ℕ) (run : List RecordAt × ℕ) → records_from octets count offset ≡ Ok run → Stand (IsRecordAt octets) (λ r. r.end) count offset run.1
   records_stand count offset run e = (run.0, each_shows (record_at octets) (λ r. r.end) (IsRecordAt octets) (record_shows octets each) count offset run e)
 
-  end_fault : (past : ℕ) (s : Sections) (fault : Fault) (start : ℕ) → HasHeader octets → HasAdditional octets past → to_the_end octets past s ≡ Err (fault, start) → MessageFault octets fault start
+  end_fault : (past : ℕ) (s : Sections) (fault : Fault) (start : ℕ) → HasHeader octets → HasRecords octets past → to_the_end octets past s ≡ Err (fault, start) → MessageFault octets fault start
   end_fault past s fault start header stands e =
       let f = fails (past == length octets) s (TrailingOctets, 0) (fault, start) e in
       let less : past ≢ length octets = λ same. (let yes : (past == length octets) ≡ true = eq-eqb past (length octets) same in let no = f.0 in cc) in
-      let here : MessageFault octets TrailingOctets 0 = left_over past header stands (omega (arith, less, additional_inside octets past header stands)) in
+      let here : MessageFault octets TrailingOctets 0 = left_over past header stands (omega (arith, less, message_inside octets past header stands)) in
       subst (λ (x : Fault × ℕ). MessageFault octets x.0 x.1) f.1 here
 
   behind_faults : (fault : Fault) (start : ℕ) → HasHeader octets → behind_header octets ≡ Err (fault, start) → MessageFault octets fault start
@@ -222,10 +258,10 @@ module _ (octets : List ℕ) (each : (k : ℕ) → get_or octets k 0 < 256) wher
       elim (stops (questions_from octets (qdcount_of octets) 12) _ (fault, start) e) [
         | inl h ↦ of_question fault start header (questions_fault (qdcount_of octets) 12 fault start h)
         | inr q ↦ (let questions : HasQuestions octets q.0.1 = questions_stand (qdcount_of octets) 12 q.0 q.1.0 in elim (stops (records_from octets (ancount_of octets) q.0.1) _ (fault, start) q.1.1) [
-          | inl h ↦ of_answer fault start q.0.1 header questions (records_fault (ancount_of octets) q.0.1 fault start h)
-          | inr a ↦ (let answers : HasAnswers octets a.0.1 = (q.0.1, (questions, records_stand (ancount_of octets) q.0.1 a.0 a.1.0)) in elim (stops (records_from octets (arcount_of octets) a.0.1) _ (fault, start) a.1.1) [
-            | inl h ↦ of_additional fault start a.0.1 header answers (records_fault (arcount_of octets) a.0.1 fault start h)
-            | inr d ↦ end_fault d.0.1 _ fault start header (a.0.1, (answers, records_stand (arcount_of octets) a.0.1 d.0 d.1.0)) d.1.1
+          | inl h ↦ of_record fault start q.0.1 header questions (sooner_fault octets (ancount_of octets) (arcount_of octets) q.0.1 fault start (records_fault (ancount_of octets) q.0.1 fault start h))
+          | inr a ↦ (let answers = records_stand (ancount_of octets) q.0.1 a.0 a.1.0 in elim (stops (records_from octets (arcount_of octets) a.0.1) _ (fault, start) a.1.1) [
+            | inl h ↦ of_record fault start q.0.1 header questions (later_fault octets (ancount_of octets) (arcount_of octets) q.0.1 a.0.1 fault start answers (records_fault (arcount_of octets) a.0.1 fault start h))
+            | inr d ↦ end_fault d.0.1 _ fault start header (q.0.1, (questions, both_stand octets (ancount_of octets) (arcount_of octets) q.0.1 a.0.1 d.0.1 answers (records_stand (arcount_of octets) a.0.1 d.0 d.1.0))) d.1.1
           ])
         ])
       ]
@@ -259,6 +295,21 @@ questions_refuse octets count offset fault start is = first_refuses (question_at
 records_refuse : (octets : List ℕ) (count offset : ℕ) (fault : Fault) (start : ℕ) → FirstRecordFault octets count offset fault start → records_from octets count offset ≡ Err (fault, start)
 records_refuse octets count offset fault start is = first_refuses (record_at octets) (λ r. r.end) (IsRecordAt octets) (RecordFault octets) (record_reads octets) (record_refuses octets) is.before count offset fault start is.few is.stand is.next
 
+-- the first fault of the records is that of an answer or, after all answers, of an additional record
+refused_record : (octets : List ℕ) (fault : Fault) (start past : ℕ) → HasHeader octets → HasQuestions octets past → (is : FirstRecordFault octets (record_count octets) past fault start) → (t : Bool) → nat_lt (length is.before) (ancount_of octets) ≡ t → sections_of octets ≡ Err (fault, start)
+unfolding sections_of
+refused_record octets fault start past header questions is true e =
+    opens_none octets (header_fault octets) (header_reads octets header)
+    ∙ and_then_ok (questions_from octets (qdcount_of octets) 12) (questions.0, past) _ (questions_are octets (qdcount_of octets) 12 past questions)
+    ∙ and_then_err (records_from octets (ancount_of octets) past) (fault, start) _ (records_refuse octets (ancount_of octets) past fault start (record { before = is.before; few = ltb-true _ _ e; stand = is.stand; next = is.next }))
+refused_record octets fault start past header questions is false e =
+    let d = divided (IsRecordAt octets) (λ r. r.end) (ancount_of octets) is.before past start (ltb-false _ _ e) is.stand in
+    let fewer : length d.back < arcount_of octets = omega (arith, is.few, d.count, ap length d.whole, length-append d.front d.back) in
+    opens_none octets (header_fault octets) (header_reads octets header)
+    ∙ and_then_ok (questions_from octets (qdcount_of octets) 12) (questions.0, past) _ (questions_are octets (qdcount_of octets) 12 past questions)
+    ∙ and_then_ok (records_from octets (ancount_of octets) past) (d.front, d.mid) _ (records_are octets (ancount_of octets) past d.mid (d.front, (d.count, d.first)))
+    ∙ and_then_err (records_from octets (arcount_of octets) d.mid) (fault, start) _ (records_refuse octets (arcount_of octets) d.mid fault start (record { before = d.back; few = fewer; stand = d.next; next = is.next }))
+
 -- a message that has a first fault is refused with it
 pub sections_refuse : (octets : List ℕ) (fault : Fault) (start : ℕ) → MessageFault octets fault start → sections_of octets ≡ Err (fault, start)
 unfolding sections_of
@@ -266,21 +317,16 @@ sections_refuse octets fault start (of_header f is) = opens_fault octets f (head
 sections_refuse octets fault start (of_question f n header is) =
     opens_none octets (header_fault octets) (header_reads octets header)
     ∙ and_then_err (questions_from octets (qdcount_of octets) 12) (f, n) _ (questions_refuse octets (qdcount_of octets) 12 f n is)
-sections_refuse octets fault start (of_answer f n past header questions is) =
-    opens_none octets (header_fault octets) (header_reads octets header)
-    ∙ and_then_ok (questions_from octets (qdcount_of octets) 12) (questions.0, past) _ (questions_are octets (qdcount_of octets) 12 past questions)
-    ∙ and_then_err (records_from octets (ancount_of octets) past) (f, n) _ (records_refuse octets (ancount_of octets) past f n is)
-sections_refuse octets fault start (of_additional f n past header answers is) =
-    opens_none octets (header_fault octets) (header_reads octets header)
-    ∙ and_then_ok (questions_from octets (qdcount_of octets) 12) (answers.1.0.0, answers.0) _ (questions_are octets (qdcount_of octets) 12 answers.0 answers.1.0)
-    ∙ and_then_ok (records_from octets (ancount_of octets) answers.0) (answers.1.1.0, past) _ (records_are octets (ancount_of octets) answers.0 past answers.1.1)
-    ∙ and_then_err (records_from octets (arcount_of octets) past) (f, n) _ (records_refuse octets (arcount_of octets) past f n is)
+sections_refuse octets fault start (of_record f n past header questions is) = refused_record octets f n past header questions is (nat_lt (length is.before) (ancount_of octets)) refl
 sections_refuse octets fault start (left_over past header stands less) =
-    let answers = stands.1.0 in
+    let questions = stands.1.0 in
+    let records = stands.1.1 in
+    let d = divided (IsRecordAt octets) (λ r. r.end) (ancount_of octets) records.0 stands.0 past (omega (arith, records.1.0)) records.1.1 in
+    let others : length d.back ≡ arcount_of octets = omega (arith, records.1.0, d.count, ap length d.whole, length-append d.front d.back) in
     opens_none octets (header_fault octets) (header_reads octets header)
-    ∙ and_then_ok (questions_from octets (qdcount_of octets) 12) (answers.1.0.0, answers.0) _ (questions_are octets (qdcount_of octets) 12 answers.0 answers.1.0)
-    ∙ and_then_ok (records_from octets (ancount_of octets) answers.0) (answers.1.1.0, stands.0) _ (records_are octets (ancount_of octets) answers.0 stands.0 answers.1.1)
-    ∙ and_then_ok (records_from octets (arcount_of octets) stands.0) (stands.1.1.0, past) _ (records_are octets (arcount_of octets) stands.0 past stands.1.1)
+    ∙ and_then_ok (questions_from octets (qdcount_of octets) 12) (questions.0, stands.0) _ (questions_are octets (qdcount_of octets) 12 stands.0 questions)
+    ∙ and_then_ok (records_from octets (ancount_of octets) stands.0) (d.front, d.mid) _ (records_are octets (ancount_of octets) stands.0 d.mid (d.front, (d.count, d.first)))
+    ∙ and_then_ok (records_from octets (arcount_of octets) d.mid) (d.back, past) _ (records_are octets (arcount_of octets) d.mid past (d.back, (others, d.next)))
     ∙ cond-false _ _ _ (false_from_ne_true (past == length octets) (λ t. let same : past ≡ length octets = eqb-true _ _ t in omega (arith, same, less)))
 
 -- octets are a message, or have a first fault

@@ -16,12 +16,14 @@ use Rattle.zone_wire.proofs.GivenStreams.{EndsWith, ends_are, stream_shows, deci
 use Rattle.zone_wire.proofs.OneReading.{GoesOn, read_goes_on, one_way}
 
 pub one_reading : (stream : List ℕ) (placed other : List Placed) (ending late : Option (Fault × Place)) → StreamReads stream placed ending → StreamReads stream other late → (placed ≡ other) × (ending ≡ late)
-one_reading stream placed other ending late is too =
+one_reading stream placed other ending late reads also =
+    let is = reads.frames in
+    let too = also.frames in
     let same = framed_unique stream is.messages too.messages is.rest too.rest is.framed too.framed in
-    let one = one_way too.messages is.all too.all is.first too.first (subst (λ m. ReadBehind [] m is.all is.first) same.0 is.read) too.read in
+    let one = one_way too.messages is.all too.all reads.first also.first (subst (λ m. ReadBehind [] m is.all reads.first) same.0 is.read) too.read in
     let number = length is.messages + 1 in
-    let ends = ap (λ x. ending_of number (finds x is.first) is.rest) one.0 ∙ ap (λ x. ending_of number (finds too.all x) is.rest) one.1 ∙ ap (λ m. ending_of (length m + 1) (finds too.all too.first) is.rest) same.0 ∙ ap (ending_of (length too.messages + 1) (finds too.all too.first)) same.1 in
-    (is.stated ∙ ap handed_on one.0 ∙ sym too.stated, ends_are number is.all is.first is.rest ending is.ends ∙ ends ∙ sym (ends_are (length too.messages + 1) too.all too.first too.rest late too.ends))
+    let ends = ap (λ x. ending_of number (finds x reads.first) is.rest) one.0 ∙ ap (λ x. ending_of number (finds too.all x) is.rest) one.1 ∙ ap (λ m. ending_of (length m + 1) (finds too.all also.first) is.rest) same.0 ∙ ap (ending_of (length too.messages + 1) (finds too.all also.first)) same.1 in
+    (is.stated ∙ ap handed_on one.0 ∙ sym too.stated, ends_are number is.all reads.first is.rest ending reads.ends ∙ ends ∙ sym (ends_are (length too.messages + 1) too.all also.first too.rest late also.ends))
 
 pub one_decision : (stream : List ℕ) (placed other : List Placed) (ending late : Option (Fault × Place)) → Decided stream placed ending → Decided stream other late → (placed ≡ other) × (ending ≡ late)
 one_decision stream placed other ending late is too =
@@ -55,8 +57,7 @@ fault_stays stream more placed other e late is too =
     (too.stated ∙ ap handed_on s.0 ∙ sym is.stated, s.1)
 
 pub records_are_read : (stream more : List ℕ) (placed other : List Placed) (ending late : Option (Fault × Place)) → Decided stream placed ending → StreamReads (stream ++ more) other late → (rest : List Placed) × (other ≡ placed ++ rest)
-records_are_read stream more placed other ending late is too =
-    handed_goes_on is.all too.all placed other ending too.first (messages_go_on stream more is.messages too.messages is.rest too.rest is.all too.all ending too.first is.framed too.framed is.read too.read) is.stated too.stated
+records_are_read stream more placed other ending late is too = records_stay stream more placed other ending too.first is too.frames
 
 ends_by_fault : (number : ℕ) (placed : List Placed) (first : Option (Fault × Place)) (rest : List ℕ) (ending : Option (Fault × Place)) (e : Fault × Place) → first ≡ Some e → EndsWith number placed first rest ending → ending ≡ Some e
 ends_by_fault number placed None rest ending e h ends = cc
@@ -64,9 +65,8 @@ ends_by_fault number placed (Some f) rest ending e h ends = ends ∙ h
 
 pub fault_is_read : (stream more : List ℕ) (placed other : List Placed) (e : Fault × Place) (late : Option (Fault × Place)) → Decided stream placed (Some e) → StreamReads (stream ++ more) other late → (other ≡ placed) × (late ≡ Some e)
 fault_is_read stream more placed other e late is too =
-    let x = messages_go_on stream more is.messages too.messages is.rest too.rest is.all too.all (Some e) too.first is.framed too.framed is.read too.read in
-    let s = x.stays e refl in
-    (too.stated ∙ ap handed_on s.0 ∙ sym is.stated, ends_by_fault (length too.messages + 1) too.all too.first too.rest late e s.1 too.ends)
+    let s = fault_stays stream more placed other e too.first is too.frames in
+    (s.0, ends_by_fault (length too.frames.messages + 1) too.frames.all too.first too.frames.rest late e s.1 too.ends)
 
 -- each stream has a reading, and something is decided for it
 pub some_reading : (stream : List ℕ) → ((i : ℕ) → get_or stream i 0 < 256) → (placed : List Placed) × (ending : Option (Fault × Place)) × StreamReads stream placed ending

@@ -2,13 +2,14 @@
 -- 2.2, 3).
 use Rattle.std.specs.Prelude.{◌≡◌, ℕ, List, [], ◌∷◌, ◌++◌, ◌==◌, not, Bool, false, Option, Some, None, MatchOption, ⊤}
 use Rattle.std.specs.List.{flat_map, filter, list_any}
+use Rattle.zone_name.specs.Common.{Labels}
 use Rattle.zone_rdata.specs.Record.{Record}
 use Rattle.zone_rdata.specs.declared.record.Placed.{Placed}
 use Rattle.zone_wire.specs.Message.{QuestionAt, Sections}
 
 -- a zone's name and class
 pub record ZoneAsked : Type 0 where
-  pub name : List (List ℕ)
+  pub name : Labels
   pub class : ℕ
 
 -- what questions and records before fix as the zone: the first question or the first record, since
@@ -19,7 +20,7 @@ zone_of [] (opening ∷ placed) = Some (record { name = opening.rr.owner; class 
 zone_of [] [] = None
 
 -- a name and a class are those of the zone, if it is fixed
-abbrev pub AgreeWith : Option ZoneAsked → List (List ℕ) → ℕ → Type 0
+abbrev pub AgreeWith : Option ZoneAsked → Labels → ℕ → Type 0
 AgreeWith zone name class = MatchOption zone ⊤ (λ z. (name ≡ z.name) × (class ≡ z.class))
 
 -- the questions of messages

@@ -2,6 +2,7 @@
 -- choice of them.
 use Rattle.std.specs.Prelude.{◌≡◌, ℕ, zero, suc, ◌+◌, ◌/◌, ◌%◌, List, [], ◌∷◌, ◌++◌, length, replicate, Option}
 use Rattle.std.specs.List.{flat_map}
+use Rattle.zone_name.specs.Common.{Labels}
 use Rattle.zone_rdata.specs.Record.{Record}
 use Rattle.zone_rdata.specs.declared.fault.Place.TheVariants.{Message}
 use Rattle.zone_rdata.specs.declared.record.Placed.{Placed}
@@ -123,10 +124,10 @@ second_message =
     ++ numbers 1
 
 -- the records that these messages state
-abbrev pub name_x : List (List ℕ)
+abbrev pub name_x : Labels
 name_x = (120 ∷ []) ∷ []
 
-abbrev pub name_n : List (List ℕ)
+abbrev pub name_n : Labels
 name_n = (110 ∷ []) ∷ (120 ∷ []) ∷ []
 
 abbrev pub soa_x : Record

@@ -1,5 +1,6 @@
 -- The messages of zone transfers, section by section (RFC 1035 4.1).
 use Rattle.std.specs.Prelude.{◌≡◌, ℕ, ◌+◌, ◌*◌, ◌/◌, ◌%◌, ◌≤◌, List, [], ◌∷◌, length, slice_index}
+use Rattle.zone_name.specs.Common.{Labels}
 use Rattle.zone_wire.specs.Name.{Found, IsNameAt}
 
 -- numbers of 16 and 32 bits at an offset, the highest octet first (RFC 1035 2.3.2)
@@ -61,7 +62,7 @@ pub record HasHeader (octets : List ℕ) : Type 0 where
 
 -- a question, and the offset after it (RFC 1035 4.1.2)
 pub record QuestionAt : Type 0 where
-  pub name : List (List ℕ)
+  pub name : Labels
   pub kind : ℕ
   pub class : ℕ
   pub end : ℕ
@@ -85,7 +86,7 @@ pub record IsQuestionAt (octets : List ℕ) (offset : ℕ) (q : QuestionAt) : Ty
 -- (RFC 1035 4.1.3)
 pub record RecordAt : Type 0 where
   pub offset : ℕ
-  pub owner : List (List ℕ)
+  pub owner : Labels
   pub kind : ℕ
   pub class : ℕ
   pub ttl : ℕ

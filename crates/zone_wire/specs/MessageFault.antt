@@ -1,6 +1,6 @@
 -- The first fault in the structure of a message and the offset of the part that has it: the parts
 -- before it stand (RFC 1035 4.1, RFC 5936 2.2).
-use Rattle.std.specs.Prelude.{◌≡◌, ◌≢◌, ℕ, ◌<◌, ◌≤◌, List, length}
+use Rattle.std.specs.Prelude.{◌≡◌, ◌≢◌, ℕ, ◌+◌, ◌<◌, ◌≤◌, List, length}
 use Rattle.zone_rdata.specs.declared.fault.Fault.{Fault}
 use Rattle.zone_rdata.specs.declared.fault.Fault.TheVariants.{ShortMessage, NotAResponse, Truncated, ErrorCode, BadCounts, TrailingOctets}
 use Rattle.zone_wire.specs.Message.{tc_of, rcode_of, qdcount_of, ancount_of, arcount_of, IsResponse, HasCounts, HasHeader, question_by, IsQuestionAt, record_by, IsRecordAt, AreAt}
@@ -49,22 +49,20 @@ pub record FirstFault {X : Type 0} (Is : ℕ → X → Type 0) (end_of : X → �
   pub stand : AreAt Is end_of offset before start
   pub next : Has start fault
 
--- as many questions as the header counts stand up to an offset; after them the answers; after them
--- the additional records
+-- as many questions as the header counts stand up to an offset
 abbrev pub HasQuestions : List ℕ → ℕ → Type 0
 HasQuestions octets end = Stand (IsQuestionAt octets) (λ q. q.end) (qdcount_of octets) 12 end
 
-abbrev pub HasAnswers : List ℕ → ℕ → Type 0
-HasAnswers octets end =
+-- how many records the header counts: the answers and the additional ones
+abbrev pub record_count : List ℕ → ℕ
+record_count octets = ancount_of octets + arcount_of octets
+
+-- after the questions the records
+abbrev pub HasRecords : List ℕ → ℕ → Type 0
+HasRecords octets end =
     (start : ℕ)
     × (HasQuestions octets start
-    × Stand (IsRecordAt octets) (λ r. r.end) (ancount_of octets) start end)
-
-abbrev pub HasAdditional : List ℕ → ℕ → Type 0
-HasAdditional octets end =
-    (start : ℕ)
-    × (HasAnswers octets start
-    × Stand (IsRecordAt octets) (λ r. r.end) (arcount_of octets) start end)
+    × Stand (IsRecordAt octets) (λ r. r.end) (record_count octets) start end)
 
 -- the first of so many questions, or records, that has a fault
 abbrev pub FirstQuestionFault : List ℕ → ℕ → ℕ → Fault → ℕ → Type 0
@@ -75,19 +73,15 @@ abbrev pub FirstRecordFault : List ℕ → ℕ → ℕ → Fault → ℕ → Typ
 FirstRecordFault octets count offset fault start =
     FirstFault (IsRecordAt octets) (λ r. r.end) (RecordFault octets) count offset fault start
 
--- The first fault of a message: of its header, of a question, of an answer, of an additional
--- record; or all of them stand and octets are left over. The last and those of the header are of
--- the whole message.
+-- The first fault of a message: of its header, of a question, of a record; or all of them stand and
+-- octets are left over. The last and those of the header are of the whole message.
 pub data MessageFault (octets : List ℕ) : Fault → ℕ → Type 0 where
   of_header : (fault : Fault) → HeaderFault octets fault → MessageFault octets fault 0
   of_question : (fault : Fault) (start : ℕ) → HasHeader octets
       → FirstQuestionFault octets (qdcount_of octets) 12 fault start
       → MessageFault octets fault start
-  of_answer : (fault : Fault) (start past : ℕ) → HasHeader octets → HasQuestions octets past
-      → FirstRecordFault octets (ancount_of octets) past fault start
+  of_record : (fault : Fault) (start past : ℕ) → HasHeader octets → HasQuestions octets past
+      → FirstRecordFault octets (record_count octets) past fault start
       → MessageFault octets fault start
-  of_additional : (fault : Fault) (start past : ℕ) → HasHeader octets → HasAnswers octets past
-      → FirstRecordFault octets (arcount_of octets) past fault start
-      → MessageFault octets fault start
-  left_over : (past : ℕ) → HasHeader octets → HasAdditional octets past → past < length octets
+  left_over : (past : ℕ) → HasHeader octets → HasRecords octets past → past < length octets
       → MessageFault octets TrailingOctets 0

@@ -1,5 +1,6 @@
 -- Names in messages (RFC 1035 3.1, 4.1.4).
 use Rattle.std.specs.Prelude.{◌≡◌, ℕ, suc, ◌+◌, ◌-◌, ◌*◌, ◌<◌, ◌≤◌, List, [], ◌∷◌, take, drop, length, slice_index}
+use Rattle.zone_name.specs.Common.{Labels}
 use Rattle.zone_name.specs.Name.{folded_label, IsName}
 use Rattle.zone_wire.specs.declared.name.Decoded.{Decoded}
 
@@ -16,14 +17,14 @@ target_at message offset =
 -- is the offset at which the run of labels began that stands there: a pointer leads to at least 12,
 -- past the header, and below it. RFC 1035 4.1.4 says only that it leads to a prior occurrence of a
 -- name; both bounds are this project's own choice.
-pub data At (message : List ℕ) : ℕ → ℕ → List (List ℕ) → ℕ → ℕ → ℕ → Type 0 where
+pub data At (message : List ℕ) : ℕ → ℕ → Labels → ℕ → ℕ → ℕ → Type 0 where
   root : (offset bound : ℕ) → offset < length message → slice_index message offset ≡ 0
       → At message offset bound [] (offset + 1) 1 0
-  label : (offset bound size : ℕ) (labels : List (List ℕ)) (end steps pointers : ℕ)
+  label : (offset bound size : ℕ) (labels : Labels) (end steps pointers : ℕ)
       → slice_index message offset ≡ size → 0 < size → size ≤ 63 → offset + size < length message
       → At message (offset + 1 + size) bound labels end steps pointers
       → At message offset bound (label_at message offset size ∷ labels) end (suc steps) pointers
-  pointer : (offset bound target : ℕ) (labels : List (List ℕ)) (end steps pointers : ℕ)
+  pointer : (offset bound target : ℕ) (labels : Labels) (end steps pointers : ℕ)
       → offset + 1 < length message → 192 ≤ slice_index message offset
       → target ≡ target_at message offset → 12 ≤ target → target < bound
       → At message target target labels end steps pointers
@@ -31,7 +32,7 @@ pub data At (message : List ℕ) : ℕ → ℕ → List (List ℕ) → ℕ → �
 
 -- what a name in a message gives: its labels, the offset after it, and its steps and pointers
 pub record Found : Type 0 where
-  pub labels : List (List ℕ)
+  pub labels : Labels
   pub end : ℕ
   pub steps : ℕ
   pub pointers : ℕ

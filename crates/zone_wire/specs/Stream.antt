@@ -137,21 +137,8 @@ pub data StreamEnd (number : ℕ) (placed : List Placed) (rest : List ℕ)
       → StreamEnd number placed rest (Some (NoClosingSoa, Message number 0))
   closed : rest ≡ [] → is_closed placed ≡ true → StreamEnd number placed rest None
 
--- what a stream is read as: the records before its first fault, and that fault with its place
-pub record StreamReads (stream : List ℕ) (placed : List Placed)
-    (ending : Option (Fault × Place)) : Type 0 where
-  pub messages : List (List ℕ)
-  pub rest : List ℕ
-  pub framed : IsFramed stream messages rest
-  pub all : List Placed
-  pub first : Option (Fault × Place)
-  pub read : ReadBehind [] messages all first
-  pub stated : placed ≡ handed_on all
-  pub ends : MatchOption first (StreamEnd (length messages + 1) all rest ending)
-      (λ e. ending ≡ Some e)
-
--- what is decided once this much of a stream is known: the records and the first fault of its whole
--- frames
+-- what is decided once this much of a stream is known: the records of its whole frames up to their
+-- first fault, and that fault with its place
 pub record Decided (stream : List ℕ) (placed : List Placed)
     (ending : Option (Fault × Place)) : Type 0 where
   pub messages : List (List ℕ)
@@ -160,3 +147,11 @@ pub record Decided (stream : List ℕ) (placed : List Placed)
   pub all : List Placed
   pub read : ReadBehind [] messages all ending
   pub stated : placed ≡ handed_on all
+
+-- what a whole stream is read as: what its frames decide, and where none has a fault, how it ends
+pub record StreamReads (stream : List ℕ) (placed : List Placed)
+    (ending : Option (Fault × Place)) : Type 0 where
+  pub first : Option (Fault × Place)
+  pub frames : Decided stream placed first
+  pub ends : MatchOption first
+      (StreamEnd (length frames.messages + 1) frames.all frames.rest ending) (λ e. ending ≡ Some e)

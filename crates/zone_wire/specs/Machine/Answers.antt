@@ -4,6 +4,7 @@
 use Rattle.std.specs.Prelude.{ℕ, List, [], ◌∷◌, ◌++◌, ◌==◌, ◌&&◌, ◌||◌, nat_eq, not, if◌then◌else◌, Bool, true, Option, Some, None, Result, Ok, Err}
 use Rattle.std.specs.List.{list_any}
 use Rattle.std.specs.Cmp.Lexicographic.{pointwise}
+use Rattle.zone_name.specs.Common.{Labels}
 use Rattle.zone_rdata.specs.Record.{Record}
 use Rattle.zone_rdata.specs.Words.{is_meta}
 use Rattle.zone_rdata.specs.declared.fault.Fault.{Fault}
@@ -17,7 +18,7 @@ use Rattle.zone_wire.specs.Machine.Sections.{and_then}
 use Rattle.zone_wire.specs.Transfer.{ttl_of, compressible}
 
 -- the same name, and the same record, letters being folded
-abbrev pub same_name : List (List ℕ) → List (List ℕ) → Bool
+abbrev pub same_name : Labels → Labels → Bool
 same_name n m = pointwise (pointwise nat_eq) n m
 
 abbrev pub same_record : Record → Record → Bool
@@ -47,7 +48,7 @@ record_of octets a =
     }))
 
 -- a name and a class are those of the zone, if it is fixed
-abbrev pub agrees : Option ZoneAsked → List (List ℕ) → ℕ → Bool
+abbrev pub agrees : Option ZoneAsked → Labels → ℕ → Bool
 agrees None name class = true
 agrees (Some zone) name class = same_name name zone.name && class == zone.class
 

@@ -1,5 +1,6 @@
 -- What the walk along a name finds.
 use Rattle.std.specs.Prelude.{◌≡◌, ℕ, suc, ◌+◌, List, [], ◌∷◌, Result, Ok, Err}
+use Rattle.zone_name.specs.Common.{Labels}
 use Rattle.zone_wire.specs.Name.{Found, label_at, found_by}
 use Rattle.zone_wire.specs.Walk.{at_root, at_label, at_pointer, at_fault, Visit}
 use Rattle.zone_rdata.specs.Cause.{fault_for}
@@ -39,6 +40,6 @@ Says (Ok d) o = (pointers : ℕ) × (o ≡ named (found_by d pointers))
 Says (Err e) o = o ≡ refused e.0 e.1
 
 -- the end and the steps of a walk, and the labels that were kept, are what it finds
-abbrev pub Tells : Result (ℕ × ℕ) (Cause × ℕ) → List (List ℕ) → Outcome → Type 0
+abbrev pub Tells : Result (ℕ × ℕ) (Cause × ℕ) → Labels → Outcome → Type 0
 Tells (Ok r) labels o = (pointers : ℕ) × (o ≡ named (record { labels = labels; end = r.0; steps = r.1; pointers = pointers }))
 Tells (Err e) labels o = o ≡ refused (fault_for e.0) e.1

@@ -1,9 +1,10 @@
+use Rattle.zone_rdata.specs.DataFault.{in_form}
 use Rattle.zone_rdata.proofs.Failings.{IfErr-fault, if_fault_passed}
-use Rattle.zone_rdata.proofs.Forms.{in_form_fault, words_found, words_fault, opaque_fault}
+use Rattle.zone_rdata.proofs.Forms.{words_found, words_fault, opaque_fault}
 use Rattle.zone_rdata.proofs.rdata.octets_for.Goals as goal
 
 pub returns-then-is_generic-clause-fault : goal.returns-then-is_generic-clause-fault
-returns-then-is_generic-clause-fault c = IfErr-fault c.octets_in_form.result _ _ (λ fault h. in_form_fault _ _ _ _ _ c.if-is_generic.true c.is_generic.ensures h) c.octets_in_form.ensures.fault
+returns-then-is_generic-clause-fault c = IfErr-fault c.octets_in_form.result _ _ (λ fault h. in_form fault h) c.octets_in_form.ensures.fault
 
 pub returns-in_ok-octets_of_items-in-Some-clause-found : goal.returns-in_ok-octets_of_items-in-Some-clause-found
 returns-in_ok-octets_of_items-in-Some-clause-found c = words_found _ _ _ _ _ _ c.in-Some.is c.if-is_generic.false c.is_generic.ensures c.in_ok-octets_of_items-in-Some.ensures.found c.in_ok-octets_of_items-in-Some.ensures.short
