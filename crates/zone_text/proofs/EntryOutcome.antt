@@ -18,7 +18,7 @@ use Rattle.zone_text.specs.Inherited.{IsOrigin, IsOwner, stated_ttl, IsTtl}
 use Rattle.zone_text.specs.Machine.Lower.{Lower, Choices}
 use Rattle.zone_text.specs.Outcome.{AllState, AreOctetItems}
 use Rattle.zone_text.specs.Records.{HasValue, Head, HasHead, head_of, StatesData, StatesMinimum, IsLastMinimum, HasTtl, StatesRecord, StatesNothing}
-use Rattle.zone_text.specs.Pieces.{is_blank}
+use Rattle.zone_text.specs.Tokens.{is_blank}
 use Rattle.zone_text.proofs.Entered.{nothing_or_parts}
 use Rattle.zone_text.proofs.EntryChoice.{origin_is, last_owner, name_or_fault, class_is, words_or_fault, parts_good, AreGood, ttl_word_by, OwnerChoice, NameChoice}
 use Rattle.zone_text.proofs.Inherits.{head_once, states_once}

@@ -4,7 +4,7 @@ use Rattle.std.proofs.lemmas.Bool.{cases_Bool, cases_eq, cases_lt}
 use Rattle.std.proofs.lemmas.List.{append-nil}
 use Rattle.zone_name.specs.Spelling.{Written, escaped, decimal, text_of, octet_of, IsEscape, IsBadEscape, is_digit}
 use Rattle.zone_rdata.specs.declared.fault.Fault.{Fault}
-use Rattle.zone_text.specs.Pieces.{Piece}
+use Rattle.zone_text.specs.Tokens.{Token}
 use Rattle.zone_text.specs.Breaks.{IsBroken, closes_nothing, no_escape, no_quoted_escape, no_quote, not_closed, Breaks}
 use Rattle.zone_text.specs.Lasting.{IsLostEscape, at_line_end, one_digit, two_digits, too_great, IsCutOff, behind_backslash, behind_digit, behind_two_digits, StaysBroken, closing_stays, escape_stays, quoted_escape_stays, BreaksAtEnd, nothing_left, quote_open, escape_open, quoted_escape_open}
 use Rattle.zone_name.proofs.Units as octets
@@ -86,5 +86,5 @@ stays_or_ends depth rest fault (no_quoted_escape units after each whole bad) =
 stays_or_ends depth rest fault (no_quote units each whole) = inr (quote_open units each whole)
 stays_or_ends depth rest fault (not_closed some whole) = inr (nothing_left whole)
 
-pub break_stays_or_ends : (octets : List ℕ) (pieces : List Piece) (fault : Fault) (broken : Breaks octets pieces fault) → StaysBroken broken.rest ⊎ BreaksAtEnd broken.rest
-break_stays_or_ends octets pieces fault broken = stays_or_ends broken.depth broken.rest fault broken.broken
+pub break_stays_or_ends : (octets : List ℕ) (tokens : List Token) (fault : Fault) (broken : Breaks octets tokens fault) → StaysBroken broken.rest ⊎ BreaksAtEnd broken.rest
+break_stays_or_ends octets tokens fault broken = stays_or_ends broken.depth broken.rest fault broken.broken

@@ -10,7 +10,7 @@ use Rattle.zone_text.specs.Breaks.{Breaks}
 use Rattle.zone_name.specs.Machine.Units.{Units}
 use Rattle.zone_rdata.specs.Strings.{is_quote}
 use Rattle.zone_text.specs.Lasting.{IsLostEscape, at_line_end, one_digit, two_digits, too_great, IsCutOff, behind_backslash, behind_digit, behind_two_digits, StaysBroken, closing_stays, escape_stays, quoted_escape_stays, BreaksAtEnd, nothing_left, quote_open, escape_open, quoted_escape_open, BreaksForGood}
-use Rattle.zone_text.specs.Pieces.{Piece, text}
+use Rattle.zone_text.specs.Tokens.{Token, text}
 use Rattle.zone_text.proofs.Escapes.{malformed_is_bad}
 use Rattle.zone_text.proofs.Lasting.{begins_backslash, stays_some}
 use Rattle.zone_name.proofs.Units.{NoUnit, at_end, at_backslash, units_first_only}
@@ -91,11 +91,11 @@ stays_or_ends_alone rest (quoted_escape_stays other after another e lost) (quote
 
 -- ---- a break of a text whose rest after its tokens is known
 
-rest_is : (octets : List ℕ) (pieces : List Piece) (fault : Fault) (breaks : Breaks octets pieces fault) (rest : List ℕ) → octets ≡ text pieces ++ rest → rest ≡ breaks.rest
-rest_is octets pieces fault breaks rest e = append_cancel_left (text pieces) rest breaks.rest (sym e ∙ breaks.whole)
+rest_is : (octets : List ℕ) (tokens : List Token) (fault : Fault) (breaks : Breaks octets tokens fault) (rest : List ℕ) → octets ≡ text tokens ++ rest → rest ≡ breaks.rest
+rest_is octets tokens fault breaks rest e = append_cancel_left (text tokens) rest breaks.rest (sym e ∙ breaks.whole)
 
-pub stays_for_good : (octets : List ℕ) (pieces : List Piece) (fault : Fault) → Breaks octets pieces fault → (rest : List ℕ) → octets ≡ text pieces ++ rest → StaysBroken rest → BreaksForGood octets pieces fault
-stays_for_good octets pieces fault breaks rest e stays = record { breaks = breaks; stays = subst StaysBroken (rest_is octets pieces fault breaks rest e) stays }
+pub stays_for_good : (octets : List ℕ) (tokens : List Token) (fault : Fault) → Breaks octets tokens fault → (rest : List ℕ) → octets ≡ text tokens ++ rest → StaysBroken rest → BreaksForGood octets tokens fault
+stays_for_good octets tokens fault breaks rest e stays = record { breaks = breaks; stays = subst StaysBroken (rest_is octets tokens fault breaks rest e) stays }
 
-pub ends_not_for_good : (octets : List ℕ) (pieces : List Piece) (rest : List ℕ) → octets ≡ text pieces ++ rest → BreaksAtEnd rest → (fault : Fault) → BreaksForGood octets pieces fault → ⊥
-ends_not_for_good octets pieces rest e ends fault good = stays_or_ends_alone rest (subst StaysBroken (sym (rest_is octets pieces fault good.breaks rest e)) good.stays) ends
+pub ends_not_for_good : (octets : List ℕ) (tokens : List Token) (rest : List ℕ) → octets ≡ text tokens ++ rest → BreaksAtEnd rest → (fault : Fault) → BreaksForGood octets tokens fault → ⊥
+ends_not_for_good octets tokens rest e ends fault good = stays_or_ends_alone rest (subst StaysBroken (sym (rest_is octets tokens fault good.breaks rest e)) good.stays) ends

@@ -19,7 +19,7 @@ use Rattle.zone_text.specs.Inherited.{IsOwner, class_word, latest, one_bare, or_
 use Rattle.zone_rdata.specs.Words.{IsClassWord}
 use Rattle.zone_text.specs.Machine.EntryReading.{DecidesEntry, decides_fault, decides_none, decides_one}
 use Rattle.zone_text.specs.Machine.Kept.{AreKept}
-use Rattle.zone_text.specs.Pieces.{Cuts, Piece, is_blank}
+use Rattle.zone_text.specs.Tokens.{Cuts, Token, is_blank}
 use Rattle.zone_text.specs.Records.{HasHead, HasValue, Head, StatesNothing, StatesRecord, head_of}
 use Rattle.zone_text.specs.declared.defaults.Defaults.{Defaults}
 use Rattle.zone_text.proofs.Kept.{items_written}
@@ -283,8 +283,8 @@ decides_kept origin before entry kept place old new next written (inl all) h = s
 decides_kept origin before entry kept place old new next written (inr short) h = decides_by origin before entry kept place old new next (record { short = short; written = written }) h
 
 -- what an entry of these octets and items decides, an entry decides of whose items these are kept
-pub entry_kept : {T E : Type 0} (result : Result T E) (origin : Labels) (before : List Entry) (line : ℕ) (octets : List ℕ) (pieces : List Piece) (kept : List RawItem) (place : Place) (old new : Reading) (next : Defaults) → Cuts octets pieces → AreKept (flat_map item_of pieces) kept → OnOk result (DecidesEntry origin before (record { line = line; first = first_octet octets; items = kept }) place old new next) → OnOk result (DecidesEntry origin before (entry_of line pieces) place old new next)
-entry_kept (Ok x) origin before line octets pieces kept place old new next cut are h =
-    decides_kept origin before (entry_of line pieces) kept place old new next (items_written pieces cut.each) are
+pub entry_kept : {T E : Type 0} (result : Result T E) (origin : Labels) (before : List Entry) (line : ℕ) (octets : List ℕ) (tokens : List Token) (kept : List RawItem) (place : Place) (old new : Reading) (next : Defaults) → Cuts octets tokens → AreKept (flat_map item_of tokens) kept → OnOk result (DecidesEntry origin before (record { line = line; first = first_octet octets; items = kept }) place old new next) → OnOk result (DecidesEntry origin before (entry_of line tokens) place old new next)
+entry_kept (Ok x) origin before line octets tokens kept place old new next cut are h =
+    decides_kept origin before (entry_of line tokens) kept place old new next (items_written tokens cut.each) are
     (subst (λ t. DecidesEntry origin before (record { line = line; first = first_octet t; items = kept }) place old new next) cut.whole h)
-entry_kept (Err e) origin before line octets pieces kept place old new next cut are h = tt
+entry_kept (Err e) origin before line octets tokens kept place old new next cut are h = tt

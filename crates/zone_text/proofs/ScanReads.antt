@@ -18,7 +18,7 @@ use Rattle.zone_text.specs.declared.scan.Scanned.{Scanned}
 use Rattle.zone_text.specs.declared.scan.ScanState.{ScanState}
 use Rattle.zone_text.specs.declared.scan.Step.{Step}
 use Rattle.zone_text.specs.declared.scan.Step.TheVariants.{On, Ends, LostEscape, ClosesNothing}
-use Rattle.zone_text.specs.Pieces.{Piece, blank, opening, closing, line_feed, comment, bare, quoted, piece_text, is_blank, ends_item, IsPiece}
+use Rattle.zone_text.specs.Tokens.{Token, blank, opening, closing, line_feed, comment, bare, quoted, token_text, is_blank, ends_item, IsToken}
 use Rattle.zone_text.specs.Lasting.{IsLostEscape, at_line_end, one_digit, two_digits, too_great, IsCutOff, behind_backslash, behind_digit, behind_two_digits}
 use Rattle.zone_text.specs.Machine.Cutting.{depth_behind}
 use Rattle.zone_text.specs.Machine.Scan.{on, fed_line, closed, open_step, quoted_step, comment_step, ends_number, escape_step, step_in, step_of, scan_on, scan_of, unclosed, end_fault_of}
@@ -44,7 +44,7 @@ RanOut fault LostEscape = ⊥
 RanOut fault ClosesNothing = ⊥
 
 -- the token ends no entry
-abbrev pub EndsNone : ℕ → Piece → Type 0
+abbrev pub EndsNone : ℕ → Token → Type 0
 EndsNone depth line_feed = depth ≢ 0
 EndsNone depth p = Unit {0}
 
@@ -56,12 +56,12 @@ pub data Reads (step : Step) : ℕ → List ℕ → Type 0 where
   in_quote : (depth : ℕ) (octets : List ℕ) (units : List Written) → RanOut (Some UnclosedQuote) step → AllByRecursion (IsUnit is_quote) units → octets ≡ 34 ∷ written_text units → Reads step depth octets
   in_escape : (depth : ℕ) (octets : List ℕ) → EscapeAt step octets → Reads step depth octets
   in_quoted_escape : (depth : ℕ) (octets : List ℕ) (units : List Written) (after : List ℕ) → AllByRecursion (IsUnit is_quote) units → octets ≡ 34 ∷ written_text units ++ after → EscapeAt step after → Reads step depth octets
-  then_more : (depth : ℕ) (octets : List ℕ) (p : Piece) (rest : List ℕ) → Takes depth octets p rest → EndsNone depth p → Reads step (depth_behind depth p) rest → Reads step depth octets
+  then_more : (depth : ℕ) (octets : List ℕ) (p : Token) (rest : List ℕ) → Takes depth octets p rest → EndsNone depth p → Reads step (depth_behind depth p) rest → Reads step depth octets
 
 -- ---- first octets
 
 -- an octet that begins the token
-abbrev Begins : ℕ → Piece → Type 0
+abbrev Begins : ℕ → Token → Type 0
 Begins c (blank d) = is_blank c ≡ true
 Begins c line_feed = c ≡ 10
 Begins c opening = c ≡ 40
@@ -70,7 +70,7 @@ Begins c (comment octets) = c ≡ 59
 Begins c (bare units) = ends_item c ≡ false
 Begins c (quoted units) = c ≡ 34
 
-begins : (c : ℕ) (octets : List ℕ) (p : Piece) (rest : List ℕ) → IsPiece p → c ∷ octets ≡ piece_text p ++ rest → Begins c p
+begins : (c : ℕ) (octets : List ℕ) (p : Token) (rest : List ℕ) → IsToken p → c ∷ octets ≡ token_text p ++ rest → Begins c p
 begins c octets (blank d) rest is e = let same : c ≡ d = cc in ap is_blank same ∙ is
 begins c octets line_feed rest is e = cc
 begins c octets opening rest is e = cc
@@ -121,7 +121,7 @@ rest_behind c octets more text e f = let both : c ∷ octets ≡ c ∷ more = sy
 -- ---- a unit more before what a quote opened
 
 module _ (step : Step) (depth : ℕ) (w : Written) (is : IsUnit is_quote w) (octets text : List ℕ) (e : text ≡ 34 ∷ octets) where
-  quoted_more : (rest : List ℕ) (p : Piece) → Takes depth text p rest → EndsNone depth p → Reads step (depth_behind depth p) rest → Reads step depth (34 ∷ (text_of w ++ octets))
+  quoted_more : (rest : List ℕ) (p : Token) → Takes depth text p rest → EndsNone depth p → Reads step (depth_behind depth p) rest → Reads step depth (34 ∷ (text_of w ++ octets))
   quoted_more rest (quoted units) front none more =
       let tail : octets ≡ (written_text units ++ 34 ∷ []) ++ rest = rest_behind 34 octets ((written_text units ++ 34 ∷ []) ++ rest) text e front.whole in
       then_more depth (34 ∷ (text_of w ++ octets)) (quoted (w ∷ units)) rest (record {
@@ -130,16 +130,16 @@ module _ (step : Step) (depth : ℕ) (w : Written) (is : IsUnit is_quote w) (oct
             ∙ sym (append_assoc (text_of w) (written_text units) (34 ∷ rest))
             ∙ sym (append_assoc (text_of w ++ written_text units) (34 ∷ []) rest)
             );
-        piece = (is, front.piece);
+        token = (is, front.token);
         stop = tt;
         room = tt;
       }) tt more
-  quoted_more rest (blank d) front none more = absurd (let no : false ≡ true = begins 34 octets (blank d) rest front.piece (sym e ∙ front.whole) in cc)
-  quoted_more rest line_feed front none more = absurd (omega (arith, begins 34 octets line_feed rest front.piece (sym e ∙ front.whole)))
-  quoted_more rest opening front none more = absurd (omega (arith, begins 34 octets opening rest front.piece (sym e ∙ front.whole)))
-  quoted_more rest closing front none more = absurd (omega (arith, begins 34 octets closing rest front.piece (sym e ∙ front.whole)))
-  quoted_more rest (comment others) front none more = absurd (omega (arith, begins 34 octets (comment others) rest front.piece (sym e ∙ front.whole)))
-  quoted_more rest (bare units) front none more = absurd (let no : true ≡ false = begins 34 octets (bare units) rest front.piece (sym e ∙ front.whole) in cc)
+  quoted_more rest (blank d) front none more = absurd (let no : false ≡ true = begins 34 octets (blank d) rest front.token (sym e ∙ front.whole) in cc)
+  quoted_more rest line_feed front none more = absurd (omega (arith, begins 34 octets line_feed rest front.token (sym e ∙ front.whole)))
+  quoted_more rest opening front none more = absurd (omega (arith, begins 34 octets opening rest front.token (sym e ∙ front.whole)))
+  quoted_more rest closing front none more = absurd (omega (arith, begins 34 octets closing rest front.token (sym e ∙ front.whole)))
+  quoted_more rest (comment others) front none more = absurd (omega (arith, begins 34 octets (comment others) rest front.token (sym e ∙ front.whole)))
+  quoted_more rest (bare units) front none more = absurd (let no : true ≡ false = begins 34 octets (bare units) rest front.token (sym e ∙ front.whole) in cc)
 
   push_quoted_in : Reads step depth text → Reads step depth (34 ∷ (text_of w ++ octets))
   push_quoted_in (ends depth text s d f) = absurd (others_begin 34 10 octets [] text e f (λ h. omega arith))
@@ -161,20 +161,20 @@ push_quoted step depth w octets is more = push_quoted_in step depth w is octets 
 -- ---- an octet more before what a semicolon opened
 
 module _ (step : Step) (depth c : ℕ) (is : c ≢ 10) (octets text : List ℕ) (e : text ≡ 59 ∷ octets) where
-  comment_more : (rest : List ℕ) (p : Piece) → Takes depth text p rest → EndsNone depth p → Reads step (depth_behind depth p) rest → Reads step depth (59 ∷ c ∷ octets)
+  comment_more : (rest : List ℕ) (p : Token) → Takes depth text p rest → EndsNone depth p → Reads step (depth_behind depth p) rest → Reads step depth (59 ∷ c ∷ octets)
   comment_more rest (comment others) front none more =
       then_more depth (59 ∷ c ∷ octets) (comment (c ∷ others)) rest (record {
         whole = ap (λ t. 59 ∷ c ∷ t) (rest_behind 59 octets (others ++ rest) text e front.whole);
-        piece = (is, front.piece);
+        token = (is, front.token);
         stop = front.stop;
         room = tt;
       }) tt more
-  comment_more rest (blank d) front none more = absurd (let no : false ≡ true = begins 59 octets (blank d) rest front.piece (sym e ∙ front.whole) in cc)
-  comment_more rest line_feed front none more = absurd (omega (arith, begins 59 octets line_feed rest front.piece (sym e ∙ front.whole)))
-  comment_more rest opening front none more = absurd (omega (arith, begins 59 octets opening rest front.piece (sym e ∙ front.whole)))
-  comment_more rest closing front none more = absurd (omega (arith, begins 59 octets closing rest front.piece (sym e ∙ front.whole)))
-  comment_more rest (quoted units) front none more = absurd (omega (arith, begins 59 octets (quoted units) rest front.piece (sym e ∙ front.whole)))
-  comment_more rest (bare units) front none more = absurd (let no : true ≡ false = begins 59 octets (bare units) rest front.piece (sym e ∙ front.whole) in cc)
+  comment_more rest (blank d) front none more = absurd (let no : false ≡ true = begins 59 octets (blank d) rest front.token (sym e ∙ front.whole) in cc)
+  comment_more rest line_feed front none more = absurd (omega (arith, begins 59 octets line_feed rest front.token (sym e ∙ front.whole)))
+  comment_more rest opening front none more = absurd (omega (arith, begins 59 octets opening rest front.token (sym e ∙ front.whole)))
+  comment_more rest closing front none more = absurd (omega (arith, begins 59 octets closing rest front.token (sym e ∙ front.whole)))
+  comment_more rest (quoted units) front none more = absurd (omega (arith, begins 59 octets (quoted units) rest front.token (sym e ∙ front.whole)))
+  comment_more rest (bare units) front none more = absurd (let no : true ≡ false = begins 59 octets (bare units) rest front.token (sym e ∙ front.whole) in cc)
 
   push_comment_in : Reads step depth text → Reads step depth (59 ∷ c ∷ octets)
   push_comment_in (ends depth text s d f) = absurd (others_begin 59 10 octets [] text e f (λ h. omega arith))
@@ -194,19 +194,19 @@ module _ (step : Step) (depth : ℕ) (w : Written) (is : IsUnit ends_item w) (oc
   bare_alone : NoUnit ends_item octets → Reads step depth octets → Reads step depth (text_of w ++ octets)
   bare_alone none more = then_more depth (text_of w ++ octets) (bare (w ∷ [])) octets (record {
     whole = sym (ap (λ t. t ++ octets) (append-nil (text_of w)));
-    piece = (omega arith, (is, tt));
+    token = (omega arith, (is, tt));
     stop = none;
     room = tt;
   }) tt more
 
-  bare_more : (rest : List ℕ) (p : Piece) → Takes depth octets p rest → EndsNone depth p → Reads step (depth_behind depth p) rest → Reads step depth (text_of w ++ octets)
+  bare_more : (rest : List ℕ) (p : Token) → Takes depth octets p rest → EndsNone depth p → Reads step (depth_behind depth p) rest → Reads step depth (text_of w ++ octets)
   bare_more rest (bare units) front none more = then_more depth (text_of w ++ octets) (bare (w ∷ units)) rest (record {
     whole = ap (λ t. text_of w ++ t) front.whole ∙ sym (append_assoc (text_of w) (written_text units) rest);
-    piece = (omega arith, (is, front.piece.1));
+    token = (omega arith, (is, front.token.1));
     stop = front.stop;
     room = tt;
   }) tt more
-  bare_more rest (blank d) front none more = bare_alone (at_octet d rest front.whole (rw front.piece refl)) (then_more depth octets (blank d) rest front none more)
+  bare_more rest (blank d) front none more = bare_alone (at_octet d rest front.whole (rw front.token refl)) (then_more depth octets (blank d) rest front none more)
   bare_more rest line_feed front none more = bare_alone (at_octet 10 rest front.whole refl) (then_more depth octets line_feed rest front none more)
   bare_more rest opening front none more = bare_alone (at_octet 40 rest front.whole refl) (then_more depth octets opening rest front none more)
   bare_more rest closing front none more = bare_alone (at_octet 41 rest front.whole refl) (then_more depth octets closing rest front none more)
@@ -301,16 +301,16 @@ one_octet c d octets e = ap (λ t. t ∷ octets) e
 open_line : (depth c : ℕ) → c ≡ 10 → OneMore Open depth c (fed_line depth)
 open_line depth c e = cond_both (depth == 0) Ends (on Open depth) (OneMore Open depth c)
     (λ d. ends depth (c ∷ []) refl (eqb-true depth 0 d) (one_octet c 10 [] e))
-    (λ d. (tt, λ octets step more. then_more depth (c ∷ octets) line_feed octets (record { whole = one_octet c 10 octets e; piece = tt; stop = tt; room = tt }) (eqb-false depth 0 d) more))
+    (λ d. (tt, λ octets step more. then_more depth (c ∷ octets) line_feed octets (record { whole = one_octet c 10 octets e; token = tt; stop = tt; room = tt }) (eqb-false depth 0 d) more))
 
 open_closing : (depth c : ℕ) → c ≡ 41 → OneMore Open depth c (closed depth)
 open_closing depth c e = cond_both (depth == 0) ClosesNothing (on Open (depth - 1)) (OneMore Open depth c)
     (λ d. closes depth (c ∷ []) refl (eqb-true depth 0 d) (one_octet c 41 [] e))
-    (λ d. (tt, λ octets step more. then_more depth (c ∷ octets) closing octets (record { whole = one_octet c 41 octets e; piece = tt; stop = tt; room = let some : depth ≢ 0 = eqb-false depth 0 d in omega arith }) tt more))
+    (λ d. (tt, λ octets step more. then_more depth (c ∷ octets) closing octets (record { whole = one_octet c 41 octets e; token = tt; stop = tt; room = let some : depth ≢ 0 = eqb-false depth 0 d in omega arith }) tt more))
 
 open_other : (depth c : ℕ) → c ≢ 92 → (is_blank c ≡ false → ends_item c ≡ false) → OneMore Open depth c (on Open depth)
 open_other depth c no_backslash goes_on = elim (cases_Bool (is_blank c)) as (λ s. OneMore Open depth c (on Open depth)) [
-  | inl is ↦ (tt, λ octets step more. then_more depth (c ∷ octets) (blank c) octets (record { whole = refl; piece = is; stop = tt; room = tt }) tt more)
+  | inl is ↦ (tt, λ octets step more. then_more depth (c ∷ octets) (blank c) octets (record { whole = refl; token = is; stop = tt; room = tt }) tt more)
   | inr is_none ↦ (tt, λ octets step more. push_bare step depth (plain c) (goes_on is_none, no_backslash) octets more)
 ]
 
@@ -323,7 +323,7 @@ one_open depth c =
       tt,
       λ octets step more.
           let next : Reads step (suc depth) octets = subst (λ d. Reads step d octets) (let n : depth + 1 ≡ suc depth = omega arith in n) more in
-          then_more depth (c ∷ octets) opening octets (record { whole = one_octet c 40 octets (eqb-true c 40 e); piece = tt; stop = tt; room = tt }) tt next,
+          then_more depth (c ∷ octets) opening octets (record { whole = one_octet c 40 octets (eqb-true c 40 e); token = tt; stop = tt; room = tt }) tt next,
     )) λ e2.
     cond_both (c == 41) (closed depth) _ P (λ e. open_closing depth c (eqb-true c 41 e)) λ e3.
     cond_both (c == 59) (on Comment depth) _ P (λ e. (tt, λ octets step more. subst (Reads step depth) (sym (one_octet c 59 octets (eqb-true c 59 e))) more)) λ e4.
@@ -337,7 +337,7 @@ one_quoted depth c =
       tt,
       λ octets step more. then_more depth (34 ∷ c ∷ octets) (quoted []) octets (record {
         whole = ap (λ t. 34 ∷ t) (one_octet c 34 octets (eqb-true c 34 e));
-        piece = tt;
+        token = tt;
         stop = tt;
         room = tt;
       }) tt more,
@@ -348,7 +348,7 @@ one_quoted depth c =
 
 -- the comment that a line feed ends
 ends_comment : (step : Step) (depth c : ℕ) (octets : List ℕ) → c ≡ 10 → Reads step depth (c ∷ octets) → Reads step depth (59 ∷ c ∷ octets)
-ends_comment step depth c octets e more = then_more depth (59 ∷ c ∷ octets) (comment []) (c ∷ octets) (record { whole = refl; piece = tt; stop = e; room = tt }) tt more
+ends_comment step depth c octets e more = then_more depth (59 ∷ c ∷ octets) (comment []) (c ∷ octets) (record { whole = refl; token = tt; stop = e; room = tt }) tt more
 
 comment_line : (depth c : ℕ) → c ≡ 10 → (step : Step) → OneMore Open depth c step → OneMore Comment depth c step
 comment_line depth c e (On next) open_more = (open_more.0, λ octets step more. ends_comment step depth c octets e (open_more.1 octets step more))
@@ -388,7 +388,7 @@ cut_off (Two x y) digits = behind_two_digits x y refl digits.0 digits.1
 none_more : (mode : Mode) (depth : ℕ) → HoldsDigits mode → Reads (on mode depth) depth (opened mode [])
 none_more Open depth digits = runs_out depth [] refl refl
 none_more Quoted depth digits = in_quote depth (34 ∷ []) [] refl tt refl
-none_more Comment depth digits = then_more depth (59 ∷ []) (comment []) [] (record { whole = refl; piece = tt; stop = tt; room = tt }) tt (runs_out depth [] refl refl)
+none_more Comment depth digits = then_more depth (59 ∷ []) (comment []) [] (record { whole = refl; token = tt; stop = tt; room = tt }) tt (runs_out depth [] refl refl)
 none_more (Escaped escape) depth digits = in_escape depth (escape_text escape []) (refl, cut_off escape digits)
 none_more (QuotedEscaped escape) depth digits = in_quoted_escape depth (34 ∷ escape_text escape []) [] (escape_text escape []) tt refl (refl, cut_off escape digits)
 

@@ -5,7 +5,7 @@ use Rattle.zone_name.specs.Name.{folded_label}
 use Rattle.zone_name.specs.Spelling.{is_digit}
 use Rattle.zone_rdata.specs.Spelling.{RawItem, bare, quoted}
 use Rattle.zone_rdata.specs.Table.{classes, number_among}
-use Rattle.zone_text.specs.Pieces.{is_blank}
+use Rattle.zone_text.specs.Tokens.{is_blank}
 use Rattle.zone_text.specs.Entries.{Entry}
 
 -- no items; a directive with what follows its word; or a record with what follows its owner, stated

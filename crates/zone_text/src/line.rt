@@ -21,9 +21,9 @@ fn quoted(octets: &[u8]) -> Option<(&[u8], &[u8])>
     }
 }
 
-/// The piece at the front: its item, if it is one, and what follows it. `None`: it is a parenthesis, a line feed, has a
+/// The token at the front: its item, if it is one, and what follows it. `None`: it is a parenthesis, a line feed, has a
 /// backslash, or isn't seen whole.
-fn piece_in_front(octets: &[u8]) -> Option<(Option<Item<'_>>, &[u8])>
+fn token_in_front(octets: &[u8]) -> Option<(Option<Item<'_>>, &[u8])>
     ensures { IfSome result (λ found.
         IsInFront octets.now (option_to_list (option_map raw found.0)) found.1.now) }
 {
@@ -68,7 +68,7 @@ pub(crate) fn cut_line<'t>(
         if *first == b'\n' {
             return Ok(Some(octets.len() - after.len()));
         }
-        let Some((item, behind)) = piece_in_front(rest) else {
+        let Some((item, behind)) = token_in_front(rest) else {
             return Ok(None);
         };
         if let Some(item) = item {

@@ -14,7 +14,7 @@ use Rattle.zone_text.specs.declared.scan.Scanned.{Scanned}
 use Rattle.zone_text.specs.declared.scan.ScanState.{ScanState}
 use Rattle.zone_text.specs.declared.scan.Step.{Step}
 use Rattle.zone_text.specs.declared.scan.Step.TheVariants.{On, Ends, LostEscape, ClosesNothing}
-use Rattle.zone_text.specs.Pieces.{Piece, Cuts}
+use Rattle.zone_text.specs.Tokens.{Token, Cuts}
 use Rattle.zone_text.specs.Entries.{cut_from}
 
 -- ---- one octet
@@ -132,6 +132,6 @@ end_fault_of at = fault_in at.mode at.depth
 -- ---- one entry
 
 -- the octets are the tokens of one entry, with the line feed that ends it
-pub record IsOneEntry (octets : List ℕ) (pieces : List Piece) : Type 0 where
-  pub cut : Cuts octets pieces
-  pub ended : cut_from zero pieces ≡ record { ended = pieces ∷ []; open_pieces = [] }
+pub record IsOneEntry (octets : List ℕ) (tokens : List Token) : Type 0 where
+  pub cut : Cuts octets tokens
+  pub ended : cut_from zero tokens ≡ record { ended = tokens ∷ []; open_tokens = [] }
