@@ -23,7 +23,7 @@ use Rattle.zone_text.specs.Line.{IsItem, line_of, StatesWhole}
 use Rattle.zone_text.specs.Tokens.{Cuts, Token, text}
 use Rattle.zone_text.specs.Records.{StatesRecord}
 use Rattle.zone_text.proofs.CutAgain.{AreEnded, cut_ended, joined}
-use Rattle.zone_text.proofs.DecidedOnce.{cut_behind_all}
+use Rattle.zone_text.proofs.DecidedOnce.{cut_after_all}
 use Rattle.zone_set.specs.Refusal.{records_of}
 use Rattle.zone_set.specs.Zone.{Has, IsZone, SameRecords, Zone}
 use Rattle.zone_print.specs.Canonical.{canon, line, lines, text_limit}
@@ -135,7 +135,7 @@ lines_cut line_is joins (r ∷ records) each =
       tokens = first.tokens ++ others.tokens;
       ended = first.tokens ∷ others.ended;
       cut = joins (line r) (lines records) first.tokens others.tokens first.cut (ends_in_feed first.tokens first.ended) others.cut;
-      split = cut_behind_all first.tokens others.tokens (ap (λ (c : Cut). c.open_tokens) first.ended)
+      split = cut_after_all first.tokens others.tokens (ap (λ (c : Cut). c.open_tokens) first.ended)
           ∙ (λ i. record { ended = (first.ended i).ended ++ (others.split i).ended; open_tokens = (others.split i).open_tokens });
       are = (first.states, ap (count_by (λ c. c == 10)) (sym first.cut.whole) ∙ line_feed_in (line r) (line_ends_with_feed r), others.are);
     }

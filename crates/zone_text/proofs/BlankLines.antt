@@ -20,7 +20,7 @@ use Rattle.zone_text.specs.declared.scan.Mode.TheVariants.{Comment}
 use Rattle.zone_text.specs.declared.scan.Scanned.{Scanned}
 use Rattle.zone_text.specs.declared.scan.Step.TheVariants.{Ends}
 use Rattle.zone_text.proofs.Cuttings.{one_cut}
-use Rattle.zone_text.proofs.EntryTaken.{lines_behind, takes_entry}
+use Rattle.zone_text.proofs.EntryTaken.{lines_after, takes_entry}
 use Rattle.zone_text.proofs.Followed.{follow_entry}
 use Rattle.zone_text.proofs.Inheriting.{leaves, same_default, same_origin}
 use Rattle.zone_text.proofs.Left.{line_feeds}
@@ -129,7 +129,7 @@ empty_read octets old is none =
     takes_entry octets old (with_line (old.line + 1) old)
     (λ origin before line tokens are cut. decides_none (states_nothing origin before (entry_of line tokens) old (ap (flat_map item_of) (one_cut octets tokens is.tokens cut is.cut) ∙ is.none) are) refl)
     none
-    (lines_behind octets old (with_line (old.line + 1) old) 1 is.count is.some refl)
+    (lines_after octets old (with_line (old.line + 1) old) 1 is.count is.some refl)
 
 empty_follows : (octets : List ℕ) (old : EndedEntries) → IsEmpty octets → old.decided.ending ≡ None → FollowsOn old [] (with_line (old.line + 1) old) [] octets
 empty_follows octets old is none origin fed given follow =

@@ -44,30 +44,30 @@ pub record AreEnded (depth : ℕ) (ended : List (List Token)) : Type 0 where
   pub ends : EndInLineFeed (joined ended)
   pub again : (entry : List Token) (others : List (List Token)) (more : List Token) → ended ≡ entry ∷ others → cut_from depth (joined ended ++ more) ≡ record { ended = ended ++ (cut_from zero more).ended; open_tokens = (cut_from zero more).open_tokens }
 
-end_behind : (p : Token) (entry : List Token) (rest : List Token) → 0 < length entry → EndInLineFeed (entry ++ rest) → EndInLineFeed (p ∷ entry ++ rest)
-end_behind p [] rest some ends = absurd (omega arith)
-end_behind (blank c) (q ∷ entry) rest some ends = ends
-end_behind opening (q ∷ entry) rest some ends = ends
-end_behind closing (q ∷ entry) rest some ends = ends
-end_behind line_feed (q ∷ entry) rest some ends = ends
-end_behind (comment o) (q ∷ entry) rest some ends = ends
-end_behind (bare u) (q ∷ entry) rest some ends = ends
-end_behind (quoted u) (q ∷ entry) rest some ends = ends
+end_after : (p : Token) (entry : List Token) (rest : List Token) → 0 < length entry → EndInLineFeed (entry ++ rest) → EndInLineFeed (p ∷ entry ++ rest)
+end_after p [] rest some ends = absurd (omega arith)
+end_after (blank c) (q ∷ entry) rest some ends = ends
+end_after opening (q ∷ entry) rest some ends = ends
+end_after closing (q ∷ entry) rest some ends = ends
+end_after line_feed (q ∷ entry) rest some ends = ends
+end_after (comment o) (q ∷ entry) rest some ends = ends
+end_after (bare u) (q ∷ entry) rest some ends = ends
+end_after (quoted u) (q ∷ entry) rest some ends = ends
 
 front_ended : (depth next : ℕ) (p : Token) (ended : List (List Token)) (others : List Token) → ((tokens : List Token) → cut_from depth (p ∷ tokens) ≡ in_front_of p (cut_from next tokens)) → AreEnded next ended → AreEnded depth (in_front p ended others).ended
 front_ended depth next p [] others step are = record { each = tt; ends = tt; again = λ entry rest more e. absurd (let t : ⊥ = cc in t) }
 front_ended depth next p (first ∷ ended) others step are = record {
   each = (omega arith, are.each.1);
-  ends = end_behind p first (joined ended) are.each.0 are.ends;
+  ends = end_after p first (joined ended) are.each.0 are.ends;
   again = λ entry rest more e. step (joined (first ∷ ended) ++ more) ∙ ap (in_front_of p) (are.again first ended more refl);
 }
 
 none_ended : (depth : ℕ) → AreEnded depth []
 none_ended depth = record { each = tt; ends = tt; again = λ entry rest more e. absurd (let t : ⊥ = cc in t) }
 
-line_behind : (tokens : List Token) → EndInLineFeed tokens → EndInLineFeed (line_feed ∷ tokens)
-line_behind [] ends = tt
-line_behind (p ∷ tokens) ends = ends
+line_after : (tokens : List Token) → EndInLineFeed tokens → EndInLineFeed (line_feed ∷ tokens)
+line_after [] ends = tt
+line_after (p ∷ tokens) ends = ends
 
 pub again_zero : (ended : List (List Token)) (more : List Token) → AreEnded zero ended → cut_from zero (joined ended ++ more) ≡ record { ended = ended ++ (cut_from zero more).ended; open_tokens = (cut_from zero more).open_tokens }
 again_zero [] more are = refl
@@ -76,7 +76,7 @@ again_zero (entry ∷ ended) more are = are.again entry ended more refl
 line_ended : (ended : List (List Token)) → AreEnded zero ended → AreEnded zero ((line_feed ∷ []) ∷ ended)
 line_ended ended are = record {
   each = (omega arith, are.each);
-  ends = line_behind (joined ended) are.ends;
+  ends = line_after (joined ended) are.ends;
   again = λ entry rest more e. ap ending_one (again_zero ended more are);
 }
 
@@ -135,9 +135,9 @@ ended_at_zero last tokens d = depth_zero (cut_from zero tokens).ended (ended_dep
 
 -- ---- their lines
 
-pub and_last_behind : (ended more : List (List Token)) (others : List Token) → and_last (ended ++ more) others ≡ ended ++ and_last more others
-and_last_behind ended more [] = refl
-and_last_behind ended more (p ∷ others) = append_assoc ended more ((p ∷ others) ∷ [])
+pub and_last_after : (ended more : List (List Token)) (others : List Token) → and_last (ended ++ more) others ≡ ended ++ and_last more others
+and_last_after ended more [] = refl
+and_last_after ended more (p ∷ others) = append_assoc ended more ((p ∷ others) ∷ [])
 
 -- entries with others after them have the lines that they have by themselves
 pub numbered_front : (line : ℕ) (ended more : List (List Token)) → (others : List Entry) × (numbered line (ended ++ more) ≡ numbered line ended ++ others)

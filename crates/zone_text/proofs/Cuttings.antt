@@ -7,7 +7,7 @@ use Rattle.zone_name.specs.Spelling.{Written, plain, escaped, decimal, text_of, 
 use Rattle.zone_rdata.specs.declared.fault.Fault.{Fault}
 use Rattle.zone_text.specs.Tokens.{Token, blank, opening, closing, line_feed, comment, bare, quoted, token_text, text, is_blank, ends_item, IsToken, MayFollow, AllFollow, depth_after, Cuts}
 use Rattle.zone_text.specs.Breaks.{IsBroken, closes_nothing, no_escape, no_quoted_escape, no_quote, not_closed, MayEndBefore, Breaks}
-use Rattle.zone_text.specs.Machine.Cutting.{Front, takes, stops, front_of, depth_behind, Cutting, cut_on, cut_by, cutting}
+use Rattle.zone_text.specs.Machine.Cutting.{Front, takes, stops, front_of, depth_past, Cutting, cut_on, cut_by, cutting}
 use Rattle.zone_name.proofs.Units.{NoUnit, at_end, at_octet, at_backslash, first_of_unit, first_of_none}
 use Rattle.zone_text.proofs.Fronts.{EndsComment, Stops, HasRoom, Takes, Ends, IsFront, front_is, front_takes, front_stops}
 
@@ -58,31 +58,31 @@ follows (comment octets) q rest is stop = follows_comment octets q rest is stop
 follows (bare units) q rest is stop = follows_bare units q rest is stop
 follows (quoted units) q rest is stop = tt
 
-behind_bare : (units : List Written) (q : Token) (rest : List ℕ) → IsToken q → MayFollow (bare units) q → NoUnit ends_item (token_text q ++ rest)
-behind_bare units (blank c) rest is may = at_octet c rest refl (rw is refl)
-behind_bare units line_feed rest is may = at_octet 10 rest refl refl
-behind_bare units opening rest is may = at_octet 40 rest refl refl
-behind_bare units closing rest is may = at_octet 41 rest refl refl
-behind_bare units (comment octets) rest is may = at_octet 59 (octets ++ rest) refl refl
-behind_bare units (bare more) rest is may = absurd may
-behind_bare units (quoted more) rest is may = at_octet 34 ((written_text more ++ 34 ∷ []) ++ rest) refl refl
+after_bare : (units : List Written) (q : Token) (rest : List ℕ) → IsToken q → MayFollow (bare units) q → NoUnit ends_item (token_text q ++ rest)
+after_bare units (blank c) rest is may = at_octet c rest refl (rw is refl)
+after_bare units line_feed rest is may = at_octet 10 rest refl refl
+after_bare units opening rest is may = at_octet 40 rest refl refl
+after_bare units closing rest is may = at_octet 41 rest refl refl
+after_bare units (comment octets) rest is may = at_octet 59 (octets ++ rest) refl refl
+after_bare units (bare more) rest is may = absurd may
+after_bare units (quoted more) rest is may = at_octet 34 ((written_text more ++ 34 ∷ []) ++ rest) refl refl
 
-behind_comment : (octets : List ℕ) (q : Token) (rest : List ℕ) → MayFollow (comment octets) q → EndsComment (token_text q ++ rest)
-behind_comment octets line_feed rest may = refl
-behind_comment octets (blank c) rest may = absurd may
-behind_comment octets opening rest may = absurd may
-behind_comment octets closing rest may = absurd may
-behind_comment octets (comment more) rest may = absurd may
-behind_comment octets (bare more) rest may = absurd may
-behind_comment octets (quoted more) rest may = absurd may
+comment_passed : (octets : List ℕ) (q : Token) (rest : List ℕ) → MayFollow (comment octets) q → EndsComment (token_text q ++ rest)
+comment_passed octets line_feed rest may = refl
+comment_passed octets (blank c) rest may = absurd may
+comment_passed octets opening rest may = absurd may
+comment_passed octets closing rest may = absurd may
+comment_passed octets (comment more) rest may = absurd may
+comment_passed octets (bare more) rest may = absurd may
+comment_passed octets (quoted more) rest may = absurd may
 
 behind : (p q : Token) (rest : List ℕ) → IsToken q → MayFollow p q → Stops p (token_text q ++ rest)
 behind (blank c) q rest is may = tt
 behind line_feed q rest is may = tt
 behind opening q rest is may = tt
 behind closing q rest is may = tt
-behind (comment octets) q rest is may = behind_comment octets q rest may
-behind (bare units) q rest is may = behind_bare units q rest is may
+behind (comment octets) q rest is may = comment_passed octets q rest may
+behind (bare units) q rest is may = after_bare units q rest is may
 behind (quoted units) q rest is may = tt
 
 -- ---- what may follow the last token
@@ -128,7 +128,7 @@ ends_at_stop (quoted units) depth rest fault ends stop = tt
 
 -- ---- depths
 
-pub depth_on : (depth : ℕ) (p : Token) (tokens : List Token) → HasRoom depth p → depth_after depth (p ∷ tokens) ≡ depth_after (depth_behind depth p) tokens
+pub depth_on : (depth : ℕ) (p : Token) (tokens : List Token) → HasRoom depth p → depth_after depth (p ∷ tokens) ≡ depth_after (depth_past depth p) tokens
 depth_on depth (blank c) tokens room = refl
 depth_on depth line_feed tokens room = refl
 depth_on depth opening tokens room = refl
@@ -198,7 +198,7 @@ last_on : (p : Token) (tokens : List Token) (depth : ℕ) (rest after : List ℕ
 last_on p [] depth rest after fault stop whole ends last = ends_at_stop p depth after fault ends (subst (Stops p) whole stop)
 last_on p (q ∷ tokens) depth rest after fault stop whole ends last = last_in_front p q tokens after last
 
-pub one_token_more : (depth : ℕ) (octets rest : List ℕ) (p : Token) (tokens : List Token) (fault : Option Fault) → Takes depth octets p rest → IsCut (depth_behind depth p) rest tokens fault → IsCut depth octets (p ∷ tokens) fault
+pub one_token_more : (depth : ℕ) (octets rest : List ℕ) (p : Token) (tokens : List Token) (fault : Option Fault) → Takes depth octets p rest → IsCut (depth_past depth p) rest tokens fault → IsCut depth octets (p ∷ tokens) fault
 one_token_more depth octets rest p tokens fault front more = record {
   rest = more.rest;
   at = more.at;
@@ -228,7 +228,7 @@ shorter octets rest p is e = omega (arith, ap length e, length-append (token_tex
 cut_by_front : (depth : ℕ) (octets : List ℕ) (go_on : ℕ → List ℕ → Cutting) (front : Front) → IsFront depth octets front → ((at : ℕ) (rest : List ℕ) → length rest < length octets → IsCut at rest (go_on at rest).tokens (go_on at rest).broken) → IsCut depth octets (cut_on go_on depth front).tokens (cut_on go_on depth front).broken
 cut_by_front depth octets go_on (stops fault) is more = no_token depth octets fault is
 cut_by_front depth octets go_on (takes p rest) is more =
-    one_token_more depth octets rest p (go_on (depth_behind depth p) rest).tokens (go_on (depth_behind depth p) rest).broken is (more (depth_behind depth p) rest (shorter octets rest p is.token is.whole))
+    one_token_more depth octets rest p (go_on (depth_past depth p) rest).tokens (go_on (depth_past depth p) rest).broken is (more (depth_past depth p) rest (shorter octets rest p is.token is.whole))
 
 cut_is : (n depth : ℕ) (octets : List ℕ) → length octets < n → IsCut depth octets (cut_by n depth octets).tokens (cut_by n depth octets).broken
 unfolding cut_by
@@ -241,13 +241,13 @@ stop_of p [] depth after fault each follow last ends = stops_at_end p depth afte
 stop_of p (q ∷ tokens) depth after fault each follow last ends =
     subst (Stops p) (sym (append_assoc (token_text q) (text tokens) after)) (behind p q (text tokens ++ after) each.0 follow.0)
 
-pub follow_behind : (p : Token) (tokens : List Token) → AllFollow (p ∷ tokens) → AllFollow tokens
-follow_behind p [] follow = tt
-follow_behind p (q ∷ tokens) follow = follow.1
+pub follow_after : (p : Token) (tokens : List Token) → AllFollow (p ∷ tokens) → AllFollow tokens
+follow_after p [] follow = tt
+follow_after p (q ∷ tokens) follow = follow.1
 
-pub last_behind : (p : Token) (tokens : List Token) (after : List ℕ) → MayEndBefore (p ∷ tokens) after → MayEndBefore tokens after
-last_behind p [] after last = tt
-last_behind p (q ∷ tokens) after last = subst (λ P. P) (last_same p q tokens after) last
+pub last_after : (p : Token) (tokens : List Token) (after : List ℕ) → MayEndBefore (p ∷ tokens) after → MayEndBefore tokens after
+last_after p [] after last = tt
+last_after p (q ∷ tokens) after last = subst (λ P. P) (last_same p q tokens after) last
 
 cut_only : (tokens : List Token) (n depth : ℕ) (octets : List ℕ) (fault : Option Fault) → length octets < n → IsCut depth octets tokens fault → cut_by n depth octets ≡ record { tokens = tokens; broken = fault }
 unfolding cut_by
@@ -263,18 +263,18 @@ cut_only (p ∷ tokens) (suc n) depth octets fault enough is =
     let whole : octets ≡ token_text p ++ rest = is.whole ∙ append_assoc (token_text p) (text tokens) is.rest in
     let less : length rest < length octets = shorter octets rest p is.each.0 whole in
     let front : front_of depth octets ≡ takes p rest = ap (front_of depth) whole ∙ front_takes depth p rest is.each.0 (stop_of p tokens is.at is.rest fault is.each.1 is.follow is.last is.ends) room in
-    let more : IsCut (depth_behind depth p) rest tokens fault = record {
+    let more : IsCut (depth_past depth p) rest tokens fault = record {
       rest = is.rest;
       at = is.at;
       whole = refl;
       each = is.each.1;
-      follow = follow_behind p tokens is.follow;
-      last = last_behind p tokens is.rest is.last;
+      follow = follow_after p tokens is.follow;
+      last = last_after p tokens is.rest is.last;
       parentheses = sym (depth_on depth p tokens room) ∙ is.parentheses;
       ends = is.ends;
     } in
     ap (cut_on (cut_by n) depth) front
-    ∙ ap (λ (found : Cutting). record { tokens = p ∷ found.tokens; broken = found.broken }) (cut_only tokens n (depth_behind depth p) rest fault (omega arith) more)
+    ∙ ap (λ (found : Cutting). record { tokens = p ∷ found.tokens; broken = found.broken }) (cut_only tokens n (depth_past depth p) rest fault (omega arith) more)
 
 -- ---- what the cutting says
 

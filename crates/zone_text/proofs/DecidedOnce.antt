@@ -11,7 +11,7 @@ use Rattle.zone_text.specs.Machine.Lower.{Lower}
 use Rattle.zone_text.specs.Tokens.{Token, text}
 use Rattle.zone_text.specs.Source.{AreUnfinished}
 use Rattle.zone_text.proofs.Begun.{no_tokens, nothing_decided}
-use Rattle.zone_text.proofs.CutAgain.{joined, cut_again, cut_whole, and_last_behind}
+use Rattle.zone_text.proofs.CutAgain.{joined, cut_again, cut_whole, and_last_after}
 use Rattle.zone_text.proofs.Cuttings.{cut_not_broken}
 use Rattle.zone_text.proofs.Decides.{tokens_of, broken_once}
 use Rattle.zone_text.proofs.Files.{reads_once}
@@ -49,16 +49,16 @@ unfinished_once octets a b x y =
 all_ended : (tokens : List Token) → (cut_from zero tokens).open_tokens ≡ [] → tokens ≡ joined (cut_from zero tokens).ended
 all_ended tokens none = sym (cut_whole zero tokens) ∙ ap (λ t. joined (cut_from zero tokens).ended ++ t) none ∙ append-nil (joined (cut_from zero tokens).ended)
 
-pub cut_behind_all : (tokens more : List Token) → (cut_from zero tokens).open_tokens ≡ [] → cut_from zero (tokens ++ more) ≡ record { ended = (cut_from zero tokens).ended ++ (cut_from zero more).ended; open_tokens = (cut_from zero more).open_tokens }
-cut_behind_all tokens more none = ap (λ p. cut_from zero (p ++ more)) (all_ended tokens none) ∙ cut_again tokens more
+pub cut_after_all : (tokens more : List Token) → (cut_from zero tokens).open_tokens ≡ [] → cut_from zero (tokens ++ more) ≡ record { ended = (cut_from zero tokens).ended ++ (cut_from zero more).ended; open_tokens = (cut_from zero more).open_tokens }
+cut_after_all tokens more none = ap (λ p. cut_from zero (p ++ more)) (all_ended tokens none) ∙ cut_again tokens more
 
-pub ended_on_behind : (tokens more : List Token) → (cut_from zero tokens).open_tokens ≡ [] → ended_entries (tokens ++ more) ≡ ended_entries tokens ++ numbered (open_line tokens) (cut_from zero more).ended
-ended_on_behind tokens more none =
-    ap (λ (c : Cut). numbered 1 c.ended) (cut_behind_all tokens more none)
+pub ended_on_after : (tokens more : List Token) → (cut_from zero tokens).open_tokens ≡ [] → ended_entries (tokens ++ more) ≡ ended_entries tokens ++ numbered (open_line tokens) (cut_from zero more).ended
+ended_on_after tokens more none =
+    ap (λ (c : Cut). numbered 1 c.ended) (cut_after_all tokens more none)
     ∙ numbered_then 1 (cut_from zero tokens).ended (cut_from zero more).ended
 
-pub entries_on_behind : (tokens more : List Token) → (cut_from zero tokens).open_tokens ≡ [] → entries_of (tokens ++ more) ≡ ended_entries tokens ++ numbered (open_line tokens) (and_last (cut_from zero more).ended (cut_from zero more).open_tokens)
-entries_on_behind tokens more none =
-    ap (λ (c : Cut). numbered 1 (and_last c.ended c.open_tokens)) (cut_behind_all tokens more none)
-    ∙ ap (numbered 1) (and_last_behind (cut_from zero tokens).ended (cut_from zero more).ended (cut_from zero more).open_tokens)
+pub entries_on_after : (tokens more : List Token) → (cut_from zero tokens).open_tokens ≡ [] → entries_of (tokens ++ more) ≡ ended_entries tokens ++ numbered (open_line tokens) (and_last (cut_from zero more).ended (cut_from zero more).open_tokens)
+entries_on_after tokens more none =
+    ap (λ (c : Cut). numbered 1 (and_last c.ended c.open_tokens)) (cut_after_all tokens more none)
+    ∙ ap (numbered 1) (and_last_after (cut_from zero tokens).ended (cut_from zero more).ended (cut_from zero more).open_tokens)
     ∙ numbered_then 1 (cut_from zero tokens).ended (and_last (cut_from zero more).ended (cut_from zero more).open_tokens)

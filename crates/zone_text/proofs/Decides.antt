@@ -14,7 +14,7 @@ use Rattle.zone_text.specs.Decided.{AreTokens, Decided, decided, undecided, Stay
 use Rattle.zone_text.specs.Machine.Lower.{Lower}
 use Rattle.zone_text.proofs.Cuttings.{one_cut, one_break, cut_not_broken, cut_or_broken}
 use Rattle.zone_text.proofs.Lasting.{cut_joined, break_joined, cut_parted, break_parted, breaks_for_good}
-use Rattle.zone_text.proofs.CutAgain.{joined, cut_whole, cut_ended, cut_again, ended_at_zero, and_last_behind, numbered_front}
+use Rattle.zone_text.proofs.CutAgain.{joined, cut_whole, cut_ended, cut_again, ended_at_zero, and_last_after, numbered_front}
 use Rattle.zone_text.proofs.Entered.{record_once, fault_once, record_or_fault, nothing_or_record, nothing_or_fault}
 use Rattle.zone_text.proofs.Files.{reads_once, one_more}
 
@@ -113,7 +113,7 @@ ended_on tokens all (others, e) =
 pub entries_on : (tokens all : List Token) → GoesOn tokens all → (others : List Entry) × (entries_of all ≡ ended_entries tokens ++ others)
 entries_on tokens all (others, e) =
     let more = numbered_front 1 (cut_from zero tokens).ended (and_last (cut_from zero others).ended (cut_from zero others).open_tokens) in
-    (more.0, rw (e, cut_again, and_last_behind) (more.1))
+    (more.0, rw (e, cut_again, and_last_after) (more.1))
 
 -- ---- a prefix and a text that goes on
 

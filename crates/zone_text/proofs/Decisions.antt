@@ -22,51 +22,51 @@ use Rattle.zone_text.proofs.Ending.{ended_entries_first}
 use Rattle.zone_text.proofs.Decides.{tokens_of, goes_on, ended_on}
 use Rattle.zone_text.proofs.Escapes.{break_stays_or_ends}
 use Rattle.zone_text.proofs.ForGood.{ends_not_for_good}
-use Rattle.zone_text.proofs.Left.{line_feeds, reads_then, refused_before, reads_behind, numbered_then, IsSplit, cut_more, break_more, tokens_more, for_good_more, none_cut, none_more, ended_as_before, one_ended}
+use Rattle.zone_text.proofs.Left.{line_feeds, reads_then, refused_before, reads_after, numbered_then, IsSplit, cut_more, break_more, tokens_more, for_good_more, none_cut, none_more, ended_as_before, one_ended}
 
 -- what is read of ended entries, the first of them on line 1
 abbrev pub ReadsEnded : List (List ℕ) → Ending → List (List Token) → List Placed → Ending → Type 0
 ReadsEnded origin behind ended placed ending = ReadEach origin behind [] (numbered 1 ended) placed ending
 
 -- the line after ended entries
-abbrev pub line_behind : List (List Token) → ℕ
-line_behind ended = 1 + line_feeds (flat_map text ended)
+abbrev pub line_after : List (List Token) → ℕ
+line_after ended = 1 + line_feeds (flat_map text ended)
 
 -- ---- no fault is decided so far
 
 -- what follows entries without a fault is the end
-no_fault_behind : (origin : List (List ℕ)) (behind : Ending) (before entries : List Entry) (placed : List Placed) → ReadEach origin behind before entries placed None → behind ≡ None
-no_fault_behind origin behind before [] placed read = sym read.1
-no_fault_behind origin behind before (entry ∷ entries) placed (stated (states_none n read)) = no_fault_behind origin behind (entry ∷ before) entries placed read
-no_fault_behind origin behind before (entry ∷ entries) placed (stated (states_one p rest states place e read)) = no_fault_behind origin behind (entry ∷ before) entries rest read
-no_fault_behind origin behind before (entry ∷ entries) placed (refused fault h e f) = absurd (let t : ⊥ = cc in t)
+no_fault_after : (origin : List (List ℕ)) (behind : Ending) (before entries : List Entry) (placed : List Placed) → ReadEach origin behind before entries placed None → behind ≡ None
+no_fault_after origin behind before [] placed read = sym read.1
+no_fault_after origin behind before (entry ∷ entries) placed (stated (states_none n read)) = no_fault_after origin behind (entry ∷ before) entries placed read
+no_fault_after origin behind before (entry ∷ entries) placed (stated (states_one p rest states place e read)) = no_fault_after origin behind (entry ∷ before) entries rest read
+no_fault_after origin behind before (entry ∷ entries) placed (refused fault h e f) = absurd (let t : ⊥ = cc in t)
 
 -- then the entries that were ended state the records
 pub reads_so_far : (origin : List (List ℕ)) (fed : List ℕ) (tokens : List Token) (placed : List Placed) → Decided origin fed placed None → AreTokens fed tokens → ReadsEnded origin None (cut_from zero tokens).ended placed None
 reads_so_far origin fed tokens placed (undecided others are none read) is =
     subst (λ t. ReadsEnded origin None (cut_from zero t).ended placed None) (tokens_of fed others tokens are is) read
 reads_so_far origin fed tokens placed (decided others fault good read) is =
-    absurd (let e : Some (fault, Line (open_line others)) ≡ None = no_fault_behind origin (Some (fault, Line (open_line others))) [] (ended_entries others) placed read in let t : ⊥ = cc in t)
+    absurd (let e : Some (fault, Line (open_line others)) ≡ None = no_fault_after origin (Some (fault, Line (open_line others))) [] (ended_entries others) placed read in let t : ⊥ = cc in t)
 
 -- ---- octets more
 
 -- one entry more is ended
-pub one_entry_more : (origin : List (List ℕ)) (fed more : List ℕ) (ended : List (List Token)) (unfinished : List ℕ) (entry : List Token) (placed others : List Placed) (ending : Ending) → IsSplit fed ended unfinished → Cuts (unfinished ++ more) entry → cut_from zero entry ≡ record { ended = entry ∷ []; open_tokens = [] } → ReadsEnded origin None ended placed None → ReadEach origin None (reverse (numbered 1 ended)) (entry_of (line_behind ended) entry ∷ []) others ending → Decided origin (fed ++ more) (placed ++ others) ending
+pub one_entry_more : (origin : List (List ℕ)) (fed more : List ℕ) (ended : List (List Token)) (unfinished : List ℕ) (entry : List Token) (placed others : List Placed) (ending : Ending) → IsSplit fed ended unfinished → Cuts (unfinished ++ more) entry → cut_from zero entry ≡ record { ended = entry ∷ []; open_tokens = [] } → ReadsEnded origin None ended placed None → ReadEach origin None (reverse (numbered 1 ended)) (entry_of (line_after ended) entry ∷ []) others ending → Decided origin (fed ++ more) (placed ++ others) ending
 one_entry_more origin fed more ended unfinished entry placed others ending is cut one read next =
     let tokens : List Token = joined ended ++ entry in
     let cuts : Cuts (fed ++ more) tokens = cut_more fed more ended unfinished entry is cut in
-    let entries : numbered 1 ended ++ entry_of (line_behind ended) entry ∷ [] ≡ ended_entries tokens = sym (ap (numbered 1) (one_ended ended entry is.stays one) ∙ numbered_then 1 ended (entry ∷ [])) in
-    let all : ReadEach origin None [] (numbered 1 ended ++ entry_of (line_behind ended) entry ∷ []) (placed ++ others) ending = reads_then origin None [] (numbered 1 ended) (entry_of (line_behind ended) entry ∷ []) placed others ending read (subst (λ t. ReadEach origin None t (entry_of (line_behind ended) entry ∷ []) others ending) (sym (append-nil (reverse (numbered 1 ended)))) next) in
+    let entries : numbered 1 ended ++ entry_of (line_after ended) entry ∷ [] ≡ ended_entries tokens = sym (ap (numbered 1) (one_ended ended entry is.stays one) ∙ numbered_then 1 ended (entry ∷ [])) in
+    let all : ReadEach origin None [] (numbered 1 ended ++ entry_of (line_after ended) entry ∷ []) (placed ++ others) ending = reads_then origin None [] (numbered 1 ended) (entry_of (line_after ended) entry ∷ []) placed others ending read (subst (λ t. ReadEach origin None t (entry_of (line_after ended) entry ∷ []) others ending) (sym (append-nil (reverse (numbered 1 ended)))) next) in
     undecided tokens (inl cuts) (none_cut (fed ++ more) tokens cuts) (subst (λ t. ReadEach origin None [] t (placed ++ others) ending) entries all)
 
 -- no entry more is ended, and they break for good
-pub break_decided : (origin : List (List ℕ)) (fed more : List ℕ) (ended : List (List Token)) (unfinished : List ℕ) (tokens : List Token) (fault : Fault) (placed : List Placed) → IsSplit fed ended unfinished → BreaksForGood (unfinished ++ more) tokens fault → (cut_from zero tokens).ended ≡ [] → ReadsEnded origin None ended placed None → Decided origin (fed ++ more) placed (Some (fault, Line (line_behind ended)))
+pub break_decided : (origin : List (List ℕ)) (fed more : List ℕ) (ended : List (List Token)) (unfinished : List ℕ) (tokens : List Token) (fault : Fault) (placed : List Placed) → IsSplit fed ended unfinished → BreaksForGood (unfinished ++ more) tokens fault → (cut_from zero tokens).ended ≡ [] → ReadsEnded origin None ended placed None → Decided origin (fed ++ more) placed (Some (fault, Line (line_after ended)))
 break_decided origin fed more ended unfinished tokens fault placed is good none read =
     let same : ended ≡ (cut_from zero (joined ended ++ tokens)).ended = sym (ended_as_before ended tokens is.stays none) in
     let found : Decided origin (fed ++ more) placed (Some (fault, Line (open_line (joined ended ++ tokens)))) =
     decided (joined ended ++ tokens) fault (for_good_more fed more ended unfinished tokens fault is good)
-    (reads_behind origin (Some (fault, Line (open_line (joined ended ++ tokens)))) [] (ended_entries (joined ended ++ tokens)) placed (subst (λ t. ReadsEnded origin None t placed None) same read)) in
-    subst (λ (t : List (List Token)). Decided origin (fed ++ more) placed (Some (fault, Line (line_behind t)))) (sym same) found
+    (reads_after origin (Some (fault, Line (open_line (joined ended ++ tokens)))) [] (ended_entries (joined ended ++ tokens)) placed (subst (λ t. ReadsEnded origin None t placed None) same read)) in
+    subst (λ (t : List (List Token)). Decided origin (fed ++ more) placed (Some (fault, Line (line_after t)))) (sym same) found
 
 -- no entry more is ended, and others may come
 pub still_undecided : (origin : List (List ℕ)) (fed more : List ℕ) (ended : List (List Token)) (unfinished : List ℕ) (tokens : List Token) (placed : List Placed) → IsSplit fed ended unfinished → AreTokens (unfinished ++ more) tokens → ((fault : Fault) → BreaksForGood (unfinished ++ more) tokens fault → ⊥) → (cut_from zero tokens).ended ≡ [] → ReadsEnded origin None ended placed None → Decided origin (fed ++ more) placed None
@@ -133,19 +133,19 @@ whole_lines origin fed ended placed is read =
     whole (joined ended ++ []) cut (subst (λ t. ReadEach origin None [] t placed None) (sym (entries_are ended [] is.stays refl)) read)
 
 -- some are, and are the last entry
-pub last_entry : (origin : List (List ℕ)) (fed : List ℕ) (ended : List (List Token)) (unfinished : List ℕ) (p : Token) (tokens : List Token) (placed others : List Placed) (ending : Ending) → IsSplit fed ended unfinished → Cuts unfinished (p ∷ tokens) → (cut_from zero (p ∷ tokens)).ended ≡ [] → ReadsEnded origin None ended placed None → ReadEach origin None (reverse (numbered 1 ended)) (entry_of (line_behind ended) (p ∷ tokens) ∷ []) others ending → FileReads origin fed (placed ++ others) ending
+pub last_entry : (origin : List (List ℕ)) (fed : List ℕ) (ended : List (List Token)) (unfinished : List ℕ) (p : Token) (tokens : List Token) (placed others : List Placed) (ending : Ending) → IsSplit fed ended unfinished → Cuts unfinished (p ∷ tokens) → (cut_from zero (p ∷ tokens)).ended ≡ [] → ReadsEnded origin None ended placed None → ReadEach origin None (reverse (numbered 1 ended)) (entry_of (line_after ended) (p ∷ tokens) ∷ []) others ending → FileReads origin fed (placed ++ others) ending
 last_entry origin fed ended unfinished p tokens placed others ending is cut none read next =
     let entry : List Token = p ∷ tokens in
-    let entries : numbered 1 ended ++ entry_of (line_behind ended) entry ∷ [] ≡ entries_of (joined ended ++ entry) = sym (entries_are ended entry is.stays none ∙ numbered_then 1 ended (entry ∷ [])) in
-    let all : ReadEach origin None [] (numbered 1 ended ++ entry_of (line_behind ended) entry ∷ []) (placed ++ others) ending = reads_then origin None [] (numbered 1 ended) (entry_of (line_behind ended) entry ∷ []) placed others ending read (subst (λ t. ReadEach origin None t (entry_of (line_behind ended) entry ∷ []) others ending) (sym (append-nil (reverse (numbered 1 ended)))) next) in
+    let entries : numbered 1 ended ++ entry_of (line_after ended) entry ∷ [] ≡ entries_of (joined ended ++ entry) = sym (entries_are ended entry is.stays none ∙ numbered_then 1 ended (entry ∷ [])) in
+    let all : ReadEach origin None [] (numbered 1 ended ++ entry_of (line_after ended) entry ∷ []) (placed ++ others) ending = reads_then origin None [] (numbered 1 ended) (entry_of (line_after ended) entry ∷ []) placed others ending read (subst (λ t. ReadEach origin None t (entry_of (line_after ended) entry ∷ []) others ending) (sym (append-nil (reverse (numbered 1 ended)))) next) in
     whole (joined ended ++ entry) (all_tokens fed ended unfinished entry is cut) (subst (λ t. ReadEach origin None [] t (placed ++ others) ending) entries all)
 
 -- they break
-pub last_broken : (origin : List (List ℕ)) (fed : List ℕ) (ended : List (List Token)) (unfinished : List ℕ) (tokens : List Token) (fault : Fault) (placed : List Placed) → IsSplit fed ended unfinished → Breaks unfinished tokens fault → (cut_from zero tokens).ended ≡ [] → ReadsEnded origin None ended placed None → FileReads origin fed placed (Some (fault, Line (line_behind ended)))
+pub last_broken : (origin : List (List ℕ)) (fed : List ℕ) (ended : List (List Token)) (unfinished : List ℕ) (tokens : List Token) (fault : Fault) (placed : List Placed) → IsSplit fed ended unfinished → Breaks unfinished tokens fault → (cut_from zero tokens).ended ≡ [] → ReadsEnded origin None ended placed None → FileReads origin fed placed (Some (fault, Line (line_after ended)))
 last_broken origin fed ended unfinished tokens fault placed is breaks none read =
     let same : ended ≡ (cut_from zero (joined ended ++ tokens)).ended = sym (ended_as_before ended tokens is.stays none) in
     let all : Breaks fed (joined ended ++ tokens) fault = subst (λ t. Breaks t (joined ended ++ tokens) fault) (append-nil fed) (break_more fed [] ended unfinished tokens fault is (subst (λ t. Breaks t tokens fault) (sym (append-nil unfinished)) breaks)) in
     let found : FileReads origin fed placed (Some (fault, Line (open_line (joined ended ++ tokens)))) =
     broken (joined ended ++ tokens) fault all
-    (reads_behind origin (Some (fault, Line (open_line (joined ended ++ tokens)))) [] (ended_entries (joined ended ++ tokens)) placed (subst (λ t. ReadsEnded origin None t placed None) same read)) in
-    subst (λ (t : List (List Token)). FileReads origin fed placed (Some (fault, Line (line_behind t)))) (sym same) found
+    (reads_after origin (Some (fault, Line (open_line (joined ended ++ tokens)))) [] (ended_entries (joined ended ++ tokens)) placed (subst (λ t. ReadsEnded origin None t placed None) same read)) in
+    subst (λ (t : List (List Token)). FileReads origin fed placed (Some (fault, Line (line_after t)))) (sym same) found

@@ -28,21 +28,21 @@ DecidesOctets octets place d old new next =
     (origin : Labels) (before : List Entry) (line : ℕ) (tokens : List Token) → AreDefaults origin before d → Cuts octets tokens → DecidesEntry origin before (entry_of line tokens) place old new next
 
 -- the line after octets
-pub record IsLineBehind (octets : List ℕ) (old new : EndedEntries) : Type 0 where
+pub record IsLineAfter (octets : List ℕ) (old new : EndedEntries) : Type 0 where
   pub count : new.line ≡ old.line + line_feeds octets
   pub few : line_feeds octets ≤ length octets
 
-pub lines_behind : (octets : List ℕ) (old new : EndedEntries) (n : ℕ) → n ≡ line_feeds octets → n ≤ length octets → new.line ≡ old.line + n → IsLineBehind octets old new
-lines_behind octets old new n count few line = record {
+pub lines_after : (octets : List ℕ) (old new : EndedEntries) (n : ℕ) → n ≡ line_feeds octets → n ≤ length octets → new.line ≡ old.line + n → IsLineAfter octets old new
+lines_after octets old new n count few line = record {
   count = line ∙ ap (λ k. old.line + k) count;
   few = omega (arith, count, few);
 }
 
-line_of : (octets : List ℕ) (old new : EndedEntries) (tokens : List Token) → IsLineBehind octets old new → Cuts octets tokens → new.line ≡ old.line + line_feeds (text tokens)
+line_of : (octets : List ℕ) (old new : EndedEntries) (tokens : List Token) → IsLineAfter octets old new → Cuts octets tokens → new.line ≡ old.line + line_feeds (text tokens)
 line_of octets old new tokens behind cut = behind.count ∙ ap (λ t. old.line + line_feeds t) cut.whole
 
 -- what an entry decides is what is read of it
-entry_read : (origin : Labels) (before : List Entry) (tokens : List Token) (octets : List ℕ) (old new : EndedEntries) → old.decided.ending ≡ None → IsLineBehind octets old new → Cuts octets tokens → DecidesEntry origin before (entry_of old.line tokens) (Line old.line) old.decided new.decided new.defaults → ReadsEntry origin before tokens old new
+entry_read : (origin : Labels) (before : List Entry) (tokens : List Token) (octets : List ℕ) (old new : EndedEntries) → old.decided.ending ≡ None → IsLineAfter octets old new → Cuts octets tokens → DecidesEntry origin before (entry_of old.line tokens) (Line old.line) old.decided new.decided new.defaults → ReadsEntry origin before tokens old new
 entry_read origin before tokens octets old new none behind cut (decides_none leaves same) = record {
   others = [];
   read = stated (states_none leaves.0 (refl, ap (λ d. d.ending) same ∙ none));
@@ -67,7 +67,7 @@ entry_read origin before tokens octets old new none behind cut (decides_fault fa
   line = λ going. absurd (let t : ⊥ = cc in t);
 }
 
-pub takes_entry : (octets : List ℕ) (old new : EndedEntries) → DecidesOctets octets (Line old.line) old.defaults old.decided new.decided new.defaults → old.decided.ending ≡ None → IsLineBehind octets old new → ReadsOctets octets old new
+pub takes_entry : (octets : List ℕ) (old new : EndedEntries) → DecidesOctets octets (Line old.line) old.defaults old.decided new.decided new.defaults → old.decided.ending ≡ None → IsLineAfter octets old new → ReadsOctets octets old new
 takes_entry octets old new decides none behind = record {
   reads = λ origin before tokens are cut. entry_read origin before tokens octets old new none behind cut (decides origin before old.line tokens are cut);
   later = omega (arith, behind.count);

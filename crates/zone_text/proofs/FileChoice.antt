@@ -32,9 +32,9 @@ low_front : (front rest : List ℕ) → AreLow (front ++ rest) → AreLow front
 low_front [] rest low = tt
 low_front (c ∷ front) rest low = (low.0, low_front front rest low.1)
 
-low_behind : (front rest : List ℕ) → AreLow (front ++ rest) → AreLow rest
-low_behind [] rest low = low
-low_behind (c ∷ front) rest low = low_behind front rest low.1
+low_after : (front rest : List ℕ) → AreLow (front ++ rest) → AreLow rest
+low_after [] rest low = low
+low_after (c ∷ front) rest low = low_after front rest low.1
 
 low_item : (p : Token) (items : List RawItem) → AreLow (token_text p) → AreOctetItems items → AreOctetItems (item_of p ++ items)
 low_item (blank c) items low others = others
@@ -47,14 +47,14 @@ low_item (quoted units) items low others = (low_front (written_text units) (34 �
 
 low_items : (tokens : List Token) → AreLow (text tokens) → AreOctetItems (flat_map item_of tokens)
 low_items [] low = tt
-low_items (p ∷ tokens) low = low_item p (flat_map item_of tokens) (low_front (token_text p) (text tokens) low) (low_items tokens (low_behind (token_text p) (text tokens) low))
+low_items (p ∷ tokens) low = low_item p (flat_map item_of tokens) (low_front (token_text p) (text tokens) low) (low_items tokens (low_after (token_text p) (text tokens) low))
 
 abbrev AreLowEntries : List Entry → Type 0
 AreLowEntries entries = AllByRecursion (λ (entry : Entry). AreOctetItems entry.items) entries
 
 low_entries : (line : ℕ) (entries : List (List Token)) → AreLow (flat_map text entries) → AreLowEntries (numbered line entries)
 low_entries line [] low = tt
-low_entries line (tokens ∷ entries) low = (low_items tokens (low_front (text tokens) (flat_map text entries) low), low_entries (line + count_by (λ c. c == 10) (text tokens)) entries (low_behind (text tokens) (flat_map text entries) low))
+low_entries line (tokens ∷ entries) low = (low_items tokens (low_front (text tokens) (flat_map text entries) low), low_entries (line + count_by (λ c. c == 10) (text tokens)) entries (low_after (text tokens) (flat_map text entries) low))
 
 low_ended : (ended : List (List Token)) (open_tokens : List Token) → AreLow (flat_map text (and_last ended open_tokens)) → AreLow (flat_map text ended)
 low_ended ended [] low = low

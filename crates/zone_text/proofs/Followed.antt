@@ -24,8 +24,8 @@ use Rattle.zone_text.specs.Machine.Scan.{beginning, further, end_fault_of, IsOne
 use Rattle.zone_text.specs.Machine.Feeding.{ReadsEntry, ReadsOctets, Follow, ScansTo}
 use Rattle.zone_text.specs.Source.{Leave}
 use Rattle.zone_text.proofs.CutAgain.{joined}
-use Rattle.zone_text.proofs.Left.{line_feeds, numbered_then, IsSplit, split, whole_behind, cut_more, tokens_more, ended_as_before, one_ended}
-use Rattle.zone_text.proofs.Decisions.{ReadsEnded, line_behind, reads_so_far, one_entry_more, break_decided, still_undecided, fault_stays, fault_is_read, whole_lines, last_entry, last_broken}
+use Rattle.zone_text.proofs.Left.{line_feeds, numbered_then, IsSplit, split, whole_after, cut_more, tokens_more, ended_as_before, one_ended}
+use Rattle.zone_text.proofs.Decisions.{ReadsEnded, line_after, reads_so_far, one_entry_more, break_decided, still_undecided, fault_stays, fault_is_read, whole_lines, last_entry, last_broken}
 use Rattle.zone_text.proofs.Scanned.{goes_on, ends_entry, stays_open, loses_escape, closes_nothing, at_end}
 
 -- ---- what is left of the octets fed so far, entry by entry
@@ -34,7 +34,7 @@ use Rattle.zone_text.proofs.Scanned.{goes_on, ends_entry, stays_open, loses_esca
 pub record IsRead (origin : Labels) (ended : List (List Token)) (entries : EndedEntries) (unfinished fed : List ℕ) (given : List Placed) : Type 0 where
   pub parts : IsSplit fed ended unfinished
   pub defaults : AreDefaults origin (reverse (numbered 1 ended)) entries.defaults
-  pub line : entries.line ≡ line_behind ended
+  pub line : entries.line ≡ line_after ended
   pub read : ReadsEnded origin None ended (given ++ entries.decided.placed.items) None
 
 pub is_read : (origin : Labels) (entries : EndedEntries) (unfinished fed : List ℕ) (given : List Placed) → entries.decided.ending ≡ None → Follow origin entries unfinished fed given → (ended : List (List Token)) × IsRead origin ended entries unfinished fed given
@@ -73,10 +73,10 @@ follow_on origin entries at unfinished part fed given scanned none follow =
         octets = record {
           tokens = joined ended ++ is_open.0;
           are = tokens_more fed part ended unfinished is_open.0 is.parts is_open.1;
-          whole = whole_behind fed part ended unfinished is.parts ∙ ap (λ t. flat_map text t ++ (unfinished ++ part)) (sym same);
+          whole = whole_after fed part ended unfinished is.parts ∙ ap (λ t. flat_map text t ++ (unfinished ++ part)) (sym same);
         };
         inherited = subst (λ t. AreDefaults origin (reverse (numbered 1 t)) entries.defaults) (sym same) is.defaults;
-        numbered = is.line ∙ ap line_behind (sym same);
+        numbered = is.line ∙ ap line_after (sym same);
       };
     }
 
@@ -86,22 +86,22 @@ reverse_more : (entries : List Entry) (entry : Entry) → reverse (entries ++ en
 reverse_more entries entry = reverse-append entries (entry ∷ [])
 
 -- the entries after one more
-numbered_more : (ended : List (List Token)) (tokens : List Token) → reverse (numbered 1 (ended ++ tokens ∷ [])) ≡ entry_of (line_behind ended) tokens ∷ reverse (numbered 1 ended)
+numbered_more : (ended : List (List Token)) (tokens : List Token) → reverse (numbered 1 (ended ++ tokens ∷ [])) ≡ entry_of (line_after ended) tokens ∷ reverse (numbered 1 ended)
 numbered_more ended tokens =
-    ap reverse (numbered_then 1 ended (tokens ∷ [])) ∙ reverse_more (numbered 1 ended) (entry_of (line_behind ended) tokens)
+    ap reverse (numbered_then 1 ended (tokens ∷ [])) ∙ reverse_more (numbered 1 ended) (entry_of (line_after ended) tokens)
 
-line_more : (ended : List (List Token)) (tokens : List Token) → line_behind (ended ++ tokens ∷ []) ≡ line_behind ended + line_feeds (text tokens)
+line_more : (ended : List (List Token)) (tokens : List Token) → line_after (ended ++ tokens ∷ []) ≡ line_after ended + line_feeds (text tokens)
 line_more ended tokens =
     ap (λ t. 1 + line_feeds t) (sym (flat_map_more text [] ended tokens))
     ∙ ap (λ n. 1 + n) (sum_by-append _ (flat_map text ended) (text tokens))
     ∙ omega arith
 
 -- what is left once an entry is ended that isn't refused
-left_behind : (origin : Labels) (ended : List (List Token)) (old new : EndedEntries) (unfinished part fed : List ℕ) (given : List Placed) (tokens : List Token) → IsRead origin ended old unfinished fed given → IsOneEntry (unfinished ++ part) tokens → ReadsEntry origin (reverse (numbered 1 ended)) tokens old new → new.decided.ending ≡ None → Leave origin (fed ++ part) new.defaults new.line []
-left_behind origin ended old new unfinished part fed given tokens is one read none =
+left_over : (origin : Labels) (ended : List (List Token)) (old new : EndedEntries) (unfinished part fed : List ℕ) (given : List Placed) (tokens : List Token) → IsRead origin ended old unfinished fed given → IsOneEntry (unfinished ++ part) tokens → ReadsEntry origin (reverse (numbered 1 ended)) tokens old new → new.decided.ending ≡ None → Leave origin (fed ++ part) new.defaults new.line []
+left_over origin ended old new unfinished part fed given tokens is one read none =
     let all : (cut_from zero (joined ended ++ tokens)).ended ≡ ended ++ tokens ∷ [] = one_ended ended tokens is.parts.stays one.ended in
     let octets : fed ++ part ≡ flat_map text (ended ++ tokens ∷ []) ++ [] =
-    whole_behind fed part ended unfinished is.parts
+    whole_after fed part ended unfinished is.parts
     ∙ ap (λ t. flat_map text ended ++ t) one.cut.whole
     ∙ flat_map_more text [] ended tokens
     ∙ sym (append-nil (flat_map text (ended ++ tokens ∷ []))) in
@@ -112,7 +112,7 @@ left_behind origin ended old new unfinished part fed given tokens is one read no
         whole = octets ∙ ap (λ t. flat_map text t ++ []) (sym all);
       };
       inherited = subst (λ (t : List Entry). AreDefaults origin t new.defaults) (ap (λ n. entry_of n tokens ∷ reverse (numbered 1 ended)) is.line ∙ sym (numbered_more ended tokens) ∙ ap (λ t. reverse (numbered 1 t)) (sym all)) (read.defaults none);
-      numbered = read.line none ∙ ap (λ n. n + line_feeds (text tokens)) is.line ∙ sym (line_more ended tokens) ∙ ap line_behind (sym all);
+      numbered = read.line none ∙ ap (λ n. n + line_feeds (text tokens)) is.line ∙ sym (line_more ended tokens) ∙ ap line_after (sym all);
     }
 
 pub follow_one : (origin : Labels) (old new : EndedEntries) (unfinished part fed : List ℕ) (given : List Placed) (tokens : List Token) → IsOneEntry (unfinished ++ part) tokens → old.decided.ending ≡ None → ReadsOctets (unfinished ++ part) old new → Follow origin old unfinished fed given → Follow origin new [] (fed ++ part) given
@@ -121,11 +121,11 @@ follow_one origin old new unfinished part fed given tokens one none reads follow
     let ended : List (List Token) = found.0 in
     let is : IsRead origin ended old unfinished fed given = found.1 in
     let read : ReadsEntry origin (reverse (numbered 1 ended)) tokens old new = reads.reads origin (reverse (numbered 1 ended)) tokens is.defaults one.cut in
-    let next : ReadEach origin None (reverse (numbered 1 ended)) (entry_of (line_behind ended) tokens ∷ []) read.others new.decided.ending = subst (λ n. ReadEach origin None (reverse (numbered 1 ended)) (entry_of n tokens ∷ []) read.others new.decided.ending) is.line read.read in
+    let next : ReadEach origin None (reverse (numbered 1 ended)) (entry_of (line_after ended) tokens ∷ []) read.others new.decided.ending = subst (λ n. ReadEach origin None (reverse (numbered 1 ended)) (entry_of n tokens ∷ []) read.others new.decided.ending) is.line read.read in
     let records : (given ++ old.decided.placed.items) ++ read.others ≡ given ++ new.decided.placed.items = append_assoc given old.decided.placed.items read.others ∙ ap (λ t. given ++ t) (sym read.records) in
     record {
       decided = subst (λ t. Decided origin (fed ++ part) t new.decided.ending) records (one_entry_more origin fed part ended unfinished tokens (given ++ old.decided.placed.items) read.others new.decided.ending is.parts one.cut one.ended is.read next);
-      leave = left_behind origin ended old new unfinished part fed given tokens is one read;
+      leave = left_over origin ended old new unfinished part fed given tokens is one read;
     }
 
 pub follow_entry : (origin : Labels) (old new : EndedEntries) (unfinished part fed : List ℕ) (given : List Placed) → ScansTo beginning (unfinished ++ part) Ends → old.decided.ending ≡ None → ReadsOctets (unfinished ++ part) old new → Follow origin old unfinished fed given → Follow origin new [] (fed ++ part) given
@@ -140,8 +140,8 @@ follow_break origin old new fault unfinished part fed given tokens good alone no
     let found = is_read origin old unfinished fed given none follow in
     let ended : List (List Token) = found.0 in
     let is : IsRead origin ended old unfinished fed given = found.1 in
-    let decided : Decided origin (fed ++ part) (given ++ old.decided.placed.items) (Some (fault, Line (line_behind ended))) = break_decided origin fed part ended unfinished tokens fault (given ++ old.decided.placed.items) is.parts good alone is.read in
-    let last : Some (fault, Line (line_behind ended)) ≡ new.decided.ending = ap (λ n. let e : Ending = Some (fault, Line n) in e) (sym is.line) ∙ sym ending in
+    let decided : Decided origin (fed ++ part) (given ++ old.decided.placed.items) (Some (fault, Line (line_after ended))) = break_decided origin fed part ended unfinished tokens fault (given ++ old.decided.placed.items) is.parts good alone is.read in
+    let last : Some (fault, Line (line_after ended)) ≡ new.decided.ending = ap (λ n. let e : Ending = Some (fault, Line n) in e) (sym is.line) ∙ sym ending in
     record {
       decided = subst (λ t. Decided origin (fed ++ part) (given ++ t) new.decided.ending) (sym records) (subst (λ e. Decided origin (fed ++ part) (given ++ old.decided.placed.items) e) last decided);
       leave = λ none. absurd (let t : ⊥ = cc in t);
@@ -190,15 +190,15 @@ end_of_break origin old new at fault unfinished fed given scanned ends none reco
     let ended : List (List Token) = found.0 in
     let is : IsRead origin ended old unfinished fed given = found.1 in
     let breaks = rw ends at (at_end unfinished at scanned) in
-    let read : FileReads origin fed (given ++ old.decided.placed.items) (Some (fault, Line (line_behind ended))) = last_broken origin fed ended unfinished breaks.0 fault (given ++ old.decided.placed.items) is.parts breaks.1 breaks.2 is.read in
-    let last : Some (fault, Line (line_behind ended)) ≡ new.decided.ending = ap (λ n. let e : Ending = Some (fault, Line n) in e) (sym is.line) ∙ sym ending in
+    let read : FileReads origin fed (given ++ old.decided.placed.items) (Some (fault, Line (line_after ended))) = last_broken origin fed ended unfinished breaks.0 fault (given ++ old.decided.placed.items) is.parts breaks.1 breaks.2 is.read in
+    let last : Some (fault, Line (line_after ended)) ≡ new.decided.ending = ap (λ n. let e : Ending = Some (fault, Line n) in e) (sym is.line) ∙ sym ending in
     subst (λ t. FileReads origin fed (given ++ t) new.decided.ending) (sym records) (subst (λ e. FileReads origin fed (given ++ old.decided.placed.items) e) last read)
 
 -- they are the last entry
 last_read : (origin : Labels) (ended : List (List Token)) (old new : EndedEntries) (c : ℕ) (more fed : List ℕ) (given : List Placed) (tokens : List Token) → IsRead origin ended old (c ∷ more) fed given → Cuts (c ∷ more) tokens → (cut_from zero tokens).ended ≡ [] → ReadsEntry origin (reverse (numbered 1 ended)) tokens old new → Reads origin fed given new
 last_read origin ended old new c more fed given [] is cut alone read = absurd (let e : c ∷ more ≡ [] = cut.whole in let t : ⊥ = cc in t)
 last_read origin ended old new c more fed given (p ∷ tokens) is cut alone read =
-    let next : ReadEach origin None (reverse (numbered 1 ended)) (entry_of (line_behind ended) (p ∷ tokens) ∷ []) read.others new.decided.ending = subst (λ n. ReadEach origin None (reverse (numbered 1 ended)) (entry_of n (p ∷ tokens) ∷ []) read.others new.decided.ending) is.line read.read in
+    let next : ReadEach origin None (reverse (numbered 1 ended)) (entry_of (line_after ended) (p ∷ tokens) ∷ []) read.others new.decided.ending = subst (λ n. ReadEach origin None (reverse (numbered 1 ended)) (entry_of n (p ∷ tokens) ∷ []) read.others new.decided.ending) is.line read.read in
     let records : (given ++ old.decided.placed.items) ++ read.others ≡ given ++ new.decided.placed.items = append_assoc given old.decided.placed.items read.others ∙ ap (λ t. given ++ t) (sym read.records) in
     subst (λ t. FileReads origin fed t new.decided.ending) records (last_entry origin fed ended (c ∷ more) p tokens (given ++ old.decided.placed.items) read.others new.decided.ending is.parts cut alone is.read next)
 

@@ -15,8 +15,8 @@ use Rattle.zone_text.specs.Machine.ItemLengths.{EndsBefore, item_len}
 use Rattle.zone_text.specs.Machine.Kept.{AreKept, Keeps}
 use Rattle.zone_text.specs.Machine.Line.{KeepsItems}
 use Rattle.zone_text.specs.Tokens.{Token, blank, opening, closing, line_feed, comment, bare, quoted, token_text, text, is_blank, ends_item, Cuts, IsToken, AllFollow}
-use Rattle.zone_text.proofs.Cuttings.{follow_behind}
-use Rattle.zone_text.proofs.Kept.{keeps_more, none_kept}
+use Rattle.zone_text.proofs.Cuttings.{follow_after}
+use Rattle.zone_text.proofs.Kept.{keeps_more}
 use Rattle.zone_text.proofs.TokenEnds.{bare_ends, quoted_ends, item_len_of, comment_len_of}
 
 -- ---- the first octet of a token
@@ -160,28 +160,28 @@ bare_takes octets after left c n whole goes_on len within back =
 -- ---- all tokens of a text
 
 -- a token ends before those after it
-ends_behind : (p : Token) (tokens : List Token) → AllByRecursion IsToken tokens → AllFollow (p ∷ tokens) → EndsBefore p (text tokens)
-ends_behind (blank c) tokens each follow = tt
-ends_behind opening tokens each follow = tt
-ends_behind closing tokens each follow = tt
-ends_behind line_feed tokens each follow = tt
-ends_behind (quoted units) tokens each follow = tt
-ends_behind (bare units) [] each follow = tt
-ends_behind (bare units) (blank c ∷ tokens) each follow = rw (each.0) refl
-ends_behind (bare units) (opening ∷ tokens) each follow = refl
-ends_behind (bare units) (closing ∷ tokens) each follow = refl
-ends_behind (bare units) (line_feed ∷ tokens) each follow = refl
-ends_behind (bare units) (comment octets ∷ tokens) each follow = refl
-ends_behind (bare units) (bare more ∷ tokens) each follow = absurd follow.0
-ends_behind (bare units) (quoted more ∷ tokens) each follow = refl
-ends_behind (comment octets) [] each follow = tt
-ends_behind (comment octets) (blank c ∷ tokens) each follow = absurd follow.0
-ends_behind (comment octets) (opening ∷ tokens) each follow = absurd follow.0
-ends_behind (comment octets) (closing ∷ tokens) each follow = absurd follow.0
-ends_behind (comment octets) (line_feed ∷ tokens) each follow = refl
-ends_behind (comment octets) (comment more ∷ tokens) each follow = absurd follow.0
-ends_behind (comment octets) (bare more ∷ tokens) each follow = absurd follow.0
-ends_behind (comment octets) (quoted more ∷ tokens) each follow = absurd follow.0
+ends_after : (p : Token) (tokens : List Token) → AllByRecursion IsToken tokens → AllFollow (p ∷ tokens) → EndsBefore p (text tokens)
+ends_after (blank c) tokens each follow = tt
+ends_after opening tokens each follow = tt
+ends_after closing tokens each follow = tt
+ends_after line_feed tokens each follow = tt
+ends_after (quoted units) tokens each follow = tt
+ends_after (bare units) [] each follow = tt
+ends_after (bare units) (blank c ∷ tokens) each follow = rw (each.0) refl
+ends_after (bare units) (opening ∷ tokens) each follow = refl
+ends_after (bare units) (closing ∷ tokens) each follow = refl
+ends_after (bare units) (line_feed ∷ tokens) each follow = refl
+ends_after (bare units) (comment octets ∷ tokens) each follow = refl
+ends_after (bare units) (bare more ∷ tokens) each follow = absurd follow.0
+ends_after (bare units) (quoted more ∷ tokens) each follow = refl
+ends_after (comment octets) [] each follow = tt
+ends_after (comment octets) (blank c ∷ tokens) each follow = absurd follow.0
+ends_after (comment octets) (opening ∷ tokens) each follow = absurd follow.0
+ends_after (comment octets) (closing ∷ tokens) each follow = absurd follow.0
+ends_after (comment octets) (line_feed ∷ tokens) each follow = refl
+ends_after (comment octets) (comment more ∷ tokens) each follow = absurd follow.0
+ends_after (comment octets) (bare more ∷ tokens) each follow = absurd follow.0
+ends_after (comment octets) (quoted more ∷ tokens) each follow = absurd follow.0
 
 -- the tokens that are left, and the items of those before them, of which these are kept
 pub record IsLeft (rest : List ℕ) (kept : List RawItem) (tokens : List Token) : Type 0 where
@@ -196,26 +196,15 @@ pub record IsLeft (rest : List ℕ) (kept : List RawItem) (tokens : List Token) 
 abbrev pub LeavesItems : List ℕ → List ℕ → List RawItem → Type 0
 LeavesItems entry rest kept = (tokens : List Token) → Cuts entry tokens → IsLeft rest kept tokens
 
-pub all_left : (entry : List ℕ) → LeavesItems entry entry []
-all_left entry tokens cuts = record {
-  more = tokens;
-  whole = cuts.whole;
-  each = cuts.each;
-  follow = cuts.follow;
-  so_far = [];
-  are_kept = none_kept;
-  items = refl;
-}
-
 left_by : (octets left : List ℕ) (kept new item : List RawItem) (tokens more : List Token) (so_far : List RawItem) → 0 < length octets → FrontIs octets item left → ((p : Token) → IsToken p → item ≡ item_of p → AreKept (so_far ++ item) new) → octets ≡ text more → AllByRecursion IsToken more → AllFollow more → so_far ++ flat_map item_of more ≡ flat_map item_of tokens → IsLeft left new tokens
 left_by octets left kept new item tokens [] so_far some front keeps whole each follow items = absurd (let none : length octets ≡ 0 = ap length whole in omega arith)
 left_by octets left kept new item tokens (p ∷ more) so_far some front keeps whole each follow items =
-    let found = front p (text more) each.0 (ends_behind p more each.1 follow) whole in
+    let found = front p (text more) each.0 (ends_after p more each.1 follow) whole in
     record {
       more = more;
       whole = found.1;
       each = each.1;
-      follow = follow_behind p more follow;
+      follow = follow_after p more follow;
       so_far = so_far ++ item;
       are_kept = keeps p each.0 found.0;
       items = rw (append_assoc, found.0) items;

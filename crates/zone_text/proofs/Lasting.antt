@@ -10,9 +10,9 @@ use Rattle.zone_name.proofs.Pushing.{AllByRecursion-append, AllByRecursion-front
 use Rattle.zone_text.specs.Tokens.{Token, blank, opening, closing, line_feed, comment, bare, quoted, token_text, text, IsToken, AllFollow, depth_after, Cuts}
 use Rattle.zone_text.specs.Breaks.{IsBroken, closes_nothing, no_escape, no_quoted_escape, no_quote, not_closed, MayEndBefore, Breaks}
 use Rattle.zone_text.specs.Lasting.{EndInLineFeed, IsLostEscape, at_line_end, one_digit, two_digits, too_great, StaysBroken, closing_stays, escape_stays, quoted_escape_stays, BreaksForGood}
-use Rattle.zone_text.specs.Machine.Cutting.{stops, depth_behind}
+use Rattle.zone_text.specs.Machine.Cutting.{stops, depth_past}
 use Rattle.zone_text.proofs.Fronts.{front_stops}
-use Rattle.zone_text.proofs.Cuttings.{IsCut, is_cut, cuts, is_broken, breaks, last_behind, last_in_front, follow_behind, depth_on, room_of}
+use Rattle.zone_text.proofs.Cuttings.{IsCut, is_cut, cuts, is_broken, breaks, last_after, last_in_front, follow_after, depth_on, room_of}
 
 -- ---- tokens after tokens
 
@@ -20,14 +20,14 @@ line_feed_then : (more : List Token) → AllFollow more → AllFollow (line_feed
 line_feed_then [] follow = tt
 line_feed_then (p ∷ more) follow = (tt, follow)
 
-ends_behind : (p q : Token) (tokens : List Token) → EndInLineFeed (p ∷ q ∷ tokens) → EndInLineFeed (q ∷ tokens)
-ends_behind (blank c) q tokens ends = ends
-ends_behind line_feed q tokens ends = ends
-ends_behind opening q tokens ends = ends
-ends_behind closing q tokens ends = ends
-ends_behind (comment octets) q tokens ends = ends
-ends_behind (bare units) q tokens ends = ends
-ends_behind (quoted units) q tokens ends = ends
+ends_after : (p q : Token) (tokens : List Token) → EndInLineFeed (p ∷ q ∷ tokens) → EndInLineFeed (q ∷ tokens)
+ends_after (blank c) q tokens ends = ends
+ends_after line_feed q tokens ends = ends
+ends_after opening q tokens ends = ends
+ends_after closing q tokens ends = ends
+ends_after (comment octets) q tokens ends = ends
+ends_after (bare units) q tokens ends = ends
+ends_after (quoted units) q tokens ends = ends
 
 the_line_feed : (p : Token) → EndInLineFeed (p ∷ []) → p ≡ line_feed
 the_line_feed line_feed ends = refl
@@ -41,7 +41,7 @@ the_line_feed (quoted units) ends = absurd ends
 follow_append : (tokens more : List Token) → AllFollow tokens → EndInLineFeed tokens → AllFollow more → AllFollow (tokens ++ more)
 follow_append [] more follow ends others = others
 follow_append (p ∷ []) more follow ends others = subst (λ q. AllFollow (q ∷ more)) (sym (the_line_feed p ends)) (line_feed_then more others)
-follow_append (p ∷ q ∷ tokens) more follow ends others = (follow.0, follow_append (q ∷ tokens) more follow.1 (ends_behind p q tokens ends) others)
+follow_append (p ∷ q ∷ tokens) more follow ends others = (follow.0, follow_append (q ∷ tokens) more follow.1 (ends_after p q tokens ends) others)
 
 follow_front : (tokens more : List Token) → AllFollow (tokens ++ more) → AllFollow tokens
 follow_front [] more follow = tt
@@ -50,11 +50,11 @@ follow_front (p ∷ q ∷ tokens) more follow = (follow.0, follow_front (q ∷ t
 
 follow_back : (tokens more : List Token) → AllFollow (tokens ++ more) → AllFollow more
 follow_back [] more follow = follow
-follow_back (p ∷ tokens) more follow = follow_back tokens more (follow_behind p (tokens ++ more) follow)
+follow_back (p ∷ tokens) more follow = follow_back tokens more (follow_after p (tokens ++ more) follow)
 
 last_back : (tokens more : List Token) (rest : List ℕ) → MayEndBefore (tokens ++ more) rest → MayEndBefore more rest
 last_back [] more rest last = last
-last_back (p ∷ tokens) more rest last = last_back tokens more rest (last_behind p (tokens ++ more) rest last)
+last_back (p ∷ tokens) more rest last = last_back tokens more rest (last_after p (tokens ++ more) rest last)
 
 last_line_feed : (more : List Token) (rest : List ℕ) → MayEndBefore more rest → MayEndBefore (line_feed ∷ more) rest
 last_line_feed [] rest last = tt
@@ -63,13 +63,13 @@ last_line_feed (q ∷ more) rest last = last
 last_append : (tokens more : List Token) (rest : List ℕ) → EndInLineFeed tokens → MayEndBefore more rest → MayEndBefore (tokens ++ more) rest
 last_append [] more rest ends last = last
 last_append (p ∷ []) more rest ends last = subst (λ q. MayEndBefore (q ∷ more) rest) (sym (the_line_feed p ends)) (last_line_feed more rest last)
-last_append (p ∷ q ∷ tokens) more rest ends last = last_in_front p q (tokens ++ more) rest (last_append (q ∷ tokens) more rest (ends_behind p q tokens ends) last)
+last_append (p ∷ q ∷ tokens) more rest ends last = last_in_front p q (tokens ++ more) rest (last_append (q ∷ tokens) more rest (ends_after p q tokens ends) last)
 
 depth_append : (depth at : ℕ) (tokens more : List Token) → depth_after depth tokens ≡ Some at → depth_after depth (tokens ++ more) ≡ depth_after at more
 depth_append depth at [] more e = let same : depth ≡ at = cc in ap (λ d. depth_after d more) same
 depth_append depth at (p ∷ tokens) more e =
     let room = room_of depth at p tokens e in
-    depth_on depth p (tokens ++ more) room ∙ depth_append (depth_behind depth p) at tokens more (sym (depth_on depth p tokens room) ∙ e)
+    depth_on depth p (tokens ++ more) room ∙ depth_append (depth_past depth p) at tokens more (sym (depth_on depth p tokens room) ∙ e)
 
 -- ---- what stands after a line feed outside parentheses is cut by itself
 
@@ -249,7 +249,7 @@ last_before (closing ∷ []) rest after some last = tt
 last_before (comment octets ∷ []) rest after some last = absurd (some last)
 last_before (bare units ∷ []) rest after some last = tt
 last_before (quoted units ∷ []) rest after some last = tt
-last_before (p ∷ q ∷ tokens) rest after some last = last_in_front p q tokens after (last_before (q ∷ tokens) rest after some (last_behind p (q ∷ tokens) rest last))
+last_before (p ∷ q ∷ tokens) rest after some last = last_in_front p q tokens after (last_before (q ∷ tokens) rest after some (last_after p (q ∷ tokens) rest last))
 
 pub breaks_for_good : (octets more : List ℕ) (tokens : List Token) (fault : Fault) → BreaksForGood octets tokens fault → BreaksForGood (octets ++ more) tokens fault
 breaks_for_good octets more tokens fault good =

@@ -58,11 +58,11 @@ refused_before origin behind before (entry ∷ entries) more placed found (state
 refused_before origin behind before (entry ∷ entries) more placed found (refused fault h e f) = refused fault h e f
 
 -- the same entries, and what follows them
-pub reads_behind : (origin : List (List ℕ)) (behind : Ending) (before entries : List Entry) (placed : List Placed) → ReadEach origin None before entries placed None → ReadEach origin behind before entries placed behind
-reads_behind origin behind before [] placed read = (read.0, refl)
-reads_behind origin behind before (entry ∷ entries) placed (stated (states_none n read)) = stated (states_none n (reads_behind origin behind (entry ∷ before) entries placed read))
-reads_behind origin behind before (entry ∷ entries) placed (stated (states_one p rest states place e read)) = stated (states_one p rest states place e (reads_behind origin behind (entry ∷ before) entries rest read))
-reads_behind origin behind before (entry ∷ entries) placed (refused fault h e f) = absurd (none_is_some (fault, Line entry.line) f)
+pub reads_after : (origin : List (List ℕ)) (behind : Ending) (before entries : List Entry) (placed : List Placed) → ReadEach origin None before entries placed None → ReadEach origin behind before entries placed behind
+reads_after origin behind before [] placed read = (read.0, refl)
+reads_after origin behind before (entry ∷ entries) placed (stated (states_none n read)) = stated (states_none n (reads_after origin behind (entry ∷ before) entries placed read))
+reads_after origin behind before (entry ∷ entries) placed (stated (states_one p rest states place e read)) = stated (states_one p rest states place e (reads_after origin behind (entry ∷ before) entries rest read))
+reads_after origin behind before (entry ∷ entries) placed (refused fault h e f) = absurd (none_is_some (fault, Line entry.line) f)
 
 -- ---- lines
 
@@ -91,8 +91,8 @@ split fed tokens unfinished are rest = record {
 longer : (fed more : List ℕ) (ended : List (List Token)) (unfinished : List ℕ) → IsSplit fed ended unfinished → fed ++ more ≡ text (joined ended) ++ (unfinished ++ more)
 longer fed more ended unfinished is = ap (λ t. t ++ more) is.whole ∙ append_assoc (text (joined ended)) unfinished more
 
-pub whole_behind : (fed more : List ℕ) (ended : List (List Token)) (unfinished : List ℕ) → IsSplit fed ended unfinished → fed ++ more ≡ flat_map text ended ++ (unfinished ++ more)
-whole_behind fed more ended unfinished is = longer fed more ended unfinished is ∙ ap (λ t. t ++ (unfinished ++ more)) (sym (text_of_entries ended))
+pub whole_after : (fed more : List ℕ) (ended : List (List Token)) (unfinished : List ℕ) → IsSplit fed ended unfinished → fed ++ more ≡ flat_map text ended ++ (unfinished ++ more)
+whole_after fed more ended unfinished is = longer fed more ended unfinished is ∙ ap (λ t. t ++ (unfinished ++ more)) (sym (text_of_entries ended))
 
 pub cut_more : (fed more : List ℕ) (ended : List (List Token)) (unfinished : List ℕ) (tokens : List Token) → IsSplit fed ended unfinished → Cuts (unfinished ++ more) tokens → Cuts (fed ++ more) (joined ended ++ tokens)
 cut_more fed more ended unfinished tokens is cut =
@@ -107,8 +107,8 @@ tokens_more fed more ended unfinished tokens is (inl cut) = inl (cut_more fed mo
 tokens_more fed more ended unfinished tokens is (inr found) = inr (found.0, break_more fed more ended unfinished tokens found.0 is found.1)
 
 -- what breaks the octets after the ended entries, as the octets so far show, breaks all
-behind_tokens : (fed more : List ℕ) (ended : List (List Token)) (unfinished : List ℕ) (tokens : List Token) (rest : List ℕ) → IsSplit fed ended unfinished → unfinished ++ more ≡ text tokens ++ rest → fed ++ more ≡ text (joined ended ++ tokens) ++ rest
-behind_tokens fed more ended unfinished tokens rest is e =
+after_tokens : (fed more : List ℕ) (ended : List (List Token)) (unfinished : List ℕ) (tokens : List Token) (rest : List ℕ) → IsSplit fed ended unfinished → unfinished ++ more ≡ text tokens ++ rest → fed ++ more ≡ text (joined ended ++ tokens) ++ rest
+after_tokens fed more ended unfinished tokens rest is e =
     longer fed more ended unfinished is
     ∙ ap (λ t. text (joined ended) ++ t) e
     ∙ sym (append_assoc (text (joined ended)) (text tokens) rest)
@@ -119,7 +119,7 @@ for_good_more fed more ended unfinished tokens fault is good =
     stays_for_good (fed ++ more) (joined ended ++ tokens) fault
     (break_more fed more ended unfinished tokens fault is good.breaks)
     good.breaks.rest
-    (behind_tokens fed more ended unfinished tokens good.breaks.rest is good.breaks.whole)
+    (after_tokens fed more ended unfinished tokens good.breaks.rest is good.breaks.whole)
     good.stays
 
 -- and where nothing does yet, nothing does
@@ -129,7 +129,7 @@ none_cut octets tokens cut fault good = cut_not_broken octets tokens tokens faul
 none_broken : (fed more : List ℕ) (ended : List (List Token)) (unfinished : List ℕ) (tokens : List Token) (fault : Fault) (breaks : Breaks (unfinished ++ more) tokens fault) → IsSplit fed ended unfinished → ((other : Fault) → BreaksForGood (unfinished ++ more) tokens other → ⊥) → StaysBroken breaks.rest ⊎ BreaksAtEnd breaks.rest → (other : Fault) → BreaksForGood (fed ++ more) (joined ended ++ tokens) other → ⊥
 none_broken fed more ended unfinished tokens fault breaks is none (inl stays) other good = none fault (record { breaks = breaks; stays = stays })
 none_broken fed more ended unfinished tokens fault breaks is none (inr ends) other good =
-    ends_not_for_good (fed ++ more) (joined ended ++ tokens) breaks.rest (behind_tokens fed more ended unfinished tokens breaks.rest is breaks.whole) ends other good
+    ends_not_for_good (fed ++ more) (joined ended ++ tokens) breaks.rest (after_tokens fed more ended unfinished tokens breaks.rest is breaks.whole) ends other good
 
 pub none_more : (fed more : List ℕ) (ended : List (List Token)) (unfinished : List ℕ) (tokens : List Token) → IsSplit fed ended unfinished → AreTokens (unfinished ++ more) tokens → ((fault : Fault) → BreaksForGood (unfinished ++ more) tokens fault → ⊥) → (fault : Fault) → BreaksForGood (fed ++ more) (joined ended ++ tokens) fault → ⊥
 none_more fed more ended unfinished tokens is (inl cut) none fault good =

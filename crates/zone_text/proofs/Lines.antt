@@ -8,7 +8,7 @@ use Rattle.zone_rdata.specs.Record.{Record}
 use Rattle.zone_rdata.specs.Spelling.{RawItem}
 use Rattle.zone_rdata.specs.Spelling as raw
 use Rattle.zone_text.specs.Entries.{Cut, in_front_of, cut_from, and_last, Entry, entry_of, numbered, entries_of, item_of}
-use Rattle.zone_text.specs.Forms.{form_by, form_of, owned, Word, ttl, class, word_behind, Parts, parts_behind, parts_of, begins_with_digit, is_class_word}
+use Rattle.zone_text.specs.Forms.{form_by, form_of, owned, Word, ttl, class, word_after, Parts, parts_after, parts_of, begins_with_digit, is_class_word}
 use Rattle.zone_text.specs.Inherited.{IsOrigin}
 use Rattle.zone_text.specs.Line.{IsItem, line_of, StatesWhole}
 use Rattle.zone_text.specs.Tokens.{Token, blank, line_feed, bare, quoted, text, is_blank, IsToken, MayFollow, AllFollow, depth_after, Cuts}
@@ -29,19 +29,19 @@ each_token [] are = (tt, tt)
 each_token (item ∷ []) are = (token_of item are.0, (tt, tt))
 each_token (item ∷ next ∷ items) are = (token_of item are.0, (refl, each_token (next ∷ items) are.1))
 
-behind_item : (item : Token) → IsItem item → MayFollow item (blank 32) × MayFollow item line_feed
-behind_item (bare units) is = (tt, tt)
-behind_item (quoted units) is = (tt, tt)
-behind_item item is = absurd is
+item_passed : (item : Token) → IsItem item → MayFollow item (blank 32) × MayFollow item line_feed
+item_passed (bare units) is = (tt, tt)
+item_passed (quoted units) is = (tt, tt)
+item_passed item is = absurd is
 
-behind_blank : (tokens : List Token) → AllFollow tokens → AllFollow (blank 32 ∷ tokens)
-behind_blank [] follow = tt
-behind_blank (p ∷ tokens) follow = (tt, follow)
+after_blank : (tokens : List Token) → AllFollow tokens → AllFollow (blank 32 ∷ tokens)
+after_blank [] follow = tt
+after_blank (p ∷ tokens) follow = (tt, follow)
 
 all_follow : (items : List Token) → AllByRecursion IsItem items → AllFollow (line_of items)
 all_follow [] are = tt
-all_follow (item ∷ []) are = ((behind_item item are.0).1, tt)
-all_follow (item ∷ next ∷ items) are = ((behind_item item are.0).0, behind_blank (line_of (next ∷ items)) (all_follow (next ∷ items) are.1))
+all_follow (item ∷ []) are = ((item_passed item are.0).1, tt)
+all_follow (item ∷ next ∷ items) are = ((item_passed item are.0).0, after_blank (line_of (next ∷ items)) (all_follow (next ∷ items) are.1))
 
 item_depth : (item : Token) (tokens : List Token) → IsItem item → depth_after zero (item ∷ tokens) ≡ depth_after zero tokens
 item_depth (bare units) tokens is = refl
@@ -86,14 +86,14 @@ owned_form None item items plain = refl
 owned_form (Some c) item items plain = rw (not_equal c 36 plain.1, plain.0) refl
 
 -- after a TTL and a class stands no further word
-no_third : (ttl_word class_word word : List ℕ) → word_behind (ttl ttl_word ∷ class class_word ∷ []) (raw.bare word) ≡ None
+no_third : (ttl_word class_word word : List ℕ) → word_after (ttl ttl_word ∷ class class_word ∷ []) (raw.bare word) ≡ None
 no_third ttl_word class_word word =
     elim (begins_with_digit word) as (λ b. cond {A = Option Word} b None (cond {A = Option Word} (is_class_word word) None None) ≡ None) [
       | true ↦ refl
       | false ↦ elim (is_class_word word) as (λ b. cond {A = Option Word} b None None ≡ None) [ true ↦ refl | false ↦ refl ]
     ]
 
-whole_parts : (ttl_word class_word kind_word : List ℕ) (items : List RawItem) → begins_with_digit ttl_word ≡ true → begins_with_digit class_word ≡ false → is_class_word class_word ≡ true → parts_behind [] (raw.bare ttl_word ∷ raw.bare class_word ∷ raw.bare kind_word ∷ items) ≡ record { words = ttl ttl_word ∷ class class_word ∷ []; rest = raw.bare kind_word ∷ items }
+whole_parts : (ttl_word class_word kind_word : List ℕ) (items : List RawItem) → begins_with_digit ttl_word ≡ true → begins_with_digit class_word ≡ false → is_class_word class_word ≡ true → parts_after [] (raw.bare ttl_word ∷ raw.bare class_word ∷ raw.bare kind_word ∷ items) ≡ record { words = ttl ttl_word ∷ class class_word ∷ []; rest = raw.bare kind_word ∷ items }
 whole_parts ttl_word class_word kind_word items is_ttl no_ttl is_class =
     next_part [] (raw.bare ttl_word) (raw.bare class_word ∷ raw.bare kind_word ∷ items) (Some (ttl ttl_word)) (rw is_ttl refl)
     ∙ (next_part (ttl ttl_word ∷ []) (raw.bare class_word) (raw.bare kind_word ∷ items) (Some (class class_word)) (rw (no_ttl, is_class) refl)

@@ -8,8 +8,8 @@ use Rattle.zone_name.proofs.Units.{NoUnit, at_end, at_octet, at_backslash, unit_
 use Rattle.zone_rdata.specs.declared.fault.Fault.{Fault}
 use Rattle.zone_rdata.specs.declared.fault.Fault.TheVariants.{BadEscape, UnclosedQuote}
 use Rattle.zone_rdata.specs.Strings.{is_quote}
-use Rattle.zone_text.specs.declared.scan.Behind.{Behind}
-use Rattle.zone_text.specs.declared.scan.Behind.TheVariants.{Inside, Whole, Lost}
+use Rattle.zone_text.specs.declared.scan.AfterBackslash.{AfterBackslash}
+use Rattle.zone_text.specs.declared.scan.AfterBackslash.TheVariants.{Inside, Whole, Lost}
 use Rattle.zone_text.specs.declared.scan.Escape.{Escape}
 use Rattle.zone_text.specs.declared.scan.Escape.TheVariants.{Begun, One, Two}
 use Rattle.zone_text.specs.declared.scan.Mode.{Mode}
@@ -19,8 +19,8 @@ use Rattle.zone_text.specs.declared.scan.ScanState.{ScanState}
 use Rattle.zone_text.specs.declared.scan.Step.{Step}
 use Rattle.zone_text.specs.declared.scan.Step.TheVariants.{On, Ends, LostEscape, ClosesNothing}
 use Rattle.zone_text.specs.Tokens.{Token, blank, opening, closing, line_feed, comment, bare, quoted, token_text, is_blank, ends_item, IsToken}
-use Rattle.zone_text.specs.Lasting.{IsLostEscape, at_line_end, one_digit, two_digits, too_great, IsCutOff, behind_backslash, behind_digit, behind_two_digits}
-use Rattle.zone_text.specs.Machine.Cutting.{depth_behind}
+use Rattle.zone_text.specs.Lasting.{IsLostEscape, at_line_end, one_digit, two_digits, too_great, IsCutOff, after_backslash, after_digit, after_two_digits}
+use Rattle.zone_text.specs.Machine.Cutting.{depth_past}
 use Rattle.zone_text.specs.Machine.Scan.{on, fed_line, closed, open_step, quoted_step, comment_step, ends_number, escape_step, step_in, step_of, scan_on, scan_of, unclosed, end_fault_of}
 use Rattle.zone_text.specs.Machine.Scan as machine
 use Rattle.zone_text.proofs.Escapes.{malformed_is_bad}
@@ -56,7 +56,7 @@ pub data Reads (step : Step) : ℕ → List ℕ → Type 0 where
   in_quote : (depth : ℕ) (octets : List ℕ) (units : List Written) → RanOut (Some UnclosedQuote) step → AllByRecursion (IsUnit is_quote) units → octets ≡ 34 ∷ written_text units → Reads step depth octets
   in_escape : (depth : ℕ) (octets : List ℕ) → EscapeAt step octets → Reads step depth octets
   in_quoted_escape : (depth : ℕ) (octets : List ℕ) (units : List Written) (after : List ℕ) → AllByRecursion (IsUnit is_quote) units → octets ≡ 34 ∷ written_text units ++ after → EscapeAt step after → Reads step depth octets
-  then_more : (depth : ℕ) (octets : List ℕ) (p : Token) (rest : List ℕ) → Takes depth octets p rest → EndsNone depth p → Reads step (depth_behind depth p) rest → Reads step depth octets
+  then_more : (depth : ℕ) (octets : List ℕ) (p : Token) (rest : List ℕ) → Takes depth octets p rest → EndsNone depth p → Reads step (depth_past depth p) rest → Reads step depth octets
 
 -- ---- first octets
 
@@ -86,9 +86,9 @@ escape_begins : (step : Step) (octets : List ℕ) → EscapeAt step octets → (
 escape_begins (On at) octets open_escape = cut_begins open_escape.1
   where
     cut_begins : IsCutOff octets → (more : List ℕ) × (octets ≡ 92 ∷ more)
-    cut_begins (behind_backslash e) = ([], e)
-    cut_begins (behind_digit x e dx) = (x ∷ [], e)
-    cut_begins (behind_two_digits x y e dx dy) = (x ∷ y ∷ [], e)
+    cut_begins (after_backslash e) = ([], e)
+    cut_begins (after_digit x e dx) = (x ∷ [], e)
+    cut_begins (after_two_digits x y e dx dy) = (x ∷ y ∷ [], e)
 escape_begins LostEscape octets lost = begins_backslash octets lost
 escape_begins Ends octets open_escape = absurd open_escape
 escape_begins ClosesNothing octets open_escape = absurd open_escape
@@ -115,15 +115,15 @@ others_begin c d octets more text e f other =
 none_begins : (c : ℕ) (octets text : List ℕ) → text ≡ c ∷ octets → text ≡ [] → ⊥
 none_begins c octets text e f = let both : c ∷ octets ≡ [] = sym e ∙ f in cc
 
-rest_behind : (c : ℕ) (octets more text : List ℕ) → text ≡ c ∷ octets → text ≡ c ∷ more → octets ≡ more
-rest_behind c octets more text e f = let both : c ∷ octets ≡ c ∷ more = sym e ∙ f in cc
+rest_after : (c : ℕ) (octets more text : List ℕ) → text ≡ c ∷ octets → text ≡ c ∷ more → octets ≡ more
+rest_after c octets more text e f = let both : c ∷ octets ≡ c ∷ more = sym e ∙ f in cc
 
 -- ---- a unit more before what a quote opened
 
 module _ (step : Step) (depth : ℕ) (w : Written) (is : IsUnit is_quote w) (octets text : List ℕ) (e : text ≡ 34 ∷ octets) where
-  quoted_more : (rest : List ℕ) (p : Token) → Takes depth text p rest → EndsNone depth p → Reads step (depth_behind depth p) rest → Reads step depth (34 ∷ (text_of w ++ octets))
+  quoted_more : (rest : List ℕ) (p : Token) → Takes depth text p rest → EndsNone depth p → Reads step (depth_past depth p) rest → Reads step depth (34 ∷ (text_of w ++ octets))
   quoted_more rest (quoted units) front none more =
-      let tail : octets ≡ (written_text units ++ 34 ∷ []) ++ rest = rest_behind 34 octets ((written_text units ++ 34 ∷ []) ++ rest) text e front.whole in
+      let tail : octets ≡ (written_text units ++ 34 ∷ []) ++ rest = rest_after 34 octets ((written_text units ++ 34 ∷ []) ++ rest) text e front.whole in
       then_more depth (34 ∷ (text_of w ++ octets)) (quoted (w ∷ units)) rest (record {
         whole = ap (λ t. 34 ∷ t) (
             ap (λ t. text_of w ++ t) (tail ∙ append_assoc (written_text units) (34 ∷ []) rest)
@@ -146,11 +146,11 @@ module _ (step : Step) (depth : ℕ) (w : Written) (is : IsUnit is_quote w) (oct
   push_quoted_in (closes depth text s d f) = absurd (others_begin 34 41 octets [] text e f (λ h. omega arith))
   push_quoted_in (runs_out depth text ran f) = absurd (none_begins 34 octets text e f)
   push_quoted_in (in_quote depth text units ran each f) =
-      in_quote depth (34 ∷ (text_of w ++ octets)) (w ∷ units) ran (is, each) (ap (λ t. 34 ∷ (text_of w ++ t)) (rest_behind 34 octets (written_text units) text e f))
+      in_quote depth (34 ∷ (text_of w ++ octets)) (w ∷ units) ran (is, each) (ap (λ t. 34 ∷ (text_of w ++ t)) (rest_after 34 octets (written_text units) text e f))
   push_quoted_in (in_escape depth text open_escape) = absurd (no_escape_begins step 34 octets text e (λ h. omega arith) open_escape)
   push_quoted_in (in_quoted_escape depth text units after each f open_escape) =
       in_quoted_escape depth (34 ∷ (text_of w ++ octets)) (w ∷ units) after (is, each) (
-      ap (λ t. 34 ∷ (text_of w ++ t)) (rest_behind 34 octets (written_text units ++ after) text e f)
+      ap (λ t. 34 ∷ (text_of w ++ t)) (rest_after 34 octets (written_text units ++ after) text e f)
       ∙ ap (λ t. 34 ∷ t) (sym (append_assoc (text_of w) (written_text units) after))
       ) open_escape
   push_quoted_in (then_more depth text p rest front none more) = quoted_more rest p front none more
@@ -161,10 +161,10 @@ push_quoted step depth w octets is more = push_quoted_in step depth w is octets 
 -- ---- an octet more before what a semicolon opened
 
 module _ (step : Step) (depth c : ℕ) (is : c ≢ 10) (octets text : List ℕ) (e : text ≡ 59 ∷ octets) where
-  comment_more : (rest : List ℕ) (p : Token) → Takes depth text p rest → EndsNone depth p → Reads step (depth_behind depth p) rest → Reads step depth (59 ∷ c ∷ octets)
+  comment_more : (rest : List ℕ) (p : Token) → Takes depth text p rest → EndsNone depth p → Reads step (depth_past depth p) rest → Reads step depth (59 ∷ c ∷ octets)
   comment_more rest (comment others) front none more =
       then_more depth (59 ∷ c ∷ octets) (comment (c ∷ others)) rest (record {
-        whole = ap (λ t. 59 ∷ c ∷ t) (rest_behind 59 octets (others ++ rest) text e front.whole);
+        whole = ap (λ t. 59 ∷ c ∷ t) (rest_after 59 octets (others ++ rest) text e front.whole);
         token = (is, front.token);
         stop = front.stop;
         room = tt;
@@ -199,7 +199,7 @@ module _ (step : Step) (depth : ℕ) (w : Written) (is : IsUnit ends_item w) (oc
     room = tt;
   }) tt more
 
-  bare_more : (rest : List ℕ) (p : Token) → Takes depth octets p rest → EndsNone depth p → Reads step (depth_behind depth p) rest → Reads step depth (text_of w ++ octets)
+  bare_more : (rest : List ℕ) (p : Token) → Takes depth octets p rest → EndsNone depth p → Reads step (depth_past depth p) rest → Reads step depth (text_of w ++ octets)
   bare_more rest (bare units) front none more = then_more depth (text_of w ++ octets) (bare (w ∷ units)) rest (record {
     whole = ap (λ t. text_of w ++ t) front.whole ∙ sym (append_assoc (text_of w) (written_text units) rest);
     token = (omega arith, (is, front.token.1));
@@ -253,7 +253,7 @@ HoldsDigits (QuotedEscaped escape) = AreDigits escape
 -- ---- one octet
 
 -- what an octet after a backslash makes of the escape
-abbrev EscapeBy : Escape → ℕ → Behind → Type 0
+abbrev EscapeBy : Escape → ℕ → AfterBackslash → Type 0
 EscapeBy escape c (Inside next) = AreDigits next × ((octets : List ℕ) → escape_text escape (c ∷ octets) ≡ escape_text next octets)
 EscapeBy escape c Whole = (w : Written) × IsEscape w × ((octets : List ℕ) → escape_text escape (c ∷ octets) ≡ text_of w ++ octets)
 EscapeBy escape c Lost = IsLostEscape (escape_text escape (c ∷ []))
@@ -273,9 +273,9 @@ ends_no_number x y c dx dy e = elim (cases_Bool (is_digit c)) as (λ s. IsLostEs
   | inr nc ↦ two_digits x y c [] refl dx dy nc
 ]
 
-escape_by : (escape : Escape) (c : ℕ) → AreDigits escape → EscapeBy escape c (machine.behind_backslash escape c)
+escape_by : (escape : Escape) (c : ℕ) → AreDigits escape → EscapeBy escape c (machine.after_backslash escape c)
 escape_by Begun c digits =
-    let P : Behind → Type 0 = EscapeBy Begun c in
+    let P : AfterBackslash → Type 0 = EscapeBy Begun c in
     cond_both (is_digit c) (Inside (One c)) _ P (λ d. (d, λ octets. refl)) λ d.
     cond_both (c == 10 || c == 13) Lost Whole P (ends_line c) λ e.
     let other = or_parts (c == 10) (c == 13) e in
@@ -361,12 +361,12 @@ one_comment depth c = cond_both (c == 10) (fed_line depth) (on Comment depth) (O
     (λ e. comment_line depth c (eqb-true c 10 e) (fed_line depth) (open_line depth c (eqb-true c 10 e)))
     (λ e. (tt, λ octets step more. push_comment step depth c octets (eqb-false c 10 e) more))
 
-one_escaped : (depth c : ℕ) (escape : Escape) (behind : Behind) → EscapeBy escape c behind → OneMore (Escaped escape) depth c (escape_step (λ e. Escaped e) Open depth behind)
+one_escaped : (depth c : ℕ) (escape : Escape) (behind : AfterBackslash) → EscapeBy escape c behind → OneMore (Escaped escape) depth c (escape_step (λ e. Escaped e) Open depth behind)
 one_escaped depth c escape (Inside next) by = (by.0, λ octets step more. subst (Reads step depth) (sym (by.1 octets)) more)
 one_escaped depth c escape Whole by = (tt, λ octets step more. subst (Reads step depth) (sym (by.2 octets)) (push_bare step depth by.0 (unit_of_escape ends_item by.0 by.1) octets more))
 one_escaped depth c escape Lost by = in_escape depth (escape_text escape (c ∷ [])) by
 
-one_quoted_escaped : (depth c : ℕ) (escape : Escape) (behind : Behind) → EscapeBy escape c behind → OneMore (QuotedEscaped escape) depth c (escape_step (λ e. QuotedEscaped e) Quoted depth behind)
+one_quoted_escaped : (depth c : ℕ) (escape : Escape) (behind : AfterBackslash) → EscapeBy escape c behind → OneMore (QuotedEscaped escape) depth c (escape_step (λ e. QuotedEscaped e) Quoted depth behind)
 one_quoted_escaped depth c escape (Inside next) by = (by.0, λ octets step more. subst (λ t. Reads step depth (34 ∷ t)) (sym (by.1 octets)) more)
 one_quoted_escaped depth c escape Whole by = (tt, λ octets step more. subst (λ t. Reads step depth (34 ∷ t)) (sym (by.2 octets)) (push_quoted step depth by.0 octets (unit_of_escape is_quote by.0 by.1) more))
 one_quoted_escaped depth c escape Lost by = in_quoted_escape depth (34 ∷ escape_text escape (c ∷ [])) [] (escape_text escape (c ∷ [])) tt refl by
@@ -375,15 +375,15 @@ one_more : (mode : Mode) (depth c : ℕ) → HoldsDigits mode → OneMore mode d
 one_more Open depth c digits = one_open depth c
 one_more Quoted depth c digits = one_quoted depth c
 one_more Comment depth c digits = one_comment depth c
-one_more (Escaped escape) depth c digits = one_escaped depth c escape (machine.behind_backslash escape c) (escape_by escape c digits)
-one_more (QuotedEscaped escape) depth c digits = one_quoted_escaped depth c escape (machine.behind_backslash escape c) (escape_by escape c digits)
+one_more (Escaped escape) depth c digits = one_escaped depth c escape (machine.after_backslash escape c) (escape_by escape c digits)
+one_more (QuotedEscaped escape) depth c digits = one_quoted_escaped depth c escape (machine.after_backslash escape c) (escape_by escape c digits)
 
 -- ---- no octet
 
 cut_off : (escape : Escape) → AreDigits escape → IsCutOff (escape_text escape [])
-cut_off Begun digits = behind_backslash refl
-cut_off (One x) digits = behind_digit x refl digits
-cut_off (Two x y) digits = behind_two_digits x y refl digits.0 digits.1
+cut_off Begun digits = after_backslash refl
+cut_off (One x) digits = after_digit x refl digits
+cut_off (Two x y) digits = after_two_digits x y refl digits.0 digits.1
 
 none_more : (mode : Mode) (depth : ℕ) → HoldsDigits mode → Reads (on mode depth) depth (opened mode [])
 none_more Open depth digits = runs_out depth [] refl refl

@@ -9,7 +9,7 @@ use Rattle.zone_text.specs.Tokens.{Token, blank, opening, closing, line_feed, co
 use Rattle.zone_text.specs.Breaks.{IsBroken, closes_nothing, no_escape, no_quoted_escape, no_quote, not_closed}
 use Rattle.zone_text.specs.Lasting.{IsLostEscape, IsCutOff, StaysBroken, closing_stays, escape_stays, quoted_escape_stays, BreaksAtEnd, nothing_left, quote_open, escape_open, quoted_escape_open}
 use Rattle.zone_text.specs.Entries.{Cut, in_front_of, cut_from}
-use Rattle.zone_text.specs.Machine.Cutting.{depth_behind}
+use Rattle.zone_text.specs.Machine.Cutting.{depth_past}
 use Rattle.zone_text.specs.Machine.Scan.{unclosed, end_fault_of}
 use Rattle.zone_text.proofs.Fronts.{HasRoom, Takes, Ends as EndsAt}
 use Rattle.zone_text.proofs.Cuttings.{IsCut, no_token, one_token_more, text_on}
@@ -53,7 +53,7 @@ in_entry Ends p tokens = refl
 in_entry LostEscape p tokens = refl
 in_entry ClosesNothing p tokens = refl
 
-token_on : (depth : ℕ) (p : Token) (tokens : List Token) → HasRoom depth p → EndsNone depth p → cut_from depth (p ∷ tokens) ≡ in_front_of p (cut_from (depth_behind depth p) tokens)
+token_on : (depth : ℕ) (p : Token) (tokens : List Token) → HasRoom depth p → EndsNone depth p → cut_from depth (p ∷ tokens) ≡ in_front_of p (cut_from (depth_past depth p) tokens)
 token_on zero (blank c) tokens room none = refl
 token_on (suc depth) (blank c) tokens room none = refl
 token_on zero line_feed tokens room none = absurd (none refl)
@@ -120,7 +120,7 @@ escape_read LostEscape depth octets after open_escape broken at_the_end stays = 
 escape_read Ends depth octets after open_escape broken at_the_end stays = absurd open_escape
 escape_read ClosesNothing depth octets after open_escape broken at_the_end stays = absurd open_escape
 
-token_read : (step : Step) (depth : ℕ) (octets : List ℕ) (p : Token) (rest : List ℕ) → Takes depth octets p rest → EndsNone depth p → IsRead step (depth_behind depth p) rest → IsRead step depth octets
+token_read : (step : Step) (depth : ℕ) (octets : List ℕ) (p : Token) (rest : List ℕ) → Takes depth octets p rest → EndsNone depth p → IsRead step (depth_past depth p) rest → IsRead step depth octets
 token_read step depth octets p rest front none more = record {
   tokens = p ∷ more.tokens;
   rest = more.rest;
@@ -139,4 +139,4 @@ is_read step _ _ (in_escape depth octets open_escape) =
     escape_read step depth octets octets open_escape (no_escape (escape_is_bad step octets open_escape)) escape_open escape_stays
 is_read step _ _ (in_quoted_escape depth octets units after each f open_escape) =
     escape_read step depth octets after open_escape (no_quoted_escape units after each f (escape_is_bad step after open_escape)) (quoted_escape_open units after each f) (quoted_escape_stays units after each f)
-is_read step _ _ (then_more depth octets p rest front none more) = token_read step depth octets p rest front none (is_read step (depth_behind depth p) rest more)
+is_read step _ _ (then_more depth octets p rest front none more) = token_read step depth octets p rest front none (is_read step (depth_past depth p) rest more)

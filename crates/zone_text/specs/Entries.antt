@@ -20,12 +20,12 @@ in_front p (entry ∷ ended) open_tokens =
     record { ended = (p ∷ entry) ∷ ended; open_tokens = open_tokens }
 
 abbrev pub in_front_of : Token → Cut → Cut
-in_front_of p behind = in_front p behind.ended behind.open_tokens
+in_front_of p rest = in_front p rest.ended rest.open_tokens
 
 -- a line feed outside parentheses ends an entry
 abbrev pub ending_one : Cut → Cut
-ending_one behind =
-    record { ended = (line_feed ∷ []) ∷ behind.ended; open_tokens = behind.open_tokens }
+ending_one rest =
+    record { ended = (line_feed ∷ []) ∷ rest.ended; open_tokens = rest.open_tokens }
 
 -- the entries of tokens, from a depth on
 abbrev pub cut_from : ℕ → List Token → Cut

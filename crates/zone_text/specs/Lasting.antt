@@ -29,9 +29,9 @@ pub data IsLostEscape (rest : List ℕ) : Type 0 where
 
 -- A backslash that begins no escape since the text ends, at once or after one or two digits
 pub data IsCutOff (rest : List ℕ) : Type 0 where
-  behind_backslash : rest ≡ 92 ∷ [] → IsCutOff rest
-  behind_digit : (x : ℕ) → rest ≡ 92 ∷ x ∷ [] → is_digit x ≡ true → IsCutOff rest
-  behind_two_digits : (x y : ℕ) → rest ≡ 92 ∷ x ∷ y ∷ [] → is_digit x ≡ true
+  after_backslash : rest ≡ 92 ∷ [] → IsCutOff rest
+  after_digit : (x : ℕ) → rest ≡ 92 ∷ x ∷ [] → is_digit x ≡ true → IsCutOff rest
+  after_two_digits : (x y : ℕ) → rest ≡ 92 ∷ x ∷ y ∷ [] → is_digit x ≡ true
       → is_digit y ≡ true → IsCutOff rest
 
 -- what breaks a text as it stands: a `)`, or a backslash outside quotes or after an opening quote

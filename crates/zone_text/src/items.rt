@@ -71,8 +71,8 @@ fn escaped_len(text: &[u8], plain: usize, extent: Extent) -> usize
     while len < text.len() && text[len] == b'\\' {
         // The octet after a backslash goes with it.
         len += (text.len() - len).min(2);
-        let (_, behind) = text.split_at(len);
-        len += plain_len(behind, extent);
+        let (_, rest) = text.split_at(len);
+        len += plain_len(rest, extent);
     }
     len
 }

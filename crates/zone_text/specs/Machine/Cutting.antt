@@ -81,10 +81,10 @@ front_of depth (c ∷ rest) = front_by depth c rest (sign_of c)
 -- ---- the whole text
 
 -- the depth after a token
-abbrev pub depth_behind : ℕ → Token → ℕ
-depth_behind depth opening = suc depth
-depth_behind depth closing = depth - 1
-depth_behind depth p = depth
+abbrev pub depth_past : ℕ → Token → ℕ
+depth_past depth opening = suc depth
+depth_past depth closing = depth - 1
+depth_past depth p = depth
 
 -- the tokens of a text, or of its beginning where it breaks, and the fault with which it breaks
 pub record Cutting : Type 0 where
@@ -94,7 +94,7 @@ pub record Cutting : Type 0 where
 abbrev pub cut_on : (ℕ → List ℕ → Cutting) → ℕ → Front → Cutting
 cut_on go_on depth (stops fault) = record { tokens = []; broken = fault }
 cut_on go_on depth (takes p rest) =
-    let more : Cutting = go_on (depth_behind depth p) rest in
+    let more : Cutting = go_on (depth_past depth p) rest in
     record { tokens = p ∷ more.tokens; broken = more.broken }
 
 -- at most n tokens

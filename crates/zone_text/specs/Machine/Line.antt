@@ -1,4 +1,5 @@
--- Entries that are cut into items as their end is looked for: without parentheses and escapes (RFC 1035 5.1).
+-- Entries that are cut into items as their end is looked for: without parentheses and escapes (RFC
+-- 1035 5.1).
 use Rattle.std.specs.Prelude.{◌≡◌, ℕ, ◌<◌, ◌≤◌, List, ◌∷◌, ◌++◌, length, take, false, ◌==◌, ◌||◌, ⊤}
 use Rattle.std.specs.List.{All, flat_map}
 use Rattle.zone_rdata.specs.Spelling.{RawItem}

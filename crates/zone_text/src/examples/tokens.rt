@@ -21,7 +21,7 @@ pub fn blanks_and_parentheses()
 /// A semicolon ends a bare item, quotes and parentheses inside a comment mean nothing, and it may
 /// end with the text.
 pub fn comments()
-    ensures behind_an_item { Cuts (codes "a;b\n; c ) \"\n")
+    ensures after_an_item { Cuts (codes "a;b\n; c ) \"\n")
         (item (codes "a") ∷ comment (codes "b") ∷ line_feed ∷ comment (codes " c ) \"") ∷ line_feed
         ∷ []) }
     ensures at_the_end { Cuts (codes "k ; c")
@@ -58,12 +58,12 @@ pub fn parentheses_that_do_not_balance()
         (item (codes "t") ∷ space ∷ []) UnbalancedParenthesis }
     ensures closes_too_many { Breaks (codes "(a))")
         (opening ∷ item (codes "a") ∷ closing ∷ []) UnbalancedParenthesis }
-    ensures directly_behind_an_item { Breaks (codes "a)")
+    ensures directly_after_an_item { Breaks (codes "a)")
         (item (codes "a") ∷ []) UnbalancedParenthesis }
     ensures stays_open { Breaks (codes "( ( t\n")
         (opening ∷ space ∷ opening ∷ space ∷ item (codes "t") ∷ line_feed ∷ [])
         UnbalancedParenthesis }
-    ensures open_behind_a_comment { Breaks (codes "( ; c")
+    ensures open_after_a_comment { Breaks (codes "( ; c")
         (opening ∷ space ∷ comment (codes " c") ∷ [])
         UnbalancedParenthesis }
 {}

@@ -7,6 +7,6 @@ use Rattle.zone_text.proofs.examples.tokens.comments.Goals as goal
 pub returns : goal.returns
 unfolding units_by units_first before_line_feed from_line_feed front_of cut_by cutting
 returns c = record {
-  behind_an_item = cut_is_read _ _ refl;
+  after_an_item = cut_is_read _ _ refl;
   at_the_end = cut_is_read _ _ refl;
 }

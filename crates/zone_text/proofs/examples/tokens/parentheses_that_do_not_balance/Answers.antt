@@ -9,7 +9,7 @@ unfolding units_by units_first before_line_feed from_line_feed front_of cut_by c
 returns c = record {
   closes_none = broken_is_read _ _ _ refl;
   closes_too_many = broken_is_read _ _ _ refl;
-  directly_behind_an_item = broken_is_read _ _ _ refl;
+  directly_after_an_item = broken_is_read _ _ _ refl;
   stays_open = broken_is_read _ _ _ refl;
-  open_behind_a_comment = broken_is_read _ _ _ refl;
+  open_after_a_comment = broken_is_read _ _ _ refl;
 }
