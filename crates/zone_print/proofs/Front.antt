@@ -28,9 +28,9 @@ pub some_more : (rest more : List ℕ) → rest ≢ [] → rest ++ more ≢ []
 some_more [] more some e = some refl
 some_more (c ∷ rest) more some e = cc
 
-pub some_behind : (front rest : List ℕ) → rest ≢ [] → front ++ rest ≢ []
-some_behind [] rest some e = some e
-some_behind (c ∷ front) rest some e = cc
+pub some_after : (front rest : List ℕ) → rest ≢ [] → front ++ rest ≢ []
+some_after [] rest some e = some e
+some_after (c ∷ front) rest some e = cc
 
 -- nothing of the rest is taken
 pub part_left : (old new : Option (List ℕ)) (text rest : List ℕ) → Left old new text rest → rest ≢ [] → AppendsPart old new text

@@ -15,19 +15,19 @@ use Rattle.zone_rdata.proofs.Standing.{Stands, bare_decimal}
 use Rattle.zone_rdata.proofs.TextItems.{data_some, data_stands}
 use Rattle.zone_text.specs.Entries.{entry_of, first_octet, item_of}
 use Rattle.zone_text.specs.Line.{IsItem, line_of}
-use Rattle.zone_text.specs.Pieces.{Piece, text, is_blank}
-use Rattle.zone_text.proofs.StandingItems.{BeginsOwner, pieces_of, text_begins}
+use Rattle.zone_text.specs.Tokens.{Token, text, is_blank}
+use Rattle.zone_text.proofs.StandingItems.{BeginsOwner, tokens_of, text_begins}
 use Rattle.zone_print.specs.Canonical.{line}
 use Rattle.zone_print.proofs.Lines.{line_parts}
 
 -- A printed line as a line of items: owner, TTL, class, type and the items of the data. It begins
 -- with neither a blank nor `$`
 pub record LineItems (r : Record) : Type 0 where
-  pub pieces : List Piece
-  pub items : AllByRecursion IsItem pieces
-  pub printed : text (line_of pieces) ≡ line r
-  pub entries : flat_map item_of pieces ≡ raw.bare (name_text r.owner) ∷ raw.bare (decimal r.ttl) ∷ raw.bare (class_text r.class) ∷ raw.bare (kind_text r.class r.kind) ∷ data_items (data_of r)
-  pub begins : IfSome (entry_of 1 (line_of pieces)).first (λ c. (is_blank c ≡ false) × (c ≢ 36))
+  pub tokens : List Token
+  pub items : AllByRecursion IsItem tokens
+  pub printed : text (line_of tokens) ≡ line r
+  pub entries : flat_map item_of tokens ≡ raw.bare (name_text r.owner) ∷ raw.bare (decimal r.ttl) ∷ raw.bare (class_text r.class) ∷ raw.bare (kind_text r.class r.kind) ∷ data_items (data_of r)
+  pub begins : IfSome (entry_of 1 (line_of tokens)).first (λ c. (is_blank c ≡ false) × (c ≢ 36))
 
 -- ---- the parts of a line
 
@@ -69,10 +69,10 @@ line_begins r is =
 
 pub line_items : (r : Record) → IsRecord r → LineItems r
 line_items r is =
-    let all = pieces_of (record_items r) (items_stand r is) in
-    let printed : text (line_of all.pieces) ≡ line r = all.written ∙ items_joined r is in
+    let all = tokens_of (record_items r) (items_stand r is) in
+    let printed : text (line_of all.tokens) ≡ line r = all.written ∙ items_joined r is in
     record {
-      pieces = all.pieces;
+      tokens = all.tokens;
       items = all.each;
       printed = printed;
       entries = all.same;

@@ -7,7 +7,7 @@ use Rattle.zone_rdata.specs.Words.{class_text, kind_text}
 use Rattle.zone_print.specs.Canonical.{line, lines}
 use Rattle.zone_print.specs.Machine.Middle.{line_middle}
 use Rattle.zone_print.proofs.Feeds.{line_ends_with_feed}
-use Rattle.zone_print.proofs.Front.{some_behind, some_more}
+use Rattle.zone_print.proofs.Front.{some_after, some_more}
 
 -- data of equal classes, types and octets has equal texts
 pub same_text : (class class' kind kind' : ℕ) (octets : List ℕ) → class ≡ class' → kind ≡ kind'
@@ -49,6 +49,6 @@ line_ends buffer records e = ap (λ rs. buffer ++ lines rs) e
 pub line_to_come : (buffer : List ℕ) (records others : List Record) (r : Record) → records ≡ r ∷ others → buffer ++ lines records ≢ []
 line_to_come buffer records others r e none =
     let ends = line_ends_with_feed r in
-    some_behind buffer (lines (r ∷ others))
-    (some_more (line r) (lines others) (subst (λ l. l ≢ []) (sym ends.split) (some_behind ends.front (10 ∷ []) (λ f. cc))))
+    some_after buffer (lines (r ∷ others))
+    (some_more (line r) (lines others) (subst (λ l. l ≢ []) (sym ends.split) (some_after ends.front (10 ∷ []) (λ f. cc))))
     (sym (ap (λ rs. buffer ++ lines rs) e) ∙ none)

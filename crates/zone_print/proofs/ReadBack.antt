@@ -20,10 +20,10 @@ use Rattle.zone_text.specs.File.{FileStates, StateEach, states_one}
 use Rattle.zone_text.specs.Inherited.{IsOrigin}
 use Rattle.zone_text.specs.Lasting.{EndInLineFeed}
 use Rattle.zone_text.specs.Line.{IsItem, line_of, StatesWhole}
-use Rattle.zone_text.specs.Pieces.{Cuts, Piece, text}
+use Rattle.zone_text.specs.Tokens.{Cuts, Token, text}
 use Rattle.zone_text.specs.Records.{StatesRecord}
 use Rattle.zone_text.proofs.CutAgain.{AreEnded, cut_ended, joined}
-use Rattle.zone_text.proofs.DecidedOnce.{cut_behind_all}
+use Rattle.zone_text.proofs.DecidedOnce.{cut_after_all}
 use Rattle.zone_set.specs.Refusal.{records_of}
 use Rattle.zone_set.specs.Zone.{Has, IsZone, SameRecords, Zone}
 use Rattle.zone_print.specs.Canonical.{canon, line, lines, text_limit}
@@ -40,7 +40,7 @@ pub record ReadAsPrinted : Type 0 where
   pub kinds : (class n : ℕ) → IsKind n → IsKindWord (kind_text class n) n
   pub rdata : (origin : Labels) (d : Data) → IsRdata d → States origin d.class d.kind (data_items d) d.octets
 
-entry_states : ReadAsPrinted → ((items : List Piece) → flat_map item_of (line_of items) ≡ flat_map item_of items) → (r : Record) → IsRecord r → (l : LineItems r) → StatesWhole (entry_of 1 (line_of l.pieces)) r
+entry_states : ReadAsPrinted → ((items : List Token) → flat_map item_of (line_of items) ≡ flat_map item_of items) → (r : Record) → IsRecord r → (l : LineItems r) → StatesWhole (entry_of 1 (line_of l.tokens)) r
 entry_states read of_line r is l = record {
   owner_text = name_text r.owner;
   ttl_text = decimal r.ttl;
@@ -48,7 +48,7 @@ entry_states read of_line r is l = record {
   kind_word = kind_text r.class r.kind;
   items = data_items (data_of r);
   begins = l.begins;
-  whole = of_line l.pieces ∙ l.entries;
+  whole = of_line l.tokens ∙ l.entries;
   owner = λ above. read.names above r.owner is.owner;
   ttl = read.times r.ttl (let short = is.ttl in omega arith);
   class = read.classes r.class is.rdata.class;
@@ -58,23 +58,23 @@ entry_states read of_line r is l = record {
 }
 
 pub line_is_entry : ReadAsPrinted
-    → ((items : List Piece) → AllByRecursion IsItem items → Cuts (text (line_of items)) (line_of items))
-    → ((items : List Piece) → AllByRecursion IsItem items → cut_from zero (line_of items) ≡ record { ended = line_of items ∷ []; open_pieces = [] })
-    → ((items : List Piece) → flat_map item_of (line_of items) ≡ flat_map item_of items)
+    → ((items : List Token) → AllByRecursion IsItem items → Cuts (text (line_of items)) (line_of items))
+    → ((items : List Token) → AllByRecursion IsItem items → cut_from zero (line_of items) ≡ record { ended = line_of items ∷ []; open_tokens = [] })
+    → ((items : List Token) → flat_map item_of (line_of items) ≡ flat_map item_of items)
     → (r : Record) → IsRecord r → IsLineOf r (line r)
 line_is_entry read cut ended of_line r is =
     let l = line_items r is in
     record {
-      pieces = line_of l.pieces;
-      cut = subst (λ t. Cuts t (line_of l.pieces)) l.printed (cut l.pieces l.items);
-      ended = ended l.pieces l.items;
+      tokens = line_of l.tokens;
+      cut = subst (λ t. Cuts t (line_of l.tokens)) l.printed (cut l.tokens l.items);
+      ended = ended l.tokens l.items;
       states = entry_states read of_line r is l;
     }
 
 -- ---- equal lines
 
 pub equal_lines : ((r : Record) → IsRecord r → IsLineOf r (line r))
-    → ((octets : List ℕ) (pieces other : List Piece) → Cuts octets pieces → Cuts octets other → pieces ≡ other)
+    → ((octets : List ℕ) (tokens other : List Token) → Cuts octets tokens → Cuts octets other → tokens ≡ other)
     → ((origin above : Labels) (before : List Entry) (entry : Entry) (r : Record) → IsOrigin origin before above → StatesWhole entry r → StatesRecord origin before entry r)
     → ((origin : Labels) (before : List Entry) (entry : Entry) (a b : Record) → StatesRecord origin before entry a → StatesRecord origin before entry b → a ≡ b)
     → (r s : Record) → IsRecord r → IsRecord s → (line r ≡ line s) ↔ (r ≡ s)
@@ -82,9 +82,9 @@ equal_lines lines one_cut stated one r s is_r is_s = (λ same. one_record (lines
   where
     one_record : IsLineOf r (line r) → IsLineOf s (line s) → line r ≡ line s → r ≡ s
     one_record a b same =
-        let pieces : a.pieces ≡ b.pieces = one_cut (line s) a.pieces b.pieces (subst (λ t. Cuts t a.pieces) same a.cut) b.cut in
-        let states : StatesWhole (entry_of 1 b.pieces) r = subst (λ p. StatesWhole (entry_of 1 p) r) pieces a.states in
-        one [] [] (entry_of 1 b.pieces) r s (stated [] [] [] (entry_of 1 b.pieces) r refl states) (stated [] [] [] (entry_of 1 b.pieces) s refl b.states)
+        let tokens : a.tokens ≡ b.tokens = one_cut (line s) a.tokens b.tokens (subst (λ t. Cuts t a.tokens) same a.cut) b.cut in
+        let states : StatesWhole (entry_of 1 b.tokens) r = subst (λ p. StatesWhole (entry_of 1 p) r) tokens a.states in
+        one [] [] (entry_of 1 b.tokens) r s (stated [] [] [] (entry_of 1 b.tokens) r refl states) (stated [] [] [] (entry_of 1 b.tokens) s refl b.states)
 
 -- ---- lines one after another
 
@@ -105,44 +105,44 @@ line_feed_in : (octets : List ℕ) → EndsWithItsFeed octets → count_by (λ c
 line_feed_in octets ends = ap (count_by (λ c. c == 10)) ends.split ∙ one_more_feed 0 ends.front ends.others
 
 -- each of the entries states its record and has one line feed
-abbrev AreLines : List (List Piece) → List Record → Type 0
+abbrev AreLines : List (List Token) → List Record → Type 0
 AreLines [] [] = Unit {0}
 AreLines [] (r ∷ records) = ⊥
 AreLines (p ∷ ended) [] = ⊥
 AreLines (p ∷ ended) (r ∷ records) = StatesWhole (entry_of 1 p) r × (count_by (λ c. c == 10) (text p) ≡ 1) × AreLines ended records
 
--- lines as pieces, and these as entries
+-- lines as tokens, and these as entries
 record LinesCut (records : List Record) : Type 0 where
-  pub pieces : List Piece
-  pub ended : List (List Piece)
-  pub cut : Cuts (lines records) pieces
-  pub split : cut_from zero pieces ≡ record { ended = ended; open_pieces = [] }
+  pub tokens : List Token
+  pub ended : List (List Token)
+  pub cut : Cuts (lines records) tokens
+  pub split : cut_from zero tokens ≡ record { ended = ended; open_tokens = [] }
   pub are : AreLines ended records
 
-ends_in_feed : (pieces : List Piece) → cut_from zero pieces ≡ record { ended = pieces ∷ []; open_pieces = [] } → EndInLineFeed pieces
-ends_in_feed pieces ended =
-    let are : AreEnded zero (cut_from zero pieces).ended = cut_ended zero pieces in
-    subst EndInLineFeed (ap (λ (c : Cut). joined c.ended) ended ∙ append-nil pieces) are.ends
+ends_in_feed : (tokens : List Token) → cut_from zero tokens ≡ record { ended = tokens ∷ []; open_tokens = [] } → EndInLineFeed tokens
+ends_in_feed tokens ended =
+    let are : AreEnded zero (cut_from zero tokens).ended = cut_ended zero tokens in
+    subst EndInLineFeed (ap (λ (c : Cut). joined c.ended) ended ∙ append-nil tokens) are.ends
 
 lines_cut : ((r : Record) → IsRecord r → IsLineOf r (line r))
-    → ((front rest : List ℕ) (pieces more : List Piece) → Cuts front pieces → EndInLineFeed pieces → Cuts rest more → Cuts (front ++ rest) (pieces ++ more))
+    → ((front rest : List ℕ) (tokens more : List Token) → Cuts front tokens → EndInLineFeed tokens → Cuts rest more → Cuts (front ++ rest) (tokens ++ more))
     → (records : List Record) → AllByRecursion IsRecord records → LinesCut records
-lines_cut line_is joins [] each = record { pieces = []; ended = []; cut = record { whole = refl; each = tt; follow = tt; balanced = refl }; split = refl; are = tt }
+lines_cut line_is joins [] each = record { tokens = []; ended = []; cut = record { whole = refl; each = tt; follow = tt; balanced = refl }; split = refl; are = tt }
 lines_cut line_is joins (r ∷ records) each =
     let first : IsLineOf r (line r) = line_is r each.0 in
     let others : LinesCut records = lines_cut line_is joins records each.1 in
     record {
-      pieces = first.pieces ++ others.pieces;
-      ended = first.pieces ∷ others.ended;
-      cut = joins (line r) (lines records) first.pieces others.pieces first.cut (ends_in_feed first.pieces first.ended) others.cut;
-      split = cut_behind_all first.pieces others.pieces (ap (λ (c : Cut). c.open_pieces) first.ended)
-          ∙ (λ i. record { ended = (first.ended i).ended ++ (others.split i).ended; open_pieces = (others.split i).open_pieces });
+      tokens = first.tokens ++ others.tokens;
+      ended = first.tokens ∷ others.ended;
+      cut = joins (line r) (lines records) first.tokens others.tokens first.cut (ends_in_feed first.tokens first.ended) others.cut;
+      split = cut_after_all first.tokens others.tokens (ap (λ (c : Cut). c.open_tokens) first.ended)
+          ∙ (λ i. record { ended = (first.ended i).ended ++ (others.split i).ended; open_tokens = (others.split i).open_tokens });
       are = (first.states, ap (count_by (λ c. c == 10)) (sym first.cut.whole) ∙ line_feed_in (line r) (line_ends_with_feed r), others.are);
     }
 
 -- an entry states the same at any line
-at_line : (number : ℕ) (pieces : List Piece) (r : Record) → StatesWhole (entry_of 1 pieces) r → StatesWhole (entry_of number pieces) r
-at_line number pieces r s = record {
+at_line : (number : ℕ) (tokens : List Token) (r : Record) → StatesWhole (entry_of 1 tokens) r → StatesWhole (entry_of number tokens) r
+at_line number tokens r s = record {
   owner_text = s.owner_text;
   ttl_text = s.ttl_text;
   class_word = s.class_word;
@@ -163,7 +163,7 @@ pub record WholeEntries : Type 0 where
   pub stated : (origin above : Labels) (before : List Entry) (entry : Entry) (r : Record) → IsOrigin origin before above → StatesWhole entry r → StatesRecord origin before entry r
   pub leaves : (origin above : Labels) (before : List Entry) (entry : Entry) (r : Record) → IsOrigin origin before above → StatesWhole entry r → IsOrigin origin (entry ∷ before) above
 
-states_each : WholeEntries → (origin : Labels) (before : List Entry) (number : ℕ) (ended : List (List Piece)) (records : List Record) → IsOrigin origin before origin → AreLines ended records → StateEach origin before (numbered number ended) (placed_from number records)
+states_each : WholeEntries → (origin : Labels) (before : List Entry) (number : ℕ) (ended : List (List Token)) (records : List Record) → IsOrigin origin before origin → AreLines ended records → StateEach origin before (numbered number ended) (placed_from number records)
 states_each wholes origin before number [] [] under are = refl
 states_each wholes origin before number [] (r ∷ records) under are = absurd are
 states_each wholes origin before number (p ∷ ended) [] under are = absurd are
@@ -175,14 +175,14 @@ states_each wholes origin before number (p ∷ ended) (r ∷ records) under are 
     (subst (λ n. StateEach origin (entry_of number p ∷ before) (numbered n ended) (placed_from (number + 1) records)) (ap (λ n. number + n) (sym are.1)) next)
 
 pub lines_back : ((r : Record) → IsRecord r → IsLineOf r (line r))
-    → ((front rest : List ℕ) (pieces more : List Piece) → Cuts front pieces → EndInLineFeed pieces → Cuts rest more → Cuts (front ++ rest) (pieces ++ more))
+    → ((front rest : List ℕ) (tokens more : List Token) → Cuts front tokens → EndInLineFeed tokens → Cuts rest more → Cuts (front ++ rest) (tokens ++ more))
     → WholeEntries
     → (origin : Labels) (records : List Record) → AllByRecursion IsRecord records → FileStates origin (lines records) (placed_from 1 records)
 lines_back line_is joins wholes origin records each =
     let c : LinesCut records = lines_cut line_is joins records each in
-    let entries : entries_of c.pieces ≡ numbered 1 c.ended = ap (λ (t : Cut). numbered 1 (and_last t.ended t.open_pieces)) c.split in
+    let entries : entries_of c.tokens ≡ numbered 1 c.ended = ap (λ (t : Cut). numbered 1 (and_last t.ended t.open_tokens)) c.split in
     record {
-      pieces = c.pieces;
+      tokens = c.tokens;
       cut = c.cut;
       each = subst (λ es. StateEach origin [] es (placed_from 1 records)) (sym entries) (states_each wholes origin [] 1 c.ended records refl c.are);
     }

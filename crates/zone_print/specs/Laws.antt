@@ -7,7 +7,7 @@ use Rattle.zone_rdata.specs.declared.record.Placed.{Placed}
 use Rattle.zone_rdata.specs.declared.fault.Place.TheVariants.{Line}
 use Rattle.zone_text.specs.Entries.{cut_from, entry_of}
 use Rattle.zone_text.specs.Line.{StatesWhole}
-use Rattle.zone_text.specs.Pieces.{Piece, Cuts}
+use Rattle.zone_text.specs.Tokens.{Token, Cuts}
 use Rattle.zone_print.specs.Canonical.{line}
 
 -- octets without a line feed
@@ -27,10 +27,10 @@ EachLineEnds = (r : Record) → EndsWithItsFeed (line r)
 -- The octets are one line of a master file for the record: they are cut into tokens, these are one
 -- entry that a line feed ends, and it states every part of the record itself
 pub record IsLineOf (r : Record) (octets : List ℕ) : Type 0 where
-  pub pieces : List Piece
-  pub cut : Cuts octets pieces
-  pub ended : cut_from zero pieces ≡ record { ended = pieces ∷ []; open_pieces = [] }
-  pub states : StatesWhole (entry_of 1 pieces) r
+  pub tokens : List Token
+  pub cut : Cuts octets tokens
+  pub ended : cut_from zero tokens ≡ record { ended = tokens ∷ []; open_tokens = [] }
+  pub states : StatesWhole (entry_of 1 tokens) r
 
 -- records at lines one after another, the first at this one
 abbrev pub placed_from : ℕ → List Record → List Placed

@@ -22,7 +22,7 @@ use zone_text::laws::file::a_file_states_one_list;
 use zone_text::laws::line::{
     a_line_of_items_is_one_entry, a_whole_entry_leaves_the_origin, a_whole_entry_states_its_record,
 };
-use zone_text::laws::pieces::{lines_are_cut_by_themselves, one_cut_of_a_text};
+use zone_text::laws::tokens::{lines_are_cut_by_themselves, one_cut_of_a_text};
 
 /// The line of a record has one line feed, its last octet.
 pub fn each_line_ends()

@@ -1,6 +1,6 @@
 -- Of more items than any data can have, those that spell strings may be left out: the others have
 -- the same first fault, and state no data.
-use Rattle.std.proofs.Common.{◌≡◌, ℕ, ◌+◌, ◌<◌, ◌≤◌, List, [], ◌∷◌, ◌++◌, length, Option, Some, ◌⊎◌, inl, inr, refl, sym, ap, ◌∙◌, subst, arith, append_assoc, length-append}
+use Rattle.std.proofs.Common.{◌≡◌, ℕ, ◌+◌, ◌<◌, ◌≤◌, List, [], ◌∷◌, ◌++◌, length, Option, Some, inl, inr, refl, sym, ap, ◌∙◌, subst, arith, append_assoc, length-append}
 use Rattle.std.specs.List.{flat_map, AllByRecursion}
 use Rattle.hex.proofs.HexLemmas.{decode_of-ok}
 use Rattle.zone_name.specs.Name.{with_length}
@@ -14,7 +14,7 @@ use Rattle.zone_rdata.specs.Field.{FieldValue, SpellsField, field_octets, octets
 use Rattle.zone_rdata.specs.Fields.Strings.{FirstStringFault, SpellEachString}
 use Rattle.zone_rdata.specs.Generic.{GenericFault, IsGenericForm, JoinTo, StatesGeneric, bad_digits, long_length, no_length}
 use Rattle.zone_rdata.specs.Item.{IsGeneric, RawItem, bare, quoted}
-use Rattle.zone_rdata.specs.Layout.{IsLayout, layout}
+use Rattle.zone_rdata.specs.Layout.{layout}
 use Rattle.zone_rdata.specs.Machine.LeftOut.{AreShortened, IsWritten, LeavesOut}
 use Rattle.zone_rdata.specs.Spelling.{SpellEach, States, StatesFor, in_octets, in_words}
 use Rattle.zone_rdata.specs.Strings.{SpellsString}

@@ -10,7 +10,7 @@ use Rattle.zone_text.specs.Decided.{Decided, undecided}
 use Rattle.zone_text.specs.Defaults.{AreDefaults}
 use Rattle.zone_text.specs.Machine.Feeding.{Follow, IsIntake, ScansTo}
 use Rattle.zone_text.specs.Machine.Scan.{beginning, scan_of}
-use Rattle.zone_text.specs.Pieces.{Cuts}
+use Rattle.zone_text.specs.Tokens.{Cuts}
 use Rattle.zone_text.proofs.Left.{none_cut}
 
 -- octets of which there is none, or one
@@ -43,18 +43,18 @@ nothing_taken ended at unfinished begins none line = record {
   line = line;
 }
 
-pub no_pieces : Cuts [] []
-no_pieces = record { whole = refl; each = tt; follow = tt; balanced = refl }
+pub no_tokens : Cuts [] []
+no_tokens = record { whole = refl; each = tt; follow = tt; balanced = refl }
 
 -- of nothing, nothing is decided
 pub nothing_decided : (origin : Labels) → Decided origin [] [] None
-nothing_decided origin = undecided [] (inl no_pieces) (none_cut [] [] no_pieces) (refl, refl)
+nothing_decided origin = undecided [] (inl no_tokens) (none_cut [] [] no_tokens) (refl, refl)
 
 pub nothing_follows : (origin : Labels) (ended : EndedEntries) (unfinished : List ℕ) → unfinished ≡ [] → ended.decided.placed.items ≡ [] → ended.decided.ending ≡ None → AreDefaults origin [] ended.defaults → ended.line ≡ 1 → Follow origin ended unfinished [] []
 nothing_follows origin ended unfinished none records ending defaults line = record {
   decided = rw (records, ending) (nothing_decided origin);
   leave = λ _. record {
-    octets = record { pieces = []; are = inl no_pieces; whole = sym none };
+    octets = record { tokens = []; are = inl no_tokens; whole = sym none };
     inherited = defaults;
     numbered = line;
   };

@@ -8,7 +8,7 @@ use Rattle.zone_name.specs.Common.{Labels}
 use Rattle.zone_text.specs.Defaults.{AreDefaults}
 use Rattle.zone_text.specs.Entries.{Entry, entry_of, item_of}
 use Rattle.zone_text.specs.Forms.{no_items, form_by, form_of}
-use Rattle.zone_text.specs.Pieces.{Piece, comment, line_feed, Cuts}
+use Rattle.zone_text.specs.Tokens.{Token, comment, line_feed, Cuts}
 use Rattle.zone_text.specs.Machine.Blank.{AreBlankLines, IsBlankLine, IsComment, line_feed as fed_line, commented, no_lines, one_line_more}
 use Rattle.zone_text.specs.Machine.Cutting.{before_line_feed}
 use Rattle.zone_text.specs.Machine.EntryReading.{LeavesNoRecord, decides_none}
@@ -20,7 +20,7 @@ use Rattle.zone_text.specs.declared.scan.Mode.TheVariants.{Comment}
 use Rattle.zone_text.specs.declared.scan.Scanned.{Scanned}
 use Rattle.zone_text.specs.declared.scan.Step.TheVariants.{Ends}
 use Rattle.zone_text.proofs.Cuttings.{one_cut}
-use Rattle.zone_text.proofs.EntryTaken.{lines_behind, takes_entry}
+use Rattle.zone_text.proofs.EntryTaken.{lines_after, takes_entry}
 use Rattle.zone_text.proofs.Followed.{follow_entry}
 use Rattle.zone_text.proofs.Inheriting.{leaves, same_default, same_origin}
 use Rattle.zone_text.proofs.Left.{line_feeds}
@@ -58,9 +58,9 @@ comment_ended octets behind rest n c len back first =
 -- octets up to a line feed that ends them as an entry without items
 record IsEmpty (octets : List ℕ) : Type 0 where
   scanned : ScansTo beginning octets Ends
-  pieces : List Piece
-  cut : Cuts octets pieces
-  none : flat_map item_of pieces ≡ []
+  tokens : List Token
+  cut : Cuts octets tokens
+  none : flat_map item_of tokens ≡ []
   count : 1 ≡ line_feeds octets
   some : 1 ≤ length octets
 
@@ -71,7 +71,7 @@ fed_scanned = refl
 fed_alone : IsEmpty (10 ∷ [])
 fed_alone = record {
   scanned = fed_scanned;
-  pieces = line_feed ∷ [];
+  tokens = line_feed ∷ [];
   cut = record { whole = refl; each = (tt, tt); follow = tt; balanced = refl };
   none = refl;
   count = refl;
@@ -104,7 +104,7 @@ one_fed (c ∷ octets) each =
 comment_alone : (octets : List ℕ) → AllByRecursion (λ c. c ≢ 10) octets → IsEmpty (59 ∷ octets ++ 10 ∷ [])
 comment_alone octets each = record {
   scanned = comment_scanned octets each;
-  pieces = comment octets ∷ line_feed ∷ [];
+  tokens = comment octets ∷ line_feed ∷ [];
   cut = record { whole = refl; each = (each, (tt, tt)); follow = (tt, tt); balanced = refl };
   none = refl;
   count = one_fed octets each;
@@ -127,9 +127,9 @@ states_nothing origin before entry old none are =
 empty_read : (octets : List ℕ) (old : EndedEntries) → IsEmpty octets → old.decided.ending ≡ None → ReadsOctets octets old (with_line (old.line + 1) old)
 empty_read octets old is none =
     takes_entry octets old (with_line (old.line + 1) old)
-    (λ origin before line pieces are cut. decides_none (states_nothing origin before (entry_of line pieces) old (ap (flat_map item_of) (one_cut octets pieces is.pieces cut is.cut) ∙ is.none) are) refl)
+    (λ origin before line tokens are cut. decides_none (states_nothing origin before (entry_of line tokens) old (ap (flat_map item_of) (one_cut octets tokens is.tokens cut is.cut) ∙ is.none) are) refl)
     none
-    (lines_behind octets old (with_line (old.line + 1) old) 1 is.count is.some refl)
+    (lines_after octets old (with_line (old.line + 1) old) 1 is.count is.some refl)
 
 empty_follows : (octets : List ℕ) (old : EndedEntries) → IsEmpty octets → old.decided.ending ≡ None → FollowsOn old [] (with_line (old.line + 1) old) [] octets
 empty_follows octets old is none origin fed given follow =

@@ -8,57 +8,57 @@ use Rattle.zone_text.specs.Entries.{Cut, and_last, cut_from, ended_entries, entr
 use Rattle.zone_text.specs.FileReads.{ReadEach, Ending}
 use Rattle.zone_text.specs.Lasting.{BreaksForGood}
 use Rattle.zone_text.specs.Machine.Lower.{Lower}
-use Rattle.zone_text.specs.Pieces.{Piece, text}
+use Rattle.zone_text.specs.Tokens.{Token, text}
 use Rattle.zone_text.specs.Source.{AreUnfinished}
-use Rattle.zone_text.proofs.Begun.{no_pieces, nothing_decided}
-use Rattle.zone_text.proofs.CutAgain.{joined, cut_again, cut_whole, and_last_behind}
+use Rattle.zone_text.proofs.Begun.{no_tokens, nothing_decided}
+use Rattle.zone_text.proofs.CutAgain.{joined, cut_again, cut_whole, and_last_after}
 use Rattle.zone_text.proofs.Cuttings.{cut_not_broken}
-use Rattle.zone_text.proofs.Decides.{pieces_of, broken_once}
+use Rattle.zone_text.proofs.Decides.{tokens_of, broken_once}
 use Rattle.zone_text.proofs.Files.{reads_once}
 use Rattle.zone_text.proofs.Left.{numbered_then}
 
 pub decided_once : Lower → (origin : List (List ℕ)) (octets : List ℕ) (a b : List Placed) (e f : Ending) → Decided origin octets a e → Decided origin octets b f → (a ≡ b) × (e ≡ f)
 decided_once lower origin octets a b e f (undecided ps are never xs) (undecided qs others none ys) =
-    let same : ps ≡ qs = pieces_of octets ps qs are others in
+    let same : ps ≡ qs = tokens_of octets ps qs are others in
     reads_once lower origin None [] (ended_entries qs) a b e f (subst (λ p. ReadEach origin None [] (ended_entries p) a e) same xs) ys
 decided_once lower origin octets a b e f (undecided ps are never xs) (decided qs fault good ys) =
-    let same : qs ≡ ps = pieces_of octets qs ps (inr (fault, good.breaks)) are in
+    let same : qs ≡ ps = tokens_of octets qs ps (inr (fault, good.breaks)) are in
     absurd (never fault (subst (λ p. BreaksForGood octets p fault) same good))
 decided_once lower origin octets a b e f (decided ps fault good xs) (undecided qs others none ys) =
-    let same : ps ≡ qs = pieces_of octets ps qs (inr (fault, good.breaks)) others in
+    let same : ps ≡ qs = tokens_of octets ps qs (inr (fault, good.breaks)) others in
     absurd (none fault (subst (λ p. BreaksForGood octets p fault) same good))
 decided_once lower origin octets a b e f (decided ps fault good xs) (decided qs other better ys) =
     broken_once lower origin octets ps qs fault other a b e f good.breaks better.breaks xs ys
 
 nothing_only : (origin : List (List ℕ)) (placed : List Placed) (ending : Ending) → Decided origin [] placed ending → (placed ≡ []) × (ending ≡ None)
 nothing_only origin placed ending (undecided ps are never read) =
-    let same : ps ≡ [] = pieces_of [] ps [] are (inl no_pieces) in
+    let same : ps ≡ [] = tokens_of [] ps [] are (inl no_tokens) in
     subst (λ p. ReadEach origin None [] (ended_entries p) placed ending) same read
-nothing_only origin placed ending (decided ps fault good read) = absurd (cut_not_broken [] [] ps fault no_pieces good.breaks)
+nothing_only origin placed ending (decided ps fault good read) = absurd (cut_not_broken [] [] ps fault no_tokens good.breaks)
 
 pub of_nothing : (origin : List (List ℕ)) (placed : List Placed) (ending : Ending) → Decided origin [] placed ending ↔ ((placed ≡ []) × (ending ≡ None))
 of_nothing origin placed ending = (nothing_only origin placed ending, λ is. rw (is.0, is.1) (nothing_decided origin))
 
 pub unfinished_once : (octets a b : List ℕ) → AreUnfinished octets a → AreUnfinished octets b → a ≡ b
 unfinished_once octets a b x y =
-    let same : y.pieces ≡ x.pieces = pieces_of octets y.pieces x.pieces y.are x.are in
-    append_cancel_left (flat_map text (cut_from zero x.pieces).ended) a b (sym x.whole ∙ y.whole ∙ ap (λ p. flat_map text (cut_from zero p).ended ++ b) same)
+    let same : y.tokens ≡ x.tokens = tokens_of octets y.tokens x.tokens y.are x.are in
+    append_cancel_left (flat_map text (cut_from zero x.tokens).ended) a b (sym x.whole ∙ y.whole ∙ ap (λ p. flat_map text (cut_from zero p).ended ++ b) same)
 
 -- ---- the entries of tokens one after the other
 
-all_ended : (pieces : List Piece) → (cut_from zero pieces).open_pieces ≡ [] → pieces ≡ joined (cut_from zero pieces).ended
-all_ended pieces none = sym (cut_whole zero pieces) ∙ ap (λ t. joined (cut_from zero pieces).ended ++ t) none ∙ append-nil (joined (cut_from zero pieces).ended)
+all_ended : (tokens : List Token) → (cut_from zero tokens).open_tokens ≡ [] → tokens ≡ joined (cut_from zero tokens).ended
+all_ended tokens none = sym (cut_whole zero tokens) ∙ ap (λ t. joined (cut_from zero tokens).ended ++ t) none ∙ append-nil (joined (cut_from zero tokens).ended)
 
-pub cut_behind_all : (pieces more : List Piece) → (cut_from zero pieces).open_pieces ≡ [] → cut_from zero (pieces ++ more) ≡ record { ended = (cut_from zero pieces).ended ++ (cut_from zero more).ended; open_pieces = (cut_from zero more).open_pieces }
-cut_behind_all pieces more none = ap (λ p. cut_from zero (p ++ more)) (all_ended pieces none) ∙ cut_again pieces more
+pub cut_after_all : (tokens more : List Token) → (cut_from zero tokens).open_tokens ≡ [] → cut_from zero (tokens ++ more) ≡ record { ended = (cut_from zero tokens).ended ++ (cut_from zero more).ended; open_tokens = (cut_from zero more).open_tokens }
+cut_after_all tokens more none = ap (λ p. cut_from zero (p ++ more)) (all_ended tokens none) ∙ cut_again tokens more
 
-pub ended_on_behind : (pieces more : List Piece) → (cut_from zero pieces).open_pieces ≡ [] → ended_entries (pieces ++ more) ≡ ended_entries pieces ++ numbered (open_line pieces) (cut_from zero more).ended
-ended_on_behind pieces more none =
-    ap (λ (c : Cut). numbered 1 c.ended) (cut_behind_all pieces more none)
-    ∙ numbered_then 1 (cut_from zero pieces).ended (cut_from zero more).ended
+pub ended_on_after : (tokens more : List Token) → (cut_from zero tokens).open_tokens ≡ [] → ended_entries (tokens ++ more) ≡ ended_entries tokens ++ numbered (open_line tokens) (cut_from zero more).ended
+ended_on_after tokens more none =
+    ap (λ (c : Cut). numbered 1 c.ended) (cut_after_all tokens more none)
+    ∙ numbered_then 1 (cut_from zero tokens).ended (cut_from zero more).ended
 
-pub entries_on_behind : (pieces more : List Piece) → (cut_from zero pieces).open_pieces ≡ [] → entries_of (pieces ++ more) ≡ ended_entries pieces ++ numbered (open_line pieces) (and_last (cut_from zero more).ended (cut_from zero more).open_pieces)
-entries_on_behind pieces more none =
-    ap (λ (c : Cut). numbered 1 (and_last c.ended c.open_pieces)) (cut_behind_all pieces more none)
-    ∙ ap (numbered 1) (and_last_behind (cut_from zero pieces).ended (cut_from zero more).ended (cut_from zero more).open_pieces)
-    ∙ numbered_then 1 (cut_from zero pieces).ended (and_last (cut_from zero more).ended (cut_from zero more).open_pieces)
+pub entries_on_after : (tokens more : List Token) → (cut_from zero tokens).open_tokens ≡ [] → entries_of (tokens ++ more) ≡ ended_entries tokens ++ numbered (open_line tokens) (and_last (cut_from zero more).ended (cut_from zero more).open_tokens)
+entries_on_after tokens more none =
+    ap (λ (c : Cut). numbered 1 (and_last c.ended c.open_tokens)) (cut_after_all tokens more none)
+    ∙ ap (numbered 1) (and_last_after (cut_from zero tokens).ended (cut_from zero more).ended (cut_from zero more).open_tokens)
+    ∙ numbered_then 1 (cut_from zero tokens).ended (and_last (cut_from zero more).ended (cut_from zero more).open_tokens)

@@ -4,17 +4,17 @@ use Rattle.std.proofs.lemmas.List.{append-nil}
 use Rattle.zone_rdata.specs.declared.fault.Fault.{Fault}
 use Rattle.zone_rdata.specs.declared.fault.Place.TheVariants.{Line}
 use Rattle.zone_rdata.specs.declared.record.Placed.{Placed}
-use Rattle.zone_text.specs.Pieces.{Piece, Cuts, text}
+use Rattle.zone_text.specs.Tokens.{Token, Cuts, text}
 use Rattle.zone_text.specs.Breaks.{Breaks}
 use Rattle.zone_text.specs.Lasting.{BreaksForGood}
 use Rattle.zone_text.specs.Entries.{Entry, cut_from, and_last, entries_of, ended_entries, open_line}
 use Rattle.zone_text.specs.FileReads.{ReadEach, FileReads, whole, broken, Ending, stated, refused}
 use Rattle.zone_text.specs.File.{states_none, states_one}
-use Rattle.zone_text.specs.Decided.{ArePieces, Decided, decided, undecided, Stays}
+use Rattle.zone_text.specs.Decided.{AreTokens, Decided, decided, undecided, Stays}
 use Rattle.zone_text.specs.Machine.Lower.{Lower}
 use Rattle.zone_text.proofs.Cuttings.{one_cut, one_break, cut_not_broken, cut_or_broken}
 use Rattle.zone_text.proofs.Lasting.{cut_joined, break_joined, cut_parted, break_parted, breaks_for_good}
-use Rattle.zone_text.proofs.CutAgain.{joined, cut_whole, cut_ended, cut_again, ended_at_zero, and_last_behind, numbered_front}
+use Rattle.zone_text.proofs.CutAgain.{joined, cut_whole, cut_ended, cut_again, ended_at_zero, and_last_after, numbered_front}
 use Rattle.zone_text.proofs.Entered.{record_once, fault_once, record_or_fault, nothing_or_record, nothing_or_fault}
 use Rattle.zone_text.proofs.Files.{reads_once, one_more}
 
@@ -59,61 +59,61 @@ reads_on lower origin behind before (entry ∷ entries) others a b e f (refused 
 -- ---- the tokens of a prefix and of a text that goes on
 
 -- the ended entries of a prefix stand by themselves before what is left of it
-pub record IsParted (octets : List ℕ) (pieces : List Piece) : Type 0 where
+pub record IsParted (octets : List ℕ) (tokens : List Token) : Type 0 where
   pub rest : List ℕ
-  pub parted : octets ≡ text (joined (cut_from zero pieces).ended) ++ rest
-  pub front : Cuts (text (joined (cut_from zero pieces).ended)) (joined (cut_from zero pieces).ended)
+  pub parted : octets ≡ text (joined (cut_from zero tokens).ended) ++ rest
+  pub front : Cuts (text (joined (cut_from zero tokens).ended)) (joined (cut_from zero tokens).ended)
 
-parted_cut : (octets : List ℕ) (pieces : List Piece) → Cuts octets pieces → IsParted octets pieces
-parted_cut octets pieces cut =
-    let ended = joined (cut_from zero pieces).ended in
-    let found = cut_parted octets ended (cut_from zero pieces).open_pieces (ended_at_zero zero pieces cut.balanced) (rw (cut_whole) cut) in
+parted_cut : (octets : List ℕ) (tokens : List Token) → Cuts octets tokens → IsParted octets tokens
+parted_cut octets tokens cut =
+    let ended = joined (cut_from zero tokens).ended in
+    let found = cut_parted octets ended (cut_from zero tokens).open_tokens (ended_at_zero zero tokens cut.balanced) (rw (cut_whole) cut) in
     record { rest = found.0; parted = found.1; front = found.2 }
 
-parted_break : (octets : List ℕ) (pieces : List Piece) (fault : Fault) → Breaks octets pieces fault → IsParted octets pieces
-parted_break octets pieces fault breaks =
-    let ended = joined (cut_from zero pieces).ended in
-    let found = break_parted octets ended (cut_from zero pieces).open_pieces fault (ended_at_zero breaks.depth pieces breaks.parentheses) (rw (cut_whole) breaks) in
+parted_break : (octets : List ℕ) (tokens : List Token) (fault : Fault) → Breaks octets tokens fault → IsParted octets tokens
+parted_break octets tokens fault breaks =
+    let ended = joined (cut_from zero tokens).ended in
+    let found = break_parted octets ended (cut_from zero tokens).open_tokens fault (ended_at_zero breaks.depth tokens breaks.parentheses) (rw (cut_whole) breaks) in
     record { rest = found.0; parted = found.1; front = found.2 }
 
-pub parted : (octets : List ℕ) (pieces : List Piece) → ArePieces octets pieces → IsParted octets pieces
-parted octets pieces (inl cut) = parted_cut octets pieces cut
-parted octets pieces (inr (fault, breaks)) = parted_break octets pieces fault breaks
+pub parted : (octets : List ℕ) (tokens : List Token) → AreTokens octets tokens → IsParted octets tokens
+parted octets tokens (inl cut) = parted_cut octets tokens cut
+parted octets tokens (inr (fault, breaks)) = parted_break octets tokens fault breaks
 
 -- the tokens of a text that goes on are those of the ended entries of its beginning, and others
-abbrev pub GoesOn : List Piece → List Piece → Type 0
-GoesOn pieces all = (others : List Piece) × (all ≡ joined (cut_from zero pieces).ended ++ others)
+abbrev pub GoesOn : List Token → List Token → Type 0
+GoesOn tokens all = (others : List Token) × (all ≡ joined (cut_from zero tokens).ended ++ others)
 
-pub pieces_of : (octets : List ℕ) (all other : List Piece) → ArePieces octets all → ArePieces octets other → all ≡ other
-pieces_of octets all other (inl x) (inl y) = one_cut octets all other x y
-pieces_of octets all other (inl x) (inr (fault, y)) = absurd (cut_not_broken octets all other fault x y)
-pieces_of octets all other (inr (fault, x)) (inl y) = absurd (cut_not_broken octets other all fault y x)
-pieces_of octets all other (inr (fault, x)) (inr (another, y)) = (one_break octets all other fault another x y).0
+pub tokens_of : (octets : List ℕ) (all other : List Token) → AreTokens octets all → AreTokens octets other → all ≡ other
+tokens_of octets all other (inl x) (inl y) = one_cut octets all other x y
+tokens_of octets all other (inl x) (inr (fault, y)) = absurd (cut_not_broken octets all other fault x y)
+tokens_of octets all other (inr (fault, x)) (inl y) = absurd (cut_not_broken octets other all fault y x)
+tokens_of octets all other (inr (fault, x)) (inr (another, y)) = (one_break octets all other fault another x y).0
 
-joined_pieces : (front rest : List ℕ) (pieces : List Piece) → Cuts front (joined (cut_from zero pieces).ended) → (others : List Piece) × ArePieces (front ++ rest) (joined (cut_from zero pieces).ended ++ others)
-joined_pieces front rest pieces cut =
+joined_tokens : (front rest : List ℕ) (tokens : List Token) → Cuts front (joined (cut_from zero tokens).ended) → (others : List Token) × AreTokens (front ++ rest) (joined (cut_from zero tokens).ended ++ others)
+joined_tokens front rest tokens cut =
     elim (cut_or_broken rest) [
-      | inl found ↦ (found.0, inl (cut_joined front rest (joined (cut_from zero pieces).ended) found.0 cut (cut_ended zero pieces).ends found.1))
-      | inr found ↦ (found.0, inr (found.1, break_joined front rest (joined (cut_from zero pieces).ended) found.0 found.1 cut (cut_ended zero pieces).ends found.2))
+      | inl found ↦ (found.0, inl (cut_joined front rest (joined (cut_from zero tokens).ended) found.0 cut (cut_ended zero tokens).ends found.1))
+      | inr found ↦ (found.0, inr (found.1, break_joined front rest (joined (cut_from zero tokens).ended) found.0 found.1 cut (cut_ended zero tokens).ends found.2))
     ]
 
-pub goes_on : (octets more : List ℕ) (pieces all : List Piece) → ArePieces octets pieces → ArePieces (octets ++ more) all → GoesOn pieces all
-goes_on octets more pieces all x y =
-    let front = parted octets pieces x in
-    let behind = joined_pieces (text (joined (cut_from zero pieces).ended)) (front.rest ++ more) pieces front.front in
-    let split : octets ++ more ≡ text (joined (cut_from zero pieces).ended) ++ (front.rest ++ more) = ap (λ t. t ++ more) front.parted ∙ append_assoc (text (joined (cut_from zero pieces).ended)) front.rest more in
-    (behind.0, pieces_of (octets ++ more) all (joined (cut_from zero pieces).ended ++ behind.0) y (rw split (behind.1)))
+pub goes_on : (octets more : List ℕ) (tokens all : List Token) → AreTokens octets tokens → AreTokens (octets ++ more) all → GoesOn tokens all
+goes_on octets more tokens all x y =
+    let front = parted octets tokens x in
+    let behind = joined_tokens (text (joined (cut_from zero tokens).ended)) (front.rest ++ more) tokens front.front in
+    let split : octets ++ more ≡ text (joined (cut_from zero tokens).ended) ++ (front.rest ++ more) = ap (λ t. t ++ more) front.parted ∙ append_assoc (text (joined (cut_from zero tokens).ended)) front.rest more in
+    (behind.0, tokens_of (octets ++ more) all (joined (cut_from zero tokens).ended ++ behind.0) y (rw split (behind.1)))
 
 -- so its entries are the ended ones of the beginning, and others
-pub ended_on : (pieces all : List Piece) → GoesOn pieces all → (others : List Entry) × (ended_entries all ≡ ended_entries pieces ++ others)
-ended_on pieces all (others, e) =
-    let more = numbered_front 1 (cut_from zero pieces).ended (cut_from zero others).ended in
+pub ended_on : (tokens all : List Token) → GoesOn tokens all → (others : List Entry) × (ended_entries all ≡ ended_entries tokens ++ others)
+ended_on tokens all (others, e) =
+    let more = numbered_front 1 (cut_from zero tokens).ended (cut_from zero others).ended in
     (more.0, rw (e, cut_again) (more.1))
 
-pub entries_on : (pieces all : List Piece) → GoesOn pieces all → (others : List Entry) × (entries_of all ≡ ended_entries pieces ++ others)
-entries_on pieces all (others, e) =
-    let more = numbered_front 1 (cut_from zero pieces).ended (and_last (cut_from zero others).ended (cut_from zero others).open_pieces) in
-    (more.0, rw (e, cut_again, and_last_behind) (more.1))
+pub entries_on : (tokens all : List Token) → GoesOn tokens all → (others : List Entry) × (entries_of all ≡ ended_entries tokens ++ others)
+entries_on tokens all (others, e) =
+    let more = numbered_front 1 (cut_from zero tokens).ended (and_last (cut_from zero others).ended (cut_from zero others).open_tokens) in
+    (more.0, rw (e, cut_again, and_last_after) (more.1))
 
 -- ---- a prefix and a text that goes on
 
@@ -121,10 +121,10 @@ entries_on pieces all (others, e) =
 same_stays : (a b : List Placed) (e f : Ending) → (a ≡ b) × (e ≡ f) → Stays a e b f
 same_stays a b e f same = record { others = []; first = sym same.0 ∙ sym (append-nil a); fault = λ found is. (sym same.0, sym same.1) }
 
-pub broken_once : Lower → (origin : List (List ℕ)) (octets : List ℕ) (pieces all : List Piece) (fault other : Fault) (a b : List Placed) (e f : Ending) → Breaks octets pieces fault → Breaks octets all other → ReadEach origin (Some (fault, Line (open_line pieces))) [] (ended_entries pieces) a e → ReadEach origin (Some (other, Line (open_line all))) [] (ended_entries all) b f → (a ≡ b) × (e ≡ f)
-broken_once lower origin octets pieces all fault other a b e f x y xs ys =
-    let same = one_break octets pieces all fault other x y in
-    let front : pieces ≡ all = same.0 in
+pub broken_once : Lower → (origin : List (List ℕ)) (octets : List ℕ) (tokens all : List Token) (fault other : Fault) (a b : List Placed) (e f : Ending) → Breaks octets tokens fault → Breaks octets all other → ReadEach origin (Some (fault, Line (open_line tokens))) [] (ended_entries tokens) a e → ReadEach origin (Some (other, Line (open_line all))) [] (ended_entries all) b f → (a ≡ b) × (e ≡ f)
+broken_once lower origin octets tokens all fault other a b e f x y xs ys =
+    let same = one_break octets tokens all fault other x y in
+    let front : tokens ≡ all = same.0 in
     let one : fault ≡ other = same.1 in
     reads_once lower origin (Some (other, Line (open_line all))) [] (ended_entries all) a b e f (rw (← front, ← one) xs) ys
 
@@ -137,7 +137,7 @@ decided_stays lower origin octets more a b e f (undecided ps are absent xs) (dec
     reads_on lower origin (Some (fault, Line (open_line qs))) [] (ended_entries ps) on.0 a b e f xs (subst (λ es. ReadEach origin (Some (fault, Line (open_line qs))) [] es b f) on.1 ys)
 decided_stays lower origin octets more a b e f (decided ps fault good xs) (undecided qs others none ys) =
     let still = breaks_for_good octets more ps fault good in
-    let same : ps ≡ qs = pieces_of (octets ++ more) ps qs (inr (fault, still.breaks)) others in
+    let same : ps ≡ qs = tokens_of (octets ++ more) ps qs (inr (fault, still.breaks)) others in
     absurd (none fault (subst (λ p. BreaksForGood (octets ++ more) p fault) same still))
 decided_stays lower origin octets more a b e f (decided ps fault good xs) (decided qs other better ys) =
     let still = breaks_for_good octets more ps fault good in

@@ -8,144 +8,144 @@ use Rattle.zone_rdata.specs.declared.fault.Fault.{Fault}
 use Rattle.zone_rdata.specs.declared.fault.Place.{Place}
 use Rattle.zone_rdata.specs.declared.fault.Place.TheVariants.{Line}
 use Rattle.zone_rdata.specs.declared.record.Placed.{Placed}
-use Rattle.zone_text.specs.Pieces.{Piece, Cuts, text}
+use Rattle.zone_text.specs.Tokens.{Token, Cuts, text}
 use Rattle.zone_text.specs.Breaks.{Breaks}
 use Rattle.zone_text.specs.Lasting.{BreaksForGood}
 use Rattle.zone_text.specs.Entries.{Cut, Entry, cut_from, and_last, entry_of, numbered, entries_of, ended_entries, open_line}
 use Rattle.zone_text.specs.FileReads.{ReadEach, FileReads, whole, broken, Ending, stated, refused}
 use Rattle.zone_text.specs.File.{states_none, states_one}
-use Rattle.zone_text.specs.Decided.{ArePieces, Decided, decided, undecided}
+use Rattle.zone_text.specs.Decided.{AreTokens, Decided, decided, undecided}
 use Rattle.zone_text.proofs.Cuttings.{cut_or_broken}
 use Rattle.zone_text.proofs.Lasting.{breaks_for_good}
 use Rattle.zone_text.proofs.CutAgain.{joined, AreEnded, again_zero, cut_whole}
 use Rattle.zone_text.proofs.Ending.{ended_entries_first}
-use Rattle.zone_text.proofs.Decides.{pieces_of, goes_on, ended_on}
+use Rattle.zone_text.proofs.Decides.{tokens_of, goes_on, ended_on}
 use Rattle.zone_text.proofs.Escapes.{break_stays_or_ends}
 use Rattle.zone_text.proofs.ForGood.{ends_not_for_good}
-use Rattle.zone_text.proofs.Left.{line_feeds, reads_then, refused_before, reads_behind, numbered_then, IsSplit, cut_more, break_more, pieces_more, for_good_more, none_cut, none_more, ended_as_before, one_ended}
+use Rattle.zone_text.proofs.Left.{line_feeds, reads_then, refused_before, reads_after, numbered_then, IsSplit, cut_more, break_more, tokens_more, for_good_more, none_cut, none_more, ended_as_before, one_ended}
 
 -- what is read of ended entries, the first of them on line 1
-abbrev pub ReadsEnded : List (List ℕ) → Ending → List (List Piece) → List Placed → Ending → Type 0
+abbrev pub ReadsEnded : List (List ℕ) → Ending → List (List Token) → List Placed → Ending → Type 0
 ReadsEnded origin behind ended placed ending = ReadEach origin behind [] (numbered 1 ended) placed ending
 
 -- the line after ended entries
-abbrev pub line_behind : List (List Piece) → ℕ
-line_behind ended = 1 + line_feeds (flat_map text ended)
+abbrev pub line_after : List (List Token) → ℕ
+line_after ended = 1 + line_feeds (flat_map text ended)
 
 -- ---- no fault is decided so far
 
 -- what follows entries without a fault is the end
-no_fault_behind : (origin : List (List ℕ)) (behind : Ending) (before entries : List Entry) (placed : List Placed) → ReadEach origin behind before entries placed None → behind ≡ None
-no_fault_behind origin behind before [] placed read = sym read.1
-no_fault_behind origin behind before (entry ∷ entries) placed (stated (states_none n read)) = no_fault_behind origin behind (entry ∷ before) entries placed read
-no_fault_behind origin behind before (entry ∷ entries) placed (stated (states_one p rest states place e read)) = no_fault_behind origin behind (entry ∷ before) entries rest read
-no_fault_behind origin behind before (entry ∷ entries) placed (refused fault h e f) = absurd (let t : ⊥ = cc in t)
+no_fault_after : (origin : List (List ℕ)) (behind : Ending) (before entries : List Entry) (placed : List Placed) → ReadEach origin behind before entries placed None → behind ≡ None
+no_fault_after origin behind before [] placed read = sym read.1
+no_fault_after origin behind before (entry ∷ entries) placed (stated (states_none n read)) = no_fault_after origin behind (entry ∷ before) entries placed read
+no_fault_after origin behind before (entry ∷ entries) placed (stated (states_one p rest states place e read)) = no_fault_after origin behind (entry ∷ before) entries rest read
+no_fault_after origin behind before (entry ∷ entries) placed (refused fault h e f) = absurd (let t : ⊥ = cc in t)
 
 -- then the entries that were ended state the records
-pub reads_so_far : (origin : List (List ℕ)) (fed : List ℕ) (pieces : List Piece) (placed : List Placed) → Decided origin fed placed None → ArePieces fed pieces → ReadsEnded origin None (cut_from zero pieces).ended placed None
-reads_so_far origin fed pieces placed (undecided others are none read) is =
-    subst (λ t. ReadsEnded origin None (cut_from zero t).ended placed None) (pieces_of fed others pieces are is) read
-reads_so_far origin fed pieces placed (decided others fault good read) is =
-    absurd (let e : Some (fault, Line (open_line others)) ≡ None = no_fault_behind origin (Some (fault, Line (open_line others))) [] (ended_entries others) placed read in let t : ⊥ = cc in t)
+pub reads_so_far : (origin : List (List ℕ)) (fed : List ℕ) (tokens : List Token) (placed : List Placed) → Decided origin fed placed None → AreTokens fed tokens → ReadsEnded origin None (cut_from zero tokens).ended placed None
+reads_so_far origin fed tokens placed (undecided others are none read) is =
+    subst (λ t. ReadsEnded origin None (cut_from zero t).ended placed None) (tokens_of fed others tokens are is) read
+reads_so_far origin fed tokens placed (decided others fault good read) is =
+    absurd (let e : Some (fault, Line (open_line others)) ≡ None = no_fault_after origin (Some (fault, Line (open_line others))) [] (ended_entries others) placed read in let t : ⊥ = cc in t)
 
 -- ---- octets more
 
 -- one entry more is ended
-pub one_entry_more : (origin : List (List ℕ)) (fed more : List ℕ) (ended : List (List Piece)) (unfinished : List ℕ) (entry : List Piece) (placed others : List Placed) (ending : Ending) → IsSplit fed ended unfinished → Cuts (unfinished ++ more) entry → cut_from zero entry ≡ record { ended = entry ∷ []; open_pieces = [] } → ReadsEnded origin None ended placed None → ReadEach origin None (reverse (numbered 1 ended)) (entry_of (line_behind ended) entry ∷ []) others ending → Decided origin (fed ++ more) (placed ++ others) ending
+pub one_entry_more : (origin : List (List ℕ)) (fed more : List ℕ) (ended : List (List Token)) (unfinished : List ℕ) (entry : List Token) (placed others : List Placed) (ending : Ending) → IsSplit fed ended unfinished → Cuts (unfinished ++ more) entry → cut_from zero entry ≡ record { ended = entry ∷ []; open_tokens = [] } → ReadsEnded origin None ended placed None → ReadEach origin None (reverse (numbered 1 ended)) (entry_of (line_after ended) entry ∷ []) others ending → Decided origin (fed ++ more) (placed ++ others) ending
 one_entry_more origin fed more ended unfinished entry placed others ending is cut one read next =
-    let pieces : List Piece = joined ended ++ entry in
-    let cuts : Cuts (fed ++ more) pieces = cut_more fed more ended unfinished entry is cut in
-    let entries : numbered 1 ended ++ entry_of (line_behind ended) entry ∷ [] ≡ ended_entries pieces = sym (ap (numbered 1) (one_ended ended entry is.stays one) ∙ numbered_then 1 ended (entry ∷ [])) in
-    let all : ReadEach origin None [] (numbered 1 ended ++ entry_of (line_behind ended) entry ∷ []) (placed ++ others) ending = reads_then origin None [] (numbered 1 ended) (entry_of (line_behind ended) entry ∷ []) placed others ending read (subst (λ t. ReadEach origin None t (entry_of (line_behind ended) entry ∷ []) others ending) (sym (append-nil (reverse (numbered 1 ended)))) next) in
-    undecided pieces (inl cuts) (none_cut (fed ++ more) pieces cuts) (subst (λ t. ReadEach origin None [] t (placed ++ others) ending) entries all)
+    let tokens : List Token = joined ended ++ entry in
+    let cuts : Cuts (fed ++ more) tokens = cut_more fed more ended unfinished entry is cut in
+    let entries : numbered 1 ended ++ entry_of (line_after ended) entry ∷ [] ≡ ended_entries tokens = sym (ap (numbered 1) (one_ended ended entry is.stays one) ∙ numbered_then 1 ended (entry ∷ [])) in
+    let all : ReadEach origin None [] (numbered 1 ended ++ entry_of (line_after ended) entry ∷ []) (placed ++ others) ending = reads_then origin None [] (numbered 1 ended) (entry_of (line_after ended) entry ∷ []) placed others ending read (subst (λ t. ReadEach origin None t (entry_of (line_after ended) entry ∷ []) others ending) (sym (append-nil (reverse (numbered 1 ended)))) next) in
+    undecided tokens (inl cuts) (none_cut (fed ++ more) tokens cuts) (subst (λ t. ReadEach origin None [] t (placed ++ others) ending) entries all)
 
 -- no entry more is ended, and they break for good
-pub break_decided : (origin : List (List ℕ)) (fed more : List ℕ) (ended : List (List Piece)) (unfinished : List ℕ) (pieces : List Piece) (fault : Fault) (placed : List Placed) → IsSplit fed ended unfinished → BreaksForGood (unfinished ++ more) pieces fault → (cut_from zero pieces).ended ≡ [] → ReadsEnded origin None ended placed None → Decided origin (fed ++ more) placed (Some (fault, Line (line_behind ended)))
-break_decided origin fed more ended unfinished pieces fault placed is good none read =
-    let same : ended ≡ (cut_from zero (joined ended ++ pieces)).ended = sym (ended_as_before ended pieces is.stays none) in
-    let found : Decided origin (fed ++ more) placed (Some (fault, Line (open_line (joined ended ++ pieces)))) =
-    decided (joined ended ++ pieces) fault (for_good_more fed more ended unfinished pieces fault is good)
-    (reads_behind origin (Some (fault, Line (open_line (joined ended ++ pieces)))) [] (ended_entries (joined ended ++ pieces)) placed (subst (λ t. ReadsEnded origin None t placed None) same read)) in
-    subst (λ (t : List (List Piece)). Decided origin (fed ++ more) placed (Some (fault, Line (line_behind t)))) (sym same) found
+pub break_decided : (origin : List (List ℕ)) (fed more : List ℕ) (ended : List (List Token)) (unfinished : List ℕ) (tokens : List Token) (fault : Fault) (placed : List Placed) → IsSplit fed ended unfinished → BreaksForGood (unfinished ++ more) tokens fault → (cut_from zero tokens).ended ≡ [] → ReadsEnded origin None ended placed None → Decided origin (fed ++ more) placed (Some (fault, Line (line_after ended)))
+break_decided origin fed more ended unfinished tokens fault placed is good none read =
+    let same : ended ≡ (cut_from zero (joined ended ++ tokens)).ended = sym (ended_as_before ended tokens is.stays none) in
+    let found : Decided origin (fed ++ more) placed (Some (fault, Line (open_line (joined ended ++ tokens)))) =
+    decided (joined ended ++ tokens) fault (for_good_more fed more ended unfinished tokens fault is good)
+    (reads_after origin (Some (fault, Line (open_line (joined ended ++ tokens)))) [] (ended_entries (joined ended ++ tokens)) placed (subst (λ t. ReadsEnded origin None t placed None) same read)) in
+    subst (λ (t : List (List Token)). Decided origin (fed ++ more) placed (Some (fault, Line (line_after t)))) (sym same) found
 
 -- no entry more is ended, and others may come
-pub still_undecided : (origin : List (List ℕ)) (fed more : List ℕ) (ended : List (List Piece)) (unfinished : List ℕ) (pieces : List Piece) (placed : List Placed) → IsSplit fed ended unfinished → ArePieces (unfinished ++ more) pieces → ((fault : Fault) → BreaksForGood (unfinished ++ more) pieces fault → ⊥) → (cut_from zero pieces).ended ≡ [] → ReadsEnded origin None ended placed None → Decided origin (fed ++ more) placed None
-still_undecided origin fed more ended unfinished pieces placed is are never none read =
-    let same : ended ≡ (cut_from zero (joined ended ++ pieces)).ended = sym (ended_as_before ended pieces is.stays none) in
-    undecided (joined ended ++ pieces) (pieces_more fed more ended unfinished pieces is are) (none_more fed more ended unfinished pieces is are never)
+pub still_undecided : (origin : List (List ℕ)) (fed more : List ℕ) (ended : List (List Token)) (unfinished : List ℕ) (tokens : List Token) (placed : List Placed) → IsSplit fed ended unfinished → AreTokens (unfinished ++ more) tokens → ((fault : Fault) → BreaksForGood (unfinished ++ more) tokens fault → ⊥) → (cut_from zero tokens).ended ≡ [] → ReadsEnded origin None ended placed None → Decided origin (fed ++ more) placed None
+still_undecided origin fed more ended unfinished tokens placed is are never none read =
+    let same : ended ≡ (cut_from zero (joined ended ++ tokens)).ended = sym (ended_as_before ended tokens is.stays none) in
+    undecided (joined ended ++ tokens) (tokens_more fed more ended unfinished tokens is are) (none_more fed more ended unfinished tokens is are never)
     (subst (λ t. ReadsEnded origin None t placed None) same read)
 
 -- ---- a fault that is decided stays
 
-refused_longer : (origin : List (List ℕ)) (octets : List ℕ) (pieces : List Piece) (entries others : List Entry) (placed : List Placed) (found : Fault × Place) → ArePieces octets pieces → ended_entries pieces ≡ entries ++ others → ReadEach origin None [] entries placed (Some found) → Decided origin octets placed (Some found)
-refused_longer origin octets pieces entries others placed found (inl cut) e read =
-    undecided pieces (inl cut) (none_cut octets pieces cut) (subst (λ t. ReadEach origin None [] t placed (Some found)) (sym e) (refused_before origin None [] entries others placed found read))
-refused_longer origin octets pieces entries others placed found (inr breaks) e read =
-    elim (break_stays_or_ends octets pieces breaks.0 breaks.1) [
-      | inl stays ↦ decided pieces breaks.0 (record { breaks = breaks.1; stays = stays }) (subst (λ t. ReadEach origin (Some (breaks.0, Line (open_line pieces))) [] t placed (Some found)) (sym e) (refused_before origin (Some (breaks.0, Line (open_line pieces))) [] entries others placed found read))
-      | inr ends ↦ undecided pieces (inr breaks) (ends_not_for_good octets pieces breaks.1.rest breaks.1.whole ends) (subst (λ t. ReadEach origin None [] t placed (Some found)) (sym e) (refused_before origin None [] entries others placed found read))
+refused_longer : (origin : List (List ℕ)) (octets : List ℕ) (tokens : List Token) (entries others : List Entry) (placed : List Placed) (found : Fault × Place) → AreTokens octets tokens → ended_entries tokens ≡ entries ++ others → ReadEach origin None [] entries placed (Some found) → Decided origin octets placed (Some found)
+refused_longer origin octets tokens entries others placed found (inl cut) e read =
+    undecided tokens (inl cut) (none_cut octets tokens cut) (subst (λ t. ReadEach origin None [] t placed (Some found)) (sym e) (refused_before origin None [] entries others placed found read))
+refused_longer origin octets tokens entries others placed found (inr breaks) e read =
+    elim (break_stays_or_ends octets tokens breaks.0 breaks.1) [
+      | inl stays ↦ decided tokens breaks.0 (record { breaks = breaks.1; stays = stays }) (subst (λ t. ReadEach origin (Some (breaks.0, Line (open_line tokens))) [] t placed (Some found)) (sym e) (refused_before origin (Some (breaks.0, Line (open_line tokens))) [] entries others placed found read))
+      | inr ends ↦ undecided tokens (inr breaks) (ends_not_for_good octets tokens breaks.1.rest breaks.1.whole ends) (subst (λ t. ReadEach origin None [] t placed (Some found)) (sym e) (refused_before origin None [] entries others placed found read))
     ]
 
-some_pieces : (octets : List ℕ) → (pieces : List Piece) × ArePieces octets pieces
-some_pieces octets =
+some_tokens : (octets : List ℕ) → (tokens : List Token) × AreTokens octets tokens
+some_tokens octets =
     elim (cut_or_broken octets) [
       | inl found ↦ (found.0, inl found.1)
       | inr found ↦ (found.0, inr (found.1, found.2))
     ]
 
 pub fault_stays : (origin : List (List ℕ)) (fed more : List ℕ) (placed : List Placed) (found : Fault × Place) → Decided origin fed placed (Some found) → Decided origin (fed ++ more) placed (Some found)
-fault_stays origin fed more placed found (undecided pieces are none read) =
-    let all = some_pieces (fed ++ more) in
-    let on = ended_on pieces all.0 (goes_on fed more pieces all.0 are all.1) in
-    refused_longer origin (fed ++ more) all.0 (ended_entries pieces) on.0 placed found all.1 on.1 read
-fault_stays origin fed more placed found (decided pieces fault good read) = decided pieces fault (breaks_for_good fed more pieces fault good) read
+fault_stays origin fed more placed found (undecided tokens are none read) =
+    let all = some_tokens (fed ++ more) in
+    let on = ended_on tokens all.0 (goes_on fed more tokens all.0 are all.1) in
+    refused_longer origin (fed ++ more) all.0 (ended_entries tokens) on.0 placed found all.1 on.1 read
+fault_stays origin fed more placed found (decided tokens fault good read) = decided tokens fault (breaks_for_good fed more tokens fault good) read
 
 -- ---- the end of the file
 
 -- the same of a file that ends there
 pub fault_is_read : (origin : List (List ℕ)) (octets : List ℕ) (placed : List Placed) (found : Fault × Place) → Decided origin octets placed (Some found) → FileReads origin octets placed (Some found)
-fault_is_read origin octets placed found (decided pieces fault good read) = broken pieces fault good.breaks read
-fault_is_read origin octets placed found (undecided pieces (inr breaks) none read) =
-    broken pieces breaks.0 breaks.1 (subst (λ t. ReadEach origin (Some (breaks.0, Line (open_line pieces))) [] t placed (Some found)) (append-nil (ended_entries pieces)) (refused_before origin (Some (breaks.0, Line (open_line pieces))) [] (ended_entries pieces) [] placed found read))
-fault_is_read origin octets placed found (undecided pieces (inl cut) none read) =
-    let on = ended_entries_first pieces in
-    whole pieces cut (subst (λ t. ReadEach origin None [] t placed (Some found)) (sym on.1) (refused_before origin None [] (ended_entries pieces) on.0 placed found read))
+fault_is_read origin octets placed found (decided tokens fault good read) = broken tokens fault good.breaks read
+fault_is_read origin octets placed found (undecided tokens (inr breaks) none read) =
+    broken tokens breaks.0 breaks.1 (subst (λ t. ReadEach origin (Some (breaks.0, Line (open_line tokens))) [] t placed (Some found)) (append-nil (ended_entries tokens)) (refused_before origin (Some (breaks.0, Line (open_line tokens))) [] (ended_entries tokens) [] placed found read))
+fault_is_read origin octets placed found (undecided tokens (inl cut) none read) =
+    let on = ended_entries_first tokens in
+    whole tokens cut (subst (λ t. ReadEach origin None [] t placed (Some found)) (sym on.1) (refused_before origin None [] (ended_entries tokens) on.0 placed found read))
 
 -- the octets after the ended entries are the last entry
-open_alone : (pieces : List Piece) → (cut_from zero pieces).ended ≡ [] → (cut_from zero pieces).open_pieces ≡ pieces
-open_alone pieces none = sym (ap (λ t. joined t ++ (cut_from zero pieces).open_pieces) none) ∙ cut_whole zero pieces
+open_alone : (tokens : List Token) → (cut_from zero tokens).ended ≡ [] → (cut_from zero tokens).open_tokens ≡ tokens
+open_alone tokens none = sym (ap (λ t. joined t ++ (cut_from zero tokens).open_tokens) none) ∙ cut_whole zero tokens
 
-entries_are : (ended : List (List Piece)) (pieces : List Piece) → AreEnded zero ended → (cut_from zero pieces).ended ≡ [] → entries_of (joined ended ++ pieces) ≡ numbered 1 (and_last ended pieces)
-entries_are ended pieces are none =
-    ap (λ (c : Cut). numbered 1 (and_last c.ended c.open_pieces)) (again_zero ended pieces are)
-    ∙ ap (λ t. numbered 1 (and_last (ended ++ t) (cut_from zero pieces).open_pieces)) none
-    ∙ ap (λ t. numbered 1 (and_last t (cut_from zero pieces).open_pieces)) (append-nil ended)
-    ∙ ap (λ t. numbered 1 (and_last ended t)) (open_alone pieces none)
+entries_are : (ended : List (List Token)) (tokens : List Token) → AreEnded zero ended → (cut_from zero tokens).ended ≡ [] → entries_of (joined ended ++ tokens) ≡ numbered 1 (and_last ended tokens)
+entries_are ended tokens are none =
+    ap (λ (c : Cut). numbered 1 (and_last c.ended c.open_tokens)) (again_zero ended tokens are)
+    ∙ ap (λ t. numbered 1 (and_last (ended ++ t) (cut_from zero tokens).open_tokens)) none
+    ∙ ap (λ t. numbered 1 (and_last t (cut_from zero tokens).open_tokens)) (append-nil ended)
+    ∙ ap (λ t. numbered 1 (and_last ended t)) (open_alone tokens none)
 
-all_pieces : (fed : List ℕ) (ended : List (List Piece)) (unfinished : List ℕ) (pieces : List Piece) → IsSplit fed ended unfinished → Cuts unfinished pieces → Cuts fed (joined ended ++ pieces)
-all_pieces fed ended unfinished pieces is cut =
-    subst (λ t. Cuts t (joined ended ++ pieces)) (append-nil fed) (cut_more fed [] ended unfinished pieces is (subst (λ t. Cuts t pieces) (sym (append-nil unfinished)) cut))
+all_tokens : (fed : List ℕ) (ended : List (List Token)) (unfinished : List ℕ) (tokens : List Token) → IsSplit fed ended unfinished → Cuts unfinished tokens → Cuts fed (joined ended ++ tokens)
+all_tokens fed ended unfinished tokens is cut =
+    subst (λ t. Cuts t (joined ended ++ tokens)) (append-nil fed) (cut_more fed [] ended unfinished tokens is (subst (λ t. Cuts t tokens) (sym (append-nil unfinished)) cut))
 
 -- no octets are left
-pub whole_lines : (origin : List (List ℕ)) (fed : List ℕ) (ended : List (List Piece)) (placed : List Placed) → IsSplit fed ended [] → ReadsEnded origin None ended placed None → FileReads origin fed placed None
+pub whole_lines : (origin : List (List ℕ)) (fed : List ℕ) (ended : List (List Token)) (placed : List Placed) → IsSplit fed ended [] → ReadsEnded origin None ended placed None → FileReads origin fed placed None
 whole_lines origin fed ended placed is read =
-    let cut : Cuts fed (joined ended ++ []) = all_pieces fed ended [] [] is (record { whole = refl; each = tt; follow = tt; balanced = refl }) in
+    let cut : Cuts fed (joined ended ++ []) = all_tokens fed ended [] [] is (record { whole = refl; each = tt; follow = tt; balanced = refl }) in
     whole (joined ended ++ []) cut (subst (λ t. ReadEach origin None [] t placed None) (sym (entries_are ended [] is.stays refl)) read)
 
 -- some are, and are the last entry
-pub last_entry : (origin : List (List ℕ)) (fed : List ℕ) (ended : List (List Piece)) (unfinished : List ℕ) (p : Piece) (pieces : List Piece) (placed others : List Placed) (ending : Ending) → IsSplit fed ended unfinished → Cuts unfinished (p ∷ pieces) → (cut_from zero (p ∷ pieces)).ended ≡ [] → ReadsEnded origin None ended placed None → ReadEach origin None (reverse (numbered 1 ended)) (entry_of (line_behind ended) (p ∷ pieces) ∷ []) others ending → FileReads origin fed (placed ++ others) ending
-last_entry origin fed ended unfinished p pieces placed others ending is cut none read next =
-    let entry : List Piece = p ∷ pieces in
-    let entries : numbered 1 ended ++ entry_of (line_behind ended) entry ∷ [] ≡ entries_of (joined ended ++ entry) = sym (entries_are ended entry is.stays none ∙ numbered_then 1 ended (entry ∷ [])) in
-    let all : ReadEach origin None [] (numbered 1 ended ++ entry_of (line_behind ended) entry ∷ []) (placed ++ others) ending = reads_then origin None [] (numbered 1 ended) (entry_of (line_behind ended) entry ∷ []) placed others ending read (subst (λ t. ReadEach origin None t (entry_of (line_behind ended) entry ∷ []) others ending) (sym (append-nil (reverse (numbered 1 ended)))) next) in
-    whole (joined ended ++ entry) (all_pieces fed ended unfinished entry is cut) (subst (λ t. ReadEach origin None [] t (placed ++ others) ending) entries all)
+pub last_entry : (origin : List (List ℕ)) (fed : List ℕ) (ended : List (List Token)) (unfinished : List ℕ) (p : Token) (tokens : List Token) (placed others : List Placed) (ending : Ending) → IsSplit fed ended unfinished → Cuts unfinished (p ∷ tokens) → (cut_from zero (p ∷ tokens)).ended ≡ [] → ReadsEnded origin None ended placed None → ReadEach origin None (reverse (numbered 1 ended)) (entry_of (line_after ended) (p ∷ tokens) ∷ []) others ending → FileReads origin fed (placed ++ others) ending
+last_entry origin fed ended unfinished p tokens placed others ending is cut none read next =
+    let entry : List Token = p ∷ tokens in
+    let entries : numbered 1 ended ++ entry_of (line_after ended) entry ∷ [] ≡ entries_of (joined ended ++ entry) = sym (entries_are ended entry is.stays none ∙ numbered_then 1 ended (entry ∷ [])) in
+    let all : ReadEach origin None [] (numbered 1 ended ++ entry_of (line_after ended) entry ∷ []) (placed ++ others) ending = reads_then origin None [] (numbered 1 ended) (entry_of (line_after ended) entry ∷ []) placed others ending read (subst (λ t. ReadEach origin None t (entry_of (line_after ended) entry ∷ []) others ending) (sym (append-nil (reverse (numbered 1 ended)))) next) in
+    whole (joined ended ++ entry) (all_tokens fed ended unfinished entry is cut) (subst (λ t. ReadEach origin None [] t (placed ++ others) ending) entries all)
 
 -- they break
-pub last_broken : (origin : List (List ℕ)) (fed : List ℕ) (ended : List (List Piece)) (unfinished : List ℕ) (pieces : List Piece) (fault : Fault) (placed : List Placed) → IsSplit fed ended unfinished → Breaks unfinished pieces fault → (cut_from zero pieces).ended ≡ [] → ReadsEnded origin None ended placed None → FileReads origin fed placed (Some (fault, Line (line_behind ended)))
-last_broken origin fed ended unfinished pieces fault placed is breaks none read =
-    let same : ended ≡ (cut_from zero (joined ended ++ pieces)).ended = sym (ended_as_before ended pieces is.stays none) in
-    let all : Breaks fed (joined ended ++ pieces) fault = subst (λ t. Breaks t (joined ended ++ pieces) fault) (append-nil fed) (break_more fed [] ended unfinished pieces fault is (subst (λ t. Breaks t pieces fault) (sym (append-nil unfinished)) breaks)) in
-    let found : FileReads origin fed placed (Some (fault, Line (open_line (joined ended ++ pieces)))) =
-    broken (joined ended ++ pieces) fault all
-    (reads_behind origin (Some (fault, Line (open_line (joined ended ++ pieces)))) [] (ended_entries (joined ended ++ pieces)) placed (subst (λ t. ReadsEnded origin None t placed None) same read)) in
-    subst (λ (t : List (List Piece)). FileReads origin fed placed (Some (fault, Line (line_behind t)))) (sym same) found
+pub last_broken : (origin : List (List ℕ)) (fed : List ℕ) (ended : List (List Token)) (unfinished : List ℕ) (tokens : List Token) (fault : Fault) (placed : List Placed) → IsSplit fed ended unfinished → Breaks unfinished tokens fault → (cut_from zero tokens).ended ≡ [] → ReadsEnded origin None ended placed None → FileReads origin fed placed (Some (fault, Line (line_after ended)))
+last_broken origin fed ended unfinished tokens fault placed is breaks none read =
+    let same : ended ≡ (cut_from zero (joined ended ++ tokens)).ended = sym (ended_as_before ended tokens is.stays none) in
+    let all : Breaks fed (joined ended ++ tokens) fault = subst (λ t. Breaks t (joined ended ++ tokens) fault) (append-nil fed) (break_more fed [] ended unfinished tokens fault is (subst (λ t. Breaks t tokens fault) (sym (append-nil unfinished)) breaks)) in
+    let found : FileReads origin fed placed (Some (fault, Line (open_line (joined ended ++ tokens)))) =
+    broken (joined ended ++ tokens) fault all
+    (reads_after origin (Some (fault, Line (open_line (joined ended ++ tokens)))) [] (ended_entries (joined ended ++ tokens)) placed (subst (λ t. ReadsEnded origin None t placed None) same read)) in
+    subst (λ (t : List (List Token)). FileReads origin fed placed (Some (fault, Line (line_after t)))) (sym same) found

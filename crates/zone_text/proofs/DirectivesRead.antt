@@ -5,21 +5,21 @@ use Rattle.zone_rdata.specs.Item.{RawItem, bare, quoted}
 use Rattle.zone_text.specs.Defaults.{AreDefaults, IsTtlOrNone}
 use Rattle.zone_text.specs.Entries.{Entry}
 use Rattle.zone_text.specs.Forms.{sets_origin, sets_ttl, form_of}
-use Rattle.zone_text.specs.Inherited.{IsOrigin, IsTtl, SpellsBehind, default_ttl_text, latest, one_bare, origin_text}
+use Rattle.zone_text.specs.Inherited.{IsOrigin, IsTtl, SpellsAfter, default_ttl_text, latest, one_bare, origin_text}
 use Rattle.zone_text.specs.Machine.EntryReading.{SetsOrigin, SetsTtl}
 use Rattle.zone_text.specs.Records.{StatesNothing}
 use Rattle.zone_text.specs.declared.defaults.Defaults.{Defaults}
 use Rattle.zone_text.proofs.Inheriting.{leaves, same_default, same_origin}
 
-origin_states : (origin : Labels) (before : List Entry) (items : List RawItem) (text : List ℕ) (name : Labels) → one_bare items ≡ Some text → SpellsBehind origin before text name → StatesNothing origin before (sets_origin items)
+origin_states : (origin : Labels) (before : List Entry) (items : List RawItem) (text : List ℕ) (name : Labels) → one_bare items ≡ Some text → SpellsAfter origin before text name → StatesNothing origin before (sets_origin items)
 origin_states origin before [] text name e spells = absurd (let clash : ⊥ = cc in clash)
 origin_states origin before (quoted other ∷ items) text name e spells = absurd (let clash : ⊥ = cc in clash)
-origin_states origin before (bare other ∷ []) text name e spells = let same : text ≡ other = cc in (name, subst (λ t. SpellsBehind origin before t name) same spells)
+origin_states origin before (bare other ∷ []) text name e spells = let same : text ≡ other = cc in (name, subst (λ t. SpellsAfter origin before t name) same spells)
 origin_states origin before (bare other ∷ item ∷ items) text name e spells = absurd (let clash : ⊥ = cc in clash)
 
 pub origin_set : (origin : Labels) (before : List Entry) (entry : Entry) (d next : Defaults) (items : List RawItem) → AreDefaults origin before d → form_of entry ≡ sets_origin items → SetsOrigin items d next → StatesNothing origin before (form_of entry) × AreDefaults origin (entry ∷ before) next
 origin_set origin before entry d next items so_far form sets =
-    let spells : SpellsBehind origin before sets.text next.origin = (d.origin, (so_far.under, sets.spelled)) in
+    let spells : SpellsAfter origin before sets.text next.origin = (d.origin, (so_far.under, sets.spelled)) in
     let text : origin_text (form_of entry) ≡ Some sets.text = ap origin_text form ∙ sets.item in
     let under : IsOrigin origin (entry ∷ before) next.origin = rw text spells in (
       subst (StatesNothing origin before) (sym form) (origin_states origin before items sets.text next.origin sets.item spells),

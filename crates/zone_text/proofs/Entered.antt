@@ -4,7 +4,7 @@ use Rattle.zone_rdata.specs.Record.{Record}
 use Rattle.zone_rdata.specs.Spelling.{bare, quoted}
 use Rattle.zone_rdata.specs.declared.fault.Fault.{Fault}
 use Rattle.zone_text.specs.Entries.{Entry}
-use Rattle.zone_text.specs.Forms.{EntryForm, no_items, sets_origin, sets_ttl, includes, unknown, owned, unowned, form_of, Parts, parts_of, parts_in, parts_behind}
+use Rattle.zone_text.specs.Forms.{EntryForm, no_items, sets_origin, sets_ttl, includes, unknown, owned, unowned, form_of, Parts, parts_of, parts_in, parts_after}
 use Rattle.zone_text.specs.Inherited.{one_bare}
 use Rattle.zone_text.specs.Records.{StatesRecord, StatesNothing}
 use Rattle.zone_text.specs.EntryFault.{OriginFault, DefaultTtlFault, DirectiveFault, OwnerFault, EntryFault, of_directive, of_owner, of_words, of_kind, of_rdata, of_ttl}
@@ -24,8 +24,8 @@ pub record FaultySteps (origin : List (List ℕ)) (before : List Entry) (entry :
   pub steps : FromOwner origin before entry parts (Err fault)
 
 owner_fault_parts : (origin : List (List ℕ)) (before : List Entry) (form : EntryForm) (fault : Fault) → OwnerFault origin before form fault → (parts : Parts) × (parts_in form ≡ Some parts)
-owner_fault_parts origin before (owned owner items) fault h = (parts_behind [] items, refl)
-owner_fault_parts origin before (unowned items) fault h = (parts_behind [] items, refl)
+owner_fault_parts origin before (owned owner items) fault h = (parts_after [] items, refl)
+owner_fault_parts origin before (unowned items) fault h = (parts_after [] items, refl)
 owner_fault_parts origin before no_items fault h = absurd h
 owner_fault_parts origin before (sets_origin items) fault h = absurd h
 owner_fault_parts origin before (sets_ttl items) fault h = absurd h

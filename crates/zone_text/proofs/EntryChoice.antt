@@ -15,9 +15,9 @@ use Rattle.zone_rdata.specs.Words.{IsClass, IsClassWord}
 use Rattle.zone_rdata.specs.declared.fault.Fault.{Fault}
 use Rattle.zone_rdata.specs.declared.fault.Fault.TheVariants.{BadTtl, BadClass}
 use Rattle.zone_text.specs.Entries.{Entry}
-use Rattle.zone_text.specs.EntryFault.{IsNameFaultBehind, WordFault, WordsFault}
-use Rattle.zone_text.specs.Forms.{EntryForm, no_items, sets_origin, sets_ttl, includes, unknown, owned, unowned, form_of, Word, ttl, class, Parts, parts_of, parts_in, parts_behind, class_among, word_behind, begins_with_digit, is_class_word, ttl_among, unless_stated}
-use Rattle.zone_text.specs.Inherited.{IsOrigin, SpellsBehind, IsLastOwner, IsOwner, HasClass, IsTtl, or_else, latest, origin_text, owner_text, class_word}
+use Rattle.zone_text.specs.EntryFault.{IsNameFaultAfter, WordFault, WordsFault}
+use Rattle.zone_text.specs.Forms.{EntryForm, no_items, sets_origin, sets_ttl, includes, unknown, owned, unowned, form_of, Word, ttl, class, Parts, parts_of, parts_in, parts_after, class_among, word_after, begins_with_digit, is_class_word, ttl_among, unless_stated}
+use Rattle.zone_text.specs.Inherited.{IsOrigin, SpellsAfter, IsLastOwner, IsOwner, HasClass, IsTtl, or_else, latest, origin_text, owner_text, class_word}
 use Rattle.zone_text.specs.Machine.Lower.{Lower, Choices}
 use Rattle.zone_text.specs.Outcome.{AllState, AreOctetItems}
 use Rattle.zone_text.specs.Records.{HasValue, StatesRecord, StatesNothing}
@@ -27,7 +27,7 @@ use Rattle.zone_text.proofs.Entered.{nothing_or_parts}
 -- ---- the origin
 
 abbrev OriginFact : List (List ℕ) → List Entry → Option (List ℕ) → Type 0
-OriginFact origin before o = (name : List (List ℕ)) × (MatchOption o (IsOrigin origin before name) (λ text. SpellsBehind origin before text name) × IsName name)
+OriginFact origin before o = (name : List (List ℕ)) × (MatchOption o (IsOrigin origin before name) (λ text. SpellsAfter origin before text name) × IsName name)
 
 origin_nothing : (origin : List (List ℕ)) (before : List Entry) (form : EntryForm) → StatesNothing origin before form → ((name : List (List ℕ)) × (IsOrigin origin before name × IsName name)) → OriginFact origin before (origin_text form)
 origin_nothing origin before no_items h above = above
@@ -61,7 +61,7 @@ origin_is origin (entry ∷ before) is states = origin_by origin before entry st
 -- ---- the owner
 
 abbrev pub OwnerChoice : List (List ℕ) → List Entry → Option (List ℕ) → Type 0
-OwnerChoice origin before o = ((name : List (List ℕ)) × (MatchOption o (IsLastOwner origin before name) (λ text. SpellsBehind origin before text name) × IsName name)) ⊎ ((name : List (List ℕ)) → MatchOption o (IsLastOwner origin before name) (λ text. SpellsBehind origin before text name) → ⊥)
+OwnerChoice origin before o = ((name : List (List ℕ)) × (MatchOption o (IsLastOwner origin before name) (λ text. SpellsAfter origin before text name) × IsName name)) ⊎ ((name : List (List ℕ)) → MatchOption o (IsLastOwner origin before name) (λ text. SpellsAfter origin before text name) → ⊥)
 
 owner_nothing : (origin : List (List ℕ)) (before : List Entry) (form : EntryForm) → StatesNothing origin before form → OwnerChoice origin before None → OwnerChoice origin before (owner_text form)
 owner_nothing origin before no_items h last = last
@@ -91,7 +91,7 @@ last_owner origin [] states = inr (λ name h. h)
 last_owner origin (entry ∷ before) states = owner_by origin before entry states.0 (last_owner origin before states.1)
 
 abbrev pub NameChoice : List (List ℕ) → List Entry → List ℕ → Type 0
-NameChoice origin before text = ((name : List (List ℕ)) × (SpellsBehind origin before text name × IsName name)) ⊎ ((fault : Fault) × IsNameFaultBehind origin before text fault)
+NameChoice origin before text = ((name : List (List ℕ)) × (SpellsAfter origin before text name × IsName name)) ⊎ ((fault : Fault) × IsNameFaultAfter origin before text fault)
 
 name_by : (origin : List (List ℕ)) (before : List Entry) (text : List ℕ) (above : List (List ℕ)) → IsOrigin origin before above → ((name : List (List ℕ)) × Spells (Some above) text name) ⊎ ((fault : NameFault) × FirstFault (Some above) text fault) → NameChoice origin before text
 name_by origin before text above under (inl found) = inl (found.0, ((above, (under, found.1)), found.1.name))
@@ -145,9 +145,9 @@ word_known false true s None text word e h = let same : class text ≡ word = cc
 word_known false true s (Some other) text word e h = absurd (let clash : ⊥ = cc in clash)
 word_known false false s t text word e h = absurd (let clash : ⊥ = cc in clash)
 
-behind_known : (words : List Word) (item : RawItem) (word : Word) → word_behind words item ≡ Some word → IsKnown word
-behind_known words (quoted text) word e = absurd (let clash : ⊥ = cc in clash)
-behind_known words (bare text) word e = word_known (begins_with_digit text) (is_class_word text) (ttl_among words) (class_among words) text word refl e
+after_known : (words : List Word) (item : RawItem) (word : Word) → word_after words item ≡ Some word → IsKnown word
+after_known words (quoted text) word e = absurd (let clash : ⊥ = cc in clash)
+after_known words (bare text) word e = word_known (begins_with_digit text) (is_class_word text) (ttl_among words) (class_among words) text word refl e
 
 known_push : (words : List Word) (word : Word) → AllByRecursion IsKnown words → IsKnown word → AllByRecursion IsKnown (words ++ word ∷ [])
 known_push [] word known is = (is, tt)
@@ -156,19 +156,19 @@ known_push (w ∷ words) word known is = (known.0, known_push words word known.1
 -- items of octets
 abbrev parts_by : List Word → RawItem → List RawItem → Option Word → Parts
 parts_by words item items None = record { words = words; rest = item ∷ items }
-parts_by words item items (Some word) = parts_behind (words ++ word ∷ []) items
+parts_by words item items (Some word) = parts_after (words ++ word ∷ []) items
 
 pub record AreGood (parts : Parts) : Type 0 where
   pub known : AllByRecursion IsKnown parts.words
   pub low : AreOctetItems parts.rest
 
-good_by : (words : List Word) (item : RawItem) (items : List RawItem) (o : Option Word) → word_behind words item ≡ o → AllByRecursion IsKnown words → AreOctetItems (item ∷ items) → ((word : Word) → AllByRecursion IsKnown (words ++ word ∷ []) → AreGood (parts_behind (words ++ word ∷ []) items)) → AreGood (parts_by words item items o)
+good_by : (words : List Word) (item : RawItem) (items : List RawItem) (o : Option Word) → word_after words item ≡ o → AllByRecursion IsKnown words → AreOctetItems (item ∷ items) → ((word : Word) → AllByRecursion IsKnown (words ++ word ∷ []) → AreGood (parts_after (words ++ word ∷ []) items)) → AreGood (parts_by words item items o)
 good_by words item items None e known low goes = record { known = known; low = low }
-good_by words item items (Some word) e known low goes = goes word (known_push words word known (behind_known words item word e))
+good_by words item items (Some word) e known low goes = goes word (known_push words word known (after_known words item word e))
 
-pub parts_good : (items : List RawItem) (words : List Word) → AllByRecursion IsKnown words → AreOctetItems items → AreGood (parts_behind words items)
+pub parts_good : (items : List RawItem) (words : List Word) → AllByRecursion IsKnown words → AreOctetItems items → AreGood (parts_after words items)
 parts_good [] words known low = record { known = known; low = tt }
-parts_good (item ∷ items) words known low = good_by words item items (word_behind words item) refl known low (λ word more. parts_good items (words ++ word ∷ []) more low.1)
+parts_good (item ∷ items) words known low = good_by words item items (word_after words item) refl known low (λ word more. parts_good items (words ++ word ∷ []) more low.1)
 
 abbrev WordChoice : Word → Type 0
 WordChoice word = HasValue word ⊎ ((fault : Fault) × WordFault word fault)

@@ -13,12 +13,12 @@ use Rattle.zone_rdata.specs.declared.fault.Fault.{Fault}
 use Rattle.zone_rdata.specs.declared.fault.Fault.TheVariants.{IncludeDirective, UnknownDirective, BadDirective, NoOwner, NoTtl, BadTtl, UnknownType}
 use Rattle.zone_text.specs.Entries.{Entry}
 use Rattle.zone_text.specs.EntryFault.{DirectiveFault, OwnerFault, WordsFault, KindFault, none, long, EntryFault, of_directive, of_owner, of_words, of_kind, of_rdata, of_ttl}
-use Rattle.zone_text.specs.Forms.{EntryForm, no_items, sets_origin, sets_ttl, includes, unknown, owned, unowned, form_of, form_by, directive, Parts, parts_of, parts_in, parts_behind}
+use Rattle.zone_text.specs.Forms.{EntryForm, no_items, sets_origin, sets_ttl, includes, unknown, owned, unowned, form_of, form_by, directive, Parts, parts_of, parts_in, parts_after}
 use Rattle.zone_text.specs.Inherited.{IsOrigin, IsOwner, stated_ttl, IsTtl}
 use Rattle.zone_text.specs.Machine.Lower.{Lower, Choices}
 use Rattle.zone_text.specs.Outcome.{AllState, AreOctetItems}
 use Rattle.zone_text.specs.Records.{HasValue, Head, HasHead, head_of, StatesData, StatesMinimum, IsLastMinimum, HasTtl, StatesRecord, StatesNothing}
-use Rattle.zone_text.specs.Pieces.{is_blank}
+use Rattle.zone_text.specs.Tokens.{is_blank}
 use Rattle.zone_text.proofs.Entered.{nothing_or_parts}
 use Rattle.zone_text.proofs.EntryChoice.{origin_is, last_owner, name_or_fault, class_is, words_or_fault, parts_good, AreGood, ttl_word_by, OwnerChoice, NameChoice}
 use Rattle.zone_text.proofs.Inherits.{head_once, states_once}
@@ -196,9 +196,9 @@ outcome_by lower choices origin before entry (sets_ttl items) e is states low = 
 outcome_by lower choices origin before entry includes e is states low = directive_outcome origin before entry (subst (DirectiveChoice origin before) (sym e) (inr (IncludeDirective, refl)))
 outcome_by lower choices origin before entry unknown e is states low = directive_outcome origin before entry (subst (DirectiveChoice origin before) (sym e) (inr (UnknownDirective, refl)))
 outcome_by lower choices origin before entry (owned owner items) e is states low =
-    from_owner lower choices origin before entry (parts_behind [] items) is states (ap parts_in e) (parts_good items [] tt low.1) (subst (OwnerOutcome origin before) (sym e) (owned_outcome choices origin before owner items is states low))
+    from_owner lower choices origin before entry (parts_after [] items) is states (ap parts_in e) (parts_good items [] tt low.1) (subst (OwnerOutcome origin before) (sym e) (owned_outcome choices origin before owner items is states low))
 outcome_by lower choices origin before entry (unowned items) e is states low =
-    from_owner lower choices origin before entry (parts_behind [] items) is states (ap parts_in e) (parts_good items [] tt low) (subst (OwnerOutcome origin before) (sym e) (last_outcome origin before items (last_owner origin before states)))
+    from_owner lower choices origin before entry (parts_after [] items) is states (ap parts_in e) (parts_good items [] tt low) (subst (OwnerOutcome origin before) (sym e) (last_outcome origin before items (last_owner origin before states)))
 
 low_directive : (item : RawItem) (items : List RawItem) → AreOctetItems items → LowForm (directive item items)
 low_directive (quoted text) items low = tt

@@ -19,47 +19,47 @@ use Rattle.zone_text.specs.File.{states_none, states_one}
 use Rattle.zone_text.specs.FileReads.{stated, refused}
 use Rattle.zone_text.specs.Machine.EntryReading.{DecidesEntry, Refuses, decides_fault, decides_none, decides_one}
 use Rattle.zone_text.specs.Machine.Feeding.{ReadsEntry, ReadsOctets}
-use Rattle.zone_text.specs.Pieces.{Piece, Cuts, text}
+use Rattle.zone_text.specs.Tokens.{Token, Cuts, text}
 use Rattle.zone_text.proofs.Left.{line_feeds}
 
 -- what octets decide as the entry after others, whatever these are
 abbrev pub DecidesOctets : List ℕ → Place → Defaults → Reading → Reading → Defaults → Type 0
 DecidesOctets octets place d old new next =
-    (origin : Labels) (before : List Entry) (line : ℕ) (pieces : List Piece) → AreDefaults origin before d → Cuts octets pieces → DecidesEntry origin before (entry_of line pieces) place old new next
+    (origin : Labels) (before : List Entry) (line : ℕ) (tokens : List Token) → AreDefaults origin before d → Cuts octets tokens → DecidesEntry origin before (entry_of line tokens) place old new next
 
 -- the line after octets
-pub record IsLineBehind (octets : List ℕ) (old new : EndedEntries) : Type 0 where
+pub record IsLineAfter (octets : List ℕ) (old new : EndedEntries) : Type 0 where
   pub count : new.line ≡ old.line + line_feeds octets
   pub few : line_feeds octets ≤ length octets
 
-pub lines_behind : (octets : List ℕ) (old new : EndedEntries) (n : ℕ) → n ≡ line_feeds octets → n ≤ length octets → new.line ≡ old.line + n → IsLineBehind octets old new
-lines_behind octets old new n count few line = record {
+pub lines_after : (octets : List ℕ) (old new : EndedEntries) (n : ℕ) → n ≡ line_feeds octets → n ≤ length octets → new.line ≡ old.line + n → IsLineAfter octets old new
+lines_after octets old new n count few line = record {
   count = line ∙ ap (λ k. old.line + k) count;
   few = omega (arith, count, few);
 }
 
-line_of : (octets : List ℕ) (old new : EndedEntries) (pieces : List Piece) → IsLineBehind octets old new → Cuts octets pieces → new.line ≡ old.line + line_feeds (text pieces)
-line_of octets old new pieces behind cut = behind.count ∙ ap (λ t. old.line + line_feeds t) cut.whole
+line_of : (octets : List ℕ) (old new : EndedEntries) (tokens : List Token) → IsLineAfter octets old new → Cuts octets tokens → new.line ≡ old.line + line_feeds (text tokens)
+line_of octets old new tokens behind cut = behind.count ∙ ap (λ t. old.line + line_feeds t) cut.whole
 
 -- what an entry decides is what is read of it
-entry_read : (origin : Labels) (before : List Entry) (pieces : List Piece) (octets : List ℕ) (old new : EndedEntries) → old.decided.ending ≡ None → IsLineBehind octets old new → Cuts octets pieces → DecidesEntry origin before (entry_of old.line pieces) (Line old.line) old.decided new.decided new.defaults → ReadsEntry origin before pieces old new
-entry_read origin before pieces octets old new none behind cut (decides_none leaves same) = record {
+entry_read : (origin : Labels) (before : List Entry) (tokens : List Token) (octets : List ℕ) (old new : EndedEntries) → old.decided.ending ≡ None → IsLineAfter octets old new → Cuts octets tokens → DecidesEntry origin before (entry_of old.line tokens) (Line old.line) old.decided new.decided new.defaults → ReadsEntry origin before tokens old new
+entry_read origin before tokens octets old new none behind cut (decides_none leaves same) = record {
   others = [];
   read = stated (states_none leaves.0 (refl, ap (λ d. d.ending) same ∙ none));
   records = ap (λ d. d.placed.items) same ∙ sym (append-nil old.decided.placed.items);
   defaults = λ _. leaves.1;
-  line = λ _. line_of octets old new pieces behind cut;
+  line = λ _. line_of octets old new tokens behind cut;
 }
-entry_read origin before pieces octets old new none behind cut (decides_one r states are more same) =
+entry_read origin before tokens octets old new none behind cut (decides_one r states are more same) =
     let p : Placed = record { rr = r; place = Line old.line } in
     record {
       others = p ∷ [];
       read = stated (states_one p [] states refl refl (refl, same ∙ none));
       records = more;
       defaults = λ _. are;
-      line = λ _. line_of octets old new pieces behind cut;
+      line = λ _. line_of octets old new tokens behind cut;
     }
-entry_read origin before pieces octets old new none behind cut (decides_fault fault bad same ending) = record {
+entry_read origin before tokens octets old new none behind cut (decides_fault fault bad same ending) = record {
   others = [];
   read = refused fault bad refl ending;
   records = same ∙ sym (append-nil old.decided.placed.items);
@@ -67,9 +67,9 @@ entry_read origin before pieces octets old new none behind cut (decides_fault fa
   line = λ going. absurd (let t : ⊥ = cc in t);
 }
 
-pub takes_entry : (octets : List ℕ) (old new : EndedEntries) → DecidesOctets octets (Line old.line) old.defaults old.decided new.decided new.defaults → old.decided.ending ≡ None → IsLineBehind octets old new → ReadsOctets octets old new
+pub takes_entry : (octets : List ℕ) (old new : EndedEntries) → DecidesOctets octets (Line old.line) old.defaults old.decided new.decided new.defaults → old.decided.ending ≡ None → IsLineAfter octets old new → ReadsOctets octets old new
 takes_entry octets old new decides none behind = record {
-  reads = λ origin before pieces are cut. entry_read origin before pieces octets old new none behind cut (decides origin before old.line pieces are cut);
+  reads = λ origin before tokens are cut. entry_read origin before tokens octets old new none behind cut (decides origin before old.line tokens are cut);
   later = omega (arith, behind.count);
   near = omega (arith, behind.count, behind.few);
 }

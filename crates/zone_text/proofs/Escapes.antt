@@ -4,9 +4,9 @@ use Rattle.std.proofs.lemmas.Bool.{cases_Bool, cases_eq, cases_lt}
 use Rattle.std.proofs.lemmas.List.{append-nil}
 use Rattle.zone_name.specs.Spelling.{Written, escaped, decimal, text_of, octet_of, IsEscape, IsBadEscape, is_digit}
 use Rattle.zone_rdata.specs.declared.fault.Fault.{Fault}
-use Rattle.zone_text.specs.Pieces.{Piece}
+use Rattle.zone_text.specs.Tokens.{Token}
 use Rattle.zone_text.specs.Breaks.{IsBroken, closes_nothing, no_escape, no_quoted_escape, no_quote, not_closed, Breaks}
-use Rattle.zone_text.specs.Lasting.{IsLostEscape, at_line_end, one_digit, two_digits, too_great, IsCutOff, behind_backslash, behind_digit, behind_two_digits, StaysBroken, closing_stays, escape_stays, quoted_escape_stays, BreaksAtEnd, nothing_left, quote_open, escape_open, quoted_escape_open}
+use Rattle.zone_text.specs.Lasting.{IsLostEscape, at_line_end, one_digit, two_digits, too_great, IsCutOff, after_backslash, after_digit, after_two_digits, StaysBroken, closing_stays, escape_stays, quoted_escape_stays, BreaksAtEnd, nothing_left, quote_open, escape_open, quoted_escape_open}
 use Rattle.zone_name.proofs.Units as octets
 use Rattle.zone_text.proofs.Lasting.{lost_escape}
 
@@ -24,22 +24,22 @@ three_digits x y z more dx dy dz none = elim (cases_lt 255 (octet_of (decimal x 
   | inr few ↦ absurd (none (decimal x y z) more (dx, dy, dz, few) refl)
 ]
 
-behind_two : (x y : ℕ) (more : List ℕ) → is_digit x ≡ true → is_digit y ≡ true → NoneWritten (92 ∷ x ∷ y ∷ more) → Malformed (92 ∷ x ∷ y ∷ more)
-behind_two x y [] dx dy none = inr (behind_two_digits x y refl dx dy)
-behind_two x y (z ∷ more) dx dy none = elim (cases_Bool (is_digit z)) as (λ s. Malformed (92 ∷ x ∷ y ∷ z ∷ more)) [
+after_two : (x y : ℕ) (more : List ℕ) → is_digit x ≡ true → is_digit y ≡ true → NoneWritten (92 ∷ x ∷ y ∷ more) → Malformed (92 ∷ x ∷ y ∷ more)
+after_two x y [] dx dy none = inr (after_two_digits x y refl dx dy)
+after_two x y (z ∷ more) dx dy none = elim (cases_Bool (is_digit z)) as (λ s. Malformed (92 ∷ x ∷ y ∷ z ∷ more)) [
   | inl dz ↦ three_digits x y z more dx dy dz none
   | inr nz ↦ inl (two_digits x y z more refl dx dy nz)
 ]
 
-behind_one : (x : ℕ) (more : List ℕ) → is_digit x ≡ true → NoneWritten (92 ∷ x ∷ more) → Malformed (92 ∷ x ∷ more)
-behind_one x [] dx none = inr (behind_digit x refl dx)
-behind_one x (y ∷ more) dx none = elim (cases_Bool (is_digit y)) as (λ s. Malformed (92 ∷ x ∷ y ∷ more)) [
-  | inl dy ↦ behind_two x y more dx dy none
+after_one : (x : ℕ) (more : List ℕ) → is_digit x ≡ true → NoneWritten (92 ∷ x ∷ more) → Malformed (92 ∷ x ∷ more)
+after_one x [] dx none = inr (after_digit x refl dx)
+after_one x (y ∷ more) dx none = elim (cases_Bool (is_digit y)) as (λ s. Malformed (92 ∷ x ∷ y ∷ more)) [
+  | inl dy ↦ after_two x y more dx dy none
   | inr ny ↦ inl (one_digit x y more refl dx ny)
 ]
 
-behind_other : (x : ℕ) (more : List ℕ) → is_digit x ≡ false → NoneWritten (92 ∷ x ∷ more) → Malformed (92 ∷ x ∷ more)
-behind_other x more nx none = elim (cases_eq x 10) as (λ s. Malformed (92 ∷ x ∷ more)) [
+after_other : (x : ℕ) (more : List ℕ) → is_digit x ≡ false → NoneWritten (92 ∷ x ∷ more) → Malformed (92 ∷ x ∷ more)
+after_other x more nx none = elim (cases_eq x 10) as (λ s. Malformed (92 ∷ x ∷ more)) [
   | inl feed ↦ inl (at_line_end x more refl (inl feed))
   | inr no_feed ↦ elim (cases_eq x 13) as (λ s. Malformed (92 ∷ x ∷ more)) [
     | inl return ↦ inl (at_line_end x more refl (inr return))
@@ -48,19 +48,19 @@ behind_other x more nx none = elim (cases_eq x 10) as (λ s. Malformed (92 ∷ x
 ]
 
 behind : (more : List ℕ) → NoneWritten (92 ∷ more) → Malformed (92 ∷ more)
-behind [] none = inr (behind_backslash refl)
+behind [] none = inr (after_backslash refl)
 behind (x ∷ more) none = elim (cases_Bool (is_digit x)) as (λ s. Malformed (92 ∷ x ∷ more)) [
-  | inl dx ↦ behind_one x more dx none
-  | inr nx ↦ behind_other x more nx none
+  | inl dx ↦ after_one x more dx none
+  | inr nx ↦ after_other x more nx none
 ]
 
 pub bad_is_malformed : (rest : List ℕ) → IsBadEscape rest → IsLostEscape rest ⊎ IsCutOff rest
 bad_is_malformed rest bad = subst Malformed (sym bad.1) (behind bad.0 (λ w after written e. bad.2 w after written (bad.1 ∙ e)))
 
 cut_off_is_bad : (rest : List ℕ) → IsCutOff rest → IsBadEscape rest
-cut_off_is_bad rest (behind_backslash e) = subst IsBadEscape (sym e) ([], refl, octets.bare_backslash)
-cut_off_is_bad rest (behind_digit x e dx) = subst IsBadEscape (sym e) (x ∷ [], refl, octets.one_digit x dx)
-cut_off_is_bad rest (behind_two_digits x y e dx dy) = subst IsBadEscape (sym e) (x ∷ y ∷ [], refl, octets.two_digits x y dx)
+cut_off_is_bad rest (after_backslash e) = subst IsBadEscape (sym e) ([], refl, octets.bare_backslash)
+cut_off_is_bad rest (after_digit x e dx) = subst IsBadEscape (sym e) (x ∷ [], refl, octets.one_digit x dx)
+cut_off_is_bad rest (after_two_digits x y e dx dy) = subst IsBadEscape (sym e) (x ∷ y ∷ [], refl, octets.two_digits x y dx)
 
 pub malformed_is_bad : (rest : List ℕ) → IsLostEscape rest ⊎ IsCutOff rest → IsBadEscape rest
 malformed_is_bad rest (inl lost) = subst IsBadEscape (append-nil rest) (lost_escape rest [] lost)
@@ -86,5 +86,5 @@ stays_or_ends depth rest fault (no_quoted_escape units after each whole bad) =
 stays_or_ends depth rest fault (no_quote units each whole) = inr (quote_open units each whole)
 stays_or_ends depth rest fault (not_closed some whole) = inr (nothing_left whole)
 
-pub break_stays_or_ends : (octets : List ℕ) (pieces : List Piece) (fault : Fault) (broken : Breaks octets pieces fault) → StaysBroken broken.rest ⊎ BreaksAtEnd broken.rest
-break_stays_or_ends octets pieces fault broken = stays_or_ends broken.depth broken.rest fault broken.broken
+pub break_stays_or_ends : (octets : List ℕ) (tokens : List Token) (fault : Fault) (broken : Breaks octets tokens fault) → StaysBroken broken.rest ⊎ BreaksAtEnd broken.rest
+break_stays_or_ends octets tokens fault broken = stays_or_ends broken.depth broken.rest fault broken.broken

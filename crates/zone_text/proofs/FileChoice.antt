@@ -16,7 +16,7 @@ use Rattle.zone_text.specs.File.{states_none, states_one}
 use Rattle.zone_text.specs.Lasting.{StaysBroken, BreaksAtEnd}
 use Rattle.zone_text.specs.Machine.Lower.{Lower, Choices}
 use Rattle.zone_text.specs.Outcome.{AllState, AreOctetItems}
-use Rattle.zone_text.specs.Pieces.{Piece, blank, opening, closing, line_feed, comment, bare, quoted, piece_text, text, Cuts}
+use Rattle.zone_text.specs.Tokens.{Token, blank, opening, closing, line_feed, comment, bare, quoted, token_text, text, Cuts}
 use Rattle.zone_text.proofs.Cuttings.{cut_not_broken, cut_or_broken}
 use Rattle.zone_text.proofs.Ending.{entries_text}
 use Rattle.zone_text.proofs.EntryOutcome.{Outcome, entry_outcome}
@@ -32,11 +32,11 @@ low_front : (front rest : List ℕ) → AreLow (front ++ rest) → AreLow front
 low_front [] rest low = tt
 low_front (c ∷ front) rest low = (low.0, low_front front rest low.1)
 
-low_behind : (front rest : List ℕ) → AreLow (front ++ rest) → AreLow rest
-low_behind [] rest low = low
-low_behind (c ∷ front) rest low = low_behind front rest low.1
+low_after : (front rest : List ℕ) → AreLow (front ++ rest) → AreLow rest
+low_after [] rest low = low
+low_after (c ∷ front) rest low = low_after front rest low.1
 
-low_item : (p : Piece) (items : List RawItem) → AreLow (piece_text p) → AreOctetItems items → AreOctetItems (item_of p ++ items)
+low_item : (p : Token) (items : List RawItem) → AreLow (token_text p) → AreOctetItems items → AreOctetItems (item_of p ++ items)
 low_item (blank c) items low others = others
 low_item opening items low others = others
 low_item closing items low others = others
@@ -45,30 +45,30 @@ low_item (comment octets) items low others = others
 low_item (bare units) items low others = (low, others)
 low_item (quoted units) items low others = (low_front (written_text units) (34 ∷ []) low.1, others)
 
-low_items : (pieces : List Piece) → AreLow (text pieces) → AreOctetItems (flat_map item_of pieces)
+low_items : (tokens : List Token) → AreLow (text tokens) → AreOctetItems (flat_map item_of tokens)
 low_items [] low = tt
-low_items (p ∷ pieces) low = low_item p (flat_map item_of pieces) (low_front (piece_text p) (text pieces) low) (low_items pieces (low_behind (piece_text p) (text pieces) low))
+low_items (p ∷ tokens) low = low_item p (flat_map item_of tokens) (low_front (token_text p) (text tokens) low) (low_items tokens (low_after (token_text p) (text tokens) low))
 
 abbrev AreLowEntries : List Entry → Type 0
 AreLowEntries entries = AllByRecursion (λ (entry : Entry). AreOctetItems entry.items) entries
 
-low_entries : (line : ℕ) (entries : List (List Piece)) → AreLow (flat_map text entries) → AreLowEntries (numbered line entries)
+low_entries : (line : ℕ) (entries : List (List Token)) → AreLow (flat_map text entries) → AreLowEntries (numbered line entries)
 low_entries line [] low = tt
-low_entries line (pieces ∷ entries) low = (low_items pieces (low_front (text pieces) (flat_map text entries) low), low_entries (line + count_by (λ c. c == 10) (text pieces)) entries (low_behind (text pieces) (flat_map text entries) low))
+low_entries line (tokens ∷ entries) low = (low_items tokens (low_front (text tokens) (flat_map text entries) low), low_entries (line + count_by (λ c. c == 10) (text tokens)) entries (low_after (text tokens) (flat_map text entries) low))
 
-low_ended : (ended : List (List Piece)) (open_pieces : List Piece) → AreLow (flat_map text (and_last ended open_pieces)) → AreLow (flat_map text ended)
+low_ended : (ended : List (List Token)) (open_tokens : List Token) → AreLow (flat_map text (and_last ended open_tokens)) → AreLow (flat_map text ended)
 low_ended ended [] low = low
-low_ended ended (p ∷ pieces) low = low_front (flat_map text ended) (flat_map text ((p ∷ pieces) ∷ [])) (subst AreLow (flat_map-append text ended ((p ∷ pieces) ∷ [])) low)
+low_ended ended (p ∷ tokens) low = low_front (flat_map text ended) (flat_map text ((p ∷ tokens) ∷ [])) (subst AreLow (flat_map-append text ended ((p ∷ tokens) ∷ [])) low)
 
-low_of : (pieces : List Piece) → AreLow (text pieces) → AreLowEntries (entries_of pieces)
-low_of pieces low =
-    let cut : Cut = cut_from zero pieces in
-    low_entries 1 (and_last cut.ended cut.open_pieces) (subst AreLow (sym (entries_text pieces)) low)
+low_of : (tokens : List Token) → AreLow (text tokens) → AreLowEntries (entries_of tokens)
+low_of tokens low =
+    let cut : Cut = cut_from zero tokens in
+    low_entries 1 (and_last cut.ended cut.open_tokens) (subst AreLow (sym (entries_text tokens)) low)
 
-low_ended_of : (pieces : List Piece) → AreLow (text pieces) → AreLowEntries (ended_entries pieces)
-low_ended_of pieces low =
-    let cut : Cut = cut_from zero pieces in
-    low_entries 1 cut.ended (low_ended cut.ended cut.open_pieces (subst AreLow (sym (entries_text pieces)) low))
+low_ended_of : (tokens : List Token) → AreLow (text tokens) → AreLowEntries (ended_entries tokens)
+low_ended_of tokens low =
+    let cut : Cut = cut_from zero tokens in
+    low_entries 1 cut.ended (low_ended cut.ended cut.open_tokens (subst AreLow (sym (entries_text tokens)) low))
 
 -- ---- entries are read one after the other
 
@@ -90,7 +90,7 @@ readings lower choices origin is behind [] before states low = ([], (behind, (re
 readings lower choices origin is behind (entry ∷ entries) before states low =
     next_reading origin behind before entry entries states (entry_outcome lower choices origin before entry is states low.0) (λ more. readings lower choices origin is behind entries (entry ∷ before) more low.1)
 
-file_by : Lower → Choices → (origin : List (List ℕ)) (octets : List ℕ) → IsName origin → AreLow octets → ((pieces : List Piece) × Cuts octets pieces) ⊎ ((pieces : List Piece) × (fault : Fault) × Breaks octets pieces fault) → (placed : List Placed) × ((ending : Ending) × FileReads origin octets placed ending)
+file_by : Lower → Choices → (origin : List (List ℕ)) (octets : List ℕ) → IsName origin → AreLow octets → ((tokens : List Token) × Cuts octets tokens) ⊎ ((tokens : List Token) × (fault : Fault) × Breaks octets tokens fault) → (placed : List Placed) × ((ending : Ending) × FileReads origin octets placed ending)
 file_by lower choices origin octets is low (inl cut) =
     let found = readings lower choices origin is None (entries_of cut.0) [] tt (low_of cut.0 (subst AreLow cut.1.whole low)) in
     (found.0, (found.1.0, whole cut.0 cut.1 found.1.1))
@@ -104,15 +104,15 @@ file_reads lower choices origin octets is low = file_by lower choices origin oct
 
 -- ---- something is decided of a prefix
 
-broken_by : Lower → Choices → (origin : List (List ℕ)) (octets : List ℕ) → IsName origin → (pieces : List Piece) (fault : Fault) (breaks : Breaks octets pieces fault) → AreLowEntries (ended_entries pieces) → StaysBroken breaks.rest ⊎ BreaksAtEnd breaks.rest → (placed : List Placed) × ((ending : Ending) × Decided origin octets placed ending)
-broken_by lower choices origin octets is pieces fault breaks low (inl stays) =
-    let found = readings lower choices origin is (Some (fault, Line (open_line pieces))) (ended_entries pieces) [] tt low in
-    (found.0, (found.1.0, decided pieces fault (record { breaks = breaks; stays = stays }) found.1.1))
-broken_by lower choices origin octets is pieces fault breaks low (inr ends) =
-    let found = readings lower choices origin is None (ended_entries pieces) [] tt low in
-    (found.0, (found.1.0, undecided pieces (inr (fault, breaks)) (ends_not_for_good octets pieces breaks.rest breaks.whole ends) found.1.1))
+broken_by : Lower → Choices → (origin : List (List ℕ)) (octets : List ℕ) → IsName origin → (tokens : List Token) (fault : Fault) (breaks : Breaks octets tokens fault) → AreLowEntries (ended_entries tokens) → StaysBroken breaks.rest ⊎ BreaksAtEnd breaks.rest → (placed : List Placed) × ((ending : Ending) × Decided origin octets placed ending)
+broken_by lower choices origin octets is tokens fault breaks low (inl stays) =
+    let found = readings lower choices origin is (Some (fault, Line (open_line tokens))) (ended_entries tokens) [] tt low in
+    (found.0, (found.1.0, decided tokens fault (record { breaks = breaks; stays = stays }) found.1.1))
+broken_by lower choices origin octets is tokens fault breaks low (inr ends) =
+    let found = readings lower choices origin is None (ended_entries tokens) [] tt low in
+    (found.0, (found.1.0, undecided tokens (inr (fault, breaks)) (ends_not_for_good octets tokens breaks.rest breaks.whole ends) found.1.1))
 
-decided_by : Lower → Choices → (origin : List (List ℕ)) (octets : List ℕ) → IsName origin → AreLow octets → ((pieces : List Piece) × Cuts octets pieces) ⊎ ((pieces : List Piece) × (fault : Fault) × Breaks octets pieces fault) → (placed : List Placed) × ((ending : Ending) × Decided origin octets placed ending)
+decided_by : Lower → Choices → (origin : List (List ℕ)) (octets : List ℕ) → IsName origin → AreLow octets → ((tokens : List Token) × Cuts octets tokens) ⊎ ((tokens : List Token) × (fault : Fault) × Breaks octets tokens fault) → (placed : List Placed) × ((ending : Ending) × Decided origin octets placed ending)
 decided_by lower choices origin octets is low (inl cut) =
     let found = readings lower choices origin is None (ended_entries cut.0) [] tt (low_ended_of cut.0 (subst AreLow cut.1.whole low)) in
     (found.0, (found.1.0, undecided cut.0 (inl cut.1) (λ fault good. cut_not_broken octets cut.0 cut.0 fault cut.1 good.breaks) found.1.1))

@@ -39,14 +39,14 @@ reads_once lower origin behind before (entry ∷ entries) a b e f (refused fault
 
 pub file_reads_once : Lower → (origin : List (List ℕ)) (octets : List ℕ) (a b : List Placed) (e f : Ending) → FileReads origin octets a e → FileReads origin octets b f → Both a b e f
 file_reads_once lower origin octets a b e f (whole ps cut xs) (whole qs other ys) =
-    let pieces : ps ≡ qs = one_cut octets ps qs cut other in
-    reads_once lower origin None [] (entries_of qs) a b e f (subst (λ p. ReadEach origin None [] (entries_of p) a e) pieces xs) ys
+    let tokens : ps ≡ qs = one_cut octets ps qs cut other in
+    reads_once lower origin None [] (entries_of qs) a b e f (subst (λ p. ReadEach origin None [] (entries_of p) a e) tokens xs) ys
 file_reads_once lower origin octets a b e f (whole ps cut xs) (broken qs fault breaks ys) = absurd (cut_not_broken octets ps qs fault cut breaks)
 file_reads_once lower origin octets a b e f (broken ps fault breaks xs) (whole qs cut ys) = absurd (cut_not_broken octets qs ps fault cut breaks)
 file_reads_once lower origin octets a b e f (broken ps fault breaks xs) (broken qs other more ys) =
-    let pieces : ps ≡ qs = (one_break octets ps qs fault other breaks more).0 in
+    let tokens : ps ≡ qs = (one_break octets ps qs fault other breaks more).0 in
     let same : fault ≡ other = (one_break octets ps qs fault other breaks more).1 in
-    reads_once lower origin (Some (other, Line (open_line qs))) [] (ended_entries qs) a b e f (rw (← pieces, ← same) xs) ys
+    reads_once lower origin (Some (other, Line (open_line qs))) [] (ended_entries qs) a b e f (rw (← tokens, ← same) xs) ys
 
 -- what is stated is read with no fault, and the other way
 
@@ -64,10 +64,10 @@ read_states origin behind before (entry ∷ entries) placed ending e (stated (st
 read_states origin behind before (entry ∷ entries) placed ending e (refused fault h u v) = absurd (let t : ⊥ = cc in t)
 
 pub file_states_read : (origin : List (List ℕ)) (octets : List ℕ) (placed : List Placed) → FileStates origin octets placed → FileReads origin octets placed None
-file_states_read origin octets placed x = whole x.pieces x.cut (states_read origin [] (entries_of x.pieces) placed x.each)
+file_states_read origin octets placed x = whole x.tokens x.cut (states_read origin [] (entries_of x.tokens) placed x.each)
 
 pub file_reads_state : (origin : List (List ℕ)) (octets : List ℕ) (placed : List Placed) → FileReads origin octets placed None → FileStates origin octets placed
-file_reads_state origin octets placed (whole ps cut xs) = record { pieces = ps; cut = cut; each = (read_states origin None [] (entries_of ps) placed None refl xs).0 }
+file_reads_state origin octets placed (whole ps cut xs) = record { tokens = ps; cut = cut; each = (read_states origin None [] (entries_of ps) placed None refl xs).0 }
 file_reads_state origin octets placed (broken ps fault breaks xs) =
     let behind : Ending = Some (fault, Line (open_line ps)) in
     let none : behind ≡ None = (read_states origin behind [] (ended_entries ps) placed None refl xs).1 in

@@ -1,4 +1,4 @@
--- The entry at the front of octets, piece by piece, without parentheses and escapes.
+-- The entry at the front of octets, token by token, without parentheses and escapes.
 use Rattle.std.proofs.Common.{◌≡◌, ◌≢◌, ℕ, zero, ◌+◌, ◌-◌, ◌<◌, ◌≤◌, Bool, true, false, ◌==◌, ◌||◌, List, [], ◌∷◌, ◌++◌, length, take, drop, map, None, refl, sym, ap, ◌∙◌, subst, arith, append_assoc, length-append}
 use Rattle.std.specs.List.{All, AllByRecursion, flat_map}
 use Rattle.std.proofs.Math.Seq.{take-append_seam}
@@ -11,7 +11,7 @@ use Rattle.zone_rdata.specs.Item.{RawItem}
 use Rattle.zone_rdata.specs.Item as raw
 use Rattle.zone_rdata.specs.Strings.{is_quote}
 use Rattle.zone_text.specs.Entries.{in_front_of, item_of}
-use Rattle.zone_text.specs.Pieces.{Piece, blank, opening, closing, line_feed, comment, bare, quoted, piece_text, is_blank, ends_item, Cuts, IsPiece}
+use Rattle.zone_text.specs.Tokens.{Token, blank, opening, closing, line_feed, comment, bare, quoted, token_text, is_blank, ends_item, Cuts, IsToken}
 use Rattle.zone_text.specs.Machine.Cutting.{before_line_feed}
 use Rattle.zone_text.specs.Machine.ItemLengths.{EndsAt, EndsBefore}
 use Rattle.zone_text.specs.Machine.Kept.{AreKept, Keeps}
@@ -21,7 +21,7 @@ use Rattle.zone_text.specs.Machine.Scan.{IsOneEntry}
 use Rattle.zone_text.specs.declared.intake.Intake.{Intake}
 use Rattle.zone_text.proofs.BlankLines.{comment_front}
 use Rattle.zone_text.proofs.PartTaken.{FollowsOn}
-use Rattle.zone_text.proofs.Cuttings.{cuts, is_cut, one_cut, one_piece_more}
+use Rattle.zone_text.proofs.Cuttings.{cuts, is_cut, one_cut, one_token_more}
 use Rattle.zone_text.proofs.FedPieces.{HasFed, fed_more}
 use Rattle.zone_text.proofs.Followed.{follow_one}
 use Rattle.zone_text.proofs.Fronts.{Takes, Stops}
@@ -37,10 +37,10 @@ plain_units : (ends : ℕ → Bool) (octets : List ℕ) → AllByRecursion (λ c
 plain_units ends [] each = tt
 plain_units ends (c ∷ octets) each = let p = or_parts (ends c) (c == 92) each.0 in ((p.0, eqb-false c 92 p.1), plain_units ends octets each.1)
 
--- ---- the piece at the front
+-- ---- the token at the front
 
 pub blank_in_front : (octets rest : List ℕ) (c : ℕ) → octets ≡ c ∷ rest → is_blank c ≡ true → IsInFront octets [] rest
-blank_in_front octets rest c whole is = record { piece = blank c; whole = whole; is = is; ends = tt; inside = tt; stated = refl }
+blank_in_front octets rest c whole is = record { token = blank c; whole = whole; is = is; ends = tt; inside = tt; stated = refl }
 
 ends_at : (octets : List ℕ) → ((c : ℕ) (rest : List ℕ) → octets ≡ c ∷ rest → c ≡ 10) → EndsAt (λ c. c == 10) octets
 ends_at [] ends = tt
@@ -51,7 +51,7 @@ comment_in_front octets after rest c n whole is len back =
     let front = comment_front after in
     let left : rest ≡ drop (length (before_line_feed after)) after = back ∙ ap (λ k. drop k after) len in
     record {
-      piece = comment (before_line_feed after);
+      token = comment (before_line_feed after);
       whole = whole ∙ ap (λ d. d ∷ after) is ∙ ap (λ t. 59 ∷ t) (front.0 ∙ ap (λ t. before_line_feed after ++ t) (sym left));
       is = front.1.0;
       ends = subst (EndsAt (λ c. c == 10)) (sym left) (ends_at _ front.1.1);
@@ -75,7 +75,7 @@ bare_in_front octets after item rest more c next n whole goes within each ends f
     let ended : ends_item next ≡ true = stops_or (ends_item next) (next == 92) stop (ne_eqb next 92 other) in
     let some : n ≢ 0 = some_plain octets after c n whole goes ends in
     record {
-      piece = bare (map plain item);
+      token = bare (map plain item);
       whole = sym (take-append-drop n octets) ∙ ap (λ t. t ++ drop n octets) (sym front ∙ sym (plain_text item)) ∙ ap (λ t. written_text (map plain item) ++ t) (sym back);
       is = (let count : length (map plain item) ≡ length item = length-map item plain in omega (arith, count, len, some), plain_units ends_item item units);
       ends = subst (EndsAt ends_item) (sym first) ended;
@@ -91,7 +91,7 @@ is_quoted octets inside close rest c n each front back first is = record {
 
 pub quoted_in_front : (octets after inside rest : List ℕ) (c : ℕ) → octets ≡ c ∷ after → c ≡ 34 → IsQuoted after inside rest → IsInFront octets (raw.quoted inside ∷ []) rest
 quoted_in_front octets after inside rest c whole is found = record {
-  piece = quoted (map plain inside);
+  token = quoted (map plain inside);
   whole = whole ∙ ap (λ d. d ∷ after) is ∙ ap (λ t. 34 ∷ t) (found.whole ∙ sym (append_assoc inside (34 ∷ []) rest) ∙ ap (λ t. (t ++ 34 ∷ []) ++ rest) (sym (plain_text inside)));
   is = plain_units is_quote inside (recursion_from_All (λ d. (is_quote d || d == 92) ≡ false) _ found.plain);
   ends = tt;
@@ -105,21 +105,21 @@ text_some (plain c ∷ units) some = omega arith
 text_some (escaped c ∷ units) some = omega arith
 text_some (decimal x y z ∷ units) some = omega arith
 
-piece_long : (p : Piece) → IsPiece p → 0 < length (piece_text p)
-piece_long (blank c) is = omega arith
-piece_long opening is = omega arith
-piece_long closing is = omega arith
-piece_long line_feed is = omega arith
-piece_long (comment octets) is = omega arith
-piece_long (bare units) is = text_some units is.0
-piece_long (quoted units) is = omega arith
+token_long : (p : Token) → IsToken p → 0 < length (token_text p)
+token_long (blank c) is = omega arith
+token_long opening is = omega arith
+token_long closing is = omega arith
+token_long line_feed is = omega arith
+token_long (comment octets) is = omega arith
+token_long (bare units) is = text_some units is.0
+token_long (quoted units) is = omega arith
 
 pub in_front_shorter : (octets rest : List ℕ) (items : List RawItem) → IsInFront octets items rest → length rest < length octets
 in_front_shorter octets rest items found =
-    let len : length octets ≡ length (piece_text found.piece) + length rest = ap length found.whole ∙ length-append (piece_text found.piece) rest in
-    omega (arith, len, piece_long found.piece found.is)
+    let len : length octets ≡ length (token_text found.token) + length rest = ap length found.whole ∙ length-append (token_text found.token) rest in
+    omega (arith, len, token_long found.token found.is)
 
--- ---- pieces up to the line feed
+-- ---- tokens up to the line feed
 
 -- what stands before the rest, the items of it, of which these are kept, and what an entry that
 -- begins with it and ends within the rest states
@@ -128,7 +128,7 @@ pub record IsCutTo (octets rest : List ℕ) (kept : List RawItem) : Type 0 where
   pub whole : octets ≡ front ++ rest
   pub so_far : List RawItem
   pub are_kept : AreKept so_far kept
-  pub goes : (tail after : List ℕ) (more : List Piece) → rest ≡ tail ++ after → 0 < length tail → IsOneEntry tail more → (pieces : List Piece) × IsOneEntry (front ++ tail) pieces × (flat_map item_of pieces ≡ so_far ++ flat_map item_of more)
+  pub goes : (tail after : List ℕ) (more : List Token) → rest ≡ tail ++ after → 0 < length tail → IsOneEntry tail more → (tokens : List Token) × IsOneEntry (front ++ tail) tokens × (flat_map item_of tokens ≡ so_far ++ flat_map item_of more)
 
 pub cut_none : (octets : List ℕ) (kept : List RawItem) → kept ≡ [] → IsCutTo octets octets kept
 cut_none octets kept none = record {
@@ -151,43 +151,43 @@ bare_stops : (tail : List ℕ) → 0 < length tail → EndsAt ends_item tail →
 bare_stops [] some at = absurd (omega (arith, some))
 bare_stops (c ∷ tail) some at = at_octet c tail refl at
 
-takes_piece : (p : Piece) (rest tail after : List ℕ) → IsPiece p → IsInside p → EndsBefore p rest → rest ≡ tail ++ after → 0 < length tail → Takes zero (piece_text p ++ tail) p tail
-takes_piece (blank c) rest tail after is inside at e some = record { whole = refl; piece = is; stop = tt; room = tt }
-takes_piece opening rest tail after is inside at e some = absurd inside
-takes_piece closing rest tail after is inside at e some = absurd inside
-takes_piece line_feed rest tail after is inside at e some = absurd inside
-takes_piece (comment octets) rest tail after is inside at e some = record { whole = refl; piece = is; stop = comment_stops tail (ends_within _ rest tail after e some at); room = tt }
-takes_piece (bare units) rest tail after is inside at e some = record { whole = refl; piece = is; stop = bare_stops tail some (ends_within _ rest tail after e some at); room = tt }
-takes_piece (quoted units) rest tail after is inside at e some = record { whole = refl; piece = is; stop = tt; room = tt }
+takes_token : (p : Token) (rest tail after : List ℕ) → IsToken p → IsInside p → EndsBefore p rest → rest ≡ tail ++ after → 0 < length tail → Takes zero (token_text p ++ tail) p tail
+takes_token (blank c) rest tail after is inside at e some = record { whole = refl; token = is; stop = tt; room = tt }
+takes_token opening rest tail after is inside at e some = absurd inside
+takes_token closing rest tail after is inside at e some = absurd inside
+takes_token line_feed rest tail after is inside at e some = absurd inside
+takes_token (comment octets) rest tail after is inside at e some = record { whole = refl; token = is; stop = comment_stops tail (ends_within _ rest tail after e some at); room = tt }
+takes_token (bare units) rest tail after is inside at e some = record { whole = refl; token = is; stop = bare_stops tail some (ends_within _ rest tail after e some at); room = tt }
+takes_token (quoted units) rest tail after is inside at e some = record { whole = refl; token = is; stop = tt; room = tt }
 
-more_cut : (p : Piece) (tail : List ℕ) (more : List Piece) → IsInside p → Takes zero (piece_text p ++ tail) p tail → IsOneEntry tail more → IsOneEntry (piece_text p ++ tail) (p ∷ more)
-more_cut (blank c) tail more inside takes one = record { cut = cuts _ _ (one_piece_more zero _ tail (blank c) more None takes (is_cut tail more one.cut)); ended = ap (in_front_of (blank c)) one.ended }
+more_cut : (p : Token) (tail : List ℕ) (more : List Token) → IsInside p → Takes zero (token_text p ++ tail) p tail → IsOneEntry tail more → IsOneEntry (token_text p ++ tail) (p ∷ more)
+more_cut (blank c) tail more inside takes one = record { cut = cuts _ _ (one_token_more zero _ tail (blank c) more None takes (is_cut tail more one.cut)); ended = ap (in_front_of (blank c)) one.ended }
 more_cut opening tail more inside takes one = absurd inside
 more_cut closing tail more inside takes one = absurd inside
 more_cut line_feed tail more inside takes one = absurd inside
-more_cut (comment octets) tail more inside takes one = record { cut = cuts _ _ (one_piece_more zero _ tail (comment octets) more None takes (is_cut tail more one.cut)); ended = ap (in_front_of (comment octets)) one.ended }
-more_cut (bare units) tail more inside takes one = record { cut = cuts _ _ (one_piece_more zero _ tail (bare units) more None takes (is_cut tail more one.cut)); ended = ap (in_front_of (bare units)) one.ended }
-more_cut (quoted units) tail more inside takes one = record { cut = cuts _ _ (one_piece_more zero _ tail (quoted units) more None takes (is_cut tail more one.cut)); ended = ap (in_front_of (quoted units)) one.ended }
+more_cut (comment octets) tail more inside takes one = record { cut = cuts _ _ (one_token_more zero _ tail (comment octets) more None takes (is_cut tail more one.cut)); ended = ap (in_front_of (comment octets)) one.ended }
+more_cut (bare units) tail more inside takes one = record { cut = cuts _ _ (one_token_more zero _ tail (bare units) more None takes (is_cut tail more one.cut)); ended = ap (in_front_of (bare units)) one.ended }
+more_cut (quoted units) tail more inside takes one = record { cut = cuts _ _ (one_token_more zero _ tail (quoted units) more None takes (is_cut tail more one.cut)); ended = ap (in_front_of (quoted units)) one.ended }
 
 more_by : (octets rest left : List ℕ) (kept new items : List RawItem) (so_far : IsCutTo octets rest kept) → IsInFront rest items left → AreKept (so_far.so_far ++ items) new → IsCutTo octets left new
 more_by octets rest left kept new items so_far found are_kept = record {
-  front = so_far.front ++ piece_text found.piece;
-  whole = so_far.whole ∙ ap (λ t. so_far.front ++ t) found.whole ∙ sym (append_assoc so_far.front (piece_text found.piece) left);
+  front = so_far.front ++ token_text found.token;
+  whole = so_far.whole ∙ ap (λ t. so_far.front ++ t) found.whole ∙ sym (append_assoc so_far.front (token_text found.token) left);
   so_far = so_far.so_far ++ items;
   are_kept = are_kept;
   goes = λ tail after more e some one.
-      let takes = takes_piece found.piece left tail after found.is found.inside found.ends e some in
-      let next = more_cut found.piece tail more found.inside takes one in
-      let whole : rest ≡ (piece_text found.piece ++ tail) ++ after = found.whole ∙ ap (λ t. piece_text found.piece ++ t) e ∙ sym (append_assoc (piece_text found.piece) tail after) in
-      let long : 0 < length (piece_text found.piece ++ tail) = omega (arith, some, length-append (piece_text found.piece) tail) in
-      let before = so_far.goes (piece_text found.piece ++ tail) after (found.piece ∷ more) whole long next in
-      let stated : so_far.so_far ++ (item_of found.piece ++ flat_map item_of more) ≡ (so_far.so_far ++ items) ++ flat_map item_of more = ap (λ t. so_far.so_far ++ (t ++ flat_map item_of more)) found.stated ∙ sym (append_assoc so_far.so_far items (flat_map item_of more)) in
-      (before.0, subst (λ t. IsOneEntry t before.0) (sym (append_assoc so_far.front (piece_text found.piece) tail)) before.1, before.2 ∙ stated);
+      let takes = takes_token found.token left tail after found.is found.inside found.ends e some in
+      let next = more_cut found.token tail more found.inside takes one in
+      let whole : rest ≡ (token_text found.token ++ tail) ++ after = found.whole ∙ ap (λ t. token_text found.token ++ t) e ∙ sym (append_assoc (token_text found.token) tail after) in
+      let long : 0 < length (token_text found.token ++ tail) = omega (arith, some, length-append (token_text found.token) tail) in
+      let before = so_far.goes (token_text found.token ++ tail) after (found.token ∷ more) whole long next in
+      let stated : so_far.so_far ++ (item_of found.token ++ flat_map item_of more) ≡ (so_far.so_far ++ items) ++ flat_map item_of more = ap (λ t. so_far.so_far ++ (t ++ flat_map item_of more)) found.stated ∙ sym (append_assoc so_far.so_far items (flat_map item_of more)) in
+      (before.0, subst (λ t. IsOneEntry t before.0) (sym (append_assoc so_far.front (token_text found.token) tail)) before.1, before.2 ∙ stated);
 }
 
 pub cut_more : (octets rest left : List ℕ) (kept new : List RawItem) (item : RawItem) → IsCutTo octets rest kept → IsInFront rest (item ∷ []) left → Keeps item kept new → IsCutTo octets left new
 cut_more octets rest left kept new item so_far found keeps =
-    more_by octets rest left kept new (item ∷ []) so_far found (keeps_more found.piece so_far.so_far kept new item found.is (sym found.stated) so_far.are_kept keeps)
+    more_by octets rest left kept new (item ∷ []) so_far found (keeps_more found.token so_far.so_far kept new item found.is (sym found.stated) so_far.are_kept keeps)
 
 pub cut_on : (octets rest left : List ℕ) (kept : List RawItem) → IsCutTo octets rest kept → IsInFront rest [] left → IsCutTo octets left kept
 cut_on octets rest left kept so_far found =
@@ -208,7 +208,7 @@ cut_ended octets rest after raws c n so_far first is count =
     let taken : n ≡ length (so_far.front ++ fed) = omega (arith, count, len) in
     let entry : take n octets ≡ so_far.front ++ fed = rw (taken, whole) (take-append_seam (so_far.front ++ fed) after) in
     record {
-      pieces = found.0;
+      tokens = found.0;
       one = subst (λ t. IsOneEntry t found.0) (sym entry) found.1;
       stated = subst (λ t. AreKept t raws) (sym (found.2 ∙ append-nil so_far.so_far)) so_far.are_kept;
       some = omega (arith, taken, last);
@@ -216,8 +216,8 @@ cut_ended octets rest after raws c n so_far first is count =
     }
 
 pub keeps_items : (octets part : List ℕ) (n : ℕ) (kept : List RawItem) → IsFirstEntry octets n kept → part ≡ take n octets → KeepsItems part kept
-keeps_items octets part n kept first front pieces cut =
-    subst (λ t. AreKept (flat_map item_of t) kept) (one_cut part first.pieces pieces (subst (λ t. Cuts t first.pieces) (sym front) first.one.cut) cut) first.stated
+keeps_items octets part n kept first front tokens cut =
+    subst (λ t. AreKept (flat_map item_of t) kept) (one_cut part first.tokens tokens (subst (λ t. Cuts t first.tokens) (sym front) first.one.cut) cut) first.stated
 
 -- ---- the entry at the front of a piece
 
@@ -226,8 +226,8 @@ fed_entry old mid new piece rest part after n raws before none empty first front
     let whole : rest ≡ part ++ after = sym (take-append-drop n rest) ∙ ap (λ t. t ++ drop n rest) (sym front) ∙ ap (λ t. part ++ t) (sym back) in
     let len : length rest ≡ length part + length after = ap length whole ∙ length-append part after in
     let left : length new.unfinished.items ≡ length mid.unfinished.items = ap length unfinished in
-    let one : IsOneEntry part first.pieces = subst (λ t. IsOneEntry t first.pieces) (sym front) first.one in
-    let follow : FollowsOn mid.ended [] new.ended [] part = λ origin fed given f. follow_one origin mid.ended new.ended [] part fed given first.pieces one none reads f in
+    let one : IsOneEntry part first.tokens = subst (λ t. IsOneEntry t first.tokens) (sym front) first.one in
+    let follow : FollowsOn mid.ended [] new.ended [] part = λ origin fed given f. follow_one origin mid.ended new.ended [] part fed given first.tokens one none reads f in
     let is : IsIntake new.ended new.at new.unfinished.items = record {
       state = rw (at, unfinished) (before.is.state);
       dropped = λ found e. unfinished ∙ empty;

@@ -14,7 +14,7 @@ use Rattle.zone_text.specs.declared.ended.EndedEntries.{EndedEntries}
 use Rattle.zone_text.specs.declared.scan.ScanState.{ScanState}
 use Rattle.zone_text.specs.declared.scan.Step.{Step}
 use Rattle.zone_text.specs.declared.scan.Step.TheVariants.{On, Ends, LostEscape, ClosesNothing}
-use Rattle.zone_text.specs.Pieces.{Piece, Cuts, text}
+use Rattle.zone_text.specs.Tokens.{Token, Cuts, text}
 use Rattle.zone_text.specs.Lasting.{BreaksForGood}
 use Rattle.zone_text.specs.Defaults.{AreDefaults}
 use Rattle.zone_text.specs.Entries.{Entry, cut_from, entry_of, numbered}
@@ -24,29 +24,29 @@ use Rattle.zone_text.specs.Machine.Scan.{beginning, further, end_fault_of, IsOne
 use Rattle.zone_text.specs.Machine.Feeding.{ReadsEntry, ReadsOctets, Follow, ScansTo}
 use Rattle.zone_text.specs.Source.{Leave}
 use Rattle.zone_text.proofs.CutAgain.{joined}
-use Rattle.zone_text.proofs.Left.{line_feeds, numbered_then, IsSplit, split, whole_behind, cut_more, pieces_more, ended_as_before, one_ended}
-use Rattle.zone_text.proofs.Decisions.{ReadsEnded, line_behind, reads_so_far, one_entry_more, break_decided, still_undecided, fault_stays, fault_is_read, whole_lines, last_entry, last_broken}
+use Rattle.zone_text.proofs.Left.{line_feeds, numbered_then, IsSplit, split, whole_after, cut_more, tokens_more, ended_as_before, one_ended}
+use Rattle.zone_text.proofs.Decisions.{ReadsEnded, line_after, reads_so_far, one_entry_more, break_decided, still_undecided, fault_stays, fault_is_read, whole_lines, last_entry, last_broken}
 use Rattle.zone_text.proofs.Scanned.{goes_on, ends_entry, stays_open, loses_escape, closes_nothing, at_end}
 
 -- ---- what is left of the octets fed so far, entry by entry
 
 -- the ended entries, the octets after them, what they leave, and the records that they state
-pub record IsRead (origin : Labels) (ended : List (List Piece)) (entries : EndedEntries) (unfinished fed : List ℕ) (given : List Placed) : Type 0 where
+pub record IsRead (origin : Labels) (ended : List (List Token)) (entries : EndedEntries) (unfinished fed : List ℕ) (given : List Placed) : Type 0 where
   pub parts : IsSplit fed ended unfinished
   pub defaults : AreDefaults origin (reverse (numbered 1 ended)) entries.defaults
-  pub line : entries.line ≡ line_behind ended
+  pub line : entries.line ≡ line_after ended
   pub read : ReadsEnded origin None ended (given ++ entries.decided.placed.items) None
 
-pub is_read : (origin : Labels) (entries : EndedEntries) (unfinished fed : List ℕ) (given : List Placed) → entries.decided.ending ≡ None → Follow origin entries unfinished fed given → (ended : List (List Piece)) × IsRead origin ended entries unfinished fed given
+pub is_read : (origin : Labels) (entries : EndedEntries) (unfinished fed : List ℕ) (given : List Placed) → entries.decided.ending ≡ None → Follow origin entries unfinished fed given → (ended : List (List Token)) × IsRead origin ended entries unfinished fed given
 is_read origin entries unfinished fed given none follow =
     let leave : Leave origin fed entries.defaults entries.line unfinished = follow.leave none in
     let found : Decided origin fed (given ++ entries.decided.placed.items) None = subst (λ e. Decided origin fed (given ++ entries.decided.placed.items) e) none follow.decided in (
-      (cut_from zero leave.octets.pieces).ended,
+      (cut_from zero leave.octets.tokens).ended,
       record {
-        parts = split fed leave.octets.pieces unfinished leave.octets.are leave.octets.whole;
+        parts = split fed leave.octets.tokens unfinished leave.octets.are leave.octets.whole;
         defaults = leave.inherited;
         line = leave.numbered;
-        read = reads_so_far origin fed leave.octets.pieces (given ++ entries.decided.placed.items) found leave.octets.are;
+        read = reads_so_far origin fed leave.octets.tokens (given ++ entries.decided.placed.items) found leave.octets.are;
       },
     )
 
@@ -62,7 +62,7 @@ scans_on at unfinished part step before behind =
 pub follow_on : (origin : Labels) (entries : EndedEntries) (at : ScanState) (unfinished part fed : List ℕ) (given : List Placed) → ScansTo beginning (unfinished ++ part) (On at) → entries.decided.ending ≡ None → Follow origin entries unfinished fed given → Follow origin entries (unfinished ++ part) (fed ++ part) given
 follow_on origin entries at unfinished part fed given scanned none follow =
     let found = is_read origin entries unfinished fed given none follow in
-    let ended : List (List Piece) = found.0 in
+    let ended : List (List Token) = found.0 in
     let is : IsRead origin ended entries unfinished fed given = found.1 in
     let is_open = stays_open (unfinished ++ part) at scanned in
     let same : (cut_from zero (joined ended ++ is_open.0)).ended ≡ ended = ended_as_before ended is_open.0 is.parts.stays is_open.2 in
@@ -71,12 +71,12 @@ follow_on origin entries at unfinished part fed given scanned none follow =
       decided = subst (λ e. Decided origin (fed ++ part) (given ++ entries.decided.placed.items) e) (sym none) decided;
       leave = λ _. record {
         octets = record {
-          pieces = joined ended ++ is_open.0;
-          are = pieces_more fed part ended unfinished is_open.0 is.parts is_open.1;
-          whole = whole_behind fed part ended unfinished is.parts ∙ ap (λ t. flat_map text t ++ (unfinished ++ part)) (sym same);
+          tokens = joined ended ++ is_open.0;
+          are = tokens_more fed part ended unfinished is_open.0 is.parts is_open.1;
+          whole = whole_after fed part ended unfinished is.parts ∙ ap (λ t. flat_map text t ++ (unfinished ++ part)) (sym same);
         };
         inherited = subst (λ t. AreDefaults origin (reverse (numbered 1 t)) entries.defaults) (sym same) is.defaults;
-        numbered = is.line ∙ ap line_behind (sym same);
+        numbered = is.line ∙ ap line_after (sym same);
       };
     }
 
@@ -86,46 +86,46 @@ reverse_more : (entries : List Entry) (entry : Entry) → reverse (entries ++ en
 reverse_more entries entry = reverse-append entries (entry ∷ [])
 
 -- the entries after one more
-numbered_more : (ended : List (List Piece)) (pieces : List Piece) → reverse (numbered 1 (ended ++ pieces ∷ [])) ≡ entry_of (line_behind ended) pieces ∷ reverse (numbered 1 ended)
-numbered_more ended pieces =
-    ap reverse (numbered_then 1 ended (pieces ∷ [])) ∙ reverse_more (numbered 1 ended) (entry_of (line_behind ended) pieces)
+numbered_more : (ended : List (List Token)) (tokens : List Token) → reverse (numbered 1 (ended ++ tokens ∷ [])) ≡ entry_of (line_after ended) tokens ∷ reverse (numbered 1 ended)
+numbered_more ended tokens =
+    ap reverse (numbered_then 1 ended (tokens ∷ [])) ∙ reverse_more (numbered 1 ended) (entry_of (line_after ended) tokens)
 
-line_more : (ended : List (List Piece)) (pieces : List Piece) → line_behind (ended ++ pieces ∷ []) ≡ line_behind ended + line_feeds (text pieces)
-line_more ended pieces =
-    ap (λ t. 1 + line_feeds t) (sym (flat_map_more text [] ended pieces))
-    ∙ ap (λ n. 1 + n) (sum_by-append _ (flat_map text ended) (text pieces))
+line_more : (ended : List (List Token)) (tokens : List Token) → line_after (ended ++ tokens ∷ []) ≡ line_after ended + line_feeds (text tokens)
+line_more ended tokens =
+    ap (λ t. 1 + line_feeds t) (sym (flat_map_more text [] ended tokens))
+    ∙ ap (λ n. 1 + n) (sum_by-append _ (flat_map text ended) (text tokens))
     ∙ omega arith
 
 -- what is left once an entry is ended that isn't refused
-left_behind : (origin : Labels) (ended : List (List Piece)) (old new : EndedEntries) (unfinished part fed : List ℕ) (given : List Placed) (pieces : List Piece) → IsRead origin ended old unfinished fed given → IsOneEntry (unfinished ++ part) pieces → ReadsEntry origin (reverse (numbered 1 ended)) pieces old new → new.decided.ending ≡ None → Leave origin (fed ++ part) new.defaults new.line []
-left_behind origin ended old new unfinished part fed given pieces is one read none =
-    let all : (cut_from zero (joined ended ++ pieces)).ended ≡ ended ++ pieces ∷ [] = one_ended ended pieces is.parts.stays one.ended in
-    let octets : fed ++ part ≡ flat_map text (ended ++ pieces ∷ []) ++ [] =
-    whole_behind fed part ended unfinished is.parts
+left_over : (origin : Labels) (ended : List (List Token)) (old new : EndedEntries) (unfinished part fed : List ℕ) (given : List Placed) (tokens : List Token) → IsRead origin ended old unfinished fed given → IsOneEntry (unfinished ++ part) tokens → ReadsEntry origin (reverse (numbered 1 ended)) tokens old new → new.decided.ending ≡ None → Leave origin (fed ++ part) new.defaults new.line []
+left_over origin ended old new unfinished part fed given tokens is one read none =
+    let all : (cut_from zero (joined ended ++ tokens)).ended ≡ ended ++ tokens ∷ [] = one_ended ended tokens is.parts.stays one.ended in
+    let octets : fed ++ part ≡ flat_map text (ended ++ tokens ∷ []) ++ [] =
+    whole_after fed part ended unfinished is.parts
     ∙ ap (λ t. flat_map text ended ++ t) one.cut.whole
-    ∙ flat_map_more text [] ended pieces
-    ∙ sym (append-nil (flat_map text (ended ++ pieces ∷ []))) in
+    ∙ flat_map_more text [] ended tokens
+    ∙ sym (append-nil (flat_map text (ended ++ tokens ∷ []))) in
     record {
       octets = record {
-        pieces = joined ended ++ pieces;
-        are = inl (cut_more fed part ended unfinished pieces is.parts one.cut);
+        tokens = joined ended ++ tokens;
+        are = inl (cut_more fed part ended unfinished tokens is.parts one.cut);
         whole = octets ∙ ap (λ t. flat_map text t ++ []) (sym all);
       };
-      inherited = subst (λ (t : List Entry). AreDefaults origin t new.defaults) (ap (λ n. entry_of n pieces ∷ reverse (numbered 1 ended)) is.line ∙ sym (numbered_more ended pieces) ∙ ap (λ t. reverse (numbered 1 t)) (sym all)) (read.defaults none);
-      numbered = read.line none ∙ ap (λ n. n + line_feeds (text pieces)) is.line ∙ sym (line_more ended pieces) ∙ ap line_behind (sym all);
+      inherited = subst (λ (t : List Entry). AreDefaults origin t new.defaults) (ap (λ n. entry_of n tokens ∷ reverse (numbered 1 ended)) is.line ∙ sym (numbered_more ended tokens) ∙ ap (λ t. reverse (numbered 1 t)) (sym all)) (read.defaults none);
+      numbered = read.line none ∙ ap (λ n. n + line_feeds (text tokens)) is.line ∙ sym (line_more ended tokens) ∙ ap line_after (sym all);
     }
 
-pub follow_one : (origin : Labels) (old new : EndedEntries) (unfinished part fed : List ℕ) (given : List Placed) (pieces : List Piece) → IsOneEntry (unfinished ++ part) pieces → old.decided.ending ≡ None → ReadsOctets (unfinished ++ part) old new → Follow origin old unfinished fed given → Follow origin new [] (fed ++ part) given
-follow_one origin old new unfinished part fed given pieces one none reads follow =
+pub follow_one : (origin : Labels) (old new : EndedEntries) (unfinished part fed : List ℕ) (given : List Placed) (tokens : List Token) → IsOneEntry (unfinished ++ part) tokens → old.decided.ending ≡ None → ReadsOctets (unfinished ++ part) old new → Follow origin old unfinished fed given → Follow origin new [] (fed ++ part) given
+follow_one origin old new unfinished part fed given tokens one none reads follow =
     let found = is_read origin old unfinished fed given none follow in
-    let ended : List (List Piece) = found.0 in
+    let ended : List (List Token) = found.0 in
     let is : IsRead origin ended old unfinished fed given = found.1 in
-    let read : ReadsEntry origin (reverse (numbered 1 ended)) pieces old new = reads.reads origin (reverse (numbered 1 ended)) pieces is.defaults one.cut in
-    let next : ReadEach origin None (reverse (numbered 1 ended)) (entry_of (line_behind ended) pieces ∷ []) read.others new.decided.ending = subst (λ n. ReadEach origin None (reverse (numbered 1 ended)) (entry_of n pieces ∷ []) read.others new.decided.ending) is.line read.read in
+    let read : ReadsEntry origin (reverse (numbered 1 ended)) tokens old new = reads.reads origin (reverse (numbered 1 ended)) tokens is.defaults one.cut in
+    let next : ReadEach origin None (reverse (numbered 1 ended)) (entry_of (line_after ended) tokens ∷ []) read.others new.decided.ending = subst (λ n. ReadEach origin None (reverse (numbered 1 ended)) (entry_of n tokens ∷ []) read.others new.decided.ending) is.line read.read in
     let records : (given ++ old.decided.placed.items) ++ read.others ≡ given ++ new.decided.placed.items = append_assoc given old.decided.placed.items read.others ∙ ap (λ t. given ++ t) (sym read.records) in
     record {
-      decided = subst (λ t. Decided origin (fed ++ part) t new.decided.ending) records (one_entry_more origin fed part ended unfinished pieces (given ++ old.decided.placed.items) read.others new.decided.ending is.parts one.cut one.ended is.read next);
-      leave = left_behind origin ended old new unfinished part fed given pieces is one read;
+      decided = subst (λ t. Decided origin (fed ++ part) t new.decided.ending) records (one_entry_more origin fed part ended unfinished tokens (given ++ old.decided.placed.items) read.others new.decided.ending is.parts one.cut one.ended is.read next);
+      leave = left_over origin ended old new unfinished part fed given tokens is one read;
     }
 
 pub follow_entry : (origin : Labels) (old new : EndedEntries) (unfinished part fed : List ℕ) (given : List Placed) → ScansTo beginning (unfinished ++ part) Ends → old.decided.ending ≡ None → ReadsOctets (unfinished ++ part) old new → Follow origin old unfinished fed given → Follow origin new [] (fed ++ part) given
@@ -135,13 +135,13 @@ follow_entry origin old new unfinished part fed given scanned none reads follow 
 
 -- ---- the octets break for good
 
-follow_break : (origin : Labels) (old new : EndedEntries) (fault : Fault) (unfinished part fed : List ℕ) (given : List Placed) (pieces : List Piece) → BreaksForGood (unfinished ++ part) pieces fault → (cut_from zero pieces).ended ≡ [] → old.decided.ending ≡ None → new.decided.placed.items ≡ old.decided.placed.items → new.decided.ending ≡ Some (fault, Line old.line) → Follow origin old unfinished fed given → Follow origin new [] (fed ++ part) given
-follow_break origin old new fault unfinished part fed given pieces good alone none records ending follow =
+follow_break : (origin : Labels) (old new : EndedEntries) (fault : Fault) (unfinished part fed : List ℕ) (given : List Placed) (tokens : List Token) → BreaksForGood (unfinished ++ part) tokens fault → (cut_from zero tokens).ended ≡ [] → old.decided.ending ≡ None → new.decided.placed.items ≡ old.decided.placed.items → new.decided.ending ≡ Some (fault, Line old.line) → Follow origin old unfinished fed given → Follow origin new [] (fed ++ part) given
+follow_break origin old new fault unfinished part fed given tokens good alone none records ending follow =
     let found = is_read origin old unfinished fed given none follow in
-    let ended : List (List Piece) = found.0 in
+    let ended : List (List Token) = found.0 in
     let is : IsRead origin ended old unfinished fed given = found.1 in
-    let decided : Decided origin (fed ++ part) (given ++ old.decided.placed.items) (Some (fault, Line (line_behind ended))) = break_decided origin fed part ended unfinished pieces fault (given ++ old.decided.placed.items) is.parts good alone is.read in
-    let last : Some (fault, Line (line_behind ended)) ≡ new.decided.ending = ap (λ n. let e : Ending = Some (fault, Line n) in e) (sym is.line) ∙ sym ending in
+    let decided : Decided origin (fed ++ part) (given ++ old.decided.placed.items) (Some (fault, Line (line_after ended))) = break_decided origin fed part ended unfinished tokens fault (given ++ old.decided.placed.items) is.parts good alone is.read in
+    let last : Some (fault, Line (line_after ended)) ≡ new.decided.ending = ap (λ n. let e : Ending = Some (fault, Line n) in e) (sym is.line) ∙ sym ending in
     record {
       decided = subst (λ t. Decided origin (fed ++ part) (given ++ t) new.decided.ending) (sym records) (subst (λ e. Decided origin (fed ++ part) (given ++ old.decided.placed.items) e) last decided);
       leave = λ none. absurd (let t : ⊥ = cc in t);
@@ -179,7 +179,7 @@ end_of_fault origin entries found unfinished fed given ending follow =
 pub end_of_lines : (origin : Labels) (entries : EndedEntries) (unfinished fed : List ℕ) (given : List Placed) → unfinished ≡ [] → entries.decided.ending ≡ None → Follow origin entries unfinished fed given → Reads origin fed given entries
 end_of_lines origin entries unfinished fed given empty none follow =
     let found = is_read origin entries unfinished fed given none follow in
-    let ended : List (List Piece) = found.0 in
+    let ended : List (List Token) = found.0 in
     let is : IsRead origin ended entries unfinished fed given = found.1 in
     subst (λ e. FileReads origin fed (given ++ entries.decided.placed.items) e) (sym none) (whole_lines origin fed ended (given ++ entries.decided.placed.items) (subst (λ t. IsSplit fed ended t) empty is.parts) is.read)
 
@@ -187,25 +187,25 @@ end_of_lines origin entries unfinished fed given empty none follow =
 pub end_of_break : (origin : Labels) (old new : EndedEntries) (at : ScanState) (fault : Fault) (unfinished fed : List ℕ) (given : List Placed) → ScansTo beginning unfinished (On at) → end_fault_of at ≡ Some fault → old.decided.ending ≡ None → new.decided.placed.items ≡ old.decided.placed.items → new.decided.ending ≡ Some (fault, Line old.line) → Follow origin old unfinished fed given → Reads origin fed given new
 end_of_break origin old new at fault unfinished fed given scanned ends none records ending follow =
     let found = is_read origin old unfinished fed given none follow in
-    let ended : List (List Piece) = found.0 in
+    let ended : List (List Token) = found.0 in
     let is : IsRead origin ended old unfinished fed given = found.1 in
     let breaks = rw ends at (at_end unfinished at scanned) in
-    let read : FileReads origin fed (given ++ old.decided.placed.items) (Some (fault, Line (line_behind ended))) = last_broken origin fed ended unfinished breaks.0 fault (given ++ old.decided.placed.items) is.parts breaks.1 breaks.2 is.read in
-    let last : Some (fault, Line (line_behind ended)) ≡ new.decided.ending = ap (λ n. let e : Ending = Some (fault, Line n) in e) (sym is.line) ∙ sym ending in
+    let read : FileReads origin fed (given ++ old.decided.placed.items) (Some (fault, Line (line_after ended))) = last_broken origin fed ended unfinished breaks.0 fault (given ++ old.decided.placed.items) is.parts breaks.1 breaks.2 is.read in
+    let last : Some (fault, Line (line_after ended)) ≡ new.decided.ending = ap (λ n. let e : Ending = Some (fault, Line n) in e) (sym is.line) ∙ sym ending in
     subst (λ t. FileReads origin fed (given ++ t) new.decided.ending) (sym records) (subst (λ e. FileReads origin fed (given ++ old.decided.placed.items) e) last read)
 
 -- they are the last entry
-last_read : (origin : Labels) (ended : List (List Piece)) (old new : EndedEntries) (c : ℕ) (more fed : List ℕ) (given : List Placed) (pieces : List Piece) → IsRead origin ended old (c ∷ more) fed given → Cuts (c ∷ more) pieces → (cut_from zero pieces).ended ≡ [] → ReadsEntry origin (reverse (numbered 1 ended)) pieces old new → Reads origin fed given new
+last_read : (origin : Labels) (ended : List (List Token)) (old new : EndedEntries) (c : ℕ) (more fed : List ℕ) (given : List Placed) (tokens : List Token) → IsRead origin ended old (c ∷ more) fed given → Cuts (c ∷ more) tokens → (cut_from zero tokens).ended ≡ [] → ReadsEntry origin (reverse (numbered 1 ended)) tokens old new → Reads origin fed given new
 last_read origin ended old new c more fed given [] is cut alone read = absurd (let e : c ∷ more ≡ [] = cut.whole in let t : ⊥ = cc in t)
-last_read origin ended old new c more fed given (p ∷ pieces) is cut alone read =
-    let next : ReadEach origin None (reverse (numbered 1 ended)) (entry_of (line_behind ended) (p ∷ pieces) ∷ []) read.others new.decided.ending = subst (λ n. ReadEach origin None (reverse (numbered 1 ended)) (entry_of n (p ∷ pieces) ∷ []) read.others new.decided.ending) is.line read.read in
+last_read origin ended old new c more fed given (p ∷ tokens) is cut alone read =
+    let next : ReadEach origin None (reverse (numbered 1 ended)) (entry_of (line_after ended) (p ∷ tokens) ∷ []) read.others new.decided.ending = subst (λ n. ReadEach origin None (reverse (numbered 1 ended)) (entry_of n (p ∷ tokens) ∷ []) read.others new.decided.ending) is.line read.read in
     let records : (given ++ old.decided.placed.items) ++ read.others ≡ given ++ new.decided.placed.items = append_assoc given old.decided.placed.items read.others ∙ ap (λ t. given ++ t) (sym read.records) in
-    subst (λ t. FileReads origin fed t new.decided.ending) records (last_entry origin fed ended (c ∷ more) p pieces (given ++ old.decided.placed.items) read.others new.decided.ending is.parts cut alone is.read next)
+    subst (λ t. FileReads origin fed t new.decided.ending) records (last_entry origin fed ended (c ∷ more) p tokens (given ++ old.decided.placed.items) read.others new.decided.ending is.parts cut alone is.read next)
 
 pub end_of_entry : (origin : Labels) (old new : EndedEntries) (at : ScanState) (c : ℕ) (more fed : List ℕ) (given : List Placed) → ScansTo beginning (c ∷ more) (On at) → end_fault_of at ≡ None → old.decided.ending ≡ None → ReadsOctets (c ∷ more) old new → Follow origin old (c ∷ more) fed given → Reads origin fed given new
 end_of_entry origin old new at c more fed given scanned ends none reads follow =
     let found = is_read origin old (c ∷ more) fed given none follow in
-    let ended : List (List Piece) = found.0 in
+    let ended : List (List Token) = found.0 in
     let is : IsRead origin ended old (c ∷ more) fed given = found.1 in
     let cut = rw ends at (at_end (c ∷ more) at scanned) in
     last_read origin ended old new c more fed given cut.0 is cut.1 cut.2 (reads.reads origin (reverse (numbered 1 ended)) cut.0 is.defaults cut.1)

@@ -7,7 +7,7 @@ use Rattle.zone_name.specs.Spelling.{Written, plain, escaped, decimal, IsBadEsca
 use Rattle.zone_rdata.specs.declared.fault.Fault.{Fault}
 use Rattle.zone_rdata.specs.declared.fault.Fault.TheVariants.{BadEscape}
 use Rattle.zone_rdata.specs.Strings.{is_quote}
-use Rattle.zone_text.specs.Pieces.{Piece, blank, opening, closing, line_feed, comment, bare, quoted, piece_text, is_blank, ends_item, IsPiece}
+use Rattle.zone_text.specs.Tokens.{Token, blank, opening, closing, line_feed, comment, bare, quoted, token_text, is_blank, ends_item, IsToken}
 use Rattle.zone_text.specs.Breaks.{IsBroken, closes_nothing, no_escape, no_quoted_escape, no_quote, not_closed}
 use Rattle.zone_name.specs.Machine.Units.{Units, units_first}
 use Rattle.zone_rdata.specs.Strings.{is_quote}
@@ -88,19 +88,19 @@ sign_of_item c e =
 -- ---- the beginning of a text
 
 -- a token ends before what follows it
-abbrev pub Stops : Piece → List ℕ → Type 0
+abbrev pub Stops : Token → List ℕ → Type 0
 Stops (bare units) rest = NoUnit ends_item rest
 Stops (comment octets) rest = EndsComment rest
 Stops p rest = Unit {0}
 
 -- a parenthesis closes one that is open
-abbrev pub HasRoom : ℕ → Piece → Type 0
+abbrev pub HasRoom : ℕ → Token → Type 0
 HasRoom depth closing = 0 < depth
 HasRoom depth p = Unit {0}
 
-pub record Takes (depth : ℕ) (octets : List ℕ) (p : Piece) (rest : List ℕ) : Type 0 where
-  pub whole : octets ≡ piece_text p ++ rest
-  pub piece : IsPiece p
+pub record Takes (depth : ℕ) (octets : List ℕ) (p : Token) (rest : List ℕ) : Type 0 where
+  pub whole : octets ≡ token_text p ++ rest
+  pub token : IsToken p
   pub stop : Stops p rest
   pub room : HasRoom depth p
 
@@ -123,7 +123,7 @@ quoted_is depth c octets units (d ∷ rest) is whole each none =
     cond_both (is_quote d) (takes (quoted units) rest) (stops (Some BadEscape)) (IsFront depth (c ∷ octets))
     (λ e. let same : d ∷ rest ≡ 34 ∷ rest = first_octet_is d 34 rest (eqb-true d 34 e) in record {
       whole = first_octet_is c 34 octets is ∙ ap (λ t. 34 ∷ t) (whole ∙ ap (λ t. written_text units ++ t) same ∙ sym (append_assoc (written_text units) (34 ∷ []) rest));
-      piece = each;
+      token = each;
       stop = tt;
       room = tt;
     })
@@ -143,20 +143,20 @@ bare_is depth c octets [] rest goes_on whole each none = no_escape (escape_of no
     escape_of (at_backslash bad) = subst IsBadEscape (sym whole) bad
 bare_is depth c octets (w ∷ units) rest goes_on whole each none = record {
   whole = whole;
-  piece = (omega arith, each);
+  token = (omega arith, each);
   stop = none;
   room = tt;
 }
 
 front_by_sign : (depth c : ℕ) (rest : List ℕ) (sign : Sign) → IsSign c sign → IsFront depth (c ∷ rest) (front_by depth c rest sign)
-front_by_sign depth c rest a_blank is = record { whole = refl; piece = is; stop = tt; room = tt }
-front_by_sign depth c rest a_line_feed is = record { whole = first_octet_is c 10 rest is; piece = tt; stop = tt; room = tt }
-front_by_sign depth c rest an_opening is = record { whole = first_octet_is c 40 rest is; piece = tt; stop = tt; room = tt }
+front_by_sign depth c rest a_blank is = record { whole = refl; token = is; stop = tt; room = tt }
+front_by_sign depth c rest a_line_feed is = record { whole = first_octet_is c 10 rest is; token = tt; stop = tt; room = tt }
+front_by_sign depth c rest an_opening is = record { whole = first_octet_is c 40 rest is; token = tt; stop = tt; room = tt }
 front_by_sign zero c rest a_closing is = closes_nothing rest refl (first_octet_is c 41 rest is)
-front_by_sign (suc depth) c rest a_closing is = record { whole = first_octet_is c 41 rest is; piece = tt; stop = tt; room = omega arith }
+front_by_sign (suc depth) c rest a_closing is = record { whole = first_octet_is c 41 rest is; token = tt; stop = tt; room = omega arith }
 front_by_sign depth c rest a_semicolon is = record {
   whole = first_octet_is c 59 rest is ∙ ap (λ t. 59 ∷ t) (comment_whole rest);
-  piece = comment_each rest;
+  token = comment_each rest;
   stop = comment_ends rest;
   room = tt;
 }
@@ -201,7 +201,7 @@ front_of_quote depth octets units rest whole each none =
     at_sign depth 34 octets a_quote refl
     ∙ ap (λ (found : Units). quoted_front found.units found.rest) (units_first_only is_quote octets units rest refl whole each none)
 
-pub front_takes : (depth : ℕ) (p : Piece) (rest : List ℕ) → IsPiece p → Stops p rest → HasRoom depth p → front_of depth (piece_text p ++ rest) ≡ takes p rest
+pub front_takes : (depth : ℕ) (p : Token) (rest : List ℕ) → IsToken p → Stops p rest → HasRoom depth p → front_of depth (token_text p ++ rest) ≡ takes p rest
 front_takes depth (blank c) rest is stop room = at_sign depth c rest a_blank (sign_of_blank c is)
 front_takes depth line_feed rest is stop room = at_sign depth 10 rest a_line_feed refl
 front_takes depth opening rest is stop room = at_sign depth 40 rest an_opening refl

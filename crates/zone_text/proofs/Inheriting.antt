@@ -9,7 +9,7 @@ use Rattle.zone_rdata.specs.Number.{IsTime}
 use Rattle.zone_text.specs.Defaults.{AreDefaults, IsOneOrNone, IsTtlOrNone}
 use Rattle.zone_text.specs.Entries.{Entry}
 use Rattle.zone_text.specs.Forms.{EntryForm, no_items, sets_origin, sets_ttl, includes, unknown, owned, unowned, form_of, Parts, parts_in, parts_of, class_among, ttl_among}
-use Rattle.zone_text.specs.Inherited.{IsOrigin, IsLastOwner, IsTtl, SpellsBehind, class_word, default_ttl_text, latest, or_else, origin_text, owner_text, stated_ttl, ttl_text}
+use Rattle.zone_text.specs.Inherited.{IsOrigin, IsLastOwner, IsTtl, SpellsAfter, class_word, default_ttl_text, latest, or_else, origin_text, owner_text, stated_ttl, ttl_text}
 use Rattle.zone_text.specs.Machine.EntryReading.{with_owner}
 use Rattle.zone_text.specs.Machine.Lower.{Lower}
 use Rattle.zone_text.specs.Records.{Head, HasHead, HasTtl, IsLastMinimum, StatesData, StatesMinimum}
@@ -43,7 +43,7 @@ last_minimum origin before entry None none so_far = no_minimum origin before ent
 last_minimum origin before entry (Some n) none so_far = inr (none, so_far)
 
 -- no owner
-owner_by : (origin : Labels) (before : List Entry) (o : Option (List ℕ)) (owner : Option Labels) → o ≡ None → IsOneOrNone (IsLastOwner origin before) owner → IsOneOrNone (λ name. MatchOption o (IsLastOwner origin before name) (λ text. SpellsBehind origin before text name)) owner
+owner_by : (origin : Labels) (before : List Entry) (o : Option (List ℕ)) (owner : Option Labels) → o ≡ None → IsOneOrNone (IsLastOwner origin before) owner → IsOneOrNone (λ name. MatchOption o (IsLastOwner origin before name) (λ text. SpellsAfter origin before text name)) owner
 owner_by origin before None owner e so_far = so_far
 owner_by origin before (Some text) owner e so_far = absurd (let clash : ⊥ = cc in clash)
 

@@ -14,14 +14,14 @@ use Rattle.zone_text.specs.Machine.Cutting.{before_line_feed}
 use Rattle.zone_text.specs.Machine.ItemLengths.{EndsBefore, item_len}
 use Rattle.zone_text.specs.Machine.Kept.{AreKept, Keeps}
 use Rattle.zone_text.specs.Machine.Line.{KeepsItems}
-use Rattle.zone_text.specs.Pieces.{Piece, blank, opening, closing, line_feed, comment, bare, quoted, piece_text, text, is_blank, ends_item, Cuts, IsPiece, AllFollow}
-use Rattle.zone_text.proofs.Cuttings.{follow_behind}
-use Rattle.zone_text.proofs.Kept.{keeps_more, none_kept}
-use Rattle.zone_text.proofs.PieceEnds.{bare_ends, quoted_ends, item_len_of, comment_len_of}
+use Rattle.zone_text.specs.Tokens.{Token, blank, opening, closing, line_feed, comment, bare, quoted, token_text, text, is_blank, ends_item, Cuts, IsToken, AllFollow}
+use Rattle.zone_text.proofs.Cuttings.{follow_after}
+use Rattle.zone_text.proofs.Kept.{keeps_more}
+use Rattle.zone_text.proofs.TokenEnds.{bare_ends, quoted_ends, item_len_of, comment_len_of}
 
 -- ---- the first octet of a token
 
-abbrev IsFirstOf : Piece → ℕ → Type 0
+abbrev IsFirstOf : Token → ℕ → Type 0
 IsFirstOf (blank d) c = is_blank c ≡ true
 IsFirstOf opening c = c ≡ 40
 IsFirstOf closing c = c ≡ 41
@@ -33,36 +33,36 @@ IsFirstOf (quoted units) c = c ≡ 34
 heads : (c d : ℕ) (xs ys : List ℕ) → c ∷ xs ≡ d ∷ ys → c ≡ d
 heads c d xs ys e = cc
 
-bare_first : (units : List Written) (c : ℕ) (after rest : List ℕ) → IsPiece (bare units) → c ∷ after ≡ written_text units ++ rest → ends_item c ≡ false
+bare_first : (units : List Written) (c : ℕ) (after rest : List ℕ) → IsToken (bare units) → c ∷ after ≡ written_text units ++ rest → ends_item c ≡ false
 bare_first [] c after rest is e = absurd (omega (arith, is.0))
 bare_first (plain d ∷ units) c after rest is e = ap ends_item (heads c d _ _ e) ∙ is.1.0.0
 bare_first (escaped d ∷ units) c after rest is e = ap ends_item (heads c 92 _ _ e)
 bare_first (decimal x y z ∷ units) c after rest is e = ap ends_item (heads c 92 _ _ e)
 
-piece_first : (p : Piece) (c : ℕ) (after rest : List ℕ) → IsPiece p → c ∷ after ≡ piece_text p ++ rest → IsFirstOf p c
-piece_first (blank d) c after rest is e = ap is_blank (heads c d _ _ e) ∙ is
-piece_first opening c after rest is e = heads c 40 _ _ e
-piece_first closing c after rest is e = heads c 41 _ _ e
-piece_first line_feed c after rest is e = heads c 10 _ _ e
-piece_first (comment octets) c after rest is e = heads c 59 _ _ e
-piece_first (bare units) c after rest is e = bare_first units c after rest is e
-piece_first (quoted units) c after rest is e = heads c 34 _ _ e
+token_first : (p : Token) (c : ℕ) (after rest : List ℕ) → IsToken p → c ∷ after ≡ token_text p ++ rest → IsFirstOf p c
+token_first (blank d) c after rest is e = ap is_blank (heads c d _ _ e) ∙ is
+token_first opening c after rest is e = heads c 40 _ _ e
+token_first closing c after rest is e = heads c 41 _ _ e
+token_first line_feed c after rest is e = heads c 10 _ _ e
+token_first (comment octets) c after rest is e = heads c 59 _ _ e
+token_first (bare units) c after rest is e = bare_first units c after rest is e
+token_first (quoted units) c after rest is e = heads c 34 _ _ e
 
-bare_text_some : (units : List Written) (rest : List ℕ) → IsPiece (bare units) → [] ≡ written_text units ++ rest → ⊥
+bare_text_some : (units : List Written) (rest : List ℕ) → IsToken (bare units) → [] ≡ written_text units ++ rest → ⊥
 bare_text_some [] rest is e = omega (arith, is.0)
 bare_text_some (plain d ∷ units) rest is e = cc
 bare_text_some (escaped d ∷ units) rest is e = cc
 bare_text_some (decimal x y z ∷ units) rest is e = cc
 
 -- a token has octets
-piece_some : (p : Piece) (rest : List ℕ) → IsPiece p → [] ≡ piece_text p ++ rest → ⊥
-piece_some (blank d) rest is e = cc
-piece_some opening rest is e = cc
-piece_some closing rest is e = cc
-piece_some line_feed rest is e = cc
-piece_some (comment octets) rest is e = cc
-piece_some (bare units) rest is e = bare_text_some units rest is e
-piece_some (quoted units) rest is e = cc
+token_some : (p : Token) (rest : List ℕ) → IsToken p → [] ≡ token_text p ++ rest → ⊥
+token_some (blank d) rest is e = cc
+token_some opening rest is e = cc
+token_some closing rest is e = cc
+token_some line_feed rest is e = cc
+token_some (comment octets) rest is e = cc
+token_some (bare units) rest is e = bare_text_some units rest is e
+token_some (quoted units) rest is e = cc
 
 -- ---- the first token by its first octet
 
@@ -70,18 +70,18 @@ tails : (c d : ℕ) (xs ys : List ℕ) → c ∷ xs ≡ d ∷ ys → xs ≡ ys
 tails c d xs ys e = cc
 
 -- an item and what follows the token
-abbrev Front : List RawItem → List ℕ → Piece → List ℕ → Type 0
+abbrev Front : List RawItem → List ℕ → Token → List ℕ → Type 0
 Front raws left p rest = (raws ≡ item_of p) × (left ≡ rest)
 
 -- a token found at the beginning of a text, whichever it is
 abbrev pub FrontIs : List ℕ → List RawItem → List ℕ → Type 0
-FrontIs octets raws left = (p : Piece) (rest : List ℕ) → IsPiece p → EndsBefore p rest → octets ≡ piece_text p ++ rest → (raws ≡ item_of p) × (left ≡ rest)
+FrontIs octets raws left = (p : Token) (rest : List ℕ) → IsToken p → EndsBefore p rest → octets ≡ token_text p ++ rest → (raws ≡ item_of p) × (left ≡ rest)
 
 -- an octet that ends an item and begins neither an item nor a comment
 pub plain_front : (octets after : List ℕ) (c : ℕ) → octets ≡ c ∷ after → c ≢ 34 → c ≢ 59 → ends_item c ≡ true → FrontIs octets [] after
-plain_front octets after c whole no_quote no_comment ends p rest is at e = by p is (sym whole ∙ e) (piece_first p c after rest is (sym whole ∙ e))
+plain_front octets after c whole no_quote no_comment ends p rest is at e = by p is (sym whole ∙ e) (token_first p c after rest is (sym whole ∙ e))
   where
-    by : (p : Piece) → IsPiece p → c ∷ after ≡ piece_text p ++ rest → IsFirstOf p c → Front [] after p rest
+    by : (p : Token) → IsToken p → c ∷ after ≡ token_text p ++ rest → IsFirstOf p c → Front [] after p rest
     by (blank d) is e first = (refl, tails _ _ _ _ e)
     by opening is e first = (refl, tails _ _ _ _ e)
     by closing is e first = (refl, tails _ _ _ _ e)
@@ -94,9 +94,9 @@ no_blank : (c d : ℕ) → c ≡ d → is_blank d ≡ false → is_blank c ≡ t
 no_blank c d e not_one is = both_ways (is_blank c) (ap is_blank e ∙ not_one) is
 
 pub comment_front : (octets after left : List ℕ) (c n : ℕ) → octets ≡ c ∷ after → c ≡ 59 → n ≡ length (before_line_feed after) → left ≡ drop n after → FrontIs octets [] left
-comment_front octets after left c n whole is_comment len behind p rest is at e = by p is at (sym whole ∙ e) (piece_first p c after rest is (sym whole ∙ e))
+comment_front octets after left c n whole is_comment len behind p rest is at e = by p is at (sym whole ∙ e) (token_first p c after rest is (sym whole ∙ e))
   where
-    by : (p : Piece) → IsPiece p → EndsBefore p rest → c ∷ after ≡ piece_text p ++ rest → IsFirstOf p c → Front [] left p rest
+    by : (p : Token) → IsToken p → EndsBefore p rest → c ∷ after ≡ token_text p ++ rest → IsFirstOf p c → Front [] left p rest
     by (blank d) is at e first = absurd (no_blank c 59 is_comment refl first)
     by opening is at e first = absurd (omega arith)
     by closing is at e first = absurd (omega arith)
@@ -109,9 +109,9 @@ comment_front octets after left c n whole is_comment len behind p rest is at e =
     by (quoted units) is at e first = absurd (omega arith)
 
 pub quoted_front : (octets after inside close left : List ℕ) (c n m : ℕ) → octets ≡ c ∷ after → c ≡ 34 → n ≡ item_len is_quote false after → inside ≡ take n after → close ≡ drop n after → m ≡ min (length close) 1 → left ≡ drop m close → FrontIs octets (raw.quoted inside ∷ []) left
-quoted_front octets after inside close left c n m whole quote len front back one behind p rest is at e = by p is (sym whole ∙ e) (piece_first p c after rest is (sym whole ∙ e))
+quoted_front octets after inside close left c n m whole quote len front back one behind p rest is at e = by p is (sym whole ∙ e) (token_first p c after rest is (sym whole ∙ e))
   where
-    by : (p : Piece) → IsPiece p → c ∷ after ≡ piece_text p ++ rest → IsFirstOf p c → Front (raw.quoted inside ∷ []) left p rest
+    by : (p : Token) → IsToken p → c ∷ after ≡ token_text p ++ rest → IsFirstOf p c → Front (raw.quoted inside ∷ []) left p rest
     by (blank d) is e first = absurd (no_blank c 34 quote refl first)
     by opening is e first = absurd (omega arith)
     by closing is e first = absurd (omega arith)
@@ -128,9 +128,9 @@ quoted_front octets after inside close left c n m whole quote len front back one
         (ap (λ t. raw.quoted t ∷ []) inner, behind ∙ rw (first_one, outer) refl)
 
 pub bare_front : (octets after item left : List ℕ) (c n : ℕ) → octets ≡ c ∷ after → ends_item c ≡ false → n ≡ item_len ends_item false octets → item ≡ take n octets → left ≡ drop n octets → FrontIs octets (raw.bare item ∷ []) left
-bare_front octets after item left c n whole goes_on len front back p rest is at e = by p is at e (piece_first p c after rest is (sym whole ∙ e))
+bare_front octets after item left c n whole goes_on len front back p rest is at e = by p is at e (token_first p c after rest is (sym whole ∙ e))
   where
-    by : (p : Piece) → IsPiece p → EndsBefore p rest → octets ≡ piece_text p ++ rest → IsFirstOf p c → Front (raw.bare item ∷ []) left p rest
+    by : (p : Token) → IsToken p → EndsBefore p rest → octets ≡ token_text p ++ rest → IsFirstOf p c → Front (raw.bare item ∷ []) left p rest
     by (blank d) is at e first = absurd (both_ways (ends_item c) goes_on (rw first refl))
     by opening is at e first = absurd (both_ways (ends_item c) goes_on (ap ends_item first))
     by closing is at e first = absurd (both_ways (ends_item c) goes_on (ap ends_item first))
@@ -160,83 +160,72 @@ bare_takes octets after left c n whole goes_on len within back =
 -- ---- all tokens of a text
 
 -- a token ends before those after it
-ends_behind : (p : Piece) (pieces : List Piece) → AllByRecursion IsPiece pieces → AllFollow (p ∷ pieces) → EndsBefore p (text pieces)
-ends_behind (blank c) pieces each follow = tt
-ends_behind opening pieces each follow = tt
-ends_behind closing pieces each follow = tt
-ends_behind line_feed pieces each follow = tt
-ends_behind (quoted units) pieces each follow = tt
-ends_behind (bare units) [] each follow = tt
-ends_behind (bare units) (blank c ∷ pieces) each follow = rw (each.0) refl
-ends_behind (bare units) (opening ∷ pieces) each follow = refl
-ends_behind (bare units) (closing ∷ pieces) each follow = refl
-ends_behind (bare units) (line_feed ∷ pieces) each follow = refl
-ends_behind (bare units) (comment octets ∷ pieces) each follow = refl
-ends_behind (bare units) (bare more ∷ pieces) each follow = absurd follow.0
-ends_behind (bare units) (quoted more ∷ pieces) each follow = refl
-ends_behind (comment octets) [] each follow = tt
-ends_behind (comment octets) (blank c ∷ pieces) each follow = absurd follow.0
-ends_behind (comment octets) (opening ∷ pieces) each follow = absurd follow.0
-ends_behind (comment octets) (closing ∷ pieces) each follow = absurd follow.0
-ends_behind (comment octets) (line_feed ∷ pieces) each follow = refl
-ends_behind (comment octets) (comment more ∷ pieces) each follow = absurd follow.0
-ends_behind (comment octets) (bare more ∷ pieces) each follow = absurd follow.0
-ends_behind (comment octets) (quoted more ∷ pieces) each follow = absurd follow.0
+ends_after : (p : Token) (tokens : List Token) → AllByRecursion IsToken tokens → AllFollow (p ∷ tokens) → EndsBefore p (text tokens)
+ends_after (blank c) tokens each follow = tt
+ends_after opening tokens each follow = tt
+ends_after closing tokens each follow = tt
+ends_after line_feed tokens each follow = tt
+ends_after (quoted units) tokens each follow = tt
+ends_after (bare units) [] each follow = tt
+ends_after (bare units) (blank c ∷ tokens) each follow = rw (each.0) refl
+ends_after (bare units) (opening ∷ tokens) each follow = refl
+ends_after (bare units) (closing ∷ tokens) each follow = refl
+ends_after (bare units) (line_feed ∷ tokens) each follow = refl
+ends_after (bare units) (comment octets ∷ tokens) each follow = refl
+ends_after (bare units) (bare more ∷ tokens) each follow = absurd follow.0
+ends_after (bare units) (quoted more ∷ tokens) each follow = refl
+ends_after (comment octets) [] each follow = tt
+ends_after (comment octets) (blank c ∷ tokens) each follow = absurd follow.0
+ends_after (comment octets) (opening ∷ tokens) each follow = absurd follow.0
+ends_after (comment octets) (closing ∷ tokens) each follow = absurd follow.0
+ends_after (comment octets) (line_feed ∷ tokens) each follow = refl
+ends_after (comment octets) (comment more ∷ tokens) each follow = absurd follow.0
+ends_after (comment octets) (bare more ∷ tokens) each follow = absurd follow.0
+ends_after (comment octets) (quoted more ∷ tokens) each follow = absurd follow.0
 
 -- the tokens that are left, and the items of those before them, of which these are kept
-pub record IsLeft (rest : List ℕ) (kept : List RawItem) (pieces : List Piece) : Type 0 where
-  pub more : List Piece
+pub record IsLeft (rest : List ℕ) (kept : List RawItem) (tokens : List Token) : Type 0 where
+  pub more : List Token
   pub whole : rest ≡ text more
-  pub each : AllByRecursion IsPiece more
+  pub each : AllByRecursion IsToken more
   pub follow : AllFollow more
   pub so_far : List RawItem
   pub are_kept : AreKept so_far kept
-  pub items : so_far ++ flat_map item_of more ≡ flat_map item_of pieces
+  pub items : so_far ++ flat_map item_of more ≡ flat_map item_of tokens
 
 abbrev pub LeavesItems : List ℕ → List ℕ → List RawItem → Type 0
-LeavesItems entry rest kept = (pieces : List Piece) → Cuts entry pieces → IsLeft rest kept pieces
+LeavesItems entry rest kept = (tokens : List Token) → Cuts entry tokens → IsLeft rest kept tokens
 
-pub all_left : (entry : List ℕ) → LeavesItems entry entry []
-all_left entry pieces cuts = record {
-  more = pieces;
-  whole = cuts.whole;
-  each = cuts.each;
-  follow = cuts.follow;
-  so_far = [];
-  are_kept = none_kept;
-  items = refl;
-}
-
-left_by : (octets left : List ℕ) (kept new item : List RawItem) (pieces more : List Piece) (so_far : List RawItem) → 0 < length octets → FrontIs octets item left → ((p : Piece) → IsPiece p → item ≡ item_of p → AreKept (so_far ++ item) new) → octets ≡ text more → AllByRecursion IsPiece more → AllFollow more → so_far ++ flat_map item_of more ≡ flat_map item_of pieces → IsLeft left new pieces
-left_by octets left kept new item pieces [] so_far some front keeps whole each follow items = absurd (let none : length octets ≡ 0 = ap length whole in omega arith)
-left_by octets left kept new item pieces (p ∷ more) so_far some front keeps whole each follow items =
-    let found = front p (text more) each.0 (ends_behind p more each.1 follow) whole in
+left_by : (octets left : List ℕ) (kept new item : List RawItem) (tokens more : List Token) (so_far : List RawItem) → 0 < length octets → FrontIs octets item left → ((p : Token) → IsToken p → item ≡ item_of p → AreKept (so_far ++ item) new) → octets ≡ text more → AllByRecursion IsToken more → AllFollow more → so_far ++ flat_map item_of more ≡ flat_map item_of tokens → IsLeft left new tokens
+left_by octets left kept new item tokens [] so_far some front keeps whole each follow items = absurd (let none : length octets ≡ 0 = ap length whole in omega arith)
+left_by octets left kept new item tokens (p ∷ more) so_far some front keeps whole each follow items =
+    let found = front p (text more) each.0 (ends_after p more each.1 follow) whole in
     record {
       more = more;
       whole = found.1;
       each = each.1;
-      follow = follow_behind p more follow;
+      follow = follow_after p more follow;
       so_far = so_far ++ item;
       are_kept = keeps p each.0 found.0;
       items = rw (append_assoc, found.0) items;
     }
 
 pub one_less : (entry octets left : List ℕ) (kept new : List RawItem) (item : RawItem) → 0 < length octets → FrontIs octets (item ∷ []) left → Keeps item kept new → LeavesItems entry octets kept → LeavesItems entry left new
-one_less entry octets left kept new item some front keeps leaves pieces cuts =
-    let before = leaves pieces cuts in
-    left_by octets left kept new (item ∷ []) pieces before.more before.so_far some front (λ p is e. keeps_more p before.so_far kept new item is e before.are_kept keeps) before.whole before.each before.follow before.items
+one_less entry octets left kept new item some front keeps leaves tokens cuts =
+    let before = leaves tokens cuts in
+    left_by octets left kept new (item ∷ []) tokens before.more before.so_far some front (λ p is e. keeps_more p before.so_far kept new item is e before.are_kept keeps) before.whole before.each before.follow before.items
 
 pub none_less : (entry octets left : List ℕ) (kept : List RawItem) → 0 < length octets → FrontIs octets [] left → LeavesItems entry octets kept → LeavesItems entry left kept
-none_less entry octets left kept some front leaves pieces cuts =
-    let before = leaves pieces cuts in
-    left_by octets left kept kept [] pieces before.more before.so_far some front (λ p is e. subst (λ t. AreKept t kept) (sym (append-nil before.so_far)) before.are_kept) before.whole before.each before.follow before.items
+none_less entry octets left kept some front leaves tokens cuts =
+    let before = leaves tokens cuts in
+    left_by octets left kept kept [] tokens before.more before.so_far some front (λ p is e. subst (λ t. AreKept t kept) (sym (append-nil before.so_far)) before.are_kept) before.whole before.each before.follow before.items
 
-end_by : (so_far : List RawItem) (pieces more : List Piece) → [] ≡ text more → AllByRecursion IsPiece more → so_far ++ flat_map item_of more ≡ flat_map item_of pieces → so_far ≡ flat_map item_of pieces
-end_by so_far pieces [] whole each items = sym (append-nil so_far) ∙ items
-end_by so_far pieces (p ∷ more) whole each items = absurd (piece_some p (text more) each.0 whole)
+end_by : (so_far : List RawItem) (tokens more : List Token) → [] ≡ text more → AllByRecursion IsToken more → so_far ++ flat_map item_of more ≡ flat_map item_of tokens → so_far ≡ flat_map item_of tokens
+end_by so_far tokens [] whole each items = sym (append-nil so_far) ∙ items
+end_by so_far tokens (p ∷ more) whole each items = absurd (token_some p (text more) each.0 whole)
 
 -- where nothing is left, the items are all
 pub all_taken : (entry rest : List ℕ) (kept : List RawItem) → rest ≡ [] → LeavesItems entry rest kept → KeepsItems entry kept
-all_taken entry rest kept e leaves pieces cuts =
-    let before = leaves pieces cuts in
-    subst (λ t. AreKept t kept) (end_by before.so_far pieces before.more (sym e ∙ before.whole) before.each before.items) before.are_kept
+all_taken entry rest kept e leaves tokens cuts =
+    let before = leaves tokens cuts in
+    subst (λ t. AreKept t kept) (end_by before.so_far tokens before.more (sym e ∙ before.whole) before.each before.items) before.are_kept

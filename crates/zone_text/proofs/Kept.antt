@@ -2,7 +2,6 @@
 use Rattle.std.proofs.Common.{◌≡◌, ℕ, ◌<◌, ◌≤◌, Bool, List, [], ◌∷◌, ◌++◌, length, inl, inr, refl, sym, ap, ◌∙◌, subst, arith, length-append}
 use Rattle.std.specs.List.{flat_map, AllByRecursion}
 use Rattle.std.proofs.lemmas.List.{append-nil}
-use Rattle.zone_name.specs.Common.{AreOctets}
 use Rattle.zone_name.specs.Spelling.{Written, plain, escaped, decimal, text_of, octet_of, written_text, written_octets, IsUnit, no_octet}
 use Rattle.zone_name.proofs.Pushing.{AllByRecursion-append}
 use Rattle.zone_rdata.specs.Item.{RawItem}
@@ -12,7 +11,7 @@ use Rattle.zone_rdata.specs.Strings.{SpellsString, item_text}
 use Rattle.zone_rdata.proofs.LeftOut.{one_kept, one_left_out}
 use Rattle.zone_text.specs.Entries.{item_of}
 use Rattle.zone_text.specs.Machine.Kept.{AreKept, IsShort, Keeps}
-use Rattle.zone_text.specs.Pieces.{Piece, blank, opening, closing, line_feed, comment, bare, quoted, IsPiece}
+use Rattle.zone_text.specs.Tokens.{Token, blank, opening, closing, line_feed, comment, bare, quoted, IsToken}
 
 -- ---- an item of a token
 
@@ -71,7 +70,7 @@ same_item : (a b : RawItem) → a ∷ [] ≡ b ∷ [] → a ≡ b
 same_item a b e = cc
 
 -- a short item spells a string
-pub short_spells : (p : Piece) (item : RawItem) → IsPiece p → item ∷ [] ≡ item_of p → IsShort item → (octets : List ℕ) × SpellsString item octets
+pub short_spells : (p : Token) (item : RawItem) → IsToken p → item ∷ [] ≡ item_of p → IsShort item → (octets : List ℕ) × SpellsString item octets
 short_spells (blank c) item is e short = absurd cc
 short_spells opening item is e short = absurd cc
 short_spells closing item is e short = absurd cc
@@ -86,18 +85,18 @@ bare_written : (units : List Written) → 0 < length units → 0 < length (writt
 bare_written [] some = absurd (omega (arith, some))
 bare_written (w ∷ units) some = omega (arith, unit_some w, length-append (text_of w) (written_text units))
 
-piece_written : (p : Piece) → IsPiece p → AllByRecursion IsWritten (item_of p)
-piece_written (blank c) is = tt
-piece_written opening is = tt
-piece_written closing is = tt
-piece_written line_feed is = tt
-piece_written (comment octets) is = tt
-piece_written (bare units) is = (bare_written units is.0, tt)
-piece_written (quoted units) is = (tt, tt)
+token_written : (p : Token) → IsToken p → AllByRecursion IsWritten (item_of p)
+token_written (blank c) is = tt
+token_written opening is = tt
+token_written closing is = tt
+token_written line_feed is = tt
+token_written (comment octets) is = tt
+token_written (bare units) is = (bare_written units is.0, tt)
+token_written (quoted units) is = (tt, tt)
 
-pub items_written : (pieces : List Piece) → AllByRecursion IsPiece pieces → AllByRecursion IsWritten (flat_map item_of pieces)
+pub items_written : (tokens : List Token) → AllByRecursion IsToken tokens → AllByRecursion IsWritten (flat_map item_of tokens)
 items_written [] each = tt
-items_written (p ∷ pieces) each = AllByRecursion-append IsWritten (item_of p) (flat_map item_of pieces) (piece_written p each.0) (items_written pieces each.1)
+items_written (p ∷ tokens) each = AllByRecursion-append IsWritten (item_of p) (flat_map item_of tokens) (token_written p each.0) (items_written tokens each.1)
 
 -- ---- one item more
 
@@ -105,7 +104,7 @@ pub none_kept : AreKept [] []
 none_kept = inl refl
 
 -- an item of a token comes after those kept, or is left out
-pub keeps_more : (p : Piece) (items kept new : List RawItem) (item : RawItem) → IsPiece p → item ∷ [] ≡ item_of p → AreKept items kept → Keeps item kept new → AreKept (items ++ item ∷ []) new
+pub keeps_more : (p : Token) (items kept new : List RawItem) (item : RawItem) → IsToken p → item ∷ [] ≡ item_of p → AreKept items kept → Keeps item kept new → AreKept (items ++ item ∷ []) new
 keeps_more p items kept new item is e (inl all) (inl more) = inl (more ∙ ap (λ t. t ++ item ∷ []) all)
 keeps_more p items kept new item is e (inl all) (inr less) =
     let spells = short_spells p item is e less.2 in

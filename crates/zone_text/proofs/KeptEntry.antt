@@ -1,6 +1,6 @@
 -- An entry of very many items has the fault that it has where some that spell strings are left out,
 -- and states nothing.
-use Rattle.std.proofs.Common.{◌≡◌, ℕ, ◌+◌, ◌≤◌, Bool, true, false, if◌then◌else◌, ◌==◌, List, [], ◌∷◌, ◌++◌, length, Option, Some, None, MatchOption, Result, Ok, Err, inl, inr, refl, sym, ap, ◌∙◌, subst, arith, length-append}
+use Rattle.std.proofs.Common.{◌≡◌, ℕ, ◌+◌, ◌≤◌, Bool, true, false, if◌then◌else◌, ◌==◌, List, [], ◌∷◌, ◌++◌, length, Option, Some, None, MatchOption, Result, Ok, Err, inl, inr, refl, sym, ap, ◌∙◌, subst, arith}
 use Rattle.std.specs.List.{AllByRecursion, flat_map}
 use Rattle.std.specs.Prelude.{bytes_eq, codes, is_some, OnOk, ⊤}
 use Rattle.zone_name.specs.Common.{Labels}
@@ -11,15 +11,15 @@ use Rattle.zone_rdata.specs.Record.{Record}
 use Rattle.zone_rdata.specs.declared.fault.Fault.{Fault}
 use Rattle.zone_rdata.specs.declared.fault.Place.{Place}
 use Rattle.zone_rdata.specs.declared.source.Reading.{Reading}
-use Rattle.zone_rdata.proofs.LeftOut.{BeginWith, after_item, are_many, at_least, begin_with, fault_of_all, state_none}
+use Rattle.zone_rdata.proofs.LeftOut.{after_item, are_many, at_least, begin_with, fault_of_all, state_none}
 use Rattle.zone_text.specs.Entries.{Entry, entry_of, first_octet, item_of}
 use Rattle.zone_text.specs.EntryFault.{DefaultTtlFault, DirectiveFault, EntryFault, KindFault, OriginFault, OwnerFault, WordsFault, of_directive, of_kind, of_owner, of_rdata, of_ttl, of_words}
-use Rattle.zone_text.specs.Forms.{EntryForm, Parts, Word, begins_with_digit, class, class_among, directive, form_by, form_of, includes, is_class_word, no_items, owned, parts_behind, parts_in, parts_of, sets_origin, sets_ttl, ttl, ttl_among, unknown, unless_stated, unowned, word_behind}
+use Rattle.zone_text.specs.Forms.{EntryForm, Parts, Word, begins_with_digit, class, class_among, directive, form_by, form_of, includes, is_class_word, owned, parts_after, parts_in, sets_origin, sets_ttl, ttl, ttl_among, unknown, unless_stated, unowned, word_after}
 use Rattle.zone_text.specs.Inherited.{IsOwner, class_word, latest, one_bare, or_else}
 use Rattle.zone_rdata.specs.Words.{IsClassWord}
 use Rattle.zone_text.specs.Machine.EntryReading.{DecidesEntry, decides_fault, decides_none, decides_one}
 use Rattle.zone_text.specs.Machine.Kept.{AreKept}
-use Rattle.zone_text.specs.Pieces.{Cuts, Piece, is_blank}
+use Rattle.zone_text.specs.Tokens.{Cuts, Token, is_blank}
 use Rattle.zone_text.specs.Records.{HasHead, HasValue, Head, StatesNothing, StatesRecord, head_of}
 use Rattle.zone_text.specs.declared.defaults.Defaults.{Defaults}
 use Rattle.zone_text.proofs.Kept.{items_written}
@@ -160,22 +160,22 @@ bare_less true b words text word e = ttl_less words text word e
 bare_less false true words text word e = class_less words text word e
 bare_less false false words text word e = absurd cc
 
-free_less : (words : List Word) (item : RawItem) (word : Word) → word_behind words item ≡ Some word → free (words ++ word ∷ []) + 1 ≡ free words
+free_less : (words : List Word) (item : RawItem) (word : Word) → word_after words item ≡ Some word → free (words ++ word ∷ []) + 1 ≡ free words
 free_less words (quoted text) word e = absurd cc
 free_less words (bare text) word e = bare_less (begins_with_digit text) (is_class_word text) words text word e
 
-part_long : (words : List Word) (item : RawItem) (items kept : List RawItem) (o : Option Word) → word_behind words item ≡ o → Long 65548 (item ∷ items) (item ∷ kept) → ((word : Word) → word_behind words item ≡ Some word → LongParts (parts_behind (words ++ word ∷ []) items) (parts_behind (words ++ word ∷ []) kept)) → LongParts (parts_by words item items o) (parts_by words item kept o)
+part_long : (words : List Word) (item : RawItem) (items kept : List RawItem) (o : Option Word) → word_after words item ≡ o → Long 65548 (item ∷ items) (item ∷ kept) → ((word : Word) → word_after words item ≡ Some word → LongParts (parts_after (words ++ word ∷ []) items) (parts_after (words ++ word ∷ []) kept)) → LongParts (parts_by words item items o) (parts_by words item kept o)
 part_long words item items kept None e long more = record { words = refl; long = long }
 part_long words item items kept (Some word) e long more = more word e
 
-parts_long : (words : List Word) (first more others : List RawItem) → 65548 + free words ≤ length first → AllByRecursion IsWritten (first ++ more) → LeavesOut more others → LongParts (parts_behind words (first ++ more)) (parts_behind words (first ++ others))
+parts_long : (words : List Word) (first more others : List RawItem) → 65548 + free words ≤ length first → AllByRecursion IsWritten (first ++ more) → LeavesOut more others → LongParts (parts_after words (first ++ more)) (parts_after words (first ++ others))
 parts_long words [] more others many written out = absurd (omega (arith, many))
 parts_long words (item ∷ first) more others many written out =
-    part_long words item (first ++ more) (first ++ others) (word_behind words item) refl
+    part_long words item (first ++ more) (first ++ others) (word_after words item) refl
     (record { short = record { first = item ∷ first; more = more; others = others; whole = refl; are_kept = refl; many = omega (arith, many); out = out }; written = written })
     (λ word e. parts_long (words ++ word ∷ []) first more others (omega (arith, many, free_less words item word e)) written.1 out)
 
-owned_parts : (items kept : List RawItem) → Long 65551 items kept → LongParts (parts_behind [] items) (parts_behind [] kept)
+owned_parts : (items kept : List RawItem) → Long 65551 items kept → LongParts (parts_after [] items) (parts_after [] kept)
 unfolding free_one
 owned_parts items kept long =
     rw (long.short.whole, long.short.are_kept)
@@ -189,11 +189,11 @@ record FormParts (form : EntryForm) (other : Parts) : Type 0 where
 
 form_parts : (form other : EntryForm) (parts : Parts) → LongForms form other → parts_in other ≡ Some parts → FormParts form parts
 form_parts (owned owner items) (owned other kept) parts h e =
-    let same : parts_behind [] kept ≡ parts = cc in
-    record { parts = parts_behind [] items; split = refl; long = subst (LongParts (parts_behind [] items)) same (owned_parts items kept h.1) }
+    let same : parts_after [] kept ≡ parts = cc in
+    record { parts = parts_after [] items; split = refl; long = subst (LongParts (parts_after [] items)) same (owned_parts items kept h.1) }
 form_parts (unowned items) (unowned kept) parts h e =
-    let same : parts_behind [] kept ≡ parts = cc in
-    record { parts = parts_behind [] items; split = refl; long = subst (LongParts (parts_behind [] items)) same (owned_parts items kept h) }
+    let same : parts_after [] kept ≡ parts = cc in
+    record { parts = parts_after [] items; split = refl; long = subst (LongParts (parts_after [] items)) same (owned_parts items kept h) }
 form_parts (sets_origin items) (sets_origin kept) parts h e = absurd cc
 form_parts (sets_ttl items) (sets_ttl kept) parts h e = absurd cc
 form_parts includes includes parts h e = absurd cc
@@ -283,8 +283,8 @@ decides_kept origin before entry kept place old new next written (inl all) h = s
 decides_kept origin before entry kept place old new next written (inr short) h = decides_by origin before entry kept place old new next (record { short = short; written = written }) h
 
 -- what an entry of these octets and items decides, an entry decides of whose items these are kept
-pub entry_kept : {T E : Type 0} (result : Result T E) (origin : Labels) (before : List Entry) (line : ℕ) (octets : List ℕ) (pieces : List Piece) (kept : List RawItem) (place : Place) (old new : Reading) (next : Defaults) → Cuts octets pieces → AreKept (flat_map item_of pieces) kept → OnOk result (DecidesEntry origin before (record { line = line; first = first_octet octets; items = kept }) place old new next) → OnOk result (DecidesEntry origin before (entry_of line pieces) place old new next)
-entry_kept (Ok x) origin before line octets pieces kept place old new next cut are h =
-    decides_kept origin before (entry_of line pieces) kept place old new next (items_written pieces cut.each) are
+pub entry_kept : {T E : Type 0} (result : Result T E) (origin : Labels) (before : List Entry) (line : ℕ) (octets : List ℕ) (tokens : List Token) (kept : List RawItem) (place : Place) (old new : Reading) (next : Defaults) → Cuts octets tokens → AreKept (flat_map item_of tokens) kept → OnOk result (DecidesEntry origin before (record { line = line; first = first_octet octets; items = kept }) place old new next) → OnOk result (DecidesEntry origin before (entry_of line tokens) place old new next)
+entry_kept (Ok x) origin before line octets tokens kept place old new next cut are h =
+    decides_kept origin before (entry_of line tokens) kept place old new next (items_written tokens cut.each) are
     (subst (λ t. DecidesEntry origin before (record { line = line; first = first_octet t; items = kept }) place old new next) cut.whole h)
-entry_kept (Err e) origin before line octets pieces kept place old new next cut are h = tt
+entry_kept (Err e) origin before line octets tokens kept place old new next cut are h = tt

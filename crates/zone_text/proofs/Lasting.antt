@@ -7,29 +7,29 @@ use Rattle.zone_name.specs.Spelling.{Written, plain, escaped, decimal, text_of, 
 use Rattle.zone_rdata.specs.declared.fault.Fault.{Fault}
 use Rattle.zone_rdata.specs.declared.fault.Fault.TheVariants.{BadEscape, UnbalancedParenthesis}
 use Rattle.zone_name.proofs.Pushing.{AllByRecursion-append, AllByRecursion-front, AllByRecursion-back}
-use Rattle.zone_text.specs.Pieces.{Piece, blank, opening, closing, line_feed, comment, bare, quoted, piece_text, text, IsPiece, AllFollow, depth_after, Cuts}
+use Rattle.zone_text.specs.Tokens.{Token, blank, opening, closing, line_feed, comment, bare, quoted, token_text, text, IsToken, AllFollow, depth_after, Cuts}
 use Rattle.zone_text.specs.Breaks.{IsBroken, closes_nothing, no_escape, no_quoted_escape, no_quote, not_closed, MayEndBefore, Breaks}
 use Rattle.zone_text.specs.Lasting.{EndInLineFeed, IsLostEscape, at_line_end, one_digit, two_digits, too_great, StaysBroken, closing_stays, escape_stays, quoted_escape_stays, BreaksForGood}
-use Rattle.zone_text.specs.Machine.Cutting.{stops, depth_behind}
+use Rattle.zone_text.specs.Machine.Cutting.{stops, depth_past}
 use Rattle.zone_text.proofs.Fronts.{front_stops}
-use Rattle.zone_text.proofs.Cuttings.{IsCut, is_cut, cuts, is_broken, breaks, last_behind, last_in_front, follow_behind, depth_on, room_of}
+use Rattle.zone_text.proofs.Cuttings.{IsCut, is_cut, cuts, is_broken, breaks, last_after, last_in_front, follow_after, depth_on, room_of}
 
 -- ---- tokens after tokens
 
-line_feed_then : (more : List Piece) → AllFollow more → AllFollow (line_feed ∷ more)
+line_feed_then : (more : List Token) → AllFollow more → AllFollow (line_feed ∷ more)
 line_feed_then [] follow = tt
 line_feed_then (p ∷ more) follow = (tt, follow)
 
-ends_behind : (p q : Piece) (pieces : List Piece) → EndInLineFeed (p ∷ q ∷ pieces) → EndInLineFeed (q ∷ pieces)
-ends_behind (blank c) q pieces ends = ends
-ends_behind line_feed q pieces ends = ends
-ends_behind opening q pieces ends = ends
-ends_behind closing q pieces ends = ends
-ends_behind (comment octets) q pieces ends = ends
-ends_behind (bare units) q pieces ends = ends
-ends_behind (quoted units) q pieces ends = ends
+ends_after : (p q : Token) (tokens : List Token) → EndInLineFeed (p ∷ q ∷ tokens) → EndInLineFeed (q ∷ tokens)
+ends_after (blank c) q tokens ends = ends
+ends_after line_feed q tokens ends = ends
+ends_after opening q tokens ends = ends
+ends_after closing q tokens ends = ends
+ends_after (comment octets) q tokens ends = ends
+ends_after (bare units) q tokens ends = ends
+ends_after (quoted units) q tokens ends = ends
 
-the_line_feed : (p : Piece) → EndInLineFeed (p ∷ []) → p ≡ line_feed
+the_line_feed : (p : Token) → EndInLineFeed (p ∷ []) → p ≡ line_feed
 the_line_feed line_feed ends = refl
 the_line_feed (blank c) ends = absurd ends
 the_line_feed opening ends = absurd ends
@@ -38,96 +38,96 @@ the_line_feed (comment octets) ends = absurd ends
 the_line_feed (bare units) ends = absurd ends
 the_line_feed (quoted units) ends = absurd ends
 
-follow_append : (pieces more : List Piece) → AllFollow pieces → EndInLineFeed pieces → AllFollow more → AllFollow (pieces ++ more)
+follow_append : (tokens more : List Token) → AllFollow tokens → EndInLineFeed tokens → AllFollow more → AllFollow (tokens ++ more)
 follow_append [] more follow ends others = others
 follow_append (p ∷ []) more follow ends others = subst (λ q. AllFollow (q ∷ more)) (sym (the_line_feed p ends)) (line_feed_then more others)
-follow_append (p ∷ q ∷ pieces) more follow ends others = (follow.0, follow_append (q ∷ pieces) more follow.1 (ends_behind p q pieces ends) others)
+follow_append (p ∷ q ∷ tokens) more follow ends others = (follow.0, follow_append (q ∷ tokens) more follow.1 (ends_after p q tokens ends) others)
 
-follow_front : (pieces more : List Piece) → AllFollow (pieces ++ more) → AllFollow pieces
+follow_front : (tokens more : List Token) → AllFollow (tokens ++ more) → AllFollow tokens
 follow_front [] more follow = tt
 follow_front (p ∷ []) more follow = tt
-follow_front (p ∷ q ∷ pieces) more follow = (follow.0, follow_front (q ∷ pieces) more follow.1)
+follow_front (p ∷ q ∷ tokens) more follow = (follow.0, follow_front (q ∷ tokens) more follow.1)
 
-follow_back : (pieces more : List Piece) → AllFollow (pieces ++ more) → AllFollow more
+follow_back : (tokens more : List Token) → AllFollow (tokens ++ more) → AllFollow more
 follow_back [] more follow = follow
-follow_back (p ∷ pieces) more follow = follow_back pieces more (follow_behind p (pieces ++ more) follow)
+follow_back (p ∷ tokens) more follow = follow_back tokens more (follow_after p (tokens ++ more) follow)
 
-last_back : (pieces more : List Piece) (rest : List ℕ) → MayEndBefore (pieces ++ more) rest → MayEndBefore more rest
+last_back : (tokens more : List Token) (rest : List ℕ) → MayEndBefore (tokens ++ more) rest → MayEndBefore more rest
 last_back [] more rest last = last
-last_back (p ∷ pieces) more rest last = last_back pieces more rest (last_behind p (pieces ++ more) rest last)
+last_back (p ∷ tokens) more rest last = last_back tokens more rest (last_after p (tokens ++ more) rest last)
 
-last_line_feed : (more : List Piece) (rest : List ℕ) → MayEndBefore more rest → MayEndBefore (line_feed ∷ more) rest
+last_line_feed : (more : List Token) (rest : List ℕ) → MayEndBefore more rest → MayEndBefore (line_feed ∷ more) rest
 last_line_feed [] rest last = tt
 last_line_feed (q ∷ more) rest last = last
 
-last_append : (pieces more : List Piece) (rest : List ℕ) → EndInLineFeed pieces → MayEndBefore more rest → MayEndBefore (pieces ++ more) rest
+last_append : (tokens more : List Token) (rest : List ℕ) → EndInLineFeed tokens → MayEndBefore more rest → MayEndBefore (tokens ++ more) rest
 last_append [] more rest ends last = last
 last_append (p ∷ []) more rest ends last = subst (λ q. MayEndBefore (q ∷ more) rest) (sym (the_line_feed p ends)) (last_line_feed more rest last)
-last_append (p ∷ q ∷ pieces) more rest ends last = last_in_front p q (pieces ++ more) rest (last_append (q ∷ pieces) more rest (ends_behind p q pieces ends) last)
+last_append (p ∷ q ∷ tokens) more rest ends last = last_in_front p q (tokens ++ more) rest (last_append (q ∷ tokens) more rest (ends_after p q tokens ends) last)
 
-depth_append : (depth at : ℕ) (pieces more : List Piece) → depth_after depth pieces ≡ Some at → depth_after depth (pieces ++ more) ≡ depth_after at more
+depth_append : (depth at : ℕ) (tokens more : List Token) → depth_after depth tokens ≡ Some at → depth_after depth (tokens ++ more) ≡ depth_after at more
 depth_append depth at [] more e = let same : depth ≡ at = cc in ap (λ d. depth_after d more) same
-depth_append depth at (p ∷ pieces) more e =
-    let room = room_of depth at p pieces e in
-    depth_on depth p (pieces ++ more) room ∙ depth_append (depth_behind depth p) at pieces more (sym (depth_on depth p pieces room) ∙ e)
+depth_append depth at (p ∷ tokens) more e =
+    let room = room_of depth at p tokens e in
+    depth_on depth p (tokens ++ more) room ∙ depth_append (depth_past depth p) at tokens more (sym (depth_on depth p tokens room) ∙ e)
 
 -- ---- what stands after a line feed outside parentheses is cut by itself
 
-pub both_cut : (front rest : List ℕ) (pieces more : List Piece) (fault : Option Fault) → Cuts front pieces → EndInLineFeed pieces → IsCut zero rest more fault → IsCut zero (front ++ rest) (pieces ++ more) fault
-both_cut front rest pieces more fault cut ends others = record {
+pub both_cut : (front rest : List ℕ) (tokens more : List Token) (fault : Option Fault) → Cuts front tokens → EndInLineFeed tokens → IsCut zero rest more fault → IsCut zero (front ++ rest) (tokens ++ more) fault
+both_cut front rest tokens more fault cut ends others = record {
   rest = others.rest;
   at = others.at;
-  whole = ap (λ t. t ++ rest) cut.whole ∙ ap (λ t. text pieces ++ t) others.whole ∙ sym (append_assoc (text pieces) (text more) others.rest) ∙ ap (λ t. t ++ others.rest) (sym (flat_map-append piece_text pieces more));
-  each = AllByRecursion-append IsPiece pieces more cut.each others.each;
-  follow = follow_append pieces more cut.follow ends others.follow;
-  last = last_append pieces more others.rest ends others.last;
-  parentheses = depth_append zero zero pieces more cut.balanced ∙ others.parentheses;
+  whole = ap (λ t. t ++ rest) cut.whole ∙ ap (λ t. text tokens ++ t) others.whole ∙ sym (append_assoc (text tokens) (text more) others.rest) ∙ ap (λ t. t ++ others.rest) (sym (flat_map-append token_text tokens more));
+  each = AllByRecursion-append IsToken tokens more cut.each others.each;
+  follow = follow_append tokens more cut.follow ends others.follow;
+  last = last_append tokens more others.rest ends others.last;
+  parentheses = depth_append zero zero tokens more cut.balanced ∙ others.parentheses;
   ends = others.ends;
 }
 
-pub cut_joined : (front rest : List ℕ) (pieces more : List Piece) → Cuts front pieces → EndInLineFeed pieces → Cuts rest more → Cuts (front ++ rest) (pieces ++ more)
-cut_joined front rest pieces more cut ends others = cuts (front ++ rest) (pieces ++ more) (both_cut front rest pieces more None cut ends (is_cut rest more others))
+pub cut_joined : (front rest : List ℕ) (tokens more : List Token) → Cuts front tokens → EndInLineFeed tokens → Cuts rest more → Cuts (front ++ rest) (tokens ++ more)
+cut_joined front rest tokens more cut ends others = cuts (front ++ rest) (tokens ++ more) (both_cut front rest tokens more None cut ends (is_cut rest more others))
 
-pub break_joined : (front rest : List ℕ) (pieces more : List Piece) (fault : Fault) → Cuts front pieces → EndInLineFeed pieces → Breaks rest more fault → Breaks (front ++ rest) (pieces ++ more) fault
-break_joined front rest pieces more fault cut ends others = breaks (front ++ rest) (pieces ++ more) fault (both_cut front rest pieces more (Some fault) cut ends (is_broken rest more fault others))
+pub break_joined : (front rest : List ℕ) (tokens more : List Token) (fault : Fault) → Cuts front tokens → EndInLineFeed tokens → Breaks rest more fault → Breaks (front ++ rest) (tokens ++ more) fault
+break_joined front rest tokens more fault cut ends others = breaks (front ++ rest) (tokens ++ more) fault (both_cut front rest tokens more (Some fault) cut ends (is_broken rest more fault others))
 
 -- the text after tokens
-pub record IsParted (octets : List ℕ) (pieces more : List Piece) (fault : Option Fault) : Type 0 where
+pub record IsParted (octets : List ℕ) (tokens more : List Token) (fault : Option Fault) : Type 0 where
   pub rest : List ℕ
-  pub whole : octets ≡ text pieces ++ rest
-  pub front : Cuts (text pieces) pieces
+  pub whole : octets ≡ text tokens ++ rest
+  pub front : Cuts (text tokens) tokens
   pub back : IsCut zero rest more fault
 
-pub parted : (octets : List ℕ) (pieces more : List Piece) (fault : Option Fault) → depth_after zero pieces ≡ Some zero → IsCut zero octets (pieces ++ more) fault → IsParted octets pieces more fault
-parted octets pieces more fault balanced is = record {
+pub parted : (octets : List ℕ) (tokens more : List Token) (fault : Option Fault) → depth_after zero tokens ≡ Some zero → IsCut zero octets (tokens ++ more) fault → IsParted octets tokens more fault
+parted octets tokens more fault balanced is = record {
   rest = text more ++ is.rest;
-  whole = is.whole ∙ ap (λ t. t ++ is.rest) (flat_map-append piece_text pieces more) ∙ append_assoc (text pieces) (text more) is.rest;
+  whole = is.whole ∙ ap (λ t. t ++ is.rest) (flat_map-append token_text tokens more) ∙ append_assoc (text tokens) (text more) is.rest;
   front = record {
     whole = refl;
-    each = AllByRecursion-front IsPiece pieces more is.each;
-    follow = follow_front pieces more is.follow;
+    each = AllByRecursion-front IsToken tokens more is.each;
+    follow = follow_front tokens more is.follow;
     balanced = balanced;
   };
   back = record {
     rest = is.rest;
     at = is.at;
     whole = refl;
-    each = AllByRecursion-back IsPiece pieces more is.each;
-    follow = follow_back pieces more is.follow;
-    last = last_back pieces more is.rest is.last;
-    parentheses = sym (depth_append zero zero pieces more balanced) ∙ is.parentheses;
+    each = AllByRecursion-back IsToken tokens more is.each;
+    follow = follow_back tokens more is.follow;
+    last = last_back tokens more is.rest is.last;
+    parentheses = sym (depth_append zero zero tokens more balanced) ∙ is.parentheses;
     ends = is.ends;
   };
 }
 
-pub cut_parted : (octets : List ℕ) (pieces more : List Piece) → depth_after zero pieces ≡ Some zero → Cuts octets (pieces ++ more) → (rest : List ℕ) × (octets ≡ text pieces ++ rest) × Cuts (text pieces) pieces × Cuts rest more
-cut_parted octets pieces more balanced cut =
-    let is : IsParted octets pieces more None = parted octets pieces more None balanced (is_cut octets (pieces ++ more) cut) in
+pub cut_parted : (octets : List ℕ) (tokens more : List Token) → depth_after zero tokens ≡ Some zero → Cuts octets (tokens ++ more) → (rest : List ℕ) × (octets ≡ text tokens ++ rest) × Cuts (text tokens) tokens × Cuts rest more
+cut_parted octets tokens more balanced cut =
+    let is : IsParted octets tokens more None = parted octets tokens more None balanced (is_cut octets (tokens ++ more) cut) in
     (is.rest, is.whole, is.front, cuts is.rest more is.back)
 
-pub break_parted : (octets : List ℕ) (pieces more : List Piece) (fault : Fault) → depth_after zero pieces ≡ Some zero → Breaks octets (pieces ++ more) fault → (rest : List ℕ) × (octets ≡ text pieces ++ rest) × Cuts (text pieces) pieces × Breaks rest more fault
-break_parted octets pieces more fault balanced broken =
-    let is : IsParted octets pieces more (Some fault) = parted octets pieces more (Some fault) balanced (is_broken octets (pieces ++ more) fault broken) in
+pub break_parted : (octets : List ℕ) (tokens more : List Token) (fault : Fault) → depth_after zero tokens ≡ Some zero → Breaks octets (tokens ++ more) fault → (rest : List ℕ) × (octets ≡ text tokens ++ rest) × Cuts (text tokens) tokens × Breaks rest more fault
+break_parted octets tokens more fault balanced broken =
+    let is : IsParted octets tokens more (Some fault) = parted octets tokens more (Some fault) balanced (is_broken octets (tokens ++ more) fault broken) in
     (is.rest, is.whole, is.front, breaks is.rest more fault is.back)
 
 -- ---- a break that stays
@@ -240,7 +240,7 @@ stays_some rest (escape_stays lost) none = let begins : rest ≡ 92 ∷ (begins_
 stays_some rest (quoted_escape_stays units after each whole lost) none = cc
 
 -- no comment is the last token before what breaks a text as it stands
-last_before : (pieces : List Piece) (rest after : List ℕ) → (rest ≡ [] → ⊥) → MayEndBefore pieces rest → MayEndBefore pieces after
+last_before : (tokens : List Token) (rest after : List ℕ) → (rest ≡ [] → ⊥) → MayEndBefore tokens rest → MayEndBefore tokens after
 last_before [] rest after some last = tt
 last_before (blank c ∷ []) rest after some last = tt
 last_before (line_feed ∷ []) rest after some last = tt
@@ -249,19 +249,19 @@ last_before (closing ∷ []) rest after some last = tt
 last_before (comment octets ∷ []) rest after some last = absurd (some last)
 last_before (bare units ∷ []) rest after some last = tt
 last_before (quoted units ∷ []) rest after some last = tt
-last_before (p ∷ q ∷ pieces) rest after some last = last_in_front p q pieces after (last_before (q ∷ pieces) rest after some (last_behind p (q ∷ pieces) rest last))
+last_before (p ∷ q ∷ tokens) rest after some last = last_in_front p q tokens after (last_before (q ∷ tokens) rest after some (last_after p (q ∷ tokens) rest last))
 
-pub breaks_for_good : (octets more : List ℕ) (pieces : List Piece) (fault : Fault) → BreaksForGood octets pieces fault → BreaksForGood (octets ++ more) pieces fault
-breaks_for_good octets more pieces fault good =
-    let old : Breaks octets pieces fault = good.breaks in
+pub breaks_for_good : (octets more : List ℕ) (tokens : List Token) (fault : Fault) → BreaksForGood octets tokens fault → BreaksForGood (octets ++ more) tokens fault
+breaks_for_good octets more tokens fault good =
+    let old : Breaks octets tokens fault = good.breaks in
     record {
       breaks = record {
         rest = old.rest ++ more;
         depth = old.depth;
-        whole = ap (λ t. t ++ more) old.whole ∙ append_assoc (text pieces) old.rest more;
+        whole = ap (λ t. t ++ more) old.whole ∙ append_assoc (text tokens) old.rest more;
         each = old.each;
         follow = old.follow;
-        last = last_before pieces old.rest (old.rest ++ more) (stays_some old.rest good.stays) old.last;
+        last = last_before tokens old.rest (old.rest ++ more) (stays_some old.rest good.stays) old.last;
         parentheses = old.parentheses;
         broken = broken_more old.depth old.rest more fault good.stays old.broken;
       };

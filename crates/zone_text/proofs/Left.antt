@@ -9,13 +9,13 @@ use Rattle.zone_rdata.specs.declared.fault.Fault.{Fault}
 use Rattle.zone_rdata.specs.declared.fault.Place.{Place}
 use Rattle.zone_rdata.specs.declared.fault.Place.TheVariants.{Line}
 use Rattle.zone_rdata.specs.declared.record.Placed.{Placed}
-use Rattle.zone_text.specs.Pieces.{Piece, Cuts, piece_text, text}
+use Rattle.zone_text.specs.Tokens.{Token, Cuts, token_text, text}
 use Rattle.zone_text.specs.Breaks.{Breaks}
 use Rattle.zone_text.specs.Lasting.{BreaksForGood, StaysBroken, BreaksAtEnd}
 use Rattle.zone_text.specs.Entries.{Cut, Entry, cut_from, entry_of, numbered}
 use Rattle.zone_text.specs.FileReads.{ReadEach, Ending, stated, refused}
 use Rattle.zone_text.specs.File.{states_none, states_one}
-use Rattle.zone_text.specs.Decided.{ArePieces}
+use Rattle.zone_text.specs.Decided.{AreTokens}
 use Rattle.zone_text.proofs.Cuttings.{cut_not_broken}
 use Rattle.zone_text.proofs.Lasting.{cut_joined, break_joined}
 use Rattle.zone_text.proofs.CutAgain.{joined, AreEnded, cut_ended, again_zero}
@@ -58,15 +58,15 @@ refused_before origin behind before (entry ∷ entries) more placed found (state
 refused_before origin behind before (entry ∷ entries) more placed found (refused fault h e f) = refused fault h e f
 
 -- the same entries, and what follows them
-pub reads_behind : (origin : List (List ℕ)) (behind : Ending) (before entries : List Entry) (placed : List Placed) → ReadEach origin None before entries placed None → ReadEach origin behind before entries placed behind
-reads_behind origin behind before [] placed read = (read.0, refl)
-reads_behind origin behind before (entry ∷ entries) placed (stated (states_none n read)) = stated (states_none n (reads_behind origin behind (entry ∷ before) entries placed read))
-reads_behind origin behind before (entry ∷ entries) placed (stated (states_one p rest states place e read)) = stated (states_one p rest states place e (reads_behind origin behind (entry ∷ before) entries rest read))
-reads_behind origin behind before (entry ∷ entries) placed (refused fault h e f) = absurd (none_is_some (fault, Line entry.line) f)
+pub reads_after : (origin : List (List ℕ)) (behind : Ending) (before entries : List Entry) (placed : List Placed) → ReadEach origin None before entries placed None → ReadEach origin behind before entries placed behind
+reads_after origin behind before [] placed read = (read.0, refl)
+reads_after origin behind before (entry ∷ entries) placed (stated (states_none n read)) = stated (states_none n (reads_after origin behind (entry ∷ before) entries placed read))
+reads_after origin behind before (entry ∷ entries) placed (stated (states_one p rest states place e read)) = stated (states_one p rest states place e (reads_after origin behind (entry ∷ before) entries rest read))
+reads_after origin behind before (entry ∷ entries) placed (refused fault h e f) = absurd (none_is_some (fault, Line entry.line) f)
 
 -- ---- lines
 
-pub numbered_then : (line : ℕ) (entries more : List (List Piece)) → numbered line (entries ++ more) ≡ numbered line entries ++ numbered (line + line_feeds (flat_map text entries)) more
+pub numbered_then : (line : ℕ) (entries more : List (List Token)) → numbered line (entries ++ more) ≡ numbered line entries ++ numbered (line + line_feeds (flat_map text entries)) more
 numbered_then line [] more = rw (add-zero) refl
 numbered_then line (first ∷ entries) more =
     ap (λ t. entry_of line first ∷ t) (numbered_then (line + line_feeds (text first)) entries more)
@@ -75,76 +75,76 @@ numbered_then line (first ∷ entries) more =
 -- ---- the tokens of octets, their ended entries, and the octets after these
 
 -- octets are ended entries and the octets after them
-pub record IsSplit (fed : List ℕ) (ended : List (List Piece)) (unfinished : List ℕ) : Type 0 where
+pub record IsSplit (fed : List ℕ) (ended : List (List Token)) (unfinished : List ℕ) : Type 0 where
   pub whole : fed ≡ text (joined ended) ++ unfinished
   pub front : Cuts (text (joined ended)) (joined ended)
   pub stays : AreEnded zero ended
 
-pub split : (fed : List ℕ) (pieces : List Piece) (unfinished : List ℕ) → ArePieces fed pieces → fed ≡ flat_map text (cut_from zero pieces).ended ++ unfinished → IsSplit fed (cut_from zero pieces).ended unfinished
-split fed pieces unfinished are rest = record {
-  whole = rest ∙ ap (λ t. t ++ unfinished) (text_of_entries (cut_from zero pieces).ended);
-  front = (parted fed pieces are).front;
-  stays = cut_ended zero pieces;
+pub split : (fed : List ℕ) (tokens : List Token) (unfinished : List ℕ) → AreTokens fed tokens → fed ≡ flat_map text (cut_from zero tokens).ended ++ unfinished → IsSplit fed (cut_from zero tokens).ended unfinished
+split fed tokens unfinished are rest = record {
+  whole = rest ∙ ap (λ t. t ++ unfinished) (text_of_entries (cut_from zero tokens).ended);
+  front = (parted fed tokens are).front;
+  stays = cut_ended zero tokens;
 }
 
 -- other octets after them
-longer : (fed more : List ℕ) (ended : List (List Piece)) (unfinished : List ℕ) → IsSplit fed ended unfinished → fed ++ more ≡ text (joined ended) ++ (unfinished ++ more)
+longer : (fed more : List ℕ) (ended : List (List Token)) (unfinished : List ℕ) → IsSplit fed ended unfinished → fed ++ more ≡ text (joined ended) ++ (unfinished ++ more)
 longer fed more ended unfinished is = ap (λ t. t ++ more) is.whole ∙ append_assoc (text (joined ended)) unfinished more
 
-pub whole_behind : (fed more : List ℕ) (ended : List (List Piece)) (unfinished : List ℕ) → IsSplit fed ended unfinished → fed ++ more ≡ flat_map text ended ++ (unfinished ++ more)
-whole_behind fed more ended unfinished is = longer fed more ended unfinished is ∙ ap (λ t. t ++ (unfinished ++ more)) (sym (text_of_entries ended))
+pub whole_after : (fed more : List ℕ) (ended : List (List Token)) (unfinished : List ℕ) → IsSplit fed ended unfinished → fed ++ more ≡ flat_map text ended ++ (unfinished ++ more)
+whole_after fed more ended unfinished is = longer fed more ended unfinished is ∙ ap (λ t. t ++ (unfinished ++ more)) (sym (text_of_entries ended))
 
-pub cut_more : (fed more : List ℕ) (ended : List (List Piece)) (unfinished : List ℕ) (pieces : List Piece) → IsSplit fed ended unfinished → Cuts (unfinished ++ more) pieces → Cuts (fed ++ more) (joined ended ++ pieces)
-cut_more fed more ended unfinished pieces is cut =
-    subst (λ t. Cuts t (joined ended ++ pieces)) (sym (longer fed more ended unfinished is)) (cut_joined (text (joined ended)) (unfinished ++ more) (joined ended) pieces is.front is.stays.ends cut)
+pub cut_more : (fed more : List ℕ) (ended : List (List Token)) (unfinished : List ℕ) (tokens : List Token) → IsSplit fed ended unfinished → Cuts (unfinished ++ more) tokens → Cuts (fed ++ more) (joined ended ++ tokens)
+cut_more fed more ended unfinished tokens is cut =
+    subst (λ t. Cuts t (joined ended ++ tokens)) (sym (longer fed more ended unfinished is)) (cut_joined (text (joined ended)) (unfinished ++ more) (joined ended) tokens is.front is.stays.ends cut)
 
-pub break_more : (fed more : List ℕ) (ended : List (List Piece)) (unfinished : List ℕ) (pieces : List Piece) (fault : Fault) → IsSplit fed ended unfinished → Breaks (unfinished ++ more) pieces fault → Breaks (fed ++ more) (joined ended ++ pieces) fault
-break_more fed more ended unfinished pieces fault is breaks =
-    subst (λ t. Breaks t (joined ended ++ pieces) fault) (sym (longer fed more ended unfinished is)) (break_joined (text (joined ended)) (unfinished ++ more) (joined ended) pieces fault is.front is.stays.ends breaks)
+pub break_more : (fed more : List ℕ) (ended : List (List Token)) (unfinished : List ℕ) (tokens : List Token) (fault : Fault) → IsSplit fed ended unfinished → Breaks (unfinished ++ more) tokens fault → Breaks (fed ++ more) (joined ended ++ tokens) fault
+break_more fed more ended unfinished tokens fault is breaks =
+    subst (λ t. Breaks t (joined ended ++ tokens) fault) (sym (longer fed more ended unfinished is)) (break_joined (text (joined ended)) (unfinished ++ more) (joined ended) tokens fault is.front is.stays.ends breaks)
 
-pub pieces_more : (fed more : List ℕ) (ended : List (List Piece)) (unfinished : List ℕ) (pieces : List Piece) → IsSplit fed ended unfinished → ArePieces (unfinished ++ more) pieces → ArePieces (fed ++ more) (joined ended ++ pieces)
-pieces_more fed more ended unfinished pieces is (inl cut) = inl (cut_more fed more ended unfinished pieces is cut)
-pieces_more fed more ended unfinished pieces is (inr found) = inr (found.0, break_more fed more ended unfinished pieces found.0 is found.1)
+pub tokens_more : (fed more : List ℕ) (ended : List (List Token)) (unfinished : List ℕ) (tokens : List Token) → IsSplit fed ended unfinished → AreTokens (unfinished ++ more) tokens → AreTokens (fed ++ more) (joined ended ++ tokens)
+tokens_more fed more ended unfinished tokens is (inl cut) = inl (cut_more fed more ended unfinished tokens is cut)
+tokens_more fed more ended unfinished tokens is (inr found) = inr (found.0, break_more fed more ended unfinished tokens found.0 is found.1)
 
 -- what breaks the octets after the ended entries, as the octets so far show, breaks all
-behind_pieces : (fed more : List ℕ) (ended : List (List Piece)) (unfinished : List ℕ) (pieces : List Piece) (rest : List ℕ) → IsSplit fed ended unfinished → unfinished ++ more ≡ text pieces ++ rest → fed ++ more ≡ text (joined ended ++ pieces) ++ rest
-behind_pieces fed more ended unfinished pieces rest is e =
+after_tokens : (fed more : List ℕ) (ended : List (List Token)) (unfinished : List ℕ) (tokens : List Token) (rest : List ℕ) → IsSplit fed ended unfinished → unfinished ++ more ≡ text tokens ++ rest → fed ++ more ≡ text (joined ended ++ tokens) ++ rest
+after_tokens fed more ended unfinished tokens rest is e =
     longer fed more ended unfinished is
     ∙ ap (λ t. text (joined ended) ++ t) e
-    ∙ sym (append_assoc (text (joined ended)) (text pieces) rest)
-    ∙ ap (λ t. t ++ rest) (sym (flat_map-append piece_text (joined ended) pieces))
+    ∙ sym (append_assoc (text (joined ended)) (text tokens) rest)
+    ∙ ap (λ t. t ++ rest) (sym (flat_map-append token_text (joined ended) tokens))
 
-pub for_good_more : (fed more : List ℕ) (ended : List (List Piece)) (unfinished : List ℕ) (pieces : List Piece) (fault : Fault) → IsSplit fed ended unfinished → BreaksForGood (unfinished ++ more) pieces fault → BreaksForGood (fed ++ more) (joined ended ++ pieces) fault
-for_good_more fed more ended unfinished pieces fault is good =
-    stays_for_good (fed ++ more) (joined ended ++ pieces) fault
-    (break_more fed more ended unfinished pieces fault is good.breaks)
+pub for_good_more : (fed more : List ℕ) (ended : List (List Token)) (unfinished : List ℕ) (tokens : List Token) (fault : Fault) → IsSplit fed ended unfinished → BreaksForGood (unfinished ++ more) tokens fault → BreaksForGood (fed ++ more) (joined ended ++ tokens) fault
+for_good_more fed more ended unfinished tokens fault is good =
+    stays_for_good (fed ++ more) (joined ended ++ tokens) fault
+    (break_more fed more ended unfinished tokens fault is good.breaks)
     good.breaks.rest
-    (behind_pieces fed more ended unfinished pieces good.breaks.rest is good.breaks.whole)
+    (after_tokens fed more ended unfinished tokens good.breaks.rest is good.breaks.whole)
     good.stays
 
 -- and where nothing does yet, nothing does
-pub none_cut : (octets : List ℕ) (pieces : List Piece) → Cuts octets pieces → (fault : Fault) → BreaksForGood octets pieces fault → ⊥
-none_cut octets pieces cut fault good = cut_not_broken octets pieces pieces fault cut good.breaks
+pub none_cut : (octets : List ℕ) (tokens : List Token) → Cuts octets tokens → (fault : Fault) → BreaksForGood octets tokens fault → ⊥
+none_cut octets tokens cut fault good = cut_not_broken octets tokens tokens fault cut good.breaks
 
-none_broken : (fed more : List ℕ) (ended : List (List Piece)) (unfinished : List ℕ) (pieces : List Piece) (fault : Fault) (breaks : Breaks (unfinished ++ more) pieces fault) → IsSplit fed ended unfinished → ((other : Fault) → BreaksForGood (unfinished ++ more) pieces other → ⊥) → StaysBroken breaks.rest ⊎ BreaksAtEnd breaks.rest → (other : Fault) → BreaksForGood (fed ++ more) (joined ended ++ pieces) other → ⊥
-none_broken fed more ended unfinished pieces fault breaks is none (inl stays) other good = none fault (record { breaks = breaks; stays = stays })
-none_broken fed more ended unfinished pieces fault breaks is none (inr ends) other good =
-    ends_not_for_good (fed ++ more) (joined ended ++ pieces) breaks.rest (behind_pieces fed more ended unfinished pieces breaks.rest is breaks.whole) ends other good
+none_broken : (fed more : List ℕ) (ended : List (List Token)) (unfinished : List ℕ) (tokens : List Token) (fault : Fault) (breaks : Breaks (unfinished ++ more) tokens fault) → IsSplit fed ended unfinished → ((other : Fault) → BreaksForGood (unfinished ++ more) tokens other → ⊥) → StaysBroken breaks.rest ⊎ BreaksAtEnd breaks.rest → (other : Fault) → BreaksForGood (fed ++ more) (joined ended ++ tokens) other → ⊥
+none_broken fed more ended unfinished tokens fault breaks is none (inl stays) other good = none fault (record { breaks = breaks; stays = stays })
+none_broken fed more ended unfinished tokens fault breaks is none (inr ends) other good =
+    ends_not_for_good (fed ++ more) (joined ended ++ tokens) breaks.rest (after_tokens fed more ended unfinished tokens breaks.rest is breaks.whole) ends other good
 
-pub none_more : (fed more : List ℕ) (ended : List (List Piece)) (unfinished : List ℕ) (pieces : List Piece) → IsSplit fed ended unfinished → ArePieces (unfinished ++ more) pieces → ((fault : Fault) → BreaksForGood (unfinished ++ more) pieces fault → ⊥) → (fault : Fault) → BreaksForGood (fed ++ more) (joined ended ++ pieces) fault → ⊥
-none_more fed more ended unfinished pieces is (inl cut) none fault good =
-    none_cut (fed ++ more) (joined ended ++ pieces) (cut_more fed more ended unfinished pieces is cut) fault good
-none_more fed more ended unfinished pieces is (inr found) none fault good =
-    none_broken fed more ended unfinished pieces found.0 found.1 is none (break_stays_or_ends (unfinished ++ more) pieces found.0 found.1) fault good
+pub none_more : (fed more : List ℕ) (ended : List (List Token)) (unfinished : List ℕ) (tokens : List Token) → IsSplit fed ended unfinished → AreTokens (unfinished ++ more) tokens → ((fault : Fault) → BreaksForGood (unfinished ++ more) tokens fault → ⊥) → (fault : Fault) → BreaksForGood (fed ++ more) (joined ended ++ tokens) fault → ⊥
+none_more fed more ended unfinished tokens is (inl cut) none fault good =
+    none_cut (fed ++ more) (joined ended ++ tokens) (cut_more fed more ended unfinished tokens is cut) fault good
+none_more fed more ended unfinished tokens is (inr found) none fault good =
+    none_broken fed more ended unfinished tokens found.0 found.1 is none (break_stays_or_ends (unfinished ++ more) tokens found.0 found.1) fault good
 
 -- ---- the entries of those tokens
 
 -- no entry more
-pub ended_as_before : (ended : List (List Piece)) (more : List Piece) → AreEnded zero ended → (cut_from zero more).ended ≡ [] → (cut_from zero (joined ended ++ more)).ended ≡ ended
+pub ended_as_before : (ended : List (List Token)) (more : List Token) → AreEnded zero ended → (cut_from zero more).ended ≡ [] → (cut_from zero (joined ended ++ more)).ended ≡ ended
 ended_as_before ended more are none =
     ap (λ (c : Cut). c.ended) (again_zero ended more are) ∙ ap (λ t. ended ++ t) none ∙ append-nil ended
 
 -- one entry more
-pub one_ended : (ended : List (List Piece)) (entry : List Piece) → AreEnded zero ended → cut_from zero entry ≡ record { ended = entry ∷ []; open_pieces = [] } → (cut_from zero (joined ended ++ entry)).ended ≡ ended ++ entry ∷ []
+pub one_ended : (ended : List (List Token)) (entry : List Token) → AreEnded zero ended → cut_from zero entry ≡ record { ended = entry ∷ []; open_tokens = [] } → (cut_from zero (joined ended ++ entry)).ended ≡ ended ++ entry ∷ []
 one_ended ended entry are one =
     ap (λ (c : Cut). c.ended) (again_zero ended entry are) ∙ ap (λ (c : Cut). ended ++ c.ended) one

@@ -31,9 +31,9 @@ pub mod Standing
 pub mod DecidedOnce
 pub mod ScanSteps
 pub mod ScanReads
-pub mod ScanPieces
+pub mod ScanTokens
 pub mod Scanned
-pub mod PieceEnds
+pub mod TokenEnds
 pub mod ItemsLeft
 pub mod Kept
 pub mod KeptEntry

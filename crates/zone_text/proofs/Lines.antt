@@ -8,10 +8,10 @@ use Rattle.zone_rdata.specs.Record.{Record}
 use Rattle.zone_rdata.specs.Spelling.{RawItem}
 use Rattle.zone_rdata.specs.Spelling as raw
 use Rattle.zone_text.specs.Entries.{Cut, in_front_of, cut_from, and_last, Entry, entry_of, numbered, entries_of, item_of}
-use Rattle.zone_text.specs.Forms.{form_by, form_of, owned, Word, ttl, class, word_behind, Parts, parts_behind, parts_of, begins_with_digit, is_class_word}
+use Rattle.zone_text.specs.Forms.{form_by, form_of, owned, Word, ttl, class, word_after, Parts, parts_after, parts_of, begins_with_digit, is_class_word}
 use Rattle.zone_text.specs.Inherited.{IsOrigin}
 use Rattle.zone_text.specs.Line.{IsItem, line_of, StatesWhole}
-use Rattle.zone_text.specs.Pieces.{Piece, blank, line_feed, bare, quoted, text, is_blank, IsPiece, MayFollow, AllFollow, depth_after, Cuts}
+use Rattle.zone_text.specs.Tokens.{Token, blank, line_feed, bare, quoted, text, is_blank, IsToken, MayFollow, AllFollow, depth_after, Cuts}
 use Rattle.zone_text.specs.Records.{StatesRecord}
 use Rattle.zone_text.proofs.Inheriting.{same_origin}
 use Rattle.zone_text.proofs.ClassWords.{time_first, class_word_first, class_word_known}
@@ -19,59 +19,59 @@ use Rattle.zone_text.proofs.WordsLeft.{next_part}
 
 -- ---- the line of items
 
-piece_of : (item : Piece) → IsItem item → IsPiece item
-piece_of (bare units) is = is
-piece_of (quoted units) is = is
-piece_of item is = absurd is
+token_of : (item : Token) → IsItem item → IsToken item
+token_of (bare units) is = is
+token_of (quoted units) is = is
+token_of item is = absurd is
 
-each_piece : (items : List Piece) → AllByRecursion IsItem items → AllByRecursion IsPiece (line_of items)
-each_piece [] are = (tt, tt)
-each_piece (item ∷ []) are = (piece_of item are.0, (tt, tt))
-each_piece (item ∷ next ∷ items) are = (piece_of item are.0, (refl, each_piece (next ∷ items) are.1))
+each_token : (items : List Token) → AllByRecursion IsItem items → AllByRecursion IsToken (line_of items)
+each_token [] are = (tt, tt)
+each_token (item ∷ []) are = (token_of item are.0, (tt, tt))
+each_token (item ∷ next ∷ items) are = (token_of item are.0, (refl, each_token (next ∷ items) are.1))
 
-behind_item : (item : Piece) → IsItem item → MayFollow item (blank 32) × MayFollow item line_feed
-behind_item (bare units) is = (tt, tt)
-behind_item (quoted units) is = (tt, tt)
-behind_item item is = absurd is
+item_passed : (item : Token) → IsItem item → MayFollow item (blank 32) × MayFollow item line_feed
+item_passed (bare units) is = (tt, tt)
+item_passed (quoted units) is = (tt, tt)
+item_passed item is = absurd is
 
-behind_blank : (pieces : List Piece) → AllFollow pieces → AllFollow (blank 32 ∷ pieces)
-behind_blank [] follow = tt
-behind_blank (p ∷ pieces) follow = (tt, follow)
+after_blank : (tokens : List Token) → AllFollow tokens → AllFollow (blank 32 ∷ tokens)
+after_blank [] follow = tt
+after_blank (p ∷ tokens) follow = (tt, follow)
 
-all_follow : (items : List Piece) → AllByRecursion IsItem items → AllFollow (line_of items)
+all_follow : (items : List Token) → AllByRecursion IsItem items → AllFollow (line_of items)
 all_follow [] are = tt
-all_follow (item ∷ []) are = ((behind_item item are.0).1, tt)
-all_follow (item ∷ next ∷ items) are = ((behind_item item are.0).0, behind_blank (line_of (next ∷ items)) (all_follow (next ∷ items) are.1))
+all_follow (item ∷ []) are = ((item_passed item are.0).1, tt)
+all_follow (item ∷ next ∷ items) are = ((item_passed item are.0).0, after_blank (line_of (next ∷ items)) (all_follow (next ∷ items) are.1))
 
-item_depth : (item : Piece) (pieces : List Piece) → IsItem item → depth_after zero (item ∷ pieces) ≡ depth_after zero pieces
-item_depth (bare units) pieces is = refl
-item_depth (quoted units) pieces is = refl
-item_depth item pieces is = absurd is
+item_depth : (item : Token) (tokens : List Token) → IsItem item → depth_after zero (item ∷ tokens) ≡ depth_after zero tokens
+item_depth (bare units) tokens is = refl
+item_depth (quoted units) tokens is = refl
+item_depth item tokens is = absurd is
 
-line_depth : (items : List Piece) → AllByRecursion IsItem items → depth_after zero (line_of items) ≡ Some zero
+line_depth : (items : List Token) → AllByRecursion IsItem items → depth_after zero (line_of items) ≡ Some zero
 line_depth [] are = refl
 line_depth (item ∷ []) are = item_depth item (line_feed ∷ []) are.0
 line_depth (item ∷ next ∷ items) are = item_depth item (blank 32 ∷ line_of (next ∷ items)) are.0 ∙ line_depth (next ∷ items) are.1
 
-pub line_cut : (items : List Piece) → AllByRecursion IsItem items → Cuts (text (line_of items)) (line_of items)
-line_cut items are = record { whole = refl; each = each_piece items are; follow = all_follow items are; balanced = line_depth items are }
+pub line_cut : (items : List Token) → AllByRecursion IsItem items → Cuts (text (line_of items)) (line_of items)
+line_cut items are = record { whole = refl; each = each_token items are; follow = all_follow items are; balanced = line_depth items are }
 
-item_front : (item : Piece) (pieces : List Piece) → IsItem item → cut_from zero (item ∷ pieces) ≡ in_front_of item (cut_from zero pieces)
-item_front (bare units) pieces is = refl
-item_front (quoted units) pieces is = refl
-item_front item pieces is = absurd is
+item_front : (item : Token) (tokens : List Token) → IsItem item → cut_from zero (item ∷ tokens) ≡ in_front_of item (cut_from zero tokens)
+item_front (bare units) tokens is = refl
+item_front (quoted units) tokens is = refl
+item_front item tokens is = absurd is
 
-pub line_ended : (items : List Piece) → AllByRecursion IsItem items → cut_from zero (line_of items) ≡ record { ended = line_of items ∷ []; open_pieces = [] }
+pub line_ended : (items : List Token) → AllByRecursion IsItem items → cut_from zero (line_of items) ≡ record { ended = line_of items ∷ []; open_tokens = [] }
 line_ended [] are = refl
 line_ended (item ∷ []) are = item_front item (line_feed ∷ []) are.0
 line_ended (item ∷ next ∷ items) are =
     item_front item (blank 32 ∷ line_of (next ∷ items)) are.0
     ∙ ap (λ (c : Cut). in_front_of item (in_front_of (blank 32) c)) (line_ended (next ∷ items) are.1)
 
-pub line_entry : (items : List Piece) → AllByRecursion IsItem items → entries_of (line_of items) ≡ entry_of 1 (line_of items) ∷ []
-line_entry items are = ap (λ (c : Cut). numbered 1 (and_last c.ended c.open_pieces)) (line_ended items are)
+pub line_entry : (items : List Token) → AllByRecursion IsItem items → entries_of (line_of items) ≡ entry_of 1 (line_of items) ∷ []
+line_entry items are = ap (λ (c : Cut). numbered 1 (and_last c.ended c.open_tokens)) (line_ended items are)
 
-pub line_items : (items : List Piece) → flat_map item_of (line_of items) ≡ flat_map item_of items
+pub line_items : (items : List Token) → flat_map item_of (line_of items) ≡ flat_map item_of items
 line_items [] = refl
 line_items (item ∷ []) = refl
 line_items (item ∷ next ∷ items) = ap (λ (raws : List RawItem). item_of item ++ raws) (line_items (next ∷ items))
@@ -86,14 +86,14 @@ owned_form None item items plain = refl
 owned_form (Some c) item items plain = rw (not_equal c 36 plain.1, plain.0) refl
 
 -- after a TTL and a class stands no further word
-no_third : (ttl_word class_word word : List ℕ) → word_behind (ttl ttl_word ∷ class class_word ∷ []) (raw.bare word) ≡ None
+no_third : (ttl_word class_word word : List ℕ) → word_after (ttl ttl_word ∷ class class_word ∷ []) (raw.bare word) ≡ None
 no_third ttl_word class_word word =
     elim (begins_with_digit word) as (λ b. cond {A = Option Word} b None (cond {A = Option Word} (is_class_word word) None None) ≡ None) [
       | true ↦ refl
       | false ↦ elim (is_class_word word) as (λ b. cond {A = Option Word} b None None ≡ None) [ true ↦ refl | false ↦ refl ]
     ]
 
-whole_parts : (ttl_word class_word kind_word : List ℕ) (items : List RawItem) → begins_with_digit ttl_word ≡ true → begins_with_digit class_word ≡ false → is_class_word class_word ≡ true → parts_behind [] (raw.bare ttl_word ∷ raw.bare class_word ∷ raw.bare kind_word ∷ items) ≡ record { words = ttl ttl_word ∷ class class_word ∷ []; rest = raw.bare kind_word ∷ items }
+whole_parts : (ttl_word class_word kind_word : List ℕ) (items : List RawItem) → begins_with_digit ttl_word ≡ true → begins_with_digit class_word ≡ false → is_class_word class_word ≡ true → parts_after [] (raw.bare ttl_word ∷ raw.bare class_word ∷ raw.bare kind_word ∷ items) ≡ record { words = ttl ttl_word ∷ class class_word ∷ []; rest = raw.bare kind_word ∷ items }
 whole_parts ttl_word class_word kind_word items is_ttl no_ttl is_class =
     next_part [] (raw.bare ttl_word) (raw.bare class_word ∷ raw.bare kind_word ∷ items) (Some (ttl ttl_word)) (rw is_ttl refl)
     ∙ (next_part (ttl ttl_word ∷ []) (raw.bare class_word) (raw.bare kind_word ∷ items) (Some (class class_word)) (rw (no_ttl, is_class) refl)

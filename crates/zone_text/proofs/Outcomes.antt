@@ -12,9 +12,9 @@ use Rattle.zone_rdata.specs.declared.fault.Fault.{Fault}
 use Rattle.zone_rdata.specs.declared.fault.Fault.TheVariants.{NoTtl, BadTtl}
 use Rattle.zone_text.specs.Entries.{Entry}
 use Rattle.zone_text.specs.Forms.{EntryForm, no_items, sets_origin, sets_ttl, includes, unknown, owned, unowned, form_of, Word, ttl, class, Parts}
-use Rattle.zone_text.specs.Inherited.{IsOrigin, SpellsBehind, IsOwner, HasClass}
+use Rattle.zone_text.specs.Inherited.{IsOrigin, SpellsAfter, IsOwner, HasClass}
 use Rattle.zone_text.specs.Records.{HasValue, HasTtl}
-use Rattle.zone_text.specs.EntryFault.{IsNameFaultBehind, OwnerFault, WordFault, WordsFault, KindFault, TtlFault, none, long}
+use Rattle.zone_text.specs.EntryFault.{IsNameFaultAfter, OwnerFault, WordFault, WordsFault, KindFault, TtlFault, none, long}
 use Rattle.zone_text.proofs.Once.{Then, then_once}
 use Rattle.zone_text.specs.Machine.Lower.{Lower, Once}
 use Rattle.zone_text.proofs.Inherits.{origin_once, owner_once, class_once, ttl_once}
@@ -35,13 +35,13 @@ step_once A Good Bad good bad either (Err f) (Err g) p q = ap Err (bad f g p q)
 
 -- names
 
-pub name_fault_once : Lower → (origin : List (List ℕ)) (before : List Entry) (text : List ℕ) → Once Fault (IsNameFaultBehind origin before text)
+pub name_fault_once : Lower → (origin : List (List ℕ)) (before : List Entry) (text : List ℕ) → Once Fault (IsNameFaultAfter origin before text)
 name_fault_once lower origin before text f g x y =
     let above : x.0 ≡ y.0 = origin_once lower origin before x.0 y.0 x.1.0 y.1.0 in
     let found : x.1.1.0 ≡ y.1.1.0 = lower.name_fault y.0 text x.1.1.0 y.1.1.0 (subst (λ a. FirstFault (Some a) text x.1.1.0) above x.1.1.1) y.1.1.1 in
     x.1.1.2 ∙ (ap fault_of found ∙ sym y.1.1.2)
 
-pub name_or_fault : Lower → (origin : List (List ℕ)) (before : List Entry) (text : List ℕ) (name : List (List ℕ)) (fault : Fault) → SpellsBehind origin before text name → IsNameFaultBehind origin before text fault → ⊥
+pub name_or_fault : Lower → (origin : List (List ℕ)) (before : List Entry) (text : List ℕ) (name : List (List ℕ)) (fault : Fault) → SpellsAfter origin before text name → IsNameFaultAfter origin before text fault → ⊥
 name_or_fault lower origin before text name fault x y =
     let above : x.0 ≡ y.0 = origin_once lower origin before x.0 y.0 x.1.0 y.1.0 in
     lower.name_or_fault x.0 text name y.1.1.0 x.1.1 (subst (λ a. FirstFault (Some a) text y.1.1.0) (sym above) y.1.1.1)

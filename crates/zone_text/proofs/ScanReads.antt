@@ -8,8 +8,8 @@ use Rattle.zone_name.proofs.Units.{NoUnit, at_end, at_octet, at_backslash, unit_
 use Rattle.zone_rdata.specs.declared.fault.Fault.{Fault}
 use Rattle.zone_rdata.specs.declared.fault.Fault.TheVariants.{BadEscape, UnclosedQuote}
 use Rattle.zone_rdata.specs.Strings.{is_quote}
-use Rattle.zone_text.specs.declared.scan.Behind.{Behind}
-use Rattle.zone_text.specs.declared.scan.Behind.TheVariants.{Inside, Whole, Lost}
+use Rattle.zone_text.specs.declared.scan.AfterBackslash.{AfterBackslash}
+use Rattle.zone_text.specs.declared.scan.AfterBackslash.TheVariants.{Inside, Whole, Lost}
 use Rattle.zone_text.specs.declared.scan.Escape.{Escape}
 use Rattle.zone_text.specs.declared.scan.Escape.TheVariants.{Begun, One, Two}
 use Rattle.zone_text.specs.declared.scan.Mode.{Mode}
@@ -18,9 +18,9 @@ use Rattle.zone_text.specs.declared.scan.Scanned.{Scanned}
 use Rattle.zone_text.specs.declared.scan.ScanState.{ScanState}
 use Rattle.zone_text.specs.declared.scan.Step.{Step}
 use Rattle.zone_text.specs.declared.scan.Step.TheVariants.{On, Ends, LostEscape, ClosesNothing}
-use Rattle.zone_text.specs.Pieces.{Piece, blank, opening, closing, line_feed, comment, bare, quoted, piece_text, is_blank, ends_item, IsPiece}
-use Rattle.zone_text.specs.Lasting.{IsLostEscape, at_line_end, one_digit, two_digits, too_great, IsCutOff, behind_backslash, behind_digit, behind_two_digits}
-use Rattle.zone_text.specs.Machine.Cutting.{depth_behind}
+use Rattle.zone_text.specs.Tokens.{Token, blank, opening, closing, line_feed, comment, bare, quoted, token_text, is_blank, ends_item, IsToken}
+use Rattle.zone_text.specs.Lasting.{IsLostEscape, at_line_end, one_digit, two_digits, too_great, IsCutOff, after_backslash, after_digit, after_two_digits}
+use Rattle.zone_text.specs.Machine.Cutting.{depth_past}
 use Rattle.zone_text.specs.Machine.Scan.{on, fed_line, closed, open_step, quoted_step, comment_step, ends_number, escape_step, step_in, step_of, scan_on, scan_of, unclosed, end_fault_of}
 use Rattle.zone_text.specs.Machine.Scan as machine
 use Rattle.zone_text.proofs.Escapes.{malformed_is_bad}
@@ -44,7 +44,7 @@ RanOut fault LostEscape = ⊥
 RanOut fault ClosesNothing = ⊥
 
 -- the token ends no entry
-abbrev pub EndsNone : ℕ → Piece → Type 0
+abbrev pub EndsNone : ℕ → Token → Type 0
 EndsNone depth line_feed = depth ≢ 0
 EndsNone depth p = Unit {0}
 
@@ -56,12 +56,12 @@ pub data Reads (step : Step) : ℕ → List ℕ → Type 0 where
   in_quote : (depth : ℕ) (octets : List ℕ) (units : List Written) → RanOut (Some UnclosedQuote) step → AllByRecursion (IsUnit is_quote) units → octets ≡ 34 ∷ written_text units → Reads step depth octets
   in_escape : (depth : ℕ) (octets : List ℕ) → EscapeAt step octets → Reads step depth octets
   in_quoted_escape : (depth : ℕ) (octets : List ℕ) (units : List Written) (after : List ℕ) → AllByRecursion (IsUnit is_quote) units → octets ≡ 34 ∷ written_text units ++ after → EscapeAt step after → Reads step depth octets
-  then_more : (depth : ℕ) (octets : List ℕ) (p : Piece) (rest : List ℕ) → Takes depth octets p rest → EndsNone depth p → Reads step (depth_behind depth p) rest → Reads step depth octets
+  then_more : (depth : ℕ) (octets : List ℕ) (p : Token) (rest : List ℕ) → Takes depth octets p rest → EndsNone depth p → Reads step (depth_past depth p) rest → Reads step depth octets
 
 -- ---- first octets
 
 -- an octet that begins the token
-abbrev Begins : ℕ → Piece → Type 0
+abbrev Begins : ℕ → Token → Type 0
 Begins c (blank d) = is_blank c ≡ true
 Begins c line_feed = c ≡ 10
 Begins c opening = c ≡ 40
@@ -70,7 +70,7 @@ Begins c (comment octets) = c ≡ 59
 Begins c (bare units) = ends_item c ≡ false
 Begins c (quoted units) = c ≡ 34
 
-begins : (c : ℕ) (octets : List ℕ) (p : Piece) (rest : List ℕ) → IsPiece p → c ∷ octets ≡ piece_text p ++ rest → Begins c p
+begins : (c : ℕ) (octets : List ℕ) (p : Token) (rest : List ℕ) → IsToken p → c ∷ octets ≡ token_text p ++ rest → Begins c p
 begins c octets (blank d) rest is e = let same : c ≡ d = cc in ap is_blank same ∙ is
 begins c octets line_feed rest is e = cc
 begins c octets opening rest is e = cc
@@ -86,9 +86,9 @@ escape_begins : (step : Step) (octets : List ℕ) → EscapeAt step octets → (
 escape_begins (On at) octets open_escape = cut_begins open_escape.1
   where
     cut_begins : IsCutOff octets → (more : List ℕ) × (octets ≡ 92 ∷ more)
-    cut_begins (behind_backslash e) = ([], e)
-    cut_begins (behind_digit x e dx) = (x ∷ [], e)
-    cut_begins (behind_two_digits x y e dx dy) = (x ∷ y ∷ [], e)
+    cut_begins (after_backslash e) = ([], e)
+    cut_begins (after_digit x e dx) = (x ∷ [], e)
+    cut_begins (after_two_digits x y e dx dy) = (x ∷ y ∷ [], e)
 escape_begins LostEscape octets lost = begins_backslash octets lost
 escape_begins Ends octets open_escape = absurd open_escape
 escape_begins ClosesNothing octets open_escape = absurd open_escape
@@ -115,42 +115,42 @@ others_begin c d octets more text e f other =
 none_begins : (c : ℕ) (octets text : List ℕ) → text ≡ c ∷ octets → text ≡ [] → ⊥
 none_begins c octets text e f = let both : c ∷ octets ≡ [] = sym e ∙ f in cc
 
-rest_behind : (c : ℕ) (octets more text : List ℕ) → text ≡ c ∷ octets → text ≡ c ∷ more → octets ≡ more
-rest_behind c octets more text e f = let both : c ∷ octets ≡ c ∷ more = sym e ∙ f in cc
+rest_after : (c : ℕ) (octets more text : List ℕ) → text ≡ c ∷ octets → text ≡ c ∷ more → octets ≡ more
+rest_after c octets more text e f = let both : c ∷ octets ≡ c ∷ more = sym e ∙ f in cc
 
 -- ---- a unit more before what a quote opened
 
 module _ (step : Step) (depth : ℕ) (w : Written) (is : IsUnit is_quote w) (octets text : List ℕ) (e : text ≡ 34 ∷ octets) where
-  quoted_more : (rest : List ℕ) (p : Piece) → Takes depth text p rest → EndsNone depth p → Reads step (depth_behind depth p) rest → Reads step depth (34 ∷ (text_of w ++ octets))
+  quoted_more : (rest : List ℕ) (p : Token) → Takes depth text p rest → EndsNone depth p → Reads step (depth_past depth p) rest → Reads step depth (34 ∷ (text_of w ++ octets))
   quoted_more rest (quoted units) front none more =
-      let tail : octets ≡ (written_text units ++ 34 ∷ []) ++ rest = rest_behind 34 octets ((written_text units ++ 34 ∷ []) ++ rest) text e front.whole in
+      let tail : octets ≡ (written_text units ++ 34 ∷ []) ++ rest = rest_after 34 octets ((written_text units ++ 34 ∷ []) ++ rest) text e front.whole in
       then_more depth (34 ∷ (text_of w ++ octets)) (quoted (w ∷ units)) rest (record {
         whole = ap (λ t. 34 ∷ t) (
             ap (λ t. text_of w ++ t) (tail ∙ append_assoc (written_text units) (34 ∷ []) rest)
             ∙ sym (append_assoc (text_of w) (written_text units) (34 ∷ rest))
             ∙ sym (append_assoc (text_of w ++ written_text units) (34 ∷ []) rest)
             );
-        piece = (is, front.piece);
+        token = (is, front.token);
         stop = tt;
         room = tt;
       }) tt more
-  quoted_more rest (blank d) front none more = absurd (let no : false ≡ true = begins 34 octets (blank d) rest front.piece (sym e ∙ front.whole) in cc)
-  quoted_more rest line_feed front none more = absurd (omega (arith, begins 34 octets line_feed rest front.piece (sym e ∙ front.whole)))
-  quoted_more rest opening front none more = absurd (omega (arith, begins 34 octets opening rest front.piece (sym e ∙ front.whole)))
-  quoted_more rest closing front none more = absurd (omega (arith, begins 34 octets closing rest front.piece (sym e ∙ front.whole)))
-  quoted_more rest (comment others) front none more = absurd (omega (arith, begins 34 octets (comment others) rest front.piece (sym e ∙ front.whole)))
-  quoted_more rest (bare units) front none more = absurd (let no : true ≡ false = begins 34 octets (bare units) rest front.piece (sym e ∙ front.whole) in cc)
+  quoted_more rest (blank d) front none more = absurd (let no : false ≡ true = begins 34 octets (blank d) rest front.token (sym e ∙ front.whole) in cc)
+  quoted_more rest line_feed front none more = absurd (omega (arith, begins 34 octets line_feed rest front.token (sym e ∙ front.whole)))
+  quoted_more rest opening front none more = absurd (omega (arith, begins 34 octets opening rest front.token (sym e ∙ front.whole)))
+  quoted_more rest closing front none more = absurd (omega (arith, begins 34 octets closing rest front.token (sym e ∙ front.whole)))
+  quoted_more rest (comment others) front none more = absurd (omega (arith, begins 34 octets (comment others) rest front.token (sym e ∙ front.whole)))
+  quoted_more rest (bare units) front none more = absurd (let no : true ≡ false = begins 34 octets (bare units) rest front.token (sym e ∙ front.whole) in cc)
 
   push_quoted_in : Reads step depth text → Reads step depth (34 ∷ (text_of w ++ octets))
   push_quoted_in (ends depth text s d f) = absurd (others_begin 34 10 octets [] text e f (λ h. omega arith))
   push_quoted_in (closes depth text s d f) = absurd (others_begin 34 41 octets [] text e f (λ h. omega arith))
   push_quoted_in (runs_out depth text ran f) = absurd (none_begins 34 octets text e f)
   push_quoted_in (in_quote depth text units ran each f) =
-      in_quote depth (34 ∷ (text_of w ++ octets)) (w ∷ units) ran (is, each) (ap (λ t. 34 ∷ (text_of w ++ t)) (rest_behind 34 octets (written_text units) text e f))
+      in_quote depth (34 ∷ (text_of w ++ octets)) (w ∷ units) ran (is, each) (ap (λ t. 34 ∷ (text_of w ++ t)) (rest_after 34 octets (written_text units) text e f))
   push_quoted_in (in_escape depth text open_escape) = absurd (no_escape_begins step 34 octets text e (λ h. omega arith) open_escape)
   push_quoted_in (in_quoted_escape depth text units after each f open_escape) =
       in_quoted_escape depth (34 ∷ (text_of w ++ octets)) (w ∷ units) after (is, each) (
-      ap (λ t. 34 ∷ (text_of w ++ t)) (rest_behind 34 octets (written_text units ++ after) text e f)
+      ap (λ t. 34 ∷ (text_of w ++ t)) (rest_after 34 octets (written_text units ++ after) text e f)
       ∙ ap (λ t. 34 ∷ t) (sym (append_assoc (text_of w) (written_text units) after))
       ) open_escape
   push_quoted_in (then_more depth text p rest front none more) = quoted_more rest p front none more
@@ -161,20 +161,20 @@ push_quoted step depth w octets is more = push_quoted_in step depth w is octets 
 -- ---- an octet more before what a semicolon opened
 
 module _ (step : Step) (depth c : ℕ) (is : c ≢ 10) (octets text : List ℕ) (e : text ≡ 59 ∷ octets) where
-  comment_more : (rest : List ℕ) (p : Piece) → Takes depth text p rest → EndsNone depth p → Reads step (depth_behind depth p) rest → Reads step depth (59 ∷ c ∷ octets)
+  comment_more : (rest : List ℕ) (p : Token) → Takes depth text p rest → EndsNone depth p → Reads step (depth_past depth p) rest → Reads step depth (59 ∷ c ∷ octets)
   comment_more rest (comment others) front none more =
       then_more depth (59 ∷ c ∷ octets) (comment (c ∷ others)) rest (record {
-        whole = ap (λ t. 59 ∷ c ∷ t) (rest_behind 59 octets (others ++ rest) text e front.whole);
-        piece = (is, front.piece);
+        whole = ap (λ t. 59 ∷ c ∷ t) (rest_after 59 octets (others ++ rest) text e front.whole);
+        token = (is, front.token);
         stop = front.stop;
         room = tt;
       }) tt more
-  comment_more rest (blank d) front none more = absurd (let no : false ≡ true = begins 59 octets (blank d) rest front.piece (sym e ∙ front.whole) in cc)
-  comment_more rest line_feed front none more = absurd (omega (arith, begins 59 octets line_feed rest front.piece (sym e ∙ front.whole)))
-  comment_more rest opening front none more = absurd (omega (arith, begins 59 octets opening rest front.piece (sym e ∙ front.whole)))
-  comment_more rest closing front none more = absurd (omega (arith, begins 59 octets closing rest front.piece (sym e ∙ front.whole)))
-  comment_more rest (quoted units) front none more = absurd (omega (arith, begins 59 octets (quoted units) rest front.piece (sym e ∙ front.whole)))
-  comment_more rest (bare units) front none more = absurd (let no : true ≡ false = begins 59 octets (bare units) rest front.piece (sym e ∙ front.whole) in cc)
+  comment_more rest (blank d) front none more = absurd (let no : false ≡ true = begins 59 octets (blank d) rest front.token (sym e ∙ front.whole) in cc)
+  comment_more rest line_feed front none more = absurd (omega (arith, begins 59 octets line_feed rest front.token (sym e ∙ front.whole)))
+  comment_more rest opening front none more = absurd (omega (arith, begins 59 octets opening rest front.token (sym e ∙ front.whole)))
+  comment_more rest closing front none more = absurd (omega (arith, begins 59 octets closing rest front.token (sym e ∙ front.whole)))
+  comment_more rest (quoted units) front none more = absurd (omega (arith, begins 59 octets (quoted units) rest front.token (sym e ∙ front.whole)))
+  comment_more rest (bare units) front none more = absurd (let no : true ≡ false = begins 59 octets (bare units) rest front.token (sym e ∙ front.whole) in cc)
 
   push_comment_in : Reads step depth text → Reads step depth (59 ∷ c ∷ octets)
   push_comment_in (ends depth text s d f) = absurd (others_begin 59 10 octets [] text e f (λ h. omega arith))
@@ -194,19 +194,19 @@ module _ (step : Step) (depth : ℕ) (w : Written) (is : IsUnit ends_item w) (oc
   bare_alone : NoUnit ends_item octets → Reads step depth octets → Reads step depth (text_of w ++ octets)
   bare_alone none more = then_more depth (text_of w ++ octets) (bare (w ∷ [])) octets (record {
     whole = sym (ap (λ t. t ++ octets) (append-nil (text_of w)));
-    piece = (omega arith, (is, tt));
+    token = (omega arith, (is, tt));
     stop = none;
     room = tt;
   }) tt more
 
-  bare_more : (rest : List ℕ) (p : Piece) → Takes depth octets p rest → EndsNone depth p → Reads step (depth_behind depth p) rest → Reads step depth (text_of w ++ octets)
+  bare_more : (rest : List ℕ) (p : Token) → Takes depth octets p rest → EndsNone depth p → Reads step (depth_past depth p) rest → Reads step depth (text_of w ++ octets)
   bare_more rest (bare units) front none more = then_more depth (text_of w ++ octets) (bare (w ∷ units)) rest (record {
     whole = ap (λ t. text_of w ++ t) front.whole ∙ sym (append_assoc (text_of w) (written_text units) rest);
-    piece = (omega arith, (is, front.piece.1));
+    token = (omega arith, (is, front.token.1));
     stop = front.stop;
     room = tt;
   }) tt more
-  bare_more rest (blank d) front none more = bare_alone (at_octet d rest front.whole (rw front.piece refl)) (then_more depth octets (blank d) rest front none more)
+  bare_more rest (blank d) front none more = bare_alone (at_octet d rest front.whole (rw front.token refl)) (then_more depth octets (blank d) rest front none more)
   bare_more rest line_feed front none more = bare_alone (at_octet 10 rest front.whole refl) (then_more depth octets line_feed rest front none more)
   bare_more rest opening front none more = bare_alone (at_octet 40 rest front.whole refl) (then_more depth octets opening rest front none more)
   bare_more rest closing front none more = bare_alone (at_octet 41 rest front.whole refl) (then_more depth octets closing rest front none more)
@@ -253,7 +253,7 @@ HoldsDigits (QuotedEscaped escape) = AreDigits escape
 -- ---- one octet
 
 -- what an octet after a backslash makes of the escape
-abbrev EscapeBy : Escape → ℕ → Behind → Type 0
+abbrev EscapeBy : Escape → ℕ → AfterBackslash → Type 0
 EscapeBy escape c (Inside next) = AreDigits next × ((octets : List ℕ) → escape_text escape (c ∷ octets) ≡ escape_text next octets)
 EscapeBy escape c Whole = (w : Written) × IsEscape w × ((octets : List ℕ) → escape_text escape (c ∷ octets) ≡ text_of w ++ octets)
 EscapeBy escape c Lost = IsLostEscape (escape_text escape (c ∷ []))
@@ -273,9 +273,9 @@ ends_no_number x y c dx dy e = elim (cases_Bool (is_digit c)) as (λ s. IsLostEs
   | inr nc ↦ two_digits x y c [] refl dx dy nc
 ]
 
-escape_by : (escape : Escape) (c : ℕ) → AreDigits escape → EscapeBy escape c (machine.behind_backslash escape c)
+escape_by : (escape : Escape) (c : ℕ) → AreDigits escape → EscapeBy escape c (machine.after_backslash escape c)
 escape_by Begun c digits =
-    let P : Behind → Type 0 = EscapeBy Begun c in
+    let P : AfterBackslash → Type 0 = EscapeBy Begun c in
     cond_both (is_digit c) (Inside (One c)) _ P (λ d. (d, λ octets. refl)) λ d.
     cond_both (c == 10 || c == 13) Lost Whole P (ends_line c) λ e.
     let other = or_parts (c == 10) (c == 13) e in
@@ -301,16 +301,16 @@ one_octet c d octets e = ap (λ t. t ∷ octets) e
 open_line : (depth c : ℕ) → c ≡ 10 → OneMore Open depth c (fed_line depth)
 open_line depth c e = cond_both (depth == 0) Ends (on Open depth) (OneMore Open depth c)
     (λ d. ends depth (c ∷ []) refl (eqb-true depth 0 d) (one_octet c 10 [] e))
-    (λ d. (tt, λ octets step more. then_more depth (c ∷ octets) line_feed octets (record { whole = one_octet c 10 octets e; piece = tt; stop = tt; room = tt }) (eqb-false depth 0 d) more))
+    (λ d. (tt, λ octets step more. then_more depth (c ∷ octets) line_feed octets (record { whole = one_octet c 10 octets e; token = tt; stop = tt; room = tt }) (eqb-false depth 0 d) more))
 
 open_closing : (depth c : ℕ) → c ≡ 41 → OneMore Open depth c (closed depth)
 open_closing depth c e = cond_both (depth == 0) ClosesNothing (on Open (depth - 1)) (OneMore Open depth c)
     (λ d. closes depth (c ∷ []) refl (eqb-true depth 0 d) (one_octet c 41 [] e))
-    (λ d. (tt, λ octets step more. then_more depth (c ∷ octets) closing octets (record { whole = one_octet c 41 octets e; piece = tt; stop = tt; room = let some : depth ≢ 0 = eqb-false depth 0 d in omega arith }) tt more))
+    (λ d. (tt, λ octets step more. then_more depth (c ∷ octets) closing octets (record { whole = one_octet c 41 octets e; token = tt; stop = tt; room = let some : depth ≢ 0 = eqb-false depth 0 d in omega arith }) tt more))
 
 open_other : (depth c : ℕ) → c ≢ 92 → (is_blank c ≡ false → ends_item c ≡ false) → OneMore Open depth c (on Open depth)
 open_other depth c no_backslash goes_on = elim (cases_Bool (is_blank c)) as (λ s. OneMore Open depth c (on Open depth)) [
-  | inl is ↦ (tt, λ octets step more. then_more depth (c ∷ octets) (blank c) octets (record { whole = refl; piece = is; stop = tt; room = tt }) tt more)
+  | inl is ↦ (tt, λ octets step more. then_more depth (c ∷ octets) (blank c) octets (record { whole = refl; token = is; stop = tt; room = tt }) tt more)
   | inr is_none ↦ (tt, λ octets step more. push_bare step depth (plain c) (goes_on is_none, no_backslash) octets more)
 ]
 
@@ -323,7 +323,7 @@ one_open depth c =
       tt,
       λ octets step more.
           let next : Reads step (suc depth) octets = subst (λ d. Reads step d octets) (let n : depth + 1 ≡ suc depth = omega arith in n) more in
-          then_more depth (c ∷ octets) opening octets (record { whole = one_octet c 40 octets (eqb-true c 40 e); piece = tt; stop = tt; room = tt }) tt next,
+          then_more depth (c ∷ octets) opening octets (record { whole = one_octet c 40 octets (eqb-true c 40 e); token = tt; stop = tt; room = tt }) tt next,
     )) λ e2.
     cond_both (c == 41) (closed depth) _ P (λ e. open_closing depth c (eqb-true c 41 e)) λ e3.
     cond_both (c == 59) (on Comment depth) _ P (λ e. (tt, λ octets step more. subst (Reads step depth) (sym (one_octet c 59 octets (eqb-true c 59 e))) more)) λ e4.
@@ -337,7 +337,7 @@ one_quoted depth c =
       tt,
       λ octets step more. then_more depth (34 ∷ c ∷ octets) (quoted []) octets (record {
         whole = ap (λ t. 34 ∷ t) (one_octet c 34 octets (eqb-true c 34 e));
-        piece = tt;
+        token = tt;
         stop = tt;
         room = tt;
       }) tt more,
@@ -348,7 +348,7 @@ one_quoted depth c =
 
 -- the comment that a line feed ends
 ends_comment : (step : Step) (depth c : ℕ) (octets : List ℕ) → c ≡ 10 → Reads step depth (c ∷ octets) → Reads step depth (59 ∷ c ∷ octets)
-ends_comment step depth c octets e more = then_more depth (59 ∷ c ∷ octets) (comment []) (c ∷ octets) (record { whole = refl; piece = tt; stop = e; room = tt }) tt more
+ends_comment step depth c octets e more = then_more depth (59 ∷ c ∷ octets) (comment []) (c ∷ octets) (record { whole = refl; token = tt; stop = e; room = tt }) tt more
 
 comment_line : (depth c : ℕ) → c ≡ 10 → (step : Step) → OneMore Open depth c step → OneMore Comment depth c step
 comment_line depth c e (On next) open_more = (open_more.0, λ octets step more. ends_comment step depth c octets e (open_more.1 octets step more))
@@ -361,12 +361,12 @@ one_comment depth c = cond_both (c == 10) (fed_line depth) (on Comment depth) (O
     (λ e. comment_line depth c (eqb-true c 10 e) (fed_line depth) (open_line depth c (eqb-true c 10 e)))
     (λ e. (tt, λ octets step more. push_comment step depth c octets (eqb-false c 10 e) more))
 
-one_escaped : (depth c : ℕ) (escape : Escape) (behind : Behind) → EscapeBy escape c behind → OneMore (Escaped escape) depth c (escape_step (λ e. Escaped e) Open depth behind)
+one_escaped : (depth c : ℕ) (escape : Escape) (behind : AfterBackslash) → EscapeBy escape c behind → OneMore (Escaped escape) depth c (escape_step (λ e. Escaped e) Open depth behind)
 one_escaped depth c escape (Inside next) by = (by.0, λ octets step more. subst (Reads step depth) (sym (by.1 octets)) more)
 one_escaped depth c escape Whole by = (tt, λ octets step more. subst (Reads step depth) (sym (by.2 octets)) (push_bare step depth by.0 (unit_of_escape ends_item by.0 by.1) octets more))
 one_escaped depth c escape Lost by = in_escape depth (escape_text escape (c ∷ [])) by
 
-one_quoted_escaped : (depth c : ℕ) (escape : Escape) (behind : Behind) → EscapeBy escape c behind → OneMore (QuotedEscaped escape) depth c (escape_step (λ e. QuotedEscaped e) Quoted depth behind)
+one_quoted_escaped : (depth c : ℕ) (escape : Escape) (behind : AfterBackslash) → EscapeBy escape c behind → OneMore (QuotedEscaped escape) depth c (escape_step (λ e. QuotedEscaped e) Quoted depth behind)
 one_quoted_escaped depth c escape (Inside next) by = (by.0, λ octets step more. subst (λ t. Reads step depth (34 ∷ t)) (sym (by.1 octets)) more)
 one_quoted_escaped depth c escape Whole by = (tt, λ octets step more. subst (λ t. Reads step depth (34 ∷ t)) (sym (by.2 octets)) (push_quoted step depth by.0 octets (unit_of_escape is_quote by.0 by.1) more))
 one_quoted_escaped depth c escape Lost by = in_quoted_escape depth (34 ∷ escape_text escape (c ∷ [])) [] (escape_text escape (c ∷ [])) tt refl by
@@ -375,20 +375,20 @@ one_more : (mode : Mode) (depth c : ℕ) → HoldsDigits mode → OneMore mode d
 one_more Open depth c digits = one_open depth c
 one_more Quoted depth c digits = one_quoted depth c
 one_more Comment depth c digits = one_comment depth c
-one_more (Escaped escape) depth c digits = one_escaped depth c escape (machine.behind_backslash escape c) (escape_by escape c digits)
-one_more (QuotedEscaped escape) depth c digits = one_quoted_escaped depth c escape (machine.behind_backslash escape c) (escape_by escape c digits)
+one_more (Escaped escape) depth c digits = one_escaped depth c escape (machine.after_backslash escape c) (escape_by escape c digits)
+one_more (QuotedEscaped escape) depth c digits = one_quoted_escaped depth c escape (machine.after_backslash escape c) (escape_by escape c digits)
 
 -- ---- no octet
 
 cut_off : (escape : Escape) → AreDigits escape → IsCutOff (escape_text escape [])
-cut_off Begun digits = behind_backslash refl
-cut_off (One x) digits = behind_digit x refl digits
-cut_off (Two x y) digits = behind_two_digits x y refl digits.0 digits.1
+cut_off Begun digits = after_backslash refl
+cut_off (One x) digits = after_digit x refl digits
+cut_off (Two x y) digits = after_two_digits x y refl digits.0 digits.1
 
 none_more : (mode : Mode) (depth : ℕ) → HoldsDigits mode → Reads (on mode depth) depth (opened mode [])
 none_more Open depth digits = runs_out depth [] refl refl
 none_more Quoted depth digits = in_quote depth (34 ∷ []) [] refl tt refl
-none_more Comment depth digits = then_more depth (59 ∷ []) (comment []) [] (record { whole = refl; piece = tt; stop = tt; room = tt }) tt (runs_out depth [] refl refl)
+none_more Comment depth digits = then_more depth (59 ∷ []) (comment []) [] (record { whole = refl; token = tt; stop = tt; room = tt }) tt (runs_out depth [] refl refl)
 none_more (Escaped escape) depth digits = in_escape depth (escape_text escape []) (refl, cut_off escape digits)
 none_more (QuotedEscaped escape) depth digits = in_quoted_escape depth (34 ∷ escape_text escape []) [] (escape_text escape []) tt refl (refl, cut_off escape digits)
 

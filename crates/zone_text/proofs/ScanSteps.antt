@@ -2,8 +2,8 @@
 use Rattle.std.proofs.Common.{◌≡◌, ℕ, suc, Bool, ◌+◌, ◌-◌, ◌<◌, ◌≤◌, List, length, drop, get_or, false, ◌==◌, ◌||◌, refl, sym, ap, ◌∙◌, subst, arith, drop-cons}
 use Rattle.std.proofs.Math.Seq.{drop-length}
 use Rattle.std.proofs.lemmas.Bool.{cond_both, or_parts, both_ways}
-use Rattle.zone_text.specs.declared.scan.Behind.{Behind}
-use Rattle.zone_text.specs.declared.scan.Behind.TheVariants.{Inside, Whole, Lost}
+use Rattle.zone_text.specs.declared.scan.AfterBackslash.{AfterBackslash}
+use Rattle.zone_text.specs.declared.scan.AfterBackslash.TheVariants.{Inside, Whole, Lost}
 use Rattle.zone_text.specs.declared.scan.Escape.{Escape}
 use Rattle.zone_text.specs.declared.scan.Mode.{Mode}
 use Rattle.zone_text.specs.declared.scan.Mode.TheVariants.{Open, Quoted, Comment, Escaped, QuotedEscaped}
@@ -11,7 +11,7 @@ use Rattle.zone_text.specs.declared.scan.Scanned.{Scanned}
 use Rattle.zone_text.specs.declared.scan.ScanState.{ScanState}
 use Rattle.zone_text.specs.declared.scan.Step.{Step}
 use Rattle.zone_text.specs.declared.scan.Step.TheVariants.{On, Ends, LostEscape, ClosesNothing}
-use Rattle.zone_text.specs.Machine.Scan.{on, moves, fed_line, closed, open_step, quoted_step, comment_step, behind_backslash, escape_step, step_in, step_of, further, scan_on, scan_of, open_at, AreQuiet}
+use Rattle.zone_text.specs.Machine.Scan.{on, moves, fed_line, closed, open_step, quoted_step, comment_step, after_backslash, escape_step, step_in, step_of, further, scan_on, scan_of, open_at, AreQuiet}
 
 -- ---- an octet that leaves the state as it is
 
@@ -91,7 +91,7 @@ rises_quoted depth c =
 rises_comment : (depth c : ℕ) → Rises depth (comment_step depth c)
 rises_comment depth c = cond_both (c == 10) (fed_line depth) (on Comment depth) (Rises depth) (λ e. rises_fed depth) (λ e. omega arith)
 
-rises_escape : (inside : Escape → Mode) (outside : Mode) (depth : ℕ) (behind : Behind) → Rises depth (escape_step inside outside depth behind)
+rises_escape : (inside : Escape → Mode) (outside : Mode) (depth : ℕ) (behind : AfterBackslash) → Rises depth (escape_step inside outside depth behind)
 rises_escape inside outside depth (Inside escape) = omega arith
 rises_escape inside outside depth Whole = omega arith
 rises_escape inside outside depth Lost = tt
@@ -100,8 +100,8 @@ rises_in : (mode : Mode) (depth c : ℕ) → Rises depth (step_in mode depth c)
 rises_in Open depth c = rises_open depth c
 rises_in Quoted depth c = rises_quoted depth c
 rises_in Comment depth c = rises_comment depth c
-rises_in (Escaped escape) depth c = rises_escape (λ e. Escaped e) Open depth (behind_backslash escape c)
-rises_in (QuotedEscaped escape) depth c = rises_escape (λ e. QuotedEscaped e) Quoted depth (behind_backslash escape c)
+rises_in (Escaped escape) depth c = rises_escape (λ e. Escaped e) Open depth (after_backslash escape c)
+rises_in (QuotedEscaped escape) depth c = rises_escape (λ e. QuotedEscaped e) Quoted depth (after_backslash escape c)
 
 pub rises : (at next : ScanState) (c : ℕ) → step_of at c ≡ On next → next.depth ≤ at.depth + 1
 rises at next c e = subst (Rises at.depth) e (rises_in at.mode at.depth c)

@@ -10,15 +10,15 @@ use Rattle.zone_text.specs.declared.scan.Scanned.{Scanned}
 use Rattle.zone_text.specs.declared.scan.ScanState.{ScanState}
 use Rattle.zone_text.specs.declared.scan.Step.{Step}
 use Rattle.zone_text.specs.declared.scan.Step.TheVariants.{On, Ends, LostEscape, ClosesNothing}
-use Rattle.zone_text.specs.Pieces.{Piece, Cuts}
+use Rattle.zone_text.specs.Tokens.{Token, Cuts}
 use Rattle.zone_text.specs.Breaks.{Breaks}
 use Rattle.zone_text.specs.Lasting.{BreaksForGood}
 use Rattle.zone_text.specs.Entries.{Cut, cut_from}
-use Rattle.zone_text.specs.Decided.{ArePieces}
+use Rattle.zone_text.specs.Decided.{AreTokens}
 use Rattle.zone_text.specs.Machine.Scan.{beginning, step_of, further, scan_on, scan_of, end_fault_of, IsOneEntry}
 use Rattle.zone_text.proofs.Cuttings.{IsCut, cuts, breaks}
 use Rattle.zone_text.proofs.ForGood.{stays_for_good, ends_not_for_good}
-use Rattle.zone_text.proofs.ScanPieces.{IsRead, is_read}
+use Rattle.zone_text.proofs.ScanTokens.{IsRead, is_read}
 use Rattle.zone_text.proofs.ScanReads.{Reads, reads}
 use Rattle.zone_text.proofs.ScanSteps.{further_on, further_none, rises}
 
@@ -96,42 +96,42 @@ read_by octets step e =
     let found : Reads step zero (take (length octets) octets) = subst P e (reads octets beginning tt) in
     is_read step zero octets (subst (Reads step zero) (take-length octets) found)
 
-no_ended : (pieces : List Piece) → cut_from zero pieces ≡ record { ended = []; open_pieces = pieces } → (cut_from zero pieces).ended ≡ []
-no_ended pieces e = ap (λ (cut : Cut). cut.ended) e
+no_ended : (tokens : List Token) → cut_from zero tokens ≡ record { ended = []; open_tokens = tokens } → (cut_from zero tokens).ended ≡ []
+no_ended tokens e = ap (λ (cut : Cut). cut.ended) e
 
-pub ends_entry : (octets : List ℕ) → scan_of beginning octets ≡ record { taken = length octets; step = Ends } → (pieces : List Piece) × IsOneEntry octets pieces
+pub ends_entry : (octets : List ℕ) → scan_of beginning octets ≡ record { taken = length octets; step = Ends } → (tokens : List Token) × IsOneEntry octets tokens
 ends_entry octets e =
     let read : IsRead Ends zero octets = read_by octets Ends e in
-    (read.pieces, record { cut = cuts octets read.pieces read.cut; ended = read.entries })
+    (read.tokens, record { cut = cuts octets read.tokens read.cut; ended = read.entries })
 
-are_pieces : (octets : List ℕ) (pieces : List Piece) (fault : Option Fault) → IsCut zero octets pieces fault → ArePieces octets pieces
-are_pieces octets pieces None is = inl (cuts octets pieces is)
-are_pieces octets pieces (Some fault) is = inr (fault, breaks octets pieces fault is)
+are_tokens : (octets : List ℕ) (tokens : List Token) (fault : Option Fault) → IsCut zero octets tokens fault → AreTokens octets tokens
+are_tokens octets tokens None is = inl (cuts octets tokens is)
+are_tokens octets tokens (Some fault) is = inr (fault, breaks octets tokens fault is)
 
-pub stays_open : (octets : List ℕ) (at : ScanState) → scan_of beginning octets ≡ record { taken = length octets; step = On at } → (pieces : List Piece) × ArePieces octets pieces × ((cut_from zero pieces).ended ≡ []) × ((fault : Fault) → BreaksForGood octets pieces fault → ⊥)
+pub stays_open : (octets : List ℕ) (at : ScanState) → scan_of beginning octets ≡ record { taken = length octets; step = On at } → (tokens : List Token) × AreTokens octets tokens × ((cut_from zero tokens).ended ≡ []) × ((fault : Fault) → BreaksForGood octets tokens fault → ⊥)
 stays_open octets at e =
     let read : IsRead (On at) zero octets = read_by octets (On at) e in
-    (read.pieces, are_pieces octets read.pieces (end_fault_of at) read.cut, no_ended read.pieces read.entries, ends_not_for_good octets read.pieces read.rest read.whole read.left)
+    (read.tokens, are_tokens octets read.tokens (end_fault_of at) read.cut, no_ended read.tokens read.entries, ends_not_for_good octets read.tokens read.rest read.whole read.left)
 
-pub loses_escape : (octets : List ℕ) → scan_of beginning octets ≡ record { taken = length octets; step = LostEscape } → (pieces : List Piece) × BreaksForGood octets pieces BadEscape × ((cut_from zero pieces).ended ≡ [])
+pub loses_escape : (octets : List ℕ) → scan_of beginning octets ≡ record { taken = length octets; step = LostEscape } → (tokens : List Token) × BreaksForGood octets tokens BadEscape × ((cut_from zero tokens).ended ≡ [])
 loses_escape octets e =
     let read : IsRead LostEscape zero octets = read_by octets LostEscape e in
-    (read.pieces, stays_for_good octets read.pieces BadEscape (breaks octets read.pieces BadEscape read.cut) read.rest read.whole read.left, no_ended read.pieces read.entries)
+    (read.tokens, stays_for_good octets read.tokens BadEscape (breaks octets read.tokens BadEscape read.cut) read.rest read.whole read.left, no_ended read.tokens read.entries)
 
-pub closes_nothing : (octets : List ℕ) → scan_of beginning octets ≡ record { taken = length octets; step = ClosesNothing } → (pieces : List Piece) × BreaksForGood octets pieces UnbalancedParenthesis × ((cut_from zero pieces).ended ≡ [])
+pub closes_nothing : (octets : List ℕ) → scan_of beginning octets ≡ record { taken = length octets; step = ClosesNothing } → (tokens : List Token) × BreaksForGood octets tokens UnbalancedParenthesis × ((cut_from zero tokens).ended ≡ [])
 closes_nothing octets e =
     let read : IsRead ClosesNothing zero octets = read_by octets ClosesNothing e in
-    (read.pieces, stays_for_good octets read.pieces UnbalancedParenthesis (breaks octets read.pieces UnbalancedParenthesis read.cut) read.rest read.whole read.left, no_ended read.pieces read.entries)
+    (read.tokens, stays_for_good octets read.tokens UnbalancedParenthesis (breaks octets read.tokens UnbalancedParenthesis read.cut) read.rest read.whole read.left, no_ended read.tokens read.entries)
 
 -- what the input's end makes of the octets
 abbrev AtEnd : List ℕ → Option Fault → Type 0
-AtEnd octets fault = MatchOption fault ((pieces : List Piece) × Cuts octets pieces × ((cut_from zero pieces).ended ≡ [])) (λ found. (pieces : List Piece) × Breaks octets pieces found × ((cut_from zero pieces).ended ≡ []))
+AtEnd octets fault = MatchOption fault ((tokens : List Token) × Cuts octets tokens × ((cut_from zero tokens).ended ≡ [])) (λ found. (tokens : List Token) × Breaks octets tokens found × ((cut_from zero tokens).ended ≡ []))
 
-end_by : (octets : List ℕ) (pieces : List Piece) (fault : Option Fault) → IsCut zero octets pieces fault → (cut_from zero pieces).ended ≡ [] → AtEnd octets fault
-end_by octets pieces None is none = (pieces, cuts octets pieces is, none)
-end_by octets pieces (Some fault) is none = (pieces, breaks octets pieces fault is, none)
+end_by : (octets : List ℕ) (tokens : List Token) (fault : Option Fault) → IsCut zero octets tokens fault → (cut_from zero tokens).ended ≡ [] → AtEnd octets fault
+end_by octets tokens None is none = (tokens, cuts octets tokens is, none)
+end_by octets tokens (Some fault) is none = (tokens, breaks octets tokens fault is, none)
 
-pub at_end : (octets : List ℕ) (at : ScanState) → scan_of beginning octets ≡ record { taken = length octets; step = On at } → MatchOption (end_fault_of at) ((pieces : List Piece) × Cuts octets pieces × ((cut_from zero pieces).ended ≡ [])) (λ fault. (pieces : List Piece) × Breaks octets pieces fault × ((cut_from zero pieces).ended ≡ []))
+pub at_end : (octets : List ℕ) (at : ScanState) → scan_of beginning octets ≡ record { taken = length octets; step = On at } → MatchOption (end_fault_of at) ((tokens : List Token) × Cuts octets tokens × ((cut_from zero tokens).ended ≡ [])) (λ fault. (tokens : List Token) × Breaks octets tokens fault × ((cut_from zero tokens).ended ≡ []))
 at_end octets at e =
     let read : IsRead (On at) zero octets = read_by octets (On at) e in
-    end_by octets read.pieces (end_fault_of at) read.cut (no_ended read.pieces read.entries)
+    end_by octets read.tokens (end_fault_of at) read.cut (no_ended read.tokens read.entries)

@@ -12,7 +12,7 @@ use Rattle.zone_rdata.specs.Text.{written_item}
 use Rattle.zone_rdata.proofs.Standing.{Stands}
 use Rattle.zone_text.specs.Entries.{first_octet, item_of}
 use Rattle.zone_text.specs.Line.{IsItem, line_of}
-use Rattle.zone_text.specs.Pieces.{Piece, bare, quoted, text, piece_text, is_blank, ends_item}
+use Rattle.zone_text.specs.Tokens.{Token, bare, quoted, text, token_text, is_blank, ends_item}
 
 -- ---- an item
 
@@ -29,21 +29,21 @@ units_go_on [] each = tt
 units_go_on (w ∷ units) each = (unit_goes_on w each.0, units_go_on units each.1)
 
 -- the token that is an item
-record PieceOf (item : RawItem) : Type 0 where
-  piece : Piece
-  is : IsItem piece
-  same : item_of piece ≡ item ∷ []
-  written : piece_text piece ≡ written_item item
+record TokenOf (item : RawItem) : Type 0 where
+  token : Token
+  is : IsItem token
+  same : item_of token ≡ item ∷ []
+  written : token_text token ≡ written_item item
 
-piece_of : (item : RawItem) → Stands item → PieceOf item
-piece_of (raw.bare octets) stands = record {
-  piece = bare stands.units;
+token_of : (item : RawItem) → Stands item → TokenOf item
+token_of (raw.bare octets) stands = record {
+  token = bare stands.units;
   is = (stands.some, units_go_on stands.units stands.each);
   same = ap (λ t. raw.bare t ∷ []) (sym stands.parts);
   written = sym stands.parts;
 }
-piece_of (raw.quoted octets) stands = record {
-  piece = quoted stands.units;
+token_of (raw.quoted octets) stands = record {
+  token = quoted stands.units;
   is = stands.each;
   same = ap (λ t. raw.quoted t ∷ []) (sym stands.parts);
   written = ap (λ t. 34 ∷ t ++ 34 ∷ []) (sym stands.parts);
@@ -51,37 +51,37 @@ piece_of (raw.quoted octets) stands = record {
 
 -- ---- a line of items
 
-pieces_for : (items : List RawItem) → AllByRecursion Stands items → List Piece
-pieces_for [] stand = []
-pieces_for (item ∷ items) stand = (piece_of item stand.0).piece ∷ pieces_for items stand.1
+tokens_for : (items : List RawItem) → AllByRecursion Stands items → List Token
+tokens_for [] stand = []
+tokens_for (item ∷ items) stand = (token_of item stand.0).token ∷ tokens_for items stand.1
 
-are_for : (items : List RawItem) (stand : AllByRecursion Stands items) → AllByRecursion IsItem (pieces_for items stand)
-unfolding pieces_for
+are_for : (items : List RawItem) (stand : AllByRecursion Stands items) → AllByRecursion IsItem (tokens_for items stand)
+unfolding tokens_for
 are_for [] stand = tt
-are_for (item ∷ items) stand = ((piece_of item stand.0).is, are_for items stand.1)
+are_for (item ∷ items) stand = ((token_of item stand.0).is, are_for items stand.1)
 
-items_for : (items : List RawItem) (stand : AllByRecursion Stands items) → flat_map item_of (pieces_for items stand) ≡ items
-unfolding pieces_for
+items_for : (items : List RawItem) (stand : AllByRecursion Stands items) → flat_map item_of (tokens_for items stand) ≡ items
+unfolding tokens_for
 items_for [] stand = refl
-items_for (item ∷ items) stand = ap₂ (λ (xs ys : List RawItem). xs ++ ys) (piece_of item stand.0).same (items_for items stand.1)
+items_for (item ∷ items) stand = ap₂ (λ (xs ys : List RawItem). xs ++ ys) (token_of item stand.0).same (items_for items stand.1)
 
-line_for : (items : List RawItem) (stand : AllByRecursion Stands items) → text (line_of (pieces_for items stand)) ≡ join_with_byte 32 (map written_item items) ++ 10 ∷ []
-unfolding pieces_for
+line_for : (items : List RawItem) (stand : AllByRecursion Stands items) → text (line_of (tokens_for items stand)) ≡ join_with_byte 32 (map written_item items) ++ 10 ∷ []
+unfolding tokens_for
 line_for [] stand = refl
-line_for (item ∷ []) stand = ap (λ t. t ++ 10 ∷ []) (piece_of item stand.0).written
+line_for (item ∷ []) stand = ap (λ t. t ++ 10 ∷ []) (token_of item stand.0).written
 line_for (item ∷ next ∷ items) stand =
-    ap₂ (λ (s t : List ℕ). s ++ 32 ∷ t) (piece_of item stand.0).written (line_for (next ∷ items) stand.1)
+    ap₂ (λ (s t : List ℕ). s ++ 32 ∷ t) (token_of item stand.0).written (line_for (next ∷ items) stand.1)
     ∙ sym (append_assoc (written_item item) (32 ∷ join_with_byte 32 (map written_item (next ∷ items))) (10 ∷ []))
 
 -- the tokens whose line is written with the items
-pub record PiecesOf (items : List RawItem) : Type 0 where
-  pub pieces : List Piece
-  pub each : AllByRecursion IsItem pieces
-  pub same : flat_map item_of pieces ≡ items
-  pub written : text (line_of pieces) ≡ join_with_byte 32 (map written_item items) ++ 10 ∷ []
+pub record TokensOf (items : List RawItem) : Type 0 where
+  pub tokens : List Token
+  pub each : AllByRecursion IsItem tokens
+  pub same : flat_map item_of tokens ≡ items
+  pub written : text (line_of tokens) ≡ join_with_byte 32 (map written_item items) ++ 10 ∷ []
 
-pub pieces_of : (items : List RawItem) → AllByRecursion Stands items → PiecesOf items
-pieces_of items stand = record { pieces = pieces_for items stand; each = are_for items stand; same = items_for items stand; written = line_for items stand }
+pub tokens_of : (items : List RawItem) → AllByRecursion Stands items → TokensOf items
+tokens_of items stand = record { tokens = tokens_for items stand; each = are_for items stand; same = items_for items stand; written = line_for items stand }
 
 -- ---- where a line begins
 

@@ -10,7 +10,7 @@ use Rattle.zone_rdata.specs.Words.{IsClass, IsClassWord}
 use Rattle.zone_rdata.specs.declared.fault.Fault.{Fault}
 use Rattle.zone_rdata.specs.declared.item.Item.{Item}
 use Rattle.zone_text.specs.EntryFault.{WordFault, WordsFault}
-use Rattle.zone_text.specs.Forms.{Word, ttl, class, ttl_among, class_among, Parts, parts_behind, word_behind, unless_stated, begins_with_digit, is_class_word}
+use Rattle.zone_text.specs.Forms.{Word, ttl, class, ttl_among, class_among, Parts, parts_after, word_after, unless_stated, begins_with_digit, is_class_word}
 use Rattle.zone_text.specs.Inherited.{IsTtl}
 use Rattle.zone_text.specs.Machine.WordValues.{HaveValues, ArePartsOf}
 use Rattle.zone_text.specs.Records.{HasValue}
@@ -29,12 +29,12 @@ unstated : (o : Option (List ℕ)) (word : Word) → is_some o ≡ false → unl
 unstated None word e = refl
 unstated (Some text) word e = absurd (let clash : ⊥ = cc in clash)
 
-ttl_word : (words : List Word) (v : Words) (text : List ℕ) → HaveValues words v → begins_with_digit text ≡ true → is_some v.ttl ≡ false → word_behind words (bare text) ≡ Some (ttl text)
+ttl_word : (words : List Word) (v : Words) (text : List ℕ) → HaveValues words v → begins_with_digit text ≡ true → is_some v.ttl ≡ false → word_after words (bare text) ≡ Some (ttl text)
 ttl_word words v text have digit none =
     rw digit (unstated (ttl_among words) (ttl text) (stated_too (ttl_among words) v.ttl IsTtl have.ttl ∙ none))
 
-class_behind : (words : List Word) (v : Words) (text : List ℕ) → HaveValues words v → begins_with_digit text ≡ false → is_some v.class ≡ false → is_class_word text ≡ true → word_behind words (bare text) ≡ Some (class text)
-class_behind words v text have no_digit none is =
+class_after : (words : List Word) (v : Words) (text : List ℕ) → HaveValues words v → begins_with_digit text ≡ false → is_some v.class ≡ false → is_class_word text ≡ true → word_after words (bare text) ≡ Some (class text)
+class_after words v text have no_digit none is =
     rw (no_digit, is) (unstated (class_among words) (class text) (stated_too (class_among words) v.class IsClassWord have.class ∙ none))
 
 -- ---- one word more
@@ -62,7 +62,7 @@ ttl_kept (ttl other ∷ words) text = refl
 abbrev NextHas : List Word → Words → Word → Type 0
 NextHas words next word = HaveValues (words ++ word ∷ []) next
 
-pub takes_ttl : (words : List Word) (v next : Words) (text : List ℕ) (n : ℕ) → HaveValues words v → begins_with_digit text ≡ true → is_some v.ttl ≡ false → IsTtl text n → next.ttl ≡ Some n → next.class ≡ v.class → IsSomeAnd (word_behind words (bare text)) (λ word. HaveValues (words ++ word ∷ []) next)
+pub takes_ttl : (words : List Word) (v next : Words) (text : List ℕ) (n : ℕ) → HaveValues words v → begins_with_digit text ≡ true → is_some v.ttl ≡ false → IsTtl text n → next.ttl ≡ Some n → next.class ≡ v.class → IsSomeAnd (word_after words (bare text)) (λ word. HaveValues (words ++ word ∷ []) next)
 takes_ttl words v next text n have digit none is own same =
     let before : is_some (ttl_among words) ≡ false = stated_too (ttl_among words) v.ttl IsTtl have.ttl ∙ none in
     let P : Option Word → Type 0 = λ o. IsSomeAnd o (NextHas words next) in
@@ -72,28 +72,28 @@ takes_ttl words v next text n have digit none is own same =
       class = rw (class_kept words text, same) (have.class);
     })
 
-pub takes_class : (words : List Word) (v next : Words) (text : List ℕ) (n : ℕ) → HaveValues words v → begins_with_digit text ≡ false → is_some v.class ≡ false → IsClassWord text n → IsClass n → next.class ≡ Some n → next.ttl ≡ v.ttl → IsSomeAnd (word_behind words (bare text)) (λ word. HaveValues (words ++ word ∷ []) next)
+pub takes_class : (words : List Word) (v next : Words) (text : List ℕ) (n : ℕ) → HaveValues words v → begins_with_digit text ≡ false → is_some v.class ≡ false → IsClassWord text n → IsClass n → next.class ≡ Some n → next.ttl ≡ v.ttl → IsSomeAnd (word_after words (bare text)) (λ word. HaveValues (words ++ word ∷ []) next)
 takes_class words v next text n have no_digit none is good own same =
     let before : is_some (class_among words) ≡ false = stated_too (class_among words) v.class IsClassWord have.class ∙ none in
     let P : Option Word → Type 0 = λ o. IsSomeAnd o (NextHas words next) in
-    subst P (sym (class_behind words v text have no_digit none (class_word_known text n is))) (record {
+    subst P (sym (class_after words v text have no_digit none (class_word_known text n is))) (record {
       each = AllByRecursion-append HasValue words (class text ∷ []) have.each ((n, (is, good)), tt);
       ttl = rw (ttl_kept words text, same) (have.ttl);
       class = rw (class_pushed words text before, own) is;
     })
 
 -- a class that holds no zone data
-pub refuses_class : (words : List Word) (v : Words) (text : List ℕ) (n : ℕ) (fault : Fault) → HaveValues words v → begins_with_digit text ≡ false → is_some v.class ≡ false → IsClassWord text n → WordFault (class text) fault → IsSomeAnd (word_behind words (bare text)) (λ word. WordFault word fault)
+pub refuses_class : (words : List Word) (v : Words) (text : List ℕ) (n : ℕ) (fault : Fault) → HaveValues words v → begins_with_digit text ≡ false → is_some v.class ≡ false → IsClassWord text n → WordFault (class text) fault → IsSomeAnd (word_after words (bare text)) (λ word. WordFault word fault)
 refuses_class words v text n fault have no_digit none is bad =
     let P : Option Word → Type 0 = λ o. IsSomeAnd o (λ word. WordFault word fault) in
-    subst P (sym (class_behind words v text have no_digit none (class_word_known text n is))) bad
+    subst P (sym (class_after words v text have no_digit none (class_word_known text n is))) bad
 
 no_class_word : (text : List ℕ) (b : Bool) → is_class_word text ≡ b → NothingIs (IsClassWord text) → b ≡ false
 no_class_word text true e none = let found = class_word_of text e in absurd (none found.0 found.1)
 no_class_word text false e none = refl
 
 -- neither a digit nor a class's word
-pub no_word : (words : List Word) (text : List ℕ) → begins_with_digit text ≡ false → NothingIs (IsClassWord text) → word_behind words (bare text) ≡ None
+pub no_word : (words : List Word) (text : List ℕ) → begins_with_digit text ≡ false → NothingIs (IsClassWord text) → word_after words (bare text) ≡ None
 no_word words text no_digit none = rw (no_digit, no_class_word text (is_class_word text) refl none) refl
 
 -- ---- all words
@@ -101,25 +101,25 @@ no_word words text no_digit none = rw (no_digit, no_class_word text (is_class_wo
 -- the parts by what the next item is
 abbrev pub parts_by : List Word → RawItem → List RawItem → Option Word → Parts
 parts_by words item items None = record { words = words; rest = item ∷ items }
-parts_by words item items (Some word) = parts_behind (words ++ word ∷ []) items
+parts_by words item items (Some word) = parts_after (words ++ word ∷ []) items
 
-pub next_part : (words : List Word) (item : RawItem) (items : List RawItem) (o : Option Word) → word_behind words item ≡ o → parts_behind words (item ∷ items) ≡ parts_by words item items o
+pub next_part : (words : List Word) (item : RawItem) (items : List RawItem) (o : Option Word) → word_after words item ≡ o → parts_after words (item ∷ items) ≡ parts_by words item items o
 next_part words item items o e = ap (parts_by words item items) e
 
 -- the words read so far have these values, and the items left follow them
 pub record ReadsWords (items : List RawItem) (values : Words) (rest : List RawItem) : Type 0 where
   pub words : List Word
   pub have : HaveValues words values
-  pub parts : parts_behind [] items ≡ parts_behind words rest
+  pub parts : parts_after [] items ≡ parts_after words rest
 
 parts_are : (parts : Parts) (words : List Word) (v : Words) (rest : List RawItem) → HaveValues words v → parts ≡ record { words = words; rest = rest } → ArePartsOf parts v rest
 parts_are parts words v rest have e = rw e (record { words = have; rest = refl })
 
 -- the next item is no word
-pub read_to : (items rest more : List RawItem) (v : Words) (item : RawItem) → ReadsWords items v rest → rest ≡ item ∷ more → ((words : List Word) → HaveValues words v → word_behind words item ≡ None) → ArePartsOf (parts_behind [] items) v rest
+pub read_to : (items rest more : List RawItem) (v : Words) (item : RawItem) → ReadsWords items v rest → rest ≡ item ∷ more → ((words : List Word) → HaveValues words v → word_after words item ≡ None) → ArePartsOf (parts_after [] items) v rest
 read_to items rest more v item reads front none =
     parts_are _ reads.words v rest reads.have (
-    reads.parts ∙ (ap (parts_behind reads.words) front ∙ (next_part reads.words item more None (none reads.words reads.have) ∙ ap (λ t. record { words = reads.words; rest = t }) (sym front)))
+    reads.parts ∙ (ap (parts_after reads.words) front ∙ (next_part reads.words item more None (none reads.words reads.have) ∙ ap (λ t. record { words = reads.words; rest = t }) (sym front)))
     )
 
 some_of : (P : Word → Type 0) (o : Option Word) → IsSomeAnd o P → (word : Word) × ((o ≡ Some word) × P word)
@@ -127,18 +127,18 @@ some_of P None h = absurd h
 some_of P (Some word) h = (word, (refl, h))
 
 -- the next item is a word
-pub read_on : (items rest more : List RawItem) (v next : Words) (item : RawItem) → ReadsWords items v rest → rest ≡ item ∷ more → ((words : List Word) → HaveValues words v → IsSomeAnd (word_behind words item) (λ word. HaveValues (words ++ word ∷ []) next)) → ReadsWords items next more
+pub read_on : (items rest more : List RawItem) (v next : Words) (item : RawItem) → ReadsWords items v rest → rest ≡ item ∷ more → ((words : List Word) → HaveValues words v → IsSomeAnd (word_after words item) (λ word. HaveValues (words ++ word ∷ []) next)) → ReadsWords items next more
 read_on items rest more v next item reads front some =
-    let found = some_of (NextHas reads.words next) (word_behind reads.words item) (some reads.words reads.have) in
+    let found = some_of (NextHas reads.words next) (word_after reads.words item) (some reads.words reads.have) in
     record {
       words = reads.words ++ found.0 ∷ [];
       have = found.1.1;
-      parts = reads.parts ∙ (ap (parts_behind reads.words) front ∙ next_part reads.words item more (Some found.0) found.1.0);
+      parts = reads.parts ∙ (ap (parts_after reads.words) front ∙ next_part reads.words item more (Some found.0) found.1.0);
     }
 
 -- whatever follows words, they stand before it
 abbrev Extends : List RawItem → Type 0
-Extends items = (words : List Word) → (others : List Word) × ((parts_behind words items).words ≡ words ++ others)
+Extends items = (words : List Word) → (others : List Word) × ((parts_after words items).words ≡ words ++ others)
 
 extend_by : (words : List Word) (item : RawItem) (items : List RawItem) (o : Option Word) → Extends items → (others : List Word) × ((parts_by words item items o).words ≡ words ++ others)
 extend_by words item items None goes = ([], sym (append-nil words))
@@ -148,21 +148,21 @@ extend_by words item items (Some word) goes =
 
 extends : (items : List RawItem) → Extends items
 extends [] words = ([], sym (append-nil words))
-extends (item ∷ items) words = extend_by words item items (word_behind words item) (extends items)
+extends (item ∷ items) words = extend_by words item items (word_after words item) (extends items)
 
 leftmost : (words others : List Word) (word : Word) (fault : Fault) → AllByRecursion HasValue words → WordFault word fault → WordsFault (words ++ word ∷ others) fault
 leftmost [] others word fault have bad = inl bad
 leftmost (w ∷ words) others word fault have bad = inr (have.0, leftmost words others word fault have.1 bad)
 
 -- the next item is a word without a value
-pub read_fault : (items rest more : List RawItem) (v : Words) (item : RawItem) (fault : Fault) → ReadsWords items v rest → rest ≡ item ∷ more → ((words : List Word) → HaveValues words v → IsSomeAnd (word_behind words item) (λ word. WordFault word fault)) → WordsFault (parts_behind [] items).words fault
+pub read_fault : (items rest more : List RawItem) (v : Words) (item : RawItem) (fault : Fault) → ReadsWords items v rest → rest ≡ item ∷ more → ((words : List Word) → HaveValues words v → IsSomeAnd (word_after words item) (λ word. WordFault word fault)) → WordsFault (parts_after [] items).words fault
 read_fault items rest more v item fault reads front some =
-    let found = some_of (λ word. WordFault word fault) (word_behind reads.words item) (some reads.words reads.have) in
-    let parts : parts_behind [] items ≡ parts_behind (reads.words ++ found.0 ∷ []) more =
-    reads.parts ∙ (ap (parts_behind reads.words) front ∙ next_part reads.words item more (Some found.0) found.1.0)
+    let found = some_of (λ word. WordFault word fault) (word_after reads.words item) (some reads.words reads.have) in
+    let parts : parts_after [] items ≡ parts_after (reads.words ++ found.0 ∷ []) more =
+    reads.parts ∙ (ap (parts_after reads.words) front ∙ next_part reads.words item more (Some found.0) found.1.0)
     in
     let others = extends more (reads.words ++ found.0 ∷ []) in
-    let words : (parts_behind [] items).words ≡ reads.words ++ found.0 ∷ others.0 =
+    let words : (parts_after [] items).words ≡ reads.words ++ found.0 ∷ others.0 =
     ap (λ p. p.words) parts ∙ (others.1 ∙ append_assoc reads.words (found.0 ∷ []) others.0)
     in
     let P : List Word → Type 0 = λ ws. WordsFault ws fault in

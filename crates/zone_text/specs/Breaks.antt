@@ -5,7 +5,7 @@ use Rattle.zone_name.specs.Spelling.{Written, IsBadEscape, written_text, IsUnit}
 use Rattle.zone_rdata.specs.declared.fault.Fault.{Fault}
 use Rattle.zone_rdata.specs.declared.fault.Fault.TheVariants.{BadEscape, UnclosedQuote, UnbalancedParenthesis}
 use Rattle.zone_rdata.specs.Strings.{is_quote}
-use Rattle.zone_text.specs.Pieces.{Piece, comment, text, IsPiece, AllFollow, depth_after}
+use Rattle.zone_text.specs.Tokens.{Token, comment, text, IsToken, AllFollow, depth_after}
 
 -- What stands where a text breaks, at a depth of parentheses, up to the end of the text: a `)` that
 -- closes nothing; a backslash that begins no escape, outside quotes or after an opening quote and
@@ -23,20 +23,20 @@ pub data IsBroken (depth : ℕ) (rest : List ℕ) : Fault → Type 0 where
   not_closed : 0 < depth → rest ≡ [] → IsBroken depth rest UnbalancedParenthesis
 
 -- a comment ends at a line feed or where the text does
-abbrev pub MayEndBefore : List Piece → List ℕ → Type 0
+abbrev pub MayEndBefore : List Token → List ℕ → Type 0
 MayEndBefore [] rest = ⊤
 MayEndBefore (comment octets ∷ []) rest = rest ≡ []
 MayEndBefore (p ∷ []) rest = ⊤
-MayEndBefore (p ∷ q ∷ pieces) rest = MayEndBefore (q ∷ pieces) rest
+MayEndBefore (p ∷ q ∷ tokens) rest = MayEndBefore (q ∷ tokens) rest
 
 -- The text breaks after these tokens: they are the tokens of its beginning, and after them, at
 -- their depth, stands what breaks it.
-pub record Breaks (octets : List ℕ) (pieces : List Piece) (fault : Fault) : Type 0 where
+pub record Breaks (octets : List ℕ) (tokens : List Token) (fault : Fault) : Type 0 where
   pub rest : List ℕ
   pub depth : ℕ
-  pub whole : octets ≡ text pieces ++ rest
-  pub each : AllByRecursion IsPiece pieces
-  pub follow : AllFollow pieces
-  pub last : MayEndBefore pieces rest
-  pub parentheses : depth_after zero pieces ≡ Some depth
+  pub whole : octets ≡ text tokens ++ rest
+  pub each : AllByRecursion IsToken tokens
+  pub follow : AllFollow tokens
+  pub last : MayEndBefore tokens rest
+  pub parentheses : depth_after zero tokens ≡ Some depth
   pub broken : IsBroken depth rest fault

@@ -7,26 +7,26 @@ use Rattle.zone_rdata.specs.declared.fault.Place.TheVariants.{Line}
 use Rattle.zone_rdata.specs.declared.record.Placed.{Placed}
 use Rattle.zone_text.specs.Breaks.{Breaks}
 use Rattle.zone_text.specs.Lasting.{BreaksForGood}
-use Rattle.zone_text.specs.Pieces.{Piece, Cuts}
+use Rattle.zone_text.specs.Tokens.{Token, Cuts}
 use Rattle.zone_text.specs.Entries.{ended_entries, open_line}
 use Rattle.zone_text.specs.FileReads.{ReadEach, Ending}
 
 -- the tokens of the octets, up to where they break if they do
-abbrev pub ArePieces : List ℕ → List Piece → Type 0
-ArePieces octets pieces = Cuts octets pieces ⊎ ((fault : Fault) × Breaks octets pieces fault)
+abbrev pub AreTokens : List ℕ → List Token → Type 0
+AreTokens octets tokens = Cuts octets tokens ⊎ ((fault : Fault) × Breaks octets tokens fault)
 
 -- The records and the first fault of the entries that a line feed has ended, and after them the
 -- fault of a break of which the octets show that it stays (a `)` or a bad escape, not one that the
 -- end of the octets makes), at the line of the entry that is open there
 pub data Decided (origin : List (List ℕ)) (octets : List ℕ) (placed : List Placed)
     (ending : Ending) : Type 0 where
-  undecided : (pieces : List Piece) → ArePieces octets pieces
-      → ((fault : Fault) → BreaksForGood octets pieces fault → ⊥)
-      → ReadEach origin None [] (ended_entries pieces) placed ending
+  undecided : (tokens : List Token) → AreTokens octets tokens
+      → ((fault : Fault) → BreaksForGood octets tokens fault → ⊥)
+      → ReadEach origin None [] (ended_entries tokens) placed ending
       → Decided origin octets placed ending
-  decided : (pieces : List Piece) (fault : Fault) → BreaksForGood octets pieces fault
-      → ReadEach origin (Some (fault, Line (open_line pieces))) []
-      (ended_entries pieces) placed ending
+  decided : (tokens : List Token) (fault : Fault) → BreaksForGood octets tokens fault
+      → ReadEach origin (Some (fault, Line (open_line tokens))) []
+      (ended_entries tokens) placed ending
       → Decided origin octets placed ending
 
 -- what was decided stays: the records are the first of those that come to be, and after a fault

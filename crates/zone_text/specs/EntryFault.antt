@@ -15,14 +15,14 @@ use Rattle.zone_text.specs.Inherited.{IsOrigin, IsLastOwner, IsOwner, IsTtl, one
 use Rattle.zone_text.specs.Records.{HasValue, Head, HasHead, StatesData, HasTtl}
 
 -- the first fault of a text that is no name where it stands after entries
-abbrev pub IsNameFaultBehind : List (List ℕ) → List Entry → List ℕ → Fault → Type 0
-IsNameFaultBehind origin before text fault =
+abbrev pub IsNameFaultAfter : List (List ℕ) → List Entry → List ℕ → Fault → Type 0
+IsNameFaultAfter origin before text fault =
     (above : List (List ℕ)) × (IsOrigin origin before above × IsNameFault above text fault)
 
 -- the item of `$ORIGIN` is no name
 abbrev pub OriginFault : List (List ℕ) → List Entry → Option (List ℕ) → Fault → Type 0
 OriginFault origin before None fault = fault ≡ BadDirective
-OriginFault origin before (Some text) fault = IsNameFaultBehind origin before text fault
+OriginFault origin before (Some text) fault = IsNameFaultAfter origin before text fault
 
 -- the item of `$TTL` is no time of 31 bits
 abbrev pub DefaultTtlFault : Option (List ℕ) → Fault → Type 0
@@ -42,7 +42,7 @@ DirectiveFault origin before form fault = ⊥
 abbrev pub OwnerFault : List (List ℕ) → List Entry → EntryForm → Fault → Type 0
 OwnerFault origin before (owned (quoted text) items) fault = fault ≡ NoOwner
 OwnerFault origin before (owned (bare text) items) fault =
-    IsNameFaultBehind origin before text fault
+    IsNameFaultAfter origin before text fault
 OwnerFault origin before (unowned items) fault =
     (fault ≡ NoOwner) × ((name : List (List ℕ)) → IsLastOwner origin before name → ⊥)
 OwnerFault origin before form fault = ⊥

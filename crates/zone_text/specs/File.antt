@@ -3,7 +3,7 @@ use Rattle.std.specs.Prelude.{◌≡◌, ℕ, List, [], ◌∷◌}
 use Rattle.zone_rdata.specs.declared.fault.Place.TheVariants.{Line}
 use Rattle.zone_rdata.specs.declared.record.Placed.{Placed}
 use Rattle.zone_text.specs.Forms.{form_of}
-use Rattle.zone_text.specs.Pieces.{Piece, Cuts}
+use Rattle.zone_text.specs.Tokens.{Token, Cuts}
 use Rattle.zone_text.specs.Entries.{Entry, entries_of}
 use Rattle.zone_text.specs.Records.{StatesNothing, StatesRecord}
 
@@ -27,6 +27,6 @@ StateEach origin before (entry ∷ entries) placed =
 -- into tokens states none, nor does one with an entry that states neither a record nor nothing.
 pub record FileStates (origin : List (List ℕ)) (octets : List ℕ)
     (placed : List Placed) : Type 0 where
-  pub pieces : List Piece
-  pub cut : Cuts octets pieces
-  pub each : StateEach origin [] (entries_of pieces) placed
+  pub tokens : List Token
+  pub cut : Cuts octets tokens
+  pub each : StateEach origin [] (entries_of tokens) placed

@@ -6,7 +6,7 @@ use Rattle.zone_rdata.specs.declared.fault.Place.{Place}
 use Rattle.zone_rdata.specs.declared.fault.Place.TheVariants.{Line}
 use Rattle.zone_rdata.specs.declared.record.Placed.{Placed}
 use Rattle.zone_text.specs.Breaks.{Breaks}
-use Rattle.zone_text.specs.Pieces.{Piece, Cuts}
+use Rattle.zone_text.specs.Tokens.{Token, Cuts}
 use Rattle.zone_text.specs.Entries.{Entry, entries_of, ended_entries, open_line}
 use Rattle.zone_text.specs.EntryFault.{EntryFault}
 use Rattle.zone_text.specs.File.{StatesFirst}
@@ -36,10 +36,10 @@ ReadEach origin behind before (entry ∷ entries) placed ending =
 -- and then of the break at the line of the entry that is open there
 pub data FileReads (origin : List (List ℕ)) (octets : List ℕ) (placed : List Placed)
     (ending : Ending) : Type 0 where
-  whole : (pieces : List Piece) → Cuts octets pieces
-      → ReadEach origin None [] (entries_of pieces) placed ending
+  whole : (tokens : List Token) → Cuts octets tokens
+      → ReadEach origin None [] (entries_of tokens) placed ending
       → FileReads origin octets placed ending
-  broken : (pieces : List Piece) (fault : Fault) → Breaks octets pieces fault
-      → ReadEach origin (Some (fault, Line (open_line pieces))) []
-      (ended_entries pieces) placed ending
+  broken : (tokens : List Token) (fault : Fault) → Breaks octets tokens fault
+      → ReadEach origin (Some (fault, Line (open_line tokens))) []
+      (ended_entries tokens) placed ending
       → FileReads origin octets placed ending

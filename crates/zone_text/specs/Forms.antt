@@ -5,7 +5,7 @@ use Rattle.zone_name.specs.Name.{folded_label}
 use Rattle.zone_name.specs.Spelling.{is_digit}
 use Rattle.zone_rdata.specs.Spelling.{RawItem, bare, quoted}
 use Rattle.zone_rdata.specs.Table.{classes, number_among}
-use Rattle.zone_text.specs.Pieces.{is_blank}
+use Rattle.zone_text.specs.Tokens.{is_blank}
 use Rattle.zone_text.specs.Entries.{Entry}
 
 -- no items; a directive with what follows its word; or a record with what follows its owner, stated
@@ -78,9 +78,9 @@ unless_stated (Some text) word = None
 -- The word that an item is after others: a bare item that begins with a digit is a TTL if none
 -- stood before, a bare class word is a class if none stood before. Any other item stands at the
 -- type's place.
-abbrev pub word_behind : List Word → RawItem → Option Word
-word_behind before (quoted text) = None
-word_behind before (bare text) =
+abbrev pub word_after : List Word → RawItem → Option Word
+word_after before (quoted text) = None
+word_after before (bare text) =
     if begins_with_digit text then unless_stated (ttl_among before) (ttl text)
     else if is_class_word text then unless_stated (class_among before) (class text)
     else None
@@ -91,17 +91,17 @@ pub record Parts : Type 0 where
   pub words : List Word
   pub rest : List RawItem
 
-abbrev pub parts_behind : List Word → List RawItem → Parts
-parts_behind words [] = record { words = words; rest = [] }
-parts_behind words (item ∷ items) =
-    elim (word_behind words item) [
+abbrev pub parts_after : List Word → List RawItem → Parts
+parts_after words [] = record { words = words; rest = [] }
+parts_after words (item ∷ items) =
+    elim (word_after words item) [
       | None ↦ record { words = words; rest = item ∷ items }
-      | Some word ↦ parts_behind (words ++ word ∷ []) items
+      | Some word ↦ parts_after (words ++ word ∷ []) items
     ]
 
 abbrev pub parts_in : EntryForm → Option Parts
-parts_in (owned owner items) = Some (parts_behind [] items)
-parts_in (unowned items) = Some (parts_behind [] items)
+parts_in (owned owner items) = Some (parts_after [] items)
+parts_in (unowned items) = Some (parts_after [] items)
 parts_in form = None
 
 -- the parts of a record entry

@@ -51,8 +51,8 @@ IsOrigin origin (entry ∷ before) name =
     × (IsOrigin origin before above × Spells (Some above) text name))
 
 -- the text spells the name where it stands after entries
-abbrev pub SpellsBehind : List (List ℕ) → List Entry → List ℕ → List (List ℕ) → Type 0
-SpellsBehind origin before text name =
+abbrev pub SpellsAfter : List (List ℕ) → List Entry → List ℕ → List (List ℕ) → Type 0
+SpellsAfter origin before text name =
     (above : List (List ℕ)) × (IsOrigin origin before above × Spells (Some above) text name)
 
 -- the owner of the latest record entry that states one, read under the origin of that entry
@@ -60,11 +60,11 @@ abbrev pub IsLastOwner : List (List ℕ) → List Entry → List (List ℕ) → 
 IsLastOwner origin [] name = ⊥
 IsLastOwner origin (entry ∷ before) name =
     MatchOption (owner_text (form_of entry)) (IsLastOwner origin before name)
-    (λ text. SpellsBehind origin before text name)
+    (λ text. SpellsAfter origin before text name)
 
 -- the owner of a record entry: its own, or the last one stated where it begins with a blank
 abbrev pub IsOwner : List (List ℕ) → List Entry → EntryForm → List (List ℕ) → Type 0
-IsOwner origin before (owned (bare text) items) name = SpellsBehind origin before text name
+IsOwner origin before (owned (bare text) items) name = SpellsAfter origin before text name
 IsOwner origin before (unowned items) name = IsLastOwner origin before name
 IsOwner origin before form name = ⊥
 
@@ -78,7 +78,8 @@ HasClass before entry class =
 -- record states
 abbrev pub stated_ttl : List Entry → Entry → Option (List ℕ)
 stated_ttl before entry =
-    or_else (ttl_text (form_of entry)) (or_else (latest default_ttl_text before) (latest ttl_text before))
+    or_else (ttl_text (form_of entry))
+    (or_else (latest default_ttl_text before) (latest ttl_text before))
 
 -- a time that a TTL may be (RFC 2181 8)
 pub record IsTtl (text : List ℕ) (seconds : ℕ) : Type 0 where

@@ -5,15 +5,15 @@ use Rattle.std.specs.List.{AllByRecursion}
 use Rattle.zone_name.specs.Spelling.{Written, decimal, octet_of, is_digit, written_text, IsUnit}
 use Rattle.zone_rdata.specs.declared.fault.Fault.{Fault}
 use Rattle.zone_rdata.specs.Strings.{is_quote}
-use Rattle.zone_text.specs.Pieces.{Piece, line_feed}
+use Rattle.zone_text.specs.Tokens.{Token, line_feed}
 use Rattle.zone_text.specs.Breaks.{Breaks}
 
 -- no tokens, or a line feed as the last of them
-abbrev pub EndInLineFeed : List Piece → Type 0
+abbrev pub EndInLineFeed : List Token → Type 0
 EndInLineFeed [] = ⊤
 EndInLineFeed (line_feed ∷ []) = ⊤
 EndInLineFeed (p ∷ []) = ⊥
-EndInLineFeed (p ∷ q ∷ pieces) = EndInLineFeed (q ∷ pieces)
+EndInLineFeed (p ∷ q ∷ tokens) = EndInLineFeed (q ∷ tokens)
 
 -- A backslash that begins no escape, as the octets after it tell: a line feed or a carriage return,
 -- one or two digits and an octet that is none, or three digits of more than 255
@@ -29,9 +29,9 @@ pub data IsLostEscape (rest : List ℕ) : Type 0 where
 
 -- A backslash that begins no escape since the text ends, at once or after one or two digits
 pub data IsCutOff (rest : List ℕ) : Type 0 where
-  behind_backslash : rest ≡ 92 ∷ [] → IsCutOff rest
-  behind_digit : (x : ℕ) → rest ≡ 92 ∷ x ∷ [] → is_digit x ≡ true → IsCutOff rest
-  behind_two_digits : (x y : ℕ) → rest ≡ 92 ∷ x ∷ y ∷ [] → is_digit x ≡ true
+  after_backslash : rest ≡ 92 ∷ [] → IsCutOff rest
+  after_digit : (x : ℕ) → rest ≡ 92 ∷ x ∷ [] → is_digit x ≡ true → IsCutOff rest
+  after_two_digits : (x y : ℕ) → rest ≡ 92 ∷ x ∷ y ∷ [] → is_digit x ≡ true
       → is_digit y ≡ true → IsCutOff rest
 
 -- what breaks a text as it stands: a `)`, or a backslash outside quotes or after an opening quote
@@ -56,6 +56,6 @@ pub data BreaksAtEnd (rest : List ℕ) : Type 0 where
 
 -- as the octets so far show, the text breaks after these tokens, and so does every text that it
 -- begins
-pub record BreaksForGood (octets : List ℕ) (pieces : List Piece) (fault : Fault) : Type 0 where
-  pub breaks : Breaks octets pieces fault
+pub record BreaksForGood (octets : List ℕ) (tokens : List Token) (fault : Fault) : Type 0 where
+  pub breaks : Breaks octets tokens fault
   pub stays : StaysBroken breaks.rest

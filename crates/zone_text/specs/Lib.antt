@@ -1,8 +1,8 @@
-pub mod Pieces
+pub mod Tokens
 pub mod Breaks
 pub mod Lasting
 pub mod Machine
-pub mod ExamplePieces
+pub mod ExampleTokens
 pub mod Entries
 pub mod Forms
 pub mod Inherited

@@ -8,16 +8,16 @@ use Rattle.zone_rdata.specs.Spelling.{RawItem, States}
 use Rattle.zone_rdata.specs.Spelling as raw
 use Rattle.zone_rdata.specs.Words.{IsClassWord, IsKindWord}
 use Rattle.zone_text.specs.Entries.{Entry}
-use Rattle.zone_text.specs.Pieces.{Piece, blank, bare, quoted, line_feed, is_blank, IsPiece}
+use Rattle.zone_text.specs.Tokens.{Token, blank, bare, quoted, line_feed, is_blank, IsToken}
 
 -- an item: bare or quoted
-abbrev pub IsItem : Piece → Type 0
-IsItem (bare units) = IsPiece (bare units)
-IsItem (quoted units) = IsPiece (quoted units)
+abbrev pub IsItem : Token → Type 0
+IsItem (bare units) = IsToken (bare units)
+IsItem (quoted units) = IsToken (quoted units)
 IsItem p = ⊥
 
 -- items parted by single spaces, and the line feed after them
-abbrev pub line_of : List Piece → List Piece
+abbrev pub line_of : List Token → List Token
 line_of [] = line_feed ∷ []
 line_of (item ∷ []) = item ∷ line_feed ∷ []
 line_of (item ∷ next ∷ items) = item ∷ blank 32 ∷ line_of (next ∷ items)

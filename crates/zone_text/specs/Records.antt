@@ -8,7 +8,7 @@ use Rattle.zone_rdata.specs.Spelling.{RawItem, bare, States}
 use Rattle.zone_rdata.specs.Words.{IsClass, IsClassWord, IsKind, IsKindWord}
 use Rattle.zone_text.specs.Entries.{Entry}
 use Rattle.zone_text.specs.Forms.{EntryForm, no_items, sets_origin, sets_ttl, form_of, Word, ttl, class, Parts, parts_of}
-use Rattle.zone_text.specs.Inherited.{IsOrigin, SpellsBehind, IsOwner, HasClass, stated_ttl, IsTtl}
+use Rattle.zone_text.specs.Inherited.{IsOrigin, SpellsAfter, IsOwner, HasClass, stated_ttl, IsTtl}
 
 -- a word before the type that has a value: a TTL of 31 bits, a class that can hold zone data
 abbrev pub HasValue : Word → Type 0
@@ -84,6 +84,6 @@ pub record StatesRecord (origin : List (List ℕ)) (before : List Entry) (entry 
 abbrev pub StatesNothing : List (List ℕ) → List Entry → EntryForm → Type 0
 StatesNothing origin before no_items = ⊤
 StatesNothing origin before (sets_origin (bare text ∷ [])) =
-    (name : List (List ℕ)) × SpellsBehind origin before text name
+    (name : List (List ℕ)) × SpellsAfter origin before text name
 StatesNothing origin before (sets_ttl (bare text ∷ [])) = (seconds : ℕ) × IsTtl text seconds
 StatesNothing origin before form = ⊥

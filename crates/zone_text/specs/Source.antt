@@ -5,11 +5,11 @@ use Rattle.std.specs.List.{flat_map}
 use Rattle.zone_name.specs.Common.{Labels}
 use Rattle.zone_rdata.specs.Source.{Pending}
 use Rattle.zone_rdata.specs.declared.record.Placed.{Placed}
-use Rattle.zone_text.specs.Decided.{ArePieces, Decided}
+use Rattle.zone_text.specs.Decided.{AreTokens, Decided}
 use Rattle.zone_text.specs.Defaults.{AreDefaults}
 use Rattle.zone_text.specs.Entries.{cut_from, ended_entries, open_line}
 use Rattle.zone_text.specs.FileReads.{FileReads}
-use Rattle.zone_text.specs.Pieces.{Piece, text}
+use Rattle.zone_text.specs.Tokens.{Token, text}
 use Rattle.zone_text.specs.declared.defaults.Defaults.{Defaults}
 
 -- What a source holds besides what it has left to give: whether the file has ended, the number of
@@ -35,17 +35,17 @@ counted more source = record {
 
 -- these are the octets after the last line feed that ended an entry
 pub record AreUnfinished (fed unfinished : List ℕ) : Type 0 where
-  pub pieces : List Piece
-  pub are : ArePieces fed pieces
-  pub whole : fed ≡ flat_map text (cut_from zero pieces).ended ++ unfinished
+  pub tokens : List Token
+  pub are : AreTokens fed tokens
+  pub whole : fed ≡ flat_map text (cut_from zero tokens).ended ++ unfinished
 
 -- what the octets fed leave: the octets after the last line feed that ended an entry, and the
 -- defaults and the line after those entries
 pub record Leave (origin : Labels) (fed : List ℕ) (defaults : Defaults) (line : ℕ)
     (unfinished : List ℕ) : Type 0 where
   pub octets : AreUnfinished fed unfinished
-  pub inherited : AreDefaults origin (reverse (ended_entries octets.pieces)) defaults
-  pub numbered : line ≡ open_line octets.pieces
+  pub inherited : AreDefaults origin (reverse (ended_entries octets.tokens)) defaults
+  pub numbered : line ≡ open_line octets.tokens
 
 -- The source, made under an origin, stands for the octets that it was fed and the records that it
 -- has given. Before the end of the file it has left to give what else is decided, and while no

@@ -13,7 +13,8 @@ pub(crate) struct BlankLines<'t> {
     pub(crate) rest: &'t [u8],
 }
 
-/// What follows the comment at the front, without its semicolon, and the line feed that ends it. `None`: none ends it.
+/// What follows the comment at the front, without its semicolon, and the line feed that ends it.
+/// `None`: none ends it.
 // Not inlined: so the loop over line feeds stays short.
 #[inline(never)]
 fn after_comment(octets: &[u8]) -> Option<&[u8]>
@@ -24,7 +25,8 @@ fn after_comment(octets: &[u8]) -> Option<&[u8]>
     Some(rest)
 }
 
-/// What follows the line at the front, if it is a line feed alone or a comment from its first octet on, and ended.
+/// What follows the line at the front, if it is a line feed alone or a comment from its first octet
+/// on, and ended.
 #[inline(always)]
 fn after_blank_line(octets: &[u8]) -> Option<&[u8]>
     ensures { IfSome result (λ rest. IsBlankLine octets.now rest.now) }
@@ -37,7 +39,8 @@ fn after_blank_line(octets: &[u8]) -> Option<&[u8]>
     }
 }
 
-/// Takes line feeds and comments from the first octet of a line on, as far as a line feed ends them.
+/// Takes line feeds and comments from the first octet of a line on, as far as a line feed ends
+/// them.
 pub(crate) fn blank_lines(octets: &[u8]) -> BlankLines<'_>
     ensures are { AreBlankLines octets.now result.rest.now result.count }
     ensures few { result.count + length result.rest.now ≤ length octets.now }

@@ -6,7 +6,7 @@ ghost use Rattle.zone_text.specs.Defaults.{AreDefaults};
 ghost use Rattle.zone_text.specs.Entries.{Entry, entry_of, item_of};
 ghost use Rattle.zone_text.specs.EntryFault.{EntryFault};
 ghost use Rattle.zone_text.specs.Forms.{form_of, owned};
-ghost use Rattle.zone_text.specs.Pieces.{Piece, Cuts};
+ghost use Rattle.zone_text.specs.Tokens.{Token, Cuts};
 ghost use Rattle.zone_text.specs.Machine.EntryReading.{DecidesEntry, LeavesNoRecord};
 ghost use Rattle.zone_text.specs.Machine.Form.{directive_in, form_in};
 ghost use Rattle.zone_text.specs.Machine.Kept.{AreKept};
@@ -58,8 +58,8 @@ impl Defaults {
 
     /// Reads the entry after those before it, and takes what it decides into `decided`: the record
     /// that it states, with its place; or its first fault; or nothing, as of a blank entry,
-    /// `$ORIGIN` and `$TTL`. The entry is known to be cut into tokens, and these are kept of its items.
-    /// After a fault the defaults say nothing.
+    /// `$ORIGIN` and `$TTL`. The entry is known to be cut into tokens, and these are kept of its
+    /// items. After a fault the defaults say nothing.
     // Records and faults hold names, and are wide. So they are written where they go, and not
     // handed up.
     pub(crate) fn read<'t>(
@@ -70,10 +70,11 @@ impl Defaults {
         place: Place,
         decided: &mut Reading,
     ) -> Result<(), AllocError>
-        ensures { (origin : Labels) (before : List Entry) (line : ℕ) (pieces : List Piece)
-            → AreDefaults origin before self.old → Cuts entry.now pieces
-            → AreKept (flat_map item_of pieces) (map raw items.now) → OnOk result
-            (DecidesEntry origin before (entry_of line pieces) place decided.old decided.new self.new) }
+        ensures { (origin : Labels) (before : List Entry) (line : ℕ) (tokens : List Token)
+            → AreDefaults origin before self.old → Cuts entry.now tokens
+            → AreKept (flat_map item_of tokens) (map raw items.now) → OnOk result
+            (DecidesEntry origin before (entry_of line tokens) place decided.old decided.new
+            self.new) }
     {
         self.read_form(alloc, form_of(entry, items), place, decided)
     }

@@ -1,4 +1,4 @@
 //! Texts computed from the definitions.
 pub mod entries;
 pub mod faults;
-pub mod pieces;
+pub mod tokens;

@@ -63,12 +63,12 @@ fn directive_of<'i, 't>(word: Item<'t>, items: &'i [Item<'t>]) -> Directive<'i, 
 pub(crate) fn form_of<'i, 't>(entry: &[u8], items: &'i [Item<'t>]) -> EntryForm<'i, 't>
     ensures { form_in result ≡ form_by (first_octet entry.now) (map raw items.now) }
 {
-    let [first, behind @ ..] = items else {
+    let [first, rest @ ..] = items else {
         return EntryForm::Blank;
     };
     match entry {
-        [b'$', ..] => EntryForm::Directive(directive_of(*first, behind)),
+        [b'$', ..] => EntryForm::Directive(directive_of(*first, rest)),
         [octet, ..] if is_blank(*octet) => EntryForm::Unowned(items),
-        _ => EntryForm::Owned(*first, behind),
+        _ => EntryForm::Owned(*first, rest),
     }
 }

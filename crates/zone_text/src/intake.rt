@@ -46,7 +46,8 @@ impl Intake {
         requires fits { reach self.old + length piece.now < 2 ^ 64 }
         ensures is { OnOk result (IsIntake self.new.ended self.new.at self.new.unfinished.items) }
         ensures near { OnOk result (reach self.new ≤ reach self.old + length piece.now) }
-        ensures settled { IfSome self.old.ended.decided.ending (λ _. IsOk result × (self.new ≡ self.old)) }
+        ensures settled { IfSome self.old.ended.decided.ending
+            (λ _. IsOk result × (self.new ≡ self.old)) }
         ensures nothing { piece.now ≡ [] → IsOk result × (self.new ≡ self.old) }
         ensures follow { OnOk result (FollowOn self.old piece.now self.new) }
     {

@@ -3,7 +3,7 @@ ghost use Rattle.std.specs.List.{All};
 ghost use Rattle.zone_name.specs.Common.{AreOctets, Octets};
 ghost use Rattle.zone_rdata.specs.Item.{raw};
 ghost use Rattle.zone_text.specs.Entries.{item_of};
-ghost use Rattle.zone_text.specs.Pieces.{Piece, IsPiece, ends_item, is_blank, piece_text};
+ghost use Rattle.zone_text.specs.Tokens.{Token, IsToken, ends_item, is_blank, token_text};
 ghost use Rattle.zone_text.specs.Machine.Cutting.{before_line_feed};
 ghost use Rattle.zone_text.specs.Machine.ItemLengths.{EndsAt, EndsBefore, Reaches, ends_within, item_len, stops_within};
 ghost use Rattle.zone_text.specs.Machine.Kept.{IsShort, Keeps};
@@ -71,8 +71,8 @@ fn escaped_len(text: &[u8], plain: usize, extent: Extent) -> usize
     while len < text.len() && text[len] == b'\\' {
         // The octet after a backslash goes with it.
         len += (text.len() - len).min(2);
-        let (_, behind) = text.split_at(len);
-        len += plain_len(behind, extent);
+        let (_, rest) = text.split_at(len);
+        len += plain_len(rest, extent);
     }
     len
 }
@@ -114,10 +114,10 @@ fn begins_bare(octet: u8) -> bool
 
 /// The first token of a text that is cut into tokens: its item, if it is one, and the rest. `None`:
 /// the text ends.
-fn split_piece(text: &[u8]) -> Option<(Option<Item<'_>>, &[u8])>
+fn split_token(text: &[u8]) -> Option<(Option<Item<'_>>, &[u8])>
     ensures end { IfNone result (text.now ≡ []) }
-    ensures found { IfSome result (λ found. (p : Piece) (rest : Octets)
-        → IsPiece p → EndsBefore p rest → text.now ≡ piece_text p ++ rest
+    ensures found { IfSome result (λ found. (p : Token) (rest : Octets)
+        → IsToken p → EndsBefore p rest → text.now ≡ token_text p ++ rest
         → (option_to_list (option_map raw found.0) ≡ item_of p) × (found.1.now ≡ rest)) }
     ensures shorter { IfSome result (λ found. length found.1.now < length text.now) }
 {
@@ -182,7 +182,7 @@ pub(crate) fn cut_items<'t>(entry: &'t [u8], items: &mut Vec<Item<'t>>) -> Resul
 {
     items.clear();
     let mut rest = entry;
-    while let Some((item, after)) = split_piece(rest) {
+    while let Some((item, after)) = split_token(rest) {
         if let Some(item) = item {
             keep(item, items)?;
         }

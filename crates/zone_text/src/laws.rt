@@ -2,5 +2,5 @@
 pub mod entry;
 pub mod file;
 pub mod line;
-pub mod pieces;
 pub mod source;
+pub mod tokens;

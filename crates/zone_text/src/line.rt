@@ -1,4 +1,5 @@
-//! Entries without parentheses and escapes, cut into items as their end is looked for (RFC 1035 5.1).
+//! Entries without parentheses and escapes, cut into items as their end is looked for (RFC 1035
+//! 5.1).
 ghost use Rattle.std.specs.Prelude.{map, length, IfOk, IfSome, option_map, option_to_list};
 ghost use Rattle.zone_rdata.specs.Item.{raw};
 ghost use Rattle.zone_text.specs.Machine.Line.{IsFirstEntry, IsInFront, IsQuoted};
@@ -21,9 +22,9 @@ fn quoted(octets: &[u8]) -> Option<(&[u8], &[u8])>
     }
 }
 
-/// The piece at the front: its item, if it is one, and what follows it. `None`: it is a parenthesis, a line feed, has a
-/// backslash, or isn't seen whole.
-fn piece_in_front(octets: &[u8]) -> Option<(Option<Item<'_>>, &[u8])>
+/// The token at the front: its item, if it is one, and what follows it. `None`: it is a parenthesis,
+/// a line feed, has a backslash, or isn't seen whole.
+fn token_in_front(octets: &[u8]) -> Option<(Option<Item<'_>>, &[u8])>
     ensures { IfSome result (λ found.
         IsInFront octets.now (option_to_list (option_map raw found.0)) found.1.now) }
 {
@@ -49,8 +50,8 @@ fn piece_in_front(octets: &[u8]) -> Option<(Option<Item<'_>>, &[u8])>
     }
 }
 
-/// Puts the items of the entry at the front in place of what `items` held, and gives the number of its octets. `None`: it
-/// has a parenthesis or a backslash, or isn't seen to end.
+/// Puts the items of the entry at the front in place of what `items` held, and gives the number of
+/// its octets. `None`: it has a parenthesis or a backslash, or isn't seen to end.
 ///
 /// # Errors
 ///
@@ -68,13 +69,13 @@ pub(crate) fn cut_line<'t>(
         if *first == b'\n' {
             return Ok(Some(octets.len() - after.len()));
         }
-        let Some((item, behind)) = piece_in_front(rest) else {
+        let Some((item, left)) = token_in_front(rest) else {
             return Ok(None);
         };
         if let Some(item) = item {
             keep(item, items)?;
         }
-        rest = behind;
+        rest = left;
     }
     Ok(None)
 }

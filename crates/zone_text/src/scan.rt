@@ -1,6 +1,6 @@
 //! Where the octets of a master file leave its tokens, octet by octet (RFC 1035 5.1).
 ghost use Rattle.std.specs.Prelude.{◌≡◌, ◌+◌, ◌<◌, ◌≤◌, ◌^◌, drop, length, not};
-ghost use Rattle.zone_text.specs.Machine.Scan.{AreQuiet, behind_backslash, beginning, closed, end_fault_of, ends_number, escape_step, fed_line, further, moves, open_step, scan_of, step_of, unclosed};
+ghost use Rattle.zone_text.specs.Machine.Scan.{AreQuiet, after_backslash, beginning, closed, end_fault_of, ends_number, escape_step, fed_line, further, moves, open_step, scan_of, step_of, unclosed};
 
 use crate::table::moves_open;
 use zone_rdata::Fault;
@@ -61,7 +61,7 @@ pub(crate) struct Scanned {
 
 /// What an octet after a backslash leads to.
 #[derive(Clone, Copy, Drop)]
-enum Behind {
+enum AfterBackslash {
     /// The escape goes on.
     Inside(Escape),
     /// The octet ends it.
@@ -106,17 +106,19 @@ fn ends_number(first: u8, second: u8, octet: u8) -> bool
 }
 
 /// What an octet leads to after a backslash.
-fn behind_backslash(escape: Escape, octet: u8) -> Behind
-    ensures { result ≡ behind_backslash escape octet }
+fn after_backslash(escape: Escape, octet: u8) -> AfterBackslash
+    ensures { result ≡ after_backslash escape octet }
 {
     match escape {
-        Escape::Begun if octet.is_ascii_digit() => Behind::Inside(Escape::One(octet)),
-        Escape::Begun if octet == b'\n' || octet == b'\r' => Behind::Lost,
-        Escape::Begun => Behind::Whole,
-        Escape::One(first) if octet.is_ascii_digit() => Behind::Inside(Escape::Two(first, octet)),
-        Escape::One(_) => Behind::Lost,
-        Escape::Two(first, second) if ends_number(first, second, octet) => Behind::Whole,
-        Escape::Two(_, _) => Behind::Lost,
+        Escape::Begun if octet.is_ascii_digit() => AfterBackslash::Inside(Escape::One(octet)),
+        Escape::Begun if octet == b'\n' || octet == b'\r' => AfterBackslash::Lost,
+        Escape::Begun => AfterBackslash::Whole,
+        Escape::One(first) if octet.is_ascii_digit() => AfterBackslash::Inside(Escape::Two(
+            first, octet,
+        )),
+        Escape::One(_) => AfterBackslash::Lost,
+        Escape::Two(first, second) if ends_number(first, second, octet) => AfterBackslash::Whole,
+        Escape::Two(_, _) => AfterBackslash::Lost,
     }
 }
 
@@ -165,15 +167,15 @@ fn take_octet(at: ScanState, octet: u8) -> Step
         (Mode::Quoted, b'\\') => on(Mode::QuotedEscaped(Escape::Begun)),
         (Mode::Comment, b'\n') => fed_line(depth),
         (Mode::Quoted | Mode::Comment, _) => Step::On(at),
-        (Mode::Escaped(escape), _) => match behind_backslash(escape, octet) {
-            Behind::Inside(escape) => on(Mode::Escaped(escape)),
-            Behind::Whole => on(Mode::Open),
-            Behind::Lost => Step::LostEscape,
+        (Mode::Escaped(escape), _) => match after_backslash(escape, octet) {
+            AfterBackslash::Inside(escape) => on(Mode::Escaped(escape)),
+            AfterBackslash::Whole => on(Mode::Open),
+            AfterBackslash::Lost => Step::LostEscape,
         },
-        (Mode::QuotedEscaped(escape), _) => match behind_backslash(escape, octet) {
-            Behind::Inside(escape) => on(Mode::QuotedEscaped(escape)),
-            Behind::Whole => on(Mode::Quoted),
-            Behind::Lost => Step::LostEscape,
+        (Mode::QuotedEscaped(escape), _) => match after_backslash(escape, octet) {
+            AfterBackslash::Inside(escape) => on(Mode::QuotedEscaped(escape)),
+            AfterBackslash::Whole => on(Mode::Quoted),
+            AfterBackslash::Lost => Step::LostEscape,
         },
     }
 }
@@ -247,8 +249,8 @@ pub(crate) fn scan(octets: &[u8], start: ScanState) -> Scanned
     ensures moves { 0 < length octets.now → 0 < result.taken }
 {
     let quiet = quiet_front(octets, start);
-    let (_, behind) = octets.split_at(quiet);
-    let found = scan_each(behind, start);
+    let (_, rest) = octets.split_at(quiet);
+    let found = scan_each(rest, start);
     Scanned {
         taken: quiet + found.taken,
         step: found.step,

@@ -42,7 +42,8 @@ impl Model for TextSource {
 
     ghost view = { λ s. state_of s.status s.fed s.intake.ended s.intake.unfinished.items };
 
-    ghost invariant = { λ s. IsSource s.status s.fed s.intake.ended s.intake.at s.intake.unfinished.items };
+    ghost invariant = { λ s.
+        IsSource s.status s.fed s.intake.ended s.intake.at s.intake.unfinished.items };
 }
 
 /// Gives up what is kept: every later call answers `Memory`.
@@ -109,8 +110,8 @@ impl TextSource {
         }
     }
 
-    /// Takes the end of the file. What the source has still to give is then the rest of what is read of the file. It takes
-    /// no memory where no octets are undecided.
+    /// Takes the end of the file. What the source has still to give is then the rest of what is read
+    /// of the file. It takes no memory where no octets are undecided.
     ///
     /// # Errors
     ///

@@ -3,7 +3,7 @@ ghost use Rattle.zone_name.specs.Common.{Octets};
 ghost use Rattle.zone_rdata.specs.Fault.{NoValue};
 ghost use Rattle.zone_rdata.specs.Item.{RawItem, bare, raw};
 ghost use Rattle.zone_text.specs.EntryFault.{WordFault, WordsFault};
-ghost use Rattle.zone_text.specs.Forms.{Word, begins_with_digit, parts_behind, word_behind};
+ghost use Rattle.zone_text.specs.Forms.{Word, begins_with_digit, parts_after, word_after};
 ghost use Rattle.zone_text.specs.Inherited.{IsTtl};
 ghost use Rattle.zone_text.specs.Machine.WordValues.{ArePartsOf, HaveValues};
 
@@ -16,9 +16,9 @@ pub(crate) fn split_bare<'i, 't>(items: &'i [Item<'t>]) -> Option<(&'t [u8], &'i
     ensures none { IfNone result ((text : Octets) (rest : List RawItem)
         → map raw items.now ≡ bare text ∷ rest → ⊥) }
 {
-    let (first, behind) = items.split_first()?;
+    let (first, rest) = items.split_first()?;
     match *first {
-        Item::Bare(text) => Some((text, behind)),
+        Item::Bare(text) => Some((text, rest)),
         Item::Quoted(_) => None,
     }
 }
@@ -60,12 +60,12 @@ impl Words {
     /// `BadTtl` and `BadClass` for a word without a value.
     fn with(&self, text: &[u8]) -> Result<Option<Words>, NarrowFault>
         ensures found { (words : List Word) → HaveValues words self.now → IfOk result (λ next.
-            IfSome next (λ values. IsSomeAnd (word_behind words (bare text.now))
+            IfSome next (λ values. IsSomeAnd (word_after words (bare text.now))
             (λ word. HaveValues (words ++ word ∷ []) values))) }
         ensures none { (words : List Word) → HaveValues words self.now → IfOk result (λ next.
-            IfNone next (word_behind words (bare text.now) ≡ None)) }
+            IfNone next (word_after words (bare text.now) ≡ None)) }
         ensures fault { (words : List Word) → HaveValues words self.now → IfErr result (λ fault.
-            IsSomeAnd (word_behind words (bare text.now)) (λ word. WordFault word fault)) }
+            IsSomeAnd (word_after words (bare text.now)) (λ word. WordFault word fault)) }
     {
         if begins_with_digit(text) {
             if self.ttl.is_some() {
@@ -99,10 +99,10 @@ impl Words {
 /// `BadTtl` and `BadClass` for the leftmost word without a value.
 pub(crate) fn words_of(items: &[Item]) -> Result<(Words, usize), NarrowFault>
     ensures found { IfOk result (λ found.
-        ArePartsOf (parts_behind [] (map raw items.now)) found.0
+        ArePartsOf (parts_after [] (map raw items.now)) found.0
         (drop found.1 (map raw items.now))) }
     ensures within { IfOk result (λ found. found.1 ≤ length items.now) }
-    ensures fault { IfErr result (WordsFault (parts_behind [] (map raw items.now)).words) }
+    ensures fault { IfErr result (WordsFault (parts_after [] (map raw items.now)).words) }
 {
     let mut words = Words {
         ttl: None,

@@ -29,7 +29,7 @@ each_fits origin before (entry ∷ entries) placed (states_none nothing others) 
 each_fits origin before (entry ∷ entries) placed (states_one p others states at parts rest) = subst (λ ps. AllByRecursion IsRecord (records_of ps)) (sym parts) (states.fits, each_fits origin (entry ∷ before) entries others rest)
 
 pub file_fits : (origin : List (List ℕ)) (octets : List ℕ) (placed : List Placed) → FileStates origin octets placed → AllByRecursion IsRecord (records_of placed)
-file_fits origin octets placed states = each_fits origin [] (entries_of states.pieces) placed states.each
+file_fits origin octets placed states = each_fits origin [] (entries_of states.tokens) placed states.each
 
 -- records with their places are records
 pub placed_fit : (placed : List Placed) → AllByRecursion (λ p. IsRecord p.rr) placed → AllByRecursion IsRecord (records_of placed)

@@ -11,9 +11,11 @@ pub record IsComment (octets rest : List ℕ) : Type 0 where
 -- the octets are a line feed or a comment that one ends, and the rest
 pub data IsBlankLine (octets rest : List ℕ) : Type 0 where
   line_feed : octets ≡ 10 ∷ rest → IsBlankLine octets rest
-  commented : (behind : List ℕ) → octets ≡ 59 ∷ behind → IsComment behind rest → IsBlankLine octets rest
+  commented : (after : List ℕ) → octets ≡ 59 ∷ after → IsComment after rest
+      → IsBlankLine octets rest
 
 -- the octets are so many such lines, and the rest
 pub data AreBlankLines (octets : List ℕ) : List ℕ → ℕ → Type 0 where
   no_lines : AreBlankLines octets octets 0
-  one_line_more : (line rest : List ℕ) (n : ℕ) → AreBlankLines octets line n → IsBlankLine line rest → AreBlankLines octets rest (n + 1)
+  one_line_more : (line rest : List ℕ) (n : ℕ) → AreBlankLines octets line n
+      → IsBlankLine line rest → AreBlankLines octets rest (n + 1)

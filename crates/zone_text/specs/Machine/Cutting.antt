@@ -6,7 +6,7 @@ use Rattle.zone_name.specs.Machine.Units.{Units, units_first}
 use Rattle.zone_rdata.specs.Strings.{is_quote}
 use Rattle.zone_rdata.specs.declared.fault.Fault.{Fault}
 use Rattle.zone_rdata.specs.declared.fault.Fault.TheVariants.{BadEscape, UnclosedQuote, UnbalancedParenthesis}
-use Rattle.zone_text.specs.Pieces.{Piece, blank, opening, closing, line_feed, comment, bare, quoted, is_blank, ends_item}
+use Rattle.zone_text.specs.Tokens.{Token, blank, opening, closing, line_feed, comment, bare, quoted, is_blank, ends_item}
 
 -- ---- a comment's octets, and the rest
 
@@ -42,7 +42,7 @@ sign_of c =
 
 -- a token and the rest, or the end: of a text that is cut, or with a fault
 pub data Front : Type 0 where
-  takes : Piece → List ℕ → Front
+  takes : Token → List ℕ → Front
   stops : Option Fault → Front
 
 -- after the units of a quoted item
@@ -81,25 +81,25 @@ front_of depth (c ∷ rest) = front_by depth c rest (sign_of c)
 -- ---- the whole text
 
 -- the depth after a token
-abbrev pub depth_behind : ℕ → Piece → ℕ
-depth_behind depth opening = suc depth
-depth_behind depth closing = depth - 1
-depth_behind depth p = depth
+abbrev pub depth_past : ℕ → Token → ℕ
+depth_past depth opening = suc depth
+depth_past depth closing = depth - 1
+depth_past depth p = depth
 
 -- the tokens of a text, or of its beginning where it breaks, and the fault with which it breaks
 pub record Cutting : Type 0 where
-  pub pieces : List Piece
+  pub tokens : List Token
   pub broken : Option Fault
 
 abbrev pub cut_on : (ℕ → List ℕ → Cutting) → ℕ → Front → Cutting
-cut_on go_on depth (stops fault) = record { pieces = []; broken = fault }
+cut_on go_on depth (stops fault) = record { tokens = []; broken = fault }
 cut_on go_on depth (takes p rest) =
-    let more : Cutting = go_on (depth_behind depth p) rest in
-    record { pieces = p ∷ more.pieces; broken = more.broken }
+    let more : Cutting = go_on (depth_past depth p) rest in
+    record { tokens = p ∷ more.tokens; broken = more.broken }
 
 -- at most n tokens
 unfoldable pub cut_by : ℕ → ℕ → List ℕ → Cutting
-cut_by zero depth octets = record { pieces = []; broken = None }
+cut_by zero depth octets = record { tokens = []; broken = None }
 cut_by (suc n) depth octets = cut_on (cut_by n) depth (front_of depth octets)
 
 -- each token takes an octet or more, so one more than the octets is enough for all tokens and the

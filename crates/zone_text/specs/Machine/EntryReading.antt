@@ -16,7 +16,7 @@ use Rattle.zone_rdata.specs.declared.source.Reading.{Reading}
 use Rattle.zone_text.specs.Defaults.{AreDefaults, IsTtlOrNone}
 use Rattle.zone_text.specs.Entries.{Entry}
 use Rattle.zone_text.specs.EntryFault.{EntryFault}
-use Rattle.zone_text.specs.Forms.{form_of, parts_of, parts_behind}
+use Rattle.zone_text.specs.Forms.{form_of, parts_of, parts_after}
 use Rattle.zone_text.specs.Inherited.{IsLastOwner, IsOwner, IsTtl, one_bare, ttl_text}
 use Rattle.zone_text.specs.Records.{Head, HasHead, StatesNothing, StatesRecord}
 use Rattle.zone_text.specs.declared.defaults.Defaults.{Defaults}
@@ -63,7 +63,7 @@ pub record IsRecordEntry (origin : Labels) (before : List Entry) (entry : Entry)
   pub held : Option Labels
   pub defaults : AreDefaults origin before (with_owner held d)
   pub owner : IsOwner origin before (form_of entry) name
-  pub parts : parts_of entry ≡ Some (parts_behind [] items)
+  pub parts : parts_of entry ≡ Some (parts_after [] items)
 
 -- the owner of a record entry and of those after it, or the fault that there is none
 abbrev pub HasOwnerOrNone : Labels → List Entry → Entry → Defaults → List RawItem → Type 0

@@ -9,7 +9,7 @@ use Rattle.zone_text.specs.Defaults.{AreDefaults}
 use Rattle.zone_text.specs.Entries.{Entry, entry_of}
 use Rattle.zone_text.specs.FileReads.{FileReads, ReadEach}
 use Rattle.zone_text.specs.Machine.Scan.{beginning, scan_of}
-use Rattle.zone_text.specs.Pieces.{Piece, Cuts, text}
+use Rattle.zone_text.specs.Tokens.{Token, Cuts, text}
 use Rattle.zone_text.specs.Source.{Leave, SourceState}
 use Rattle.zone_text.specs.declared.ended.EndedEntries.{EndedEntries}
 use Rattle.zone_text.specs.declared.intake.Intake.{Intake}
@@ -21,20 +21,20 @@ use Rattle.zone_text.specs.declared.scan.Step.TheVariants.{On}
 
 -- An entry was read after others: the record that it states came after theirs, or its fault was
 -- decided. If it is no fault, the defaults and the line are those after the entry.
-pub record ReadsEntry (origin : Labels) (before : List Entry) (pieces : List Piece)
+pub record ReadsEntry (origin : Labels) (before : List Entry) (tokens : List Token)
     (old new : EndedEntries) : Type 0 where
   pub others : List Placed
-  pub read : ReadEach origin None before (entry_of old.line pieces ∷ []) others new.decided.ending
+  pub read : ReadEach origin None before (entry_of old.line tokens ∷ []) others new.decided.ending
   pub records : new.decided.placed.items ≡ old.decided.placed.items ++ others
   pub defaults : new.decided.ending ≡ None
-      → AreDefaults origin (entry_of old.line pieces ∷ before) new.defaults
-  pub line : new.decided.ending ≡ None → new.line ≡ old.line + count_by (λ c. c == 10) (text pieces)
+      → AreDefaults origin (entry_of old.line tokens ∷ before) new.defaults
+  pub line : new.decided.ending ≡ None → new.line ≡ old.line + count_by (λ c. c == 10) (text tokens)
 
 -- octets are read as the entry after others, whatever these are
 pub record ReadsOctets (octets : List ℕ) (old new : EndedEntries) : Type 0 where
-  pub reads : (origin : Labels) (before : List Entry) (pieces : List Piece)
-      → AreDefaults origin before old.defaults → Cuts octets pieces
-      → ReadsEntry origin before pieces old new
+  pub reads : (origin : Labels) (before : List Entry) (tokens : List Token)
+      → AreDefaults origin before old.defaults → Cuts octets tokens
+      → ReadsEntry origin before tokens old new
   pub later : old.line ≤ new.line
   pub near : new.line ≤ old.line + length octets
 

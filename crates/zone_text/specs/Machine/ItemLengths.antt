@@ -1,7 +1,7 @@
 -- How far a token goes, as it is looked for from the left (RFC 1035 5.1).
 use Rattle.std.specs.Prelude.{◌≡◌, ℕ, suc, ◌+◌, drop, List, [], ◌∷◌, ◌==◌, ◌||◌, Bool, true, false, if◌then◌else◌}
 use Rattle.zone_rdata.specs.Strings.{is_quote}
-use Rattle.zone_text.specs.Pieces.{Piece, comment, bare, ends_item}
+use Rattle.zone_text.specs.Tokens.{Token, comment, bare, ends_item}
 use Rattle.zone_text.specs.declared.items.Extent.{Extent}
 use Rattle.zone_text.specs.declared.items.Extent.TheVariants.{Bare, Quoted}
 
@@ -32,7 +32,7 @@ EndsAt ends [] = Unit {0}
 EndsAt ends (c ∷ rest) = ends c ≡ true
 
 -- a token ends before what follows it
-abbrev pub EndsBefore : Piece → List ℕ → Type 0
+abbrev pub EndsBefore : Token → List ℕ → Type 0
 EndsBefore (bare units) rest = EndsAt ends_item rest
 EndsBefore (comment octets) rest = EndsAt (λ c. c == 10) rest
 EndsBefore p rest = Unit {0}

@@ -4,8 +4,8 @@ use Rattle.std.specs.Prelude.{◌≡◌, ℕ, zero, ◌+◌, ◌-◌, Bool, true
 use Rattle.zone_name.specs.Spelling.{decimal, octet_of, is_digit}
 use Rattle.zone_rdata.specs.declared.fault.Fault.{Fault}
 use Rattle.zone_rdata.specs.declared.fault.Fault.TheVariants.{BadEscape, UnclosedQuote, UnbalancedParenthesis}
-use Rattle.zone_text.specs.declared.scan.Behind.{Behind}
-use Rattle.zone_text.specs.declared.scan.Behind.TheVariants.{Inside, Whole, Lost}
+use Rattle.zone_text.specs.declared.scan.AfterBackslash.{AfterBackslash}
+use Rattle.zone_text.specs.declared.scan.AfterBackslash.TheVariants.{Inside, Whole, Lost}
 use Rattle.zone_text.specs.declared.scan.Escape.{Escape}
 use Rattle.zone_text.specs.declared.scan.Escape.TheVariants.{Begun, One, Two}
 use Rattle.zone_text.specs.declared.scan.Mode.{Mode}
@@ -14,7 +14,7 @@ use Rattle.zone_text.specs.declared.scan.Scanned.{Scanned}
 use Rattle.zone_text.specs.declared.scan.ScanState.{ScanState}
 use Rattle.zone_text.specs.declared.scan.Step.{Step}
 use Rattle.zone_text.specs.declared.scan.Step.TheVariants.{On, Ends, LostEscape, ClosesNothing}
-use Rattle.zone_text.specs.Pieces.{Piece, Cuts}
+use Rattle.zone_text.specs.Tokens.{Token, Cuts}
 use Rattle.zone_text.specs.Entries.{cut_from}
 
 -- ---- one octet
@@ -63,14 +63,14 @@ comment_step depth c = if c == 10 then fed_line depth else on Comment depth
 abbrev pub ends_number : ℕ → ℕ → ℕ → Bool
 ends_number x y c = is_digit c && nat_le (octet_of (decimal x y c)) 255
 
-abbrev pub behind_backslash : Escape → ℕ → Behind
-behind_backslash Begun c =
+abbrev pub after_backslash : Escape → ℕ → AfterBackslash
+after_backslash Begun c =
     if is_digit c then Inside (One c) else (if c == 10 || c == 13 then Lost else Whole)
-behind_backslash (One x) c = if is_digit c then Inside (Two x c) else Lost
-behind_backslash (Two x y) c = if ends_number x y c then Whole else Lost
+after_backslash (One x) c = if is_digit c then Inside (Two x c) else Lost
+after_backslash (Two x y) c = if ends_number x y c then Whole else Lost
 
 -- in an escape, and where its end leads to
-abbrev pub escape_step : (Escape → Mode) → Mode → ℕ → Behind → Step
+abbrev pub escape_step : (Escape → Mode) → Mode → ℕ → AfterBackslash → Step
 escape_step inside outside depth (Inside escape) = on (inside escape) depth
 escape_step inside outside depth Whole = on outside depth
 escape_step inside outside depth Lost = LostEscape
@@ -80,9 +80,9 @@ step_in Open depth c = open_step depth c
 step_in Quoted depth c = quoted_step depth c
 step_in Comment depth c = comment_step depth c
 step_in (Escaped escape) depth c =
-    escape_step (λ e. Escaped e) Open depth (behind_backslash escape c)
+    escape_step (λ e. Escaped e) Open depth (after_backslash escape c)
 step_in (QuotedEscaped escape) depth c =
-    escape_step (λ e. QuotedEscaped e) Quoted depth (behind_backslash escape c)
+    escape_step (λ e. QuotedEscaped e) Quoted depth (after_backslash escape c)
 
 abbrev pub step_of : ScanState → ℕ → Step
 step_of at c = step_in at.mode at.depth c
@@ -110,7 +110,8 @@ open_at depth = record { mode = Open; depth = depth }
 -- there, the first n octets lead nowhere else
 abbrev pub AreQuiet : List ℕ → ℕ → Type 0
 AreQuiet octets n =
-    (depth : ℕ) → scan_of (open_at depth) octets ≡ further n (scan_of (open_at depth) (drop n octets))
+    (depth : ℕ)
+    → scan_of (open_at depth) octets ≡ further n (scan_of (open_at depth) (drop n octets))
 
 -- ---- the end of the input
 
@@ -132,6 +133,6 @@ end_fault_of at = fault_in at.mode at.depth
 -- ---- one entry
 
 -- the octets are the tokens of one entry, with the line feed that ends it
-pub record IsOneEntry (octets : List ℕ) (pieces : List Piece) : Type 0 where
-  pub cut : Cuts octets pieces
-  pub ended : cut_from zero pieces ≡ record { ended = pieces ∷ []; open_pieces = [] }
+pub record IsOneEntry (octets : List ℕ) (tokens : List Token) : Type 0 where
+  pub cut : Cuts octets tokens
+  pub ended : cut_from zero tokens ≡ record { ended = tokens ∷ []; open_tokens = [] }

@@ -2,27 +2,27 @@
 ghost use Rattle.std.specs.Prelude.{◌≡◌, ◌∷◌, [], codes, Some, None};
 ghost use Rattle.zone_rdata.specs.Spelling.{bare};
 ghost use Rattle.zone_text.specs.ExampleEntries.{at_line, ns, Reads, soa, under, x};
-ghost use Rattle.zone_text.specs.Forms.{class, parts_behind, ttl};
+ghost use Rattle.zone_text.specs.Forms.{class, parts_after, ttl};
 
 use zone_rdata::laws::word::kind_word_is_unique;
 
 /// A TTL and a class stand in either order, each once: a second one is the type's word.
 pub fn words_before_the_type()
-    ensures class_first { parts_behind []
+    ensures class_first { parts_after []
         (bare (codes "IN") ∷ bare (codes "60") ∷ bare (codes "A") ∷ [])
         ≡ record {
           words = class (codes "IN") ∷ ttl (codes "60") ∷ [];
           rest = bare (codes "A")
               ∷ [];
         } }
-    ensures second_ttl { parts_behind []
+    ensures second_ttl { parts_after []
         (bare (codes "60") ∷ bare (codes "6x") ∷ bare (codes "A") ∷ [])
         ≡ record {
           words = ttl (codes "60") ∷ [];
           rest = bare (codes "6x") ∷ bare (codes "A")
               ∷ [];
         } }
-    ensures second_class { parts_behind []
+    ensures second_class { parts_after []
         (bare (codes "IN") ∷ bare (codes "CLASS0") ∷ bare (codes "A") ∷ [])
         ≡ record {
           words = class (codes "IN") ∷ [];

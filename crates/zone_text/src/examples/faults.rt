@@ -26,7 +26,7 @@ pub fn directives_that_are_refused()
 pub fn records_without_an_owner()
     ensures omitted { Reads (codes " NS n\n") [] (fault_at 1 NoOwner) }
     ensures quoted { Reads (codes "\"a\" 60 A 10.0.0.1\n") [] (fault_at 1 NoOwner) }
-    ensures behind_a_blank { Reads (codes " $ORIGIN y.\n") [] (fault_at 1 NoOwner) }
+    ensures after_a_blank { Reads (codes " $ORIGIN y.\n") [] (fault_at 1 NoOwner) }
 {}
 
 /// The words before the type are judged from the left, then the type.

@@ -6,19 +6,19 @@ ghost use Rattle.zone_rdata.specs.Record.{Record};
 ghost use Rattle.zone_text.specs.Entries.{cut_from, Entry, entries_of, entry_of, item_of};
 ghost use Rattle.zone_text.specs.Inherited.{IsOrigin};
 ghost use Rattle.zone_text.specs.Line.{IsItem, line_of, StatesWhole};
-ghost use Rattle.zone_text.specs.Pieces.{Cuts, Piece, text};
+ghost use Rattle.zone_text.specs.Tokens.{Cuts, Token, text};
 ghost use Rattle.zone_text.specs.Records.{StatesRecord};
 
 /// A line of items that are parted by single spaces is one entry with these items, which its line
 /// feed ends.
 pub fn a_line_of_items_is_one_entry()
-    ensures cut { (items : List Piece) → AllByRecursion IsItem items
+    ensures cut { (items : List Token) → AllByRecursion IsItem items
         → Cuts (text (line_of items)) (line_of items) }
-    ensures entry { (items : List Piece) → AllByRecursion IsItem items
+    ensures entry { (items : List Token) → AllByRecursion IsItem items
         → entries_of (line_of items) ≡ entry_of 1 (line_of items) ∷ [] }
-    ensures ended { (items : List Piece) → AllByRecursion IsItem items
-        → cut_from zero (line_of items) ≡ record { ended = line_of items ∷ []; open_pieces = [] } }
-    ensures items { (items : List Piece)
+    ensures ended { (items : List Token) → AllByRecursion IsItem items
+        → cut_from zero (line_of items) ≡ record { ended = line_of items ∷ []; open_tokens = [] } }
+    ensures items { (items : List Token)
         → flat_map item_of (line_of items) ≡ flat_map item_of items }
 {}
 

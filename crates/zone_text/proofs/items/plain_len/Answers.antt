@@ -2,7 +2,7 @@ use Rattle.std.proofs.Common.{◌≡◌, false, subst, take, sym, ◌∙◌, len
 use Rattle.std.specs.List.{All}
 use Rattle.std.proofs.lemmas.List.Elements.{All-more}
 use Rattle.zone_text.specs.Machine.ItemLengths.{ends_within, stops_within}
-use Rattle.zone_text.proofs.PieceEnds.{plain_on, plain_stops, end_stops, all_reached}
+use Rattle.zone_text.proofs.TokenEnds.{plain_on, plain_stops, end_stops, all_reached}
 use Rattle.zone_text.proofs.items.plain_len.Goals as goal
 
 pub returns-then-stops_at-clause-stops : goal.returns-then-stops_at-clause-stops

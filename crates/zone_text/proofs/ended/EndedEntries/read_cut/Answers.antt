@@ -1,8 +1,8 @@
 use Rattle.std.proofs.Common.{refl}
-use Rattle.zone_text.proofs.EntryTaken.{lines_behind, takes_entry}
+use Rattle.zone_text.proofs.EntryTaken.{lines_after, takes_entry}
 use Rattle.zone_text.proofs.ended.EndedEntries.read_cut.Goals as goal
 
 pub returns : goal.returns
 returns c are =
-    takes_entry c.args.entry.now c.args.self.now _ (λ origin before line pieces so_far cut. c.in_ok-read.ensures origin before line pieces so_far cut (are pieces cut)) c.requires.undecided
-    (lines_behind c.args.entry.now c.args.self.now _ c.line_feeds.result c.line_feeds.ensures.count c.line_feeds.ensures.few refl)
+    takes_entry c.args.entry.now c.args.self.now _ (λ origin before line tokens so_far cut. c.in_ok-read.ensures origin before line tokens so_far cut (are tokens cut)) c.requires.undecided
+    (lines_after c.args.entry.now c.args.self.now _ c.line_feeds.result c.line_feeds.ensures.count c.line_feeds.ensures.few refl)

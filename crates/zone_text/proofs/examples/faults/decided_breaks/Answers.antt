@@ -5,7 +5,7 @@ use Rattle.zone_text.specs.Decided.{decided, undecided}
 use Rattle.zone_text.specs.ExampleEntries.{x}
 use Rattle.zone_text.specs.File.{states_one}
 use Rattle.zone_text.specs.FileReads.{stated}
-use Rattle.zone_text.specs.Lasting.{two_digits, behind_two_digits, closing_stays, escape_stays, escape_open}
+use Rattle.zone_text.specs.Lasting.{two_digits, after_two_digits, closing_stays, escape_stays, escape_open}
 use Rattle.zone_text.proofs.Cuttings.{broken_is_read}
 use Rattle.zone_text.proofs.ExampleFacts.{x_name, at_spells, sixty, in_class, states_ns}
 use Rattle.zone_text.proofs.ForGood.{stays_for_good, ends_not_for_good}
@@ -17,5 +17,5 @@ returns c =
     record {
       parenthesis = decided _ _ (stays_for_good _ _ _ (broken_is_read _ _ _ refl) _ refl (closing_stays _ refl)) (stated (states_one _ _ (states_ns x _ _ x x 1 60 _ refl (x, (refl, at_spells x x_name)) ((60, record { time = sixty; short = lit≤ tt }), tt) refl refl sixty x_name in_class (lit≤ tt)) refl refl (refl, refl)));
       lost_escape = decided _ _ (stays_for_good _ _ _ (broken_is_read _ _ _ refl) _ refl (escape_stays (two_digits _ _ _ _ refl refl refl refl))) (refl, refl);
-      cut_off_escape = undecided _ (inr (_, broken_is_read _ _ _ refl)) (ends_not_for_good _ _ _ refl (escape_open (behind_two_digits _ _ refl refl refl))) (refl, refl);
+      cut_off_escape = undecided _ (inr (_, broken_is_read _ _ _ refl)) (ends_not_for_good _ _ _ refl (escape_open (after_two_digits _ _ refl refl refl))) (refl, refl);
     }

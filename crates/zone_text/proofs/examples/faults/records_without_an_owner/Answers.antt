@@ -12,5 +12,5 @@ returns c =
     record {
       omitted = whole _ (cut_is_read _ _ refl) (refused _ (of_owner (refl, λ found last. last)) refl refl);
       quoted = whole _ (cut_is_read _ _ refl) (refused _ (of_owner refl) refl refl);
-      behind_a_blank = whole _ (cut_is_read _ _ refl) (refused _ (of_owner (refl, λ found last. last)) refl refl);
+      after_a_blank = whole _ (cut_is_read _ _ refl) (refused _ (of_owner (refl, λ found last. last)) refl refl);
     }

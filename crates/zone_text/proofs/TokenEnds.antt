@@ -1,0 +1,143 @@
+-- How far the first token of a text goes.
+use Rattle.std.proofs.Common.{◌≡◌, ◌≢◌, ℕ, suc, ◌+◌, ◌-◌, ◌<◌, ◌≤◌, min, Bool, true, false, ◌==◌, ◌||◌, List, [], ◌∷◌, ◌++◌, length, get_or, drop, refl, sym, ap, ◌∙◌, subst, arith, add-one, drop-cons, drop_of_length-le}
+use Rattle.std.specs.List.{AllByRecursion}
+use Rattle.std.proofs.lemmas.Bool.{ne_eqb, both_ways}
+use Rattle.std.proofs.lemmas.Bool.Decides.{nat_tests}
+use Rattle.std.proofs.lemmas.List.{length-drop, drop-drop}
+use Rattle.zone_name.specs.Spelling.{Written, plain, escaped, decimal, written_text, IsUnit, is_digit}
+use Rattle.zone_rdata.specs.Strings.{is_quote}
+use Rattle.zone_text.specs.Machine.Cutting.{before_line_feed}
+use Rattle.zone_text.specs.Machine.ItemLengths.{item_len, EndsAt, Reaches}
+use Rattle.zone_text.specs.Tokens.{ends_item}
+
+-- ---- items
+
+-- what ends an item is no digit and no backslash
+pub record EndsPlainly (ends : ℕ → Bool) : Type 0 where
+  pub backslash : ends 92 ≡ false
+  pub digits : (c : ℕ) → is_digit c ≡ true → ends c ≡ false
+
+pub bare_ends : EndsPlainly ends_item
+bare_ends = record { backslash = refl; digits = λ c digit. grind (arith, nat_tests) }
+
+pub quoted_ends : EndsPlainly is_quote
+quoted_ends = record { backslash = refl; digits = λ c digit. grind (arith, nat_tests) }
+
+no_backslash : (c : ℕ) → is_digit c ≡ true → (c == 92) ≡ false
+no_backslash c digit = ne_eqb c 92 (λ e. both_ways (is_digit c) (ap is_digit e) digit)
+
+-- an item's units go up to what ends it
+pub item_len_of : (ends : ℕ → Bool) (units : List Written) (rest : List ℕ) → EndsPlainly ends → AllByRecursion (IsUnit ends) units → EndsAt ends rest → item_len ends false (written_text units ++ rest) ≡ length (written_text units)
+unfolding item_len
+item_len_of ends [] [] plainly each at = refl
+item_len_of ends [] (c ∷ rest) plainly each at =
+    rw (ne_eqb c 92 (λ e. both_ways (ends c) (ap ends e ∙ plainly.backslash) at), at) refl
+item_len_of ends (plain c ∷ units) rest plainly each at =
+    rw (ne_eqb c 92 each.0.1, each.0.0) (ap suc (item_len_of ends units rest plainly each.1 at))
+item_len_of ends (escaped c ∷ units) rest plainly each at = ap (λ n. suc (suc n)) (item_len_of ends units rest plainly each.1 at)
+item_len_of ends (decimal x y z ∷ units) rest plainly each at =
+    rw (no_backslash y each.0.1, plainly.digits y each.0.1, no_backslash z each.0.2, plainly.digits z each.0.2)
+    (ap (λ n. suc (suc (suc (suc n)))) (item_len_of ends units rest plainly each.1 at))
+
+-- ---- comments
+
+pub comment_len_of : (octets rest : List ℕ) → AllByRecursion (λ c. c ≢ 10) octets → EndsAt (λ c. c == 10) rest → length (before_line_feed (octets ++ rest)) ≡ length octets
+unfolding before_line_feed
+comment_len_of [] [] each at = refl
+comment_len_of [] (c ∷ rest) each at = rw at refl
+comment_len_of (c ∷ octets) rest each at = rw (ne_eqb c 10 each.0) (ap suc (comment_len_of octets rest each.1 at))
+
+-- ---- how far was looked
+
+first_at : (text : List ℕ) (i : ℕ) → i < length text → drop i text ≡ get_or text i 0 ∷ drop (i + 1) text
+first_at text i less = rw (add-one, drop-cons text i 0) refl
+
+neither : (a b : Bool) → (a || b) ≡ false → (a ≡ false) × (b ≡ false)
+neither false false _ = (refl, refl)
+neither false true none = absurd (both_ways true none refl)
+neither true b none = absurd (both_ways true none refl)
+
+-- an octet that neither ends the item nor is a backslash goes on
+pub plain_on : (ends : ℕ → Bool) (text : List ℕ) (i : ℕ) → i < length text → (ends (get_or text i 0) || get_or text i 0 == 92) ≡ false → Reaches ends text i → Reaches ends text (i + 1)
+unfolding item_len
+plain_on ends text i less goes so_far =
+    let neither_is = neither (ends (get_or text i 0)) (get_or text i 0 == 92) goes in
+    let next : item_len ends false (drop i text) ≡ suc (item_len ends false (drop (i + 1) text)) = rw (first_at text i less, neither_is.1, neither_is.0) refl in
+    omega arith
+
+pub plain_stops : (stops : ℕ → Bool) (text : List ℕ) (i : ℕ) → i < length text → stops (get_or text i 0) ≡ true → EndsAt stops (drop i text)
+plain_stops stops text i less at = rw (first_at text i less) at
+
+nothing_left : (text : List ℕ) (i : ℕ) → length text ≤ i → drop i text ≡ []
+nothing_left text i less = drop_of_length-le text less
+
+pub end_stops : (stops : ℕ → Bool) (text : List ℕ) (i : ℕ) → length text ≤ i → EndsAt stops (drop i text)
+end_stops stops text i over = rw (nothing_left text i over) tt
+
+pub all_reached : (ends : ℕ → Bool) (text : List ℕ) (i : ℕ) → length text ≤ i → i ≤ length text → Reaches ends text i → Reaches ends text (length text)
+all_reached ends text i over within so_far = let same : i ≡ length text = omega arith in subst (Reaches ends text) same so_far
+
+-- one way after another
+pub reach_on : (ends : ℕ → Bool) (text : List ℕ) (i m : ℕ) → Reaches ends text i → Reaches ends (drop i text) m → Reaches ends text (i + m)
+reach_on ends text i m so_far next =
+    let same : drop m (drop i text) ≡ drop (i + m) text = drop-drop m i text in
+    let more : item_len ends false (drop i text) ≡ m + item_len ends false (drop (i + m) text) = rw (sym same) next in
+    omega arith
+
+pub stops_on : (stops : ℕ → Bool) (text : List ℕ) (i m : ℕ) → EndsAt stops (drop m (drop i text)) → EndsAt stops (drop (i + m) text)
+stops_on stops text i m at = subst (EndsAt stops) (drop-drop m i text) at
+
+-- an escape of a backslash and any octet, or of a backslash at the end
+one_escape : (ends : ℕ → Bool) (octets after : List ℕ) (m : ℕ) → octets ≡ 92 ∷ after → m ≡ min (length octets) 2 → Reaches ends octets m
+unfolding item_len
+one_escape ends octets [] m whole taken =
+    let len : length octets ≡ 1 = ap length whole in
+    let one : m ≡ 1 = omega arith in
+    rw (one, whole) refl
+one_escape ends octets (x ∷ after) m whole taken =
+    let len : length octets ≡ suc (suc (length after)) = ap length whole in
+    let two : m ≡ 2 = omega arith in
+    let all : item_len ends false octets ≡ suc (suc (item_len ends false after)) = rw whole refl in
+    let left : item_len ends false (drop m octets) ≡ item_len ends false after = rw (two, whole) refl in
+    omega arith
+
+pub escape_on : (ends : ℕ → Bool) (text : List ℕ) (i m : ℕ) → i < length text → get_or text i 0 ≡ 92 → m ≡ min (length text - i) 2 → Reaches ends text i → Reaches ends text (i + m)
+escape_on ends text i m less is taken so_far =
+    let whole : drop i text ≡ 92 ∷ drop (i + 1) text = first_at text i less ∙ ap (λ c. c ∷ drop (i + 1) text) is in
+    reach_on ends text i m so_far (one_escape ends (drop i text) _ m whole (taken ∙ ap (λ n. min n 2) (sym (length-drop i text))))
+
+-- the item ends where something stops it that is no backslash
+last_at : (ends : ℕ → Bool) (octets : List ℕ) → EndsAt (λ c. ends c || c == 92) octets → (0 < length octets → get_or octets 0 0 ≢ 92) → item_len ends false octets ≡ 0
+unfolding item_len
+last_at ends [] at other = refl
+last_at ends (c ∷ rest) at other =
+    let differs : (c == 92) ≡ false = ne_eqb c 92 (other (omega arith)) in
+    let ended : ends c ≡ true = by (ends c) (c == 92) differs at in
+    rw (differs, ended) refl
+  where
+    by : (a b : Bool) → b ≡ false → (a || b) ≡ true → a ≡ true
+    by true b differs stopped = refl
+    by false b differs stopped = absurd (both_ways b differs stopped)
+
+pub len_reached : (ends : ℕ → Bool) (text : List ℕ) (i : ℕ) → EndsAt (λ c. ends c || c == 92) (drop i text) → (i < length text → get_or text i 0 ≢ 92) → Reaches ends text i → i ≡ item_len ends false text
+len_reached ends text i at other so_far =
+    let none : item_len ends false (drop i text) ≡ 0 = last_at ends (drop i text) at (λ some. let less : i < length text = (let len = length-drop i text in omega arith) in λ e. other less (ap (λ t. get_or t 0 0) (sym (first_at text i less)) ∙ e)) in
+    omega arith
+
+pub comment_goes_on : (text : List ℕ) (i n : ℕ) → i < length text → get_or text i 0 ≢ 10 → n ≡ i + length (before_line_feed (drop i text)) → n ≡ i + 1 + length (before_line_feed (drop (i + 1) text))
+unfolding before_line_feed
+comment_goes_on text i n less other so_far =
+    let next : length (before_line_feed (drop i text)) ≡ suc (length (before_line_feed (drop (i + 1) text))) = rw (first_at text i less, ne_eqb (get_or text i 0) 10 other) refl in
+    omega arith
+
+pub comment_ends : (text : List ℕ) (i n : ℕ) → i < length text → get_or text i 0 ≡ 10 → n ≡ i + length (before_line_feed (drop i text)) → i ≡ n
+unfolding before_line_feed
+comment_ends text i n less is so_far =
+    let next : length (before_line_feed (drop i text)) ≡ 0 = rw (first_at text i less, is) refl in
+    omega arith
+
+pub comment_whole : (text : List ℕ) (i n : ℕ) → length text ≤ i → i ≤ length text → n ≡ i + length (before_line_feed (drop i text)) → length text ≡ n
+unfolding before_line_feed
+comment_whole text i n over within so_far =
+    let none : length (before_line_feed (drop i text)) ≡ 0 = rw (nothing_left text i over) refl in
+    omega arith

@@ -1,0 +1,13 @@
+use Rattle.std.proofs.Common.{refl}
+use Rattle.zone_name.specs.Machine.Units.{units_by, units_first}
+use Rattle.zone_text.specs.Machine.Cutting.{before_line_feed, from_line_feed, front_of, cut_by, cutting}
+use Rattle.zone_text.proofs.Cuttings.{cut_is_read}
+use Rattle.zone_text.proofs.examples.tokens.quotes.Goals as goal
+
+pub returns : goal.returns
+unfolding units_by units_first before_line_feed from_line_feed front_of cut_by cutting
+returns c = record {
+  whole_entry = cut_is_read _ _ refl;
+  no_blanks = cut_is_read _ _ refl;
+  empty = cut_is_read _ _ refl;
+}

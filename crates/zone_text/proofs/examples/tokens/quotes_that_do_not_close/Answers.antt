@@ -1,0 +1,14 @@
+use Rattle.std.proofs.Common.{refl}
+use Rattle.zone_name.specs.Machine.Units.{units_by, units_first}
+use Rattle.zone_text.specs.Machine.Cutting.{before_line_feed, from_line_feed, front_of, cut_by, cutting}
+use Rattle.zone_text.proofs.Cuttings.{broken_is_read}
+use Rattle.zone_text.proofs.examples.tokens.quotes_that_do_not_close.Goals as goal
+
+pub returns : goal.returns
+unfolding units_by units_first before_line_feed from_line_feed front_of cut_by cutting
+returns c = record {
+  runs_over_lines = broken_is_read _ _ _ refl;
+  in_parentheses = broken_is_read _ _ _ refl;
+  quote_alone = broken_is_read _ _ _ refl;
+  escaped_quote = broken_is_read _ _ _ refl;
+}

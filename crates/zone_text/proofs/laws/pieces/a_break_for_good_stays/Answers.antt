@@ -1,5 +1,0 @@
-use Rattle.zone_text.proofs.Lasting.{breaks_for_good}
-use Rattle.zone_text.proofs.laws.pieces.a_break_for_good_stays.Goals as goal
-
-pub returns : goal.returns
-returns c = breaks_for_good

@@ -1,5 +1,0 @@
-use Rattle.zone_text.proofs.Lasting.{cut_parted, break_parted}
-use Rattle.zone_text.proofs.laws.pieces.a_text_is_parted_at_depth_zero.Goals as goal
-
-pub returns : goal.returns
-returns c = record { cut = cut_parted; broken = break_parted }

@@ -1,5 +1,0 @@
-use Rattle.zone_text.proofs.Cuttings.{cut_or_broken}
-use Rattle.zone_text.proofs.laws.pieces.each_text_is_cut_or_breaks.Goals as goal
-
-pub returns : goal.returns
-returns c = cut_or_broken

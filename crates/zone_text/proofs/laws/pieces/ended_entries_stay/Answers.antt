@@ -1,5 +1,0 @@
-use Rattle.zone_text.proofs.Ending.{ended_entries_stay, ended_entries_first}
-use Rattle.zone_text.proofs.laws.pieces.ended_entries_stay.Goals as goal
-
-pub returns : goal.returns
-returns c = record { longer = ended_entries_stay; whole = ended_entries_first }

@@ -1,5 +1,0 @@
-use Rattle.zone_text.proofs.DecidedOnce.{ended_on_behind, entries_on_behind}
-use Rattle.zone_text.proofs.laws.pieces.entries_are_numbered_on.Goals as goal
-
-pub returns : goal.returns
-returns c = record { ended = ended_on_behind; all = entries_on_behind }

@@ -1,5 +1,0 @@
-use Rattle.zone_text.proofs.Ending.{entries_text}
-use Rattle.zone_text.proofs.laws.pieces.entries_joined_are_the_text.Goals as goal
-
-pub returns : goal.returns
-returns c = entries_text

@@ -1,0 +1,5 @@
+use Rattle.zone_text.proofs.Cuttings.{one_break}
+use Rattle.zone_text.proofs.laws.tokens.one_break_of_a_text.Goals as goal
+
+pub returns : goal.returns
+returns c = one_break
