@@ -154,8 +154,8 @@ marked [] more others many h = absurd (omega (arith, many))
 marked (a ∷ first) more others many h = mark_same a _ _ h
 
 fault_for : (origin : List (List ℕ)) (laid : Option (List Field)) (first more others : List RawItem) (fault : Fault) → AreFew laid → AllByRecursion IsWritten first → 65543 ≤ length first → LeavesOut more others → IsFaultFor origin laid (first ++ others) fault → IsFaultFor origin laid (first ++ more) fault
-fault_for origin laid first more others _ few written many out (in_form fault mark bad) =
-    in_form fault (marked first more others many mark) (form_fault laid first more others fault written many bad)
+fault_for origin laid first more others _ few written many out (in_form fault bad) =
+    in_form fault (form_fault laid first more others fault written many bad)
 fault_for origin laid first more others _ few written many out (faults.in_words fields fault e unmarked bad) =
     faults.in_words fields fault e (λ h. unmarked (marked first others more many h)) (words_fault origin fields first more others fault (few fields e) many out bad)
 fault_for origin laid first more others _ few written many out (opaque_words e unmarked) =
@@ -164,7 +164,7 @@ fault_for origin laid first more others _ few written many out (opaque_words e u
 never_for : (origin : List (List ℕ)) (laid : Option (List Field)) (first others : List RawItem) (octets : List ℕ) → AreFew laid → AllByRecursion IsWritten first → 65543 ≤ length first → StatesFor origin laid (first ++ others) octets → ⊥
 never_for origin laid first others octets few written many (in_words fields values e unmarked spelt is short) =
     omega (arith, many, few fields e, short, ap length is, spelt_long origin fields (first ++ others) values spelt, length-append first others)
-never_for origin laid first others octets few written many (in_octets mark h) = generic_never first others h.0 written many h.1
+never_for origin laid first others octets few written many (in_octets h) = generic_never first others h.0 written many h.1
 
 are_few : (class kind : ℕ) → AreFew (layout class kind)
 are_few class kind fields e = (table_row class kind fields e).few
