@@ -24,7 +24,7 @@ use Rattle.zone_rdata.proofs.Tables.{each_mnemonic}
 use Rattle.zone_print.specs.Canonical.{line}
 use Rattle.zone_print.specs.Laws.{HasNoFeed, EndsWithItsFeed}
 
-none_append : (xs ys : List ℕ) → HasNoFeed xs → HasNoFeed ys → HasNoFeed (xs ++ ys)
+pub none_append : (xs ys : List ℕ) → HasNoFeed xs → HasNoFeed ys → HasNoFeed (xs ++ ys)
 none_append [] ys p q = q
 none_append (x ∷ xs) ys p q = (p.0, none_append xs ys p.1 q)
 
@@ -36,7 +36,7 @@ none_flat : {X : Type 0} (f : X → List ℕ) → ((x : X) → HasNoFeed (f x)) 
 none_flat f each [] = tt
 none_flat f each (x ∷ xs) = none_append (f x) (flat_map f xs) (each x) (none_flat f each xs)
 
-high : (c n : ℕ) → c ≡ n → 11 ≤ n → c ≢ 10
+pub high : (c n : ℕ) → c ≡ n → 11 ≤ n → c ≢ 10
 high c n e h f = omega arith
 
 -- ---- numbers
@@ -54,13 +54,13 @@ none_onto (suc k) n acc h =
     none_if (n / 10 == 0) (digit_glyph false (n % 10) ∷ acc) (digits_onto k 10 false (n / 10) (digit_glyph false (n % 10) ∷ acc))
     (λ e. (none_glyph (n % 10), h)) (λ e. none_onto k (n / 10) (digit_glyph false (n % 10) ∷ acc) (none_glyph (n % 10), h))
 
-none_decimal : (n : ℕ) → HasNoFeed (decimal n)
+pub none_decimal : (n : ℕ) → HasNoFeed (decimal n)
 unfolding digits
 none_decimal n = none_onto 64 n [] tt
 
 -- ---- literals
 
-abbrev has_no_feed : List ℕ → Bool
+abbrev pub has_no_feed : List ℕ → Bool
 has_no_feed [] = true
 has_no_feed (x ∷ xs) = if x == 10 then false else has_no_feed xs
 
@@ -68,7 +68,7 @@ none_here : (x : ℕ) (xs : List ℕ) (b : Bool) → x == 10 ≡ b → (IsTrue (
 none_here x xs true e rest h = let c : false ≡ true = h in absurd cc
 none_here x xs false e rest h = ((λ f. let c : true ≡ false = sym (eq-eqb x 10 f) ∙ e in cc), rest h)
 
-none_tested : (xs : List ℕ) → IsTrue (has_no_feed xs) → HasNoFeed xs
+pub none_tested : (xs : List ℕ) → IsTrue (has_no_feed xs) → HasNoFeed xs
 none_tested [] h = tt
 none_tested (x ∷ xs) h = none_here x xs (x == 10) refl (none_tested xs) h
 
@@ -91,7 +91,7 @@ none_octet c =
 none_label : (label : List ℕ) → HasNoFeed (label_text label)
 none_label label = none_append (flat_map octet_text label) (46 ∷ []) (none_flat octet_text none_octet label) (none_tested (46 ∷ []) refl)
 
-none_name : (labels : List (List ℕ)) → HasNoFeed (name_text labels)
+pub none_name : (labels : List (List ℕ)) → HasNoFeed (name_text labels)
 none_name [] = none_tested (46 ∷ []) refl
 none_name (label ∷ labels) = none_flat label_text none_label (label ∷ labels)
 

@@ -1,5 +1,5 @@
 ghost use Rattle.zone_text.specs.Forms.{form_of};
-ghost use Rattle.std.specs.Prelude.{List, map, IfOk, IfErr, OnOk};
+ghost use Rattle.std.specs.Prelude.{◌≡◌, List, map, IfOk, IfErr, OnErr, OnOk};
 ghost use Rattle.zone_name.specs.Common.{Labels};
 ghost use Rattle.zone_rdata.specs.Fault.{IfFault};
 ghost use Rattle.zone_rdata.specs.Item.{raw};
@@ -51,7 +51,8 @@ pub(crate) fn refuse(
     place: Place,
     decided: &mut Reading,
 ) -> Result<(), AllocError>
-    ensures { OnOk result (Refuses failing place decided.old decided.new) }
+    ensures decided { OnOk result (Refuses failing place decided.old decided.new) }
+    ensures memory { OnErr result (failing ≡ Failing.Memory) }
 {
     match failing {
         Failing::Fault(fault) => {

@@ -17,3 +17,4 @@ pub mod Running
 pub mod Telling
 pub mod Ascii
 pub mod Headline
+pub mod OneLine

@@ -10,7 +10,9 @@ ghost use Rattle.zone_rdata.specs.declared.fault.Place.{Place};
 ghost use Rattle.zone_rdata.specs.declared.record.Placed.{Placed};
 ghost use Rattle.zone_set.specs.Refusal.{records_of};
 ghost use Rattle.zone_set.specs.Zone.{Zone};
+ghost use Rattle.zone_rdata.specs.declared.fault.Stop.{Stop};
 ghost use Rattle.zone_print.specs.Canonical.{canon};
+ghost use Rattle.zone_print.specs.Laws.{HasNoFeed};
 ghost use Rattle.zone_print.specs.Denotes.{MakesZone};
 ghost use Rattle.zone_wire.specs.Walk.{Visit};
 ghost use Rattle.zonenorm.specs.declared.compare.Verdict.{Verdict};
@@ -21,6 +23,7 @@ ghost use Rattle.zonenorm.specs.Input.{file, Input, InputDenotes, InputForm, inp
 ghost use Rattle.zonenorm.specs.Machine.Input.{Decides, IsForm};
 ghost use Rattle.zonenorm.specs.Machine.Taking.{RefusesFront, RefusesRead};
 ghost use Rattle.zonenorm.specs.Normalise.{Normalises, NormalisesTo};
+ghost use Rattle.zonenorm.specs.Telling.{records_line, stop_line, verdict_line};
 ghost use Rattle.zonenorm.specs.Refusal.{IsRefusal, IsRefused, RefusesReading};
 
 /// A reading is refused for at most one fault, at one place.
@@ -175,3 +178,11 @@ pub fn same_is_one_zone()
     one_zone();
     headline();
 }
+
+/// No line that a run tells has a line feed: that on a stop, on an input that is accepted, and on a
+/// verdict. What is written is the line and one line feed.
+pub fn each_line_is_one_line()
+    ensures stop { (stop : Stop) → HasNoFeed (stop_line stop) }
+    ensures records { (count : ℕ) → HasNoFeed (records_line count) }
+    ensures verdict { (verdict : Verdict) → HasNoFeed (verdict_line verdict) }
+{}

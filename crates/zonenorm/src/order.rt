@@ -1,4 +1,4 @@
-ghost use Rattle.std.specs.Prelude.{◌≡◌, drop, map, IfOk, IfErr, IsNone, IfSome, string_bytes};
+ghost use Rattle.std.specs.Prelude.{◌≡◌, drop, map, IfOk, IfErr, IsErr, IsNone, IfSome, string_bytes};
 ghost use Rattle.clap.specs.Words.{subcommand_rows_of, kind_of};
 ghost use Rattle.clap.specs.declared.error.kind.ErrorKind.TheVariants.{OutOfMemory};
 ghost use Rattle.zone_name.specs.Common.{NothingIs};
@@ -227,7 +227,8 @@ fn without_command(alloc: Global) -> LineFault
 
 /// The text without the line feed at its end.
 fn told(text: Result<String, AllocError>) -> LineFault
-    ensures { IsOfClap result }
+    ensures kind { IsOfClap result }
+    ensures memory { result ≡ LineFault.Memory → IsErr text }
 {
     match text {
         Ok(mut text) => {

@@ -8,4 +8,4 @@ pub returns-in-Err : goal.returns-in-Err
 returns-in-Err c origin before entry so_far form =
     refused_entry c.refuse.result origin before entry c.args.place c.args.decided.now c.refuse.new.decided c.follow.new.self (failings.Fault c.in-Err.fault)
     (c.in-Err.ensures.fault origin before entry so_far (form ∙ ap form_in c.in-Directive.is))
-    c.refuse.ensures
+    c.refuse.ensures.decided

@@ -11,13 +11,13 @@ pub returns-in_default : goal.returns-in_default
 returns-in_default c origin before entry so_far form =
     refused_entry c.refuse.result origin before entry c.args.place c.args.decided.now c.refuse.new.decided _ (failings.Fault NoOwner)
     (of_owner (rw (form, c.in_default.is) refl))
-    c.refuse.ensures
+    c.refuse.ensures.decided
 
 pub returns-in-Err : goal.returns-in-Err
 returns-in-Err c origin before entry so_far form =
     refused_entry c.refuse-in-Err.result origin before entry c.args.place c.args.decided.now c.refuse-in-Err.new.decided _ c.from.result
     (rw c.from.ensures (of_owner (rw (form, c.in-Bare.is) (c.args.self.now.origin, (so_far.under, (c.in-Err.fault, c.in-Err.ensures.fault, refl))))))
-    c.refuse-in-Err.ensures
+    c.refuse-in-Err.ensures.decided
 
 pub returns : goal.returns
 returns c origin before entry so_far form =

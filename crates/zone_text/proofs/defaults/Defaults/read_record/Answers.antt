@@ -15,14 +15,14 @@ pub returns-in_default : goal.returns-in_default
 returns-in_default c origin before entry has =
     refused_entry c.refuse.result origin before entry c.args.place c.args.decided.now c.refuse.new.decided _ (failings.Fault NoOwner)
     (no_owner origin before entry c.args.self.now _ has c.in_default.is)
-    c.refuse.ensures
+    c.refuse.ensures.decided
 
 pub returns-in-Err : goal.returns-in-Err
 returns-in-Err c origin before entry has =
     let one = one_owner origin before entry c.args.self.now _ _ has c.in-Some.is in
     refused_entry c.refuse-in-Err.result origin before entry c.args.place c.args.decided.now c.refuse-in-Err.new.decided _ c.in-Err.failing
     (c.in-Err.ensures.fault origin before entry _ one.0)
-    c.refuse-in-Err.ensures
+    c.refuse-in-Err.ensures.decided
 
 pub returns-in_ok-push_back-in-Ok-new : goal.returns-in_ok-push_back-in-Ok-new
 returns-in_ok-push_back-in-Ok-new c origin before entry has =
@@ -43,4 +43,4 @@ returns-in-Err-new c origin before entry has =
     let over : 2147483647 < c.in-Ok.contents.ttl = elim (cases_lt 2147483647 c.in-Ok.contents.ttl) [ inl more ↦ more | inr few ↦ absurd (let clash : false ≡ true = c.in-Err-new.ensures.ok.1 few in let never : ⊥ = cc in never) ] in
     refused_entry c.refuse-in-Err-new.result origin before entry c.args.place c.args.decided.now c.refuse-in-Err-new.new.decided _ (failings.Fault c.in-Err-new.fault)
     (rw c.in-Err-new.ensures.err (long_ttl c.lower_laws.ensures origin before entry c.args.self.now reads.head _ _ _ _ reads.read over))
-    c.refuse-in-Err-new.ensures
+    c.refuse-in-Err-new.ensures.decided
