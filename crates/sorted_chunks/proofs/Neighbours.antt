@@ -1,5 +1,5 @@
 -- What stands about a place.
-use Rattle.std.proofs.Common.{◌≡◌, ℕ, ◌+◌, ◌-◌, ◌<◌, ◌≤◌, List, [], ◌∷◌, ◌++◌, zero, suc, length, take, drop, get_or, sym, ap, ◌∙◌, arith, ⊎_elim}
+use Rattle.std.proofs.Common.{◌≡◌, ℕ, ◌+◌, ◌-◌, ◌<◌, ◌≤◌, List, [], ◌∷◌, ◌++◌, zero, suc, length, take, drop, get_or, sym, ap, subst, ◌∙◌, arith, ⊎_elim}
 use Rattle.std.proofs.lemmas.Bool.{cases_eq}
 use Rattle.std.proofs.lemmas.List.{append-nil, append_assoc, take-append-drop, drop_more, drop_all, take_all, take_more, get_or_past, get_or_default}
 use Rattle.std.proofs.lemmas.List.Elements.{All-cons, All-from_recursion, All-nil, recursion_from_All}
@@ -109,3 +109,21 @@ module _ {X : Type 0} where
       parts : (xs ys : List X) → AllByRecursion P (xs ++ ys) → AllByRecursion P xs × AllByRecursion P ys
       parts [] ys all = (tt, all)
       parts (x ∷ xs) ys all = let more = parts xs ys all.1 in ((all.0, more.0), more.1)
+
+  -- the place at the end of the last chunk
+  pub before_end : (cs : List (List X)) (i j : ℕ) → i + 1 ≡ length cs → j ≡ length (get_or cs i []) → before cs (record { chunk = i; offset = j }) ≡ joined cs
+  before_end cs i j last end =
+      sym (append-nil (before cs (record { chunk = i; offset = j })))
+      ∙ ap (λ l. before cs (record { chunk = i; offset = j }) ++ l) (sym (none_after cs i j (omega (arith, end)) (omega (arith, last))))
+      ∙ whole_at cs i j (omega (arith, last))
+
+  -- what holds of each element holds of the last, and of none
+  pub at_last : (P : X → Type 0) (front : List X) (x : X) (xs : List X) → xs ≡ front ++ x ∷ [] → All P xs → P x
+  at_last P front x xs is all = by front (recursion_from_All P (front ++ x ∷ []) (subst (All P) is all))
+    where
+      by : (ys : List X) → AllByRecursion P (ys ++ x ∷ []) → P x
+      by [] each = each.0
+      by (y ∷ ys) each = by ys each.1
+
+  pub all_of_none : (P : X → Type 0) (xs : List X) → xs ≡ [] → All P xs
+  all_of_none P xs none = subst (All P) (sym none) (All-nil P)

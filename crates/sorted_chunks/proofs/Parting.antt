@@ -30,6 +30,12 @@ module _ {X : Type 0} (p : X → Bool) where
       let at_x : p (get_or (a ++ x ∷ z) (length a) x) ≡ true = ap p (get_or_at a x z x (length a) refl) ∙ passes in
       sym (ap p (get_or_append_left a (x ∷ z) x k lt)) ∙ parts k (length a) x (omega arith) (omega (arith, whole)) at_x)
 
+  -- where the last element passes, all do
+  pub all_pass : (xs a : List X) (x : X) → xs ≡ a ++ x ∷ [] → p x ≡ true → IsPartitionedBy p xs → All (λ y. p y ≡ true) xs
+  all_pass xs a x is passes parts =
+      subst (λ l. All (λ y. p y ≡ true) l) (sym is)
+      (All-append (λ y. p y ≡ true) a (x ∷ []) (passes_before a [] x (subst (λ l. IsPartitionedBy p l) is parts) passes) (All-cons (λ y. p y ≡ true) x [] passes (All-nil (λ y. p y ≡ true))))
+
   not_true : (b : Bool) → (b ≡ true → ⊥) → b ≡ false
   not_true true never = absurd (never refl)
   not_true false never = refl
