@@ -18,6 +18,7 @@ use Rattle.zone_set.specs.Zone.{Zone, IsZone}
 use Rattle.zonenorm.specs.Input.{InputForm, input_of, Reads}
 use Rattle.zonenorm.specs.Machine.Input.{Decides, IsForm}
 use Rattle.zonenorm.specs.Machine.Taking.{IsTaken, all_taken, front_refuses, nothing_pending, RefusesFront, by_record, by_ending, ReadsZone, RefusesRead}
+use Rattle.zonenorm.specs.Normalise.{IsOfBytes}
 use Rattle.zonenorm.specs.Refusal.{RefusesReading, refused, unread, unfinished, IfRefused}
 use Rattle.zonenorm.proofs.Accepted.{IsRefusedFor-same, StopsFinish-same, taken_accepted}
 use Rattle.zonenorm.proofs.Added.{added_all, AddsEach-append}
@@ -43,6 +44,13 @@ module _ (given : List Placed) (held : List Record) (pending : Pending) (each : 
   front_refused new rest _ (memory taken others p works parts more left) = tt
   front_refused new rest _ (refused_record taken others p f works parts more left why) = by_record f p.place (first_refused taken others p new f parts more why)
   front_refused new rest _ (ending_fault e works is more left) = by_ending e.0 e.1 (taken_accepted (given ++ pending.records) new (AddsEach-append [] held new given pending.records each more)) is
+
+-- taking records stops for no failed read and no failed write
+pub taking_is_of_bytes : (old new : List Record) (pending rest : Pending) (stop : Stop) → StopsTaking old pending new rest stop → IsOfBytes stop
+taking_is_of_bytes old new pending rest _ (failure fails same kept) = tt
+taking_is_of_bytes old new pending rest _ (memory taken others p works parts more left) = tt
+taking_is_of_bytes old new pending rest _ (refused_record taken others p f works parts more left why) = tt
+taking_is_of_bytes old new pending rest _ (ending_fault e works is more left) = tt
 
 not_both : {e : Fault × Place} → Some e ≡ None → ⊥
 not_both same = cc

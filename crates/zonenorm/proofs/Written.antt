@@ -13,7 +13,7 @@ use Rattle.zone_print.specs.Writing.{StopsPush, StopsWrite}
 use Rattle.zone_print.specs.Writing as printing
 use Rattle.zonenorm.specs.Input.{Input, IsInput, InputDenotes, Reads, States}
 use Rattle.zonenorm.specs.Machine.Taking.{ReadsZoneWithin}
-use Rattle.zonenorm.specs.Normalise.{Normalises, NormalisesTo, WritesNothing, WritesPrefix}
+use Rattle.zonenorm.specs.Normalise.{IsOfBytes, Normalises, NormalisesTo, WritesNothing, WritesPrefix}
 use Rattle.zonenorm.specs.Refusal.{IfRefused, IsRefusal, reading, too_large}
 use Rattle.zonenorm.specs.Stops.{TellsRead}
 
@@ -58,3 +58,8 @@ pub prints_no_read : (works failed : Type 0) (limit : ℕ) (text : Octets) (old 
 prints_no_read works failed limit text old new _ on (printing.large long kept) = on
 prints_no_read works failed limit text old new _ on (printing.memory short front) = on
 prints_no_read works failed limit text old new _ on (printing.write short front) = on
+
+-- printing a text stops for no failed read and no failed write
+pub pushing_is_of_bytes : (limit : ℕ) (text : Octets) (stop : Stop) → StopsPush limit text stop → IsOfBytes stop
+pushing_is_of_bytes limit text _ (printing.large long) = tt
+pushing_is_of_bytes limit text _ printing.memory = tt

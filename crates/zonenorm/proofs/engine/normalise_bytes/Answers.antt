@@ -1,6 +1,6 @@
 use Rattle.std.proofs.lemmas.Result.{MatchResult-weaker}
 use Rattle.zonenorm.proofs.Feeding.{is_input}
-use Rattle.zonenorm.proofs.Written.{normalises_to, refused_pushing}
+use Rattle.zonenorm.proofs.Written.{normalises_to, refused_pushing, pushing_is_of_bytes}
 use Rattle.zonenorm.proofs.engine.normalise_bytes.Goals as goal
 
 pub returns-clause-accepted : goal.returns-clause-accepted
@@ -8,3 +8,6 @@ returns-clause-accepted c = normalises_to _ _ c.in_ok-zone.ensures.zone c.what_i
 
 pub returns-clause-fault : goal.returns-clause-fault
 returns-clause-fault c = MatchResult-weaker c.push_zone.result c.push_zone.ensures.stopped (λ x h. h) (λ stop h. refused_pushing _ _ c.in_ok-zone.ensures.zone stop h)
+
+pub returns-clause-stopped : goal.returns-clause-stopped
+returns-clause-stopped c = MatchResult-weaker c.push_zone.result c.push_zone.ensures.stopped (λ x h. h) (λ stop h. pushing_is_of_bytes _ _ stop h)

@@ -1,5 +1,5 @@
 use Rattle.std.proofs.lemmas.Result.{err_from_is_err_and, MatchResult-weaker}
-use Rattle.zonenorm.proofs.Taken.{zone_of_records, zone_read, taking_refused, finishing_refused}
+use Rattle.zonenorm.proofs.Taken.{zone_of_records, zone_read, taking_refused, finishing_refused, taking_is_of_bytes}
 use Rattle.zonenorm.proofs.taking.Taking.finish.Goals as goal
 
 pub returns-in_err-take_all-in-None-clause-fault : goal.returns-in_err-take_all-in-None-clause-fault
@@ -8,6 +8,11 @@ returns-in_err-take_all-in-None-clause-fault g c =
     rw (p.1, p.2) (λ form octets is each taken.
     taking_refused _ g.S.FedSource.Stands form _ (g.S.RrSource.pending c.finish.new.self) _ (g.S.FedSource.held c.finish.new.self) c.args.self.builder octets c.args.self.refusal c.in-None.is
     g.S.FedSource.finished (g.met.S.FedSource.reads form) c.in_ok-finish-in-None.ensures.ended (λ given. c.in_ok-finish-in-None.ensures.stands form octets given) _ _ _ c.in_err-take_all-in-None.ensures.stopped taken)
+
+pub returns-in_err-take_all-in-None-clause-stopped : goal.returns-in_err-take_all-in-None-clause-stopped
+returns-in_err-take_all-in-None-clause-stopped g c =
+    let p = err_from_is_err_and c.from_residual-in_err-take_all-in-None.result c.from_residual-in_err-take_all-in-None.ensures.1 in
+    rw (p.1, p.2) (taking_is_of_bytes _ _ _ _ _ c.in_err-take_all-in-None.ensures.stopped)
 
 pub returns-in_ok-take_all-in-None-clause-zone : goal.returns-in_ok-take_all-in-None-clause-zone
 returns-in_ok-take_all-in-None-clause-zone g c =
