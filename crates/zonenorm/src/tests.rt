@@ -7,7 +7,6 @@ use zone_rdata::{Failing, Fault, Stop};
 mod addresses;
 mod answers;
 mod devices;
-mod entries;
 mod explained;
 mod fed_files;
 mod files;

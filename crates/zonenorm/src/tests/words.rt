@@ -8,8 +8,6 @@ use zone_rdata::{Class, Fault, Field, Kind, layout_of, seconds_of};
 #[derive(Clone, Copy)]
 enum Asked {
     Word(&'static [u8]),
-    /// As a word of an entry is read.
-    EntryWord(&'static [u8]),
     Number(u64),
 }
 
@@ -19,7 +17,6 @@ struct ReadClass(Asked, Result<Option<(u16, &'static [u8])>, &'static str>);
 fn class_of(asked: Asked) -> Result<Option<Class>, Fault> {
     match asked {
         Asked::Word(word) => Class::from_word(word),
-        Asked::EntryWord(word) => Ok(Class::read_word(word)?),
         Asked::Number(number) => Ok(Some(Class::from_number(number)?)),
     }
 }
@@ -39,9 +36,7 @@ impl Case for ReadClass {
     }
 }
 
-static CLASSES: [ReadClass; 11] = [
-    ReadClass(Asked::EntryWord(b"ch"), Ok(Some((3, b"CH")))),
-    ReadClass(Asked::EntryWord(b"CLASS255"), Err("BadClass")),
+static CLASSES: [ReadClass; 9] = [
     ReadClass(Asked::Word(b"In"), Ok(Some((1, b"IN")))),
     ReadClass(Asked::Word(b"in"), Ok(Some((1, b"IN")))),
     ReadClass(Asked::Word(b"class0032"), Ok(Some((32, b"CLASS32")))),
@@ -59,7 +54,6 @@ struct ReadKind(Asked, u64, Result<(u16, &'static [u8]), &'static str>);
 fn kind_of(asked: Asked) -> Result<Kind, Fault> {
     match asked {
         Asked::Word(word) => Kind::from_word(word),
-        Asked::EntryWord(word) => Ok(Kind::read_word(word)?),
         Asked::Number(number) => Kind::from_number(number),
     }
 }
@@ -83,10 +77,7 @@ impl Case for ReadKind {
     }
 }
 
-static KINDS: [ReadKind; 16] = [
-    ReadKind(Asked::EntryWord(b"mx"), 1, Ok((15, b"MX"))),
-    ReadKind(Asked::EntryWord(b"M"), 1, Err("UnknownType")),
-    ReadKind(Asked::EntryWord(b"TYPE41"), 1, Err("MetaType")),
+static KINDS: [ReadKind; 13] = [
     ReadKind(Asked::Word(b"sOa"), 1, Ok((6, b"SOA"))),
     ReadKind(Asked::Word(b"SOA"), 1, Ok((6, b"SOA"))),
     ReadKind(Asked::Word(b"ns"), 1, Ok((2, b"NS"))),
