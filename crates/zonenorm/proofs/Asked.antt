@@ -12,7 +12,7 @@ use Rattle.std.proofs.lemmas.List.{take_all}
 use Rattle.clap.proofs.WalkLemmas.{first_value-rows}
 use Rattle.zone_name.specs.Common.{NothingIs}
 use Rattle.zone_name.specs.Spelling.{Spells}
-use Rattle.zonenorm.specs.Order.{program_app, Asks, Call, Calls, command_of, arguments_of, Finds, HasBadOrigin, IsLineFault, IsOriginText, Orders}
+use Rattle.zonenorm.specs.Order.{program_app, Asks, Call, Calls, command_of, arguments_of, Finds, IsLineFault, IsOriginText, Orders}
 use Rattle.zonenorm.specs.Order as orders
 use Rattle.zonenorm.specs.Machine.Calling.{IsOfCall, IsOfClap}
 use Rattle.zonenorm.specs.declared.order.Order.{Order}
@@ -122,7 +122,7 @@ pub order_given : (words : List Text) (call : Call) (r : Result Order LineFault)
 order_given words call (Ok order) calls asks = (call, calls, asks)
 order_given words call (Err fault) calls asks = tt
 
-pub order_refused : (words : List Text) (call : Call) (r : Result Order LineFault) → Calls words call → IfErr r (IsOfCall (HasBadOrigin call)) → IfErr r (IsLineFault words)
+pub order_refused : (words : List Text) (call : Call) (r : Result Order LineFault) → Calls words call → IfErr r (IsOfCall call) → IfErr r (IsLineFault words)
 order_refused words call (Ok order) calls bad = tt
 order_refused words call (Err BadOrigin) calls bad = (call, calls, bad)
 order_refused words call (Err (Clap told)) calls bad = absurd bad

@@ -1,7 +1,6 @@
 -- No line that people are told has a line feed.
-use Rattle.std.proofs.Common.{◌≡◌, ℕ, List, [], ◌∷◌, ◌++◌, codes, refl, arith}
+use Rattle.std.proofs.Common.{ℕ, List, ◌++◌, codes, refl, arith}
 use Rattle.std.specs.Prelude.{IsTrue, decimal}
-use Rattle.zone_name.specs.Text.{name_text}
 use Rattle.zone_print.specs.Laws.{HasNoFeed}
 use Rattle.zone_print.proofs.Feeds.{has_no_feed, high, none_append, none_decimal, none_name, none_tested}
 use Rattle.zone_rdata.specs.declared.fault.Fault.{Fault}

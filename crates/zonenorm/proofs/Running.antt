@@ -1,7 +1,7 @@
 -- From what an order's call answers, and what is told of it, to what a run leaves.
-use Rattle.std.proofs.Common.{◌≡◌, ◌-◌, ◌^◌, ◌++◌, ℕ, List, [], ◌∷◌, length, min, refl, sym, subst}
-use Rattle.std.specs.Prelude.{Option, Some, None, IfSome}
-use Rattle.std.specs.Io.KnownBytes.{IsAtEnd, Keeps}
+use Rattle.std.proofs.Common.{◌≡◌, ◌-◌, ◌^◌, ◌++◌, ℕ, List, [], length, min, refl, subst, ap, Global}
+use Rattle.std.specs.Prelude.{Option, Some, None, IfOk, IfSome, OnErr, Result, Ok, Err, String, string_bytes}
+use Rattle.std.specs.Io.KnownBytes.{IsAtEnd}
 use Rattle.zone_rdata.specs.declared.fault.Fault.{Fault}
 use Rattle.zone_rdata.specs.declared.fault.Place.{Place}
 use Rattle.zone_rdata.specs.declared.fault.Stop.{Stop}
@@ -13,12 +13,13 @@ use Rattle.zonenorm.specs.Compare.{Compares, ReadsWholeTo, StopsCompare, TellsRe
 use Rattle.zonenorm.specs.Explain.{accepted, refused, Explains, IsExplanation, StopsExplain}
 use Rattle.zonenorm.specs.Input.{InputDenotes, InputForm, input_of}
 use Rattle.zonenorm.specs.Machine.Telling.{explained, told, unexplained, untold, IsReported, TellsVerdict}
-use Rattle.zonenorm.specs.Normalise.{Normalises, ReadsWhole, WritesNothing, WritesPrefix}
+use Rattle.zonenorm.specs.Normalise.{Normalises, ReadsWhole}
 use Rattle.zonenorm.specs.Refusal.{IfRefused, IsRefusal}
-use Rattle.zonenorm.specs.Run.{form_with, AreCompared, CarriesOut, Device, Devices, IsLeft, IsStopped, Runs, StopsNormalise, TellsLine}
+use Rattle.zonenorm.specs.Run.{form_with, AreCompared, Device, Devices, IsLeft, IsStopped, Runs, StopsNormalise, TellsLine}
 use Rattle.zonenorm.specs.Run as runs
 use Rattle.zonenorm.specs.Stops.{TellsRead}
 use Rattle.zonenorm.specs.Telling.{records_line, refusal_line, stop_line, verdict_line, which_words, WritesLine, WritesPartOfLine}
+use Rattle.zonenorm.proofs.Telling.{told_as}
 use Rattle.zonenorm.specs.declared.compare.Verdict.{Verdict}
 use Rattle.zonenorm.specs.declared.compare.Which.{Which}
 use Rattle.zonenorm.specs.declared.order.Order.{Order}
@@ -57,6 +58,16 @@ module _ (form : InputForm) (known old new : Known) where
 tells : (order : Order) (d : Devices) (words : List ℕ) (stop : Stop) (answer : ℕ) → IsStopped d order words stop → IsReported words d.errors stop answer → Runs order d answer
 tells order d words _ _ is (explained stop answer line) = runs.stopped words stop answer is line
 tells order d words _ _ is (unexplained fault place answer line) = runs.unexplained words fault place answer is line
+
+-- the line of a refusal, or that memory was refused for it
+pub refusal_told : {F : Type 0} (words : List ℕ) (errors : Device) (fault : Fault) (place : Place) (line : Result (String Global) F) (answer : ℕ)
+    → IfOk line (λ l. string_bytes l ≡ refusal_line fault place)
+    → IfOk line (λ l. TellsLine (words ++ string_bytes l) 3 errors answer)
+    → OnErr line (TellsLine (words ++ stop_line Memory) 4 errors answer)
+    → IsReported words errors (Refused fault place) answer
+refusal_told words errors fault place (Ok line) answer is line_told memory_told =
+    explained (Refused fault place) answer (told_as _ _ _ _ _ _ (ap (λ (l : List ℕ). words ++ l) is) refl line_told)
+refusal_told words errors fault place (Err e) answer is line_told memory_told = unexplained fault place answer memory_told
 
 -- a verdict whose line was not written whole is told as a failed write
 pub not_told : (verdict : Verdict) (output errors : Device) (stop : Stop) (answer : ℕ) → WritesPartOfLine (verdict_line verdict) output.old output.new → IsFailedWrite output.failed stop → IsReported [] errors stop answer → TellsVerdict verdict output errors answer

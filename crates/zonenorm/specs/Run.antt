@@ -1,5 +1,5 @@
 -- What a run of an order reads, writes and answers (this project's own).
-use Rattle.std.specs.Prelude.{◌≡◌, ℕ, ◌+◌, List, [], ◌++◌, Option, Some, None, IfSome}
+use Rattle.std.specs.Prelude.{ℕ, ◌+◌, List, [], ◌++◌, Option, Some, None, IfSome}
 use Rattle.std.specs.Io.KnownBytes.{IsAtEnd, Keeps}
 use Rattle.zone_rdata.specs.declared.fault.Fault.{Fault}
 use Rattle.zone_rdata.specs.declared.fault.Place.{Place}
@@ -115,7 +115,7 @@ pub data IsStopped (d : Devices) : Order → List ℕ → Stop → Type 0 where
       → IsStopped d (Compare first second) [] Write
 
 -- What a run of an order leaves, with its exit status. It is carried out, and standard error is left; or the line on what
--- stopped it is told there; or want of memory is, which was refused for the line of a refusal.
+-- stopped it is told there; or want of memory is, in place of the line of a refusal, which takes memory.
 pub data Runs (order : Order) (d : Devices) : ℕ → Type 0 where
   done : (status : ℕ) → CarriesOut d order status → IsLeft d.errors → Runs order d status
   stopped : (words : List ℕ) (stop : Stop) (status : ℕ) → IsStopped d order words stop

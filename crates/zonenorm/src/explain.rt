@@ -1,4 +1,4 @@
-ghost use Rattle.std.specs.Prelude.{◌≡◌, ◌<◌, ◌++◌, ◌∷◌, [], IfErr, IfOk, OnErr, OnOk, string_bytes};
+ghost use Rattle.std.specs.Prelude.{◌≡◌, ◌<◌, ◌++◌, ◌∷◌, [], IfErr, IfOk, IsOk, OnErr, OnOk, string_bytes};
 ghost use Rattle.std.specs.List.{AllByRecursion};
 ghost use Rattle.zone_name.specs.Text.{name_text};
 ghost use Rattle.zone_print.specs.Canonical.{text_limit};
@@ -105,9 +105,10 @@ pub(crate) fn refusal_line(alloc: Global, fault: &Fault, place: Place) -> Result
     Ok(line)
 }
 
-/// The error code or the owner that the fault names.
+/// The error code or the owner that the fault names. It takes no memory where there is neither.
 fn push_argument(alloc: Global, line: &mut String, fault: &Fault) -> Result<(), AllocError>
-    ensures { OnOk result (string_bytes line.new ≡ string_bytes line.old ++ argument_of fault.now) }
+    ensures text { OnOk result (string_bytes line.new ≡ string_bytes line.old ++ argument_of fault.now) }
+    ensures nothing { argument_of fault.now ≡ [] → IsOk result }
 {
     match fault {
         Fault::ErrorCode(code) => write!(line, " {code}"),

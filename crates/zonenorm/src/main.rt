@@ -2,6 +2,8 @@
 //! as captured zone transfers.
 #![tactic(auto)]
 
+ghost use Rattle.zonenorm.specs.Machine.Calling.{IsOfClap};
+
 mod command;
 mod compare;
 mod engine;
@@ -59,7 +61,9 @@ fn ordered<R: Env + AllocGlobal>(rt: &R) -> Result<Order, LineFault> {
 }
 
 /// Why there are no words: memory was refused, or one of them is no text.
-fn no_words<R: AllocGlobal>(rt: &R, error: &io::Error) -> LineFault {
+fn no_words<R: AllocGlobal>(rt: &R, error: &io::Error) -> LineFault
+    ensures { IsOfClap result }
+{
     if error.kind() == io::ErrorKind::OutOfMemory {
         return LineFault::Memory;
     }

@@ -1,5 +1,5 @@
 //! The inputs of an order, opened.
-ghost use Rattle.zonenorm.specs.Machine.Opened.{TakesStandard};
+ghost use Rattle.zonenorm.specs.Machine.Opened.{IsOpened, TakesStandard};
 
 use crate::order::{Order, Source};
 use std::fs::{File, Files};
@@ -35,7 +35,8 @@ pub(crate) fn inputs<R: Files, S: Drop>(
     standard: S,
     order: &Order,
 ) -> (Input<S, R::File>, Input<S, R::File>)
-    ensures { TakesStandard order.now standard result.0 }
+    ensures first { TakesStandard order.now standard result.0 }
+    ensures second { IsOpened result.1 }
 {
     match order {
         Order::Normalise(_) | Order::Explain(_) => (Input::Standard(standard), Input::Missing),
@@ -43,7 +44,10 @@ pub(crate) fn inputs<R: Files, S: Drop>(
     }
 }
 
-fn opened<R: Files, S>(rt: &R, source: &Source) -> Input<S, R::File> {
+/// The file of a source.
+fn opened<R: Files, S>(rt: &R, source: &Source) -> Input<S, R::File>
+    ensures { IsOpened result }
+{
     match File::open(rt, source.path.as_str()) {
         Ok(file) => Input::File(file),
         Err(_) => Input::Missing,

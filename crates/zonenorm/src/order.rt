@@ -3,7 +3,7 @@ ghost use Rattle.clap.specs.Words.{subcommand_rows_of, kind_of};
 ghost use Rattle.clap.specs.declared.error.kind.ErrorKind.TheVariants.{OutOfMemory};
 ghost use Rattle.zone_name.specs.Common.{NothingIs};
 ghost use Rattle.zonenorm.specs.Machine.Calling.{texts_of, IsOfCall, IsOfClap};
-ghost use Rattle.zonenorm.specs.Order.{Asks, Finds, HasBadOrigin, IsOriginText, IsSource, Orders, IsLineFault, line_status, line_text};
+ghost use Rattle.zonenorm.specs.Order.{Asks, Finds, IsOriginText, IsSource, Orders, IsLineFault, line_status, line_text};
 
 use crate::command::program;
 use crate::explain::OUT_OF_MEMORY;
@@ -137,10 +137,10 @@ impl Call<'_> {
     ///
     /// # Errors
     ///
-    /// `BadOrigin` and `Memory`.
+    /// `BadOrigin`, and `Memory`, which only paths take.
     fn order(self, alloc: Global) -> Result<Order, LineFault>
         ensures ordered { IfOk result (Asks (texts_of self.entry)) }
-        ensures refused { IfErr result (IsOfCall (HasBadOrigin (texts_of self.entry))) }
+        ensures refused { IfErr result (IsOfCall (texts_of self.entry)) }
     {
         match self {
             Call::Normalise(origin) => Ok(Order::Normalise(origin_of(origin)?)),

@@ -1,9 +1,10 @@
-ghost use Rattle.std.specs.Prelude.{◌≡◌, ◌++◌, IfErr, OnErr, OnOk};
+ghost use Rattle.std.specs.Prelude.{◌≡◌, ◌++◌, IfErr, IfOk, OnErr, OnOk, string_bytes};
 ghost use Rattle.zone_print.specs.Writing.{IsFailedWrite};
+ghost use Rattle.zone_rdata.specs.declared.fault.Stop.TheVariants.{Memory};
 ghost use Rattle.zonenorm.specs.Machine.Telling.{IsReported, TellsVerdict};
 ghost use Rattle.zonenorm.specs.Order.{line_status, line_text};
 ghost use Rattle.zonenorm.specs.Run.{device, devices, ReadsFew, ReadsSecond, Runs, TellsLine};
-ghost use Rattle.zonenorm.specs.Telling.{verdict_line, verdict_status, which_words, WritesLine, WritesPartOfLine};
+ghost use Rattle.zonenorm.specs.Telling.{stop_line, verdict_line, verdict_status, which_words, WritesLine, WritesPartOfLine};
 
 use crate::compare::{Verdict, Which, compare};
 use crate::engine::normalise;
@@ -14,7 +15,7 @@ use crate::octets::OctetReader;
 use crate::order::{LineFault, Order};
 use crate::status;
 use itoa::Buffer;
-use std::alloc::Global;
+use std::alloc::{AllocError, Global};
 use zone_print::OctetWriter;
 use zone_rdata::Stop;
 
@@ -147,13 +148,30 @@ fn report<E: OctetWriter>(alloc: Global, words: &str, stop: &Stop, errors: &mut 
         stop.now result }
 {
     match stop {
-        Stop::Refused(fault, place) => match refusal_line(alloc, fault, *place) {
-            Ok(line) => tell(words, line.as_str(), status::REFUSED, errors),
-            Err(_) => tell(words, OUT_OF_MEMORY, status::FAILED, errors),
-        },
+        Stop::Refused(fault, place) => {
+            tell_refusal(words, refusal_line(alloc, fault, *place), errors)
+        }
         Stop::Read => tell(words, READ_FAILED, status::FAILED, errors),
         Stop::Write => tell(words, WRITE_FAILED, status::FAILED, errors),
         Stop::Memory => tell(words, OUT_OF_MEMORY, status::FAILED, errors),
+    }
+}
+
+/// Tells the line of a refusal after these words, or that memory was refused for it, and answers the
+/// status.
+fn tell_refusal<E: OctetWriter>(words: &str, line: Result<String, AllocError>, errors: &mut E) -> u8
+    ensures told { IfOk line (λ line. TellsLine (words.now ++ string_bytes line) 3
+        (device (E.contents errors.old) (E.contents errors.new)
+        (E.Works errors.old → E.Works errors.new) (E.Works errors.old → E.Failed errors.new))
+        result) }
+    ensures untold { OnErr line (TellsLine (words.now ++ stop_line Memory) 4
+        (device (E.contents errors.old) (E.contents errors.new)
+        (E.Works errors.old → E.Works errors.new) (E.Works errors.old → E.Failed errors.new))
+        result) }
+{
+    match line {
+        Ok(line) => tell(words, line.as_str(), status::REFUSED, errors),
+        Err(_) => tell(words, OUT_OF_MEMORY, status::FAILED, errors),
     }
 }
 

@@ -8,6 +8,7 @@ mod addresses;
 mod answers;
 mod devices;
 mod explained;
+mod failing_reads;
 mod fed_files;
 mod files;
 mod generated;

@@ -2,7 +2,7 @@
 use Rattle.std.specs.Prelude.{◌≡◌}
 use Rattle.clap.specs.Words.{App, AddsSubcommand, app_of, with_subcommand}
 use Rattle.clap.specs.declared.builder.Command.{Command}
-use Rattle.zonenorm.specs.Order.{Call, normalise, explain, compare}
+use Rattle.zonenorm.specs.Order.{Call, normalise, explain, compare, HasBadOrigin}
 use Rattle.zonenorm.specs.declared.order.Call as code
 use Rattle.zonenorm.specs.declared.order.Call.TheVariants as calls
 use Rattle.zonenorm.specs.declared.order.LineFault.{LineFault}
@@ -15,11 +15,17 @@ texts_of (calls.Explain origin) = explain origin.now
 texts_of (calls.Compare first second) =
     compare first.origin.now first.path.now second.origin.now second.path.now
 
--- a fault that the texts of a command make: a bad origin, where this says so, or want of memory
-abbrev pub IsOfCall : Type 0 → LineFault → Type 0
-IsOfCall Bad BadOrigin = Bad
-IsOfCall Bad (Clap told) = ⊥
-IsOfCall Bad Memory = Unit {0}
+-- a command whose order takes memory: the paths of a comparison do
+abbrev pub HasPaths : Call → Type 0
+HasPaths (normalise origin) = ⊥
+HasPaths (explain origin) = ⊥
+HasPaths (compare origin path origin' path') = Unit {0}
+
+-- a fault that the texts of a command make: a bad origin, or want of memory for its paths
+abbrev pub IsOfCall : Call → LineFault → Type 0
+IsOfCall call BadOrigin = HasBadOrigin call
+IsOfCall call (Clap told) = ⊥
+IsOfCall call Memory = HasPaths call
 
 -- a fault that `clap` or want of memory makes
 abbrev pub IsOfClap : LineFault → Type 0

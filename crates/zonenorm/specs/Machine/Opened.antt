@@ -13,8 +13,14 @@ remaining_of of_standard of_file (Standard input) = of_standard input
 remaining_of of_standard of_file (File file) = of_file file
 remaining_of of_standard of_file Missing = None
 
--- the first input of an order is standard input, but for a comparison
+-- it is a file, or missing, and not standard input
+abbrev pub IsOpened : {S F : Type 0} → Input S F → Type 0
+IsOpened (Standard input) = ⊥
+IsOpened (File file) = Unit {0}
+IsOpened Missing = Unit {0}
+
+-- the first input of an order is standard input, but for a comparison, which takes a file
 abbrev pub TakesStandard : {S F : Type 0} → Order → S → Input S F → Type 0
 TakesStandard (Normalise origin) standard input = input ≡ Standard standard
 TakesStandard (Explain origin) standard input = input ≡ Standard standard
-TakesStandard (Compare first second) standard input = Unit {0}
+TakesStandard (Compare first second) standard input = IsOpened input

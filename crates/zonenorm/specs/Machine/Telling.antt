@@ -8,7 +8,7 @@ use Rattle.zonenorm.specs.Run.{Device, IsLeft, TellsLine}
 use Rattle.zonenorm.specs.Telling.{stop_line, stop_status, verdict_line, verdict_status, WritesLine, WritesPartOfLine}
 use Rattle.zonenorm.specs.declared.compare.Verdict.{Verdict}
 
--- why a run stopped is told after these words, or that memory was refused for the line of a refusal
+-- why a run stopped is told after these words, or want of memory in place of the line of a refusal
 pub data IsReported (words : List ℕ) (errors : Device) : Stop → ℕ → Type 0 where
   explained : (stop : Stop) (status : ℕ) → TellsLine (words ++ stop_line stop) (stop_status stop) errors status
       → IsReported words errors stop status

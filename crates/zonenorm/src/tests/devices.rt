@@ -1,5 +1,5 @@
 //! Readers and writers that fail, and writers that take little at a time.
-use crate::order::{Order, order_of};
+use crate::order::{LineFault, Order, order_of};
 use crate::run::run;
 use crate::tests::orders::words_of;
 use crate::tests::zones::{reading_of, taken};
@@ -228,8 +228,10 @@ struct Mute(
 
 impl Case for Mute {
     fn is_right(&self, alloc: Global) -> Result<bool, Fail> {
-        let Ok(order) = order_of(alloc, &words_of(alloc, self.0)?) else {
-            return Err(Fail::from("no order"));
+        let order = match order_of(alloc, &words_of(alloc, self.0)?) {
+            Ok(order) => order,
+            Err(LineFault::Memory) => return Err(Fail::from("memory")),
+            Err(_) => return Err(Fail::from("no order")),
         };
         let (mut first, mut second) = (self.1, self.1);
         let (mut open, mut mute) = (roomy(alloc)?, Narrow::new(alloc, usize::MAX, 0, true)?);

@@ -1,6 +1,6 @@
 //! Records that make a zone, its records in order and its text (RFC 1035 5.2, RFC 2181 5, RFC 4034
 //! 6).
-use crate::tests::{Case, first_wrong, is_explained};
+use crate::tests::{Case, first_wrong, is_explained, roomy};
 use std::alloc::Global;
 use std::test::Fail;
 use zone_name::Name;
@@ -40,7 +40,7 @@ struct Whole(&'static [u8], u64, &'static [Held]);
 
 impl Whole {
     fn is(&self, alloc: Global, zone: &Zone) -> Result<bool, Fail> {
-        let mut written = Vec::new(alloc);
+        let mut written = roomy(alloc)?;
         write_zone(alloc, zone, &mut written)?;
         Ok(
             written.as_slice() == self.0
@@ -80,6 +80,7 @@ fn is_wanted(
 ) -> Result<bool, Fail> {
     match (answer, wanted) {
         (Ok(zone), Ok(whole)) => whole.is(alloc, &zone),
+        (Err(Stop::Memory), _) => Err(Fail::from("memory")),
         (Err(stop), Err(front)) => Ok(is_explained(alloc, &stop, front)?),
         _ => Ok(false),
     }
