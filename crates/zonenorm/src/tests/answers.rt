@@ -69,7 +69,7 @@ impl Case for Answer {
     }
 }
 
-static ANSWERS: [Answer; 27] = [
+static ANSWERS: &[Answer] = &[
     Answer(1, 2, 3600, b"\xc0\x1f", Ok((3600, b"\x01n\x01x\0"))),
     Answer(1, 2, 3600, b"\xc0\x3b", Ok((3600, b"\x01x\0"))),
     Answer(1, 2, 2147487248, b"\xc0\x1f", Ok((0, b"\x01n\x01x\0"))),
@@ -125,6 +125,6 @@ static ANSWERS: [Answer; 27] = [
 
 #[test]
 fn records_of_answers(rt: HostRuntime) -> Result<(), Fail> {
-    assert_eq!(rt; first_wrong(rt.alloc(), &ANSWERS)?, None);
+    assert_eq!(rt; first_wrong(rt.alloc(), ANSWERS)?, None);
     Ok(())
 }
