@@ -1,13 +1,10 @@
 //! Inputs whose reader fails at one of its reads, whatever was read before.
 use crate::form::Form;
 use crate::normalise;
-use crate::tests::parsing::octets_of;
+use crate::tests::notation::stream_of;
 use crate::tests::roomy;
-use crate::tests::streams::{
-    FIFTH_STREAMS, FIRST_STREAMS, FOURTH_STREAMS, SECOND_STREAMS, SIXTH_STREAMS, THIRD_STREAMS,
-};
-use crate::tests::transfers::Stream;
-use crate::tests::vectors::{Question, Vector, wrong};
+use crate::tests::streams::STREAMS;
+use crate::tests::vectors::{Question, Vector, wrong, wrong_in};
 use std::alloc::Global;
 use std::io;
 use std::io::{ErrorKind, Read};
@@ -62,7 +59,7 @@ struct OfFailingReads;
 
 impl Question for OfFailingReads {
     fn is_answered(alloc: Global, vector: &Vector) -> Result<bool, Fail> {
-        is_told_at_each_read(alloc, Form::File(&vector.origin()?), vector.file)
+        is_told_at_each_read(alloc, Form::File(&vector.origin()?), vector.file())
     }
 }
 
@@ -72,28 +69,17 @@ fn files_whose_reads_fail(rt: HostRuntime) -> Result<(), Fail> {
     Ok(())
 }
 
-/// The name of the first stream of these that gets another answer where one of its reads fails.
-fn first_untold(alloc: Global, streams: &[Stream]) -> Result<Option<&'static str>, Fail> {
-    for stream in streams {
-        let octets = octets_of(alloc, stream.octets)?;
-        if !is_told_at_each_read(alloc, Form::Transfer, &octets)? {
-            return Ok(Some(stream.name));
-        }
+/// What is answered to a stream of which one read fails.
+struct OfFailingStreams;
+
+impl Question for OfFailingStreams {
+    fn is_answered(alloc: Global, vector: &Vector) -> Result<bool, Fail> {
+        is_told_at_each_read(alloc, Form::Transfer, &stream_of(alloc, vector.input)?)
     }
-    Ok(None)
 }
 
 #[test]
 fn streams_whose_reads_fail(rt: HostRuntime) -> Result<(), Fail> {
-    for streams in [
-        FIRST_STREAMS.as_slice(),
-        &SECOND_STREAMS,
-        &THIRD_STREAMS,
-        &FOURTH_STREAMS,
-        &FIFTH_STREAMS,
-        &SIXTH_STREAMS,
-    ] {
-        assert_eq!(rt; first_untold(rt.alloc(), streams)?, None);
-    }
+    assert_eq!(rt; wrong_in::<OfFailingStreams>(rt.alloc(), STREAMS)?, None);
     Ok(())
 }
