@@ -1,5 +1,5 @@
 //! The messages of a zone transfer one after another, and what those before one fix (RFC 5936 2.2).
-ghost use Rattle.std.specs.Prelude.{◌≡◌, ◌+◌, ◌<◌, ◌≤◌, ◌^◌, [], ◌∷◌, ◌++◌, length, ◌↔◌, List, Some, None, IfErr, IsTrue, MatchOption, OnOk, ⊤, option_map};
+ghost use Rattle.std.specs.Prelude.{◌≡◌, ◌+◌, ◌<◌, ◌≤◌, ◌^◌, [], ◌∷◌, ◌++◌, length, ◌↔◌, List, Some, None, IfErr, IsTrue, MatchOption, OnErr, OnOk, ⊤, option_map};
 ghost use Rattle.zone_rdata.specs.Cause.{fault_for};
 ghost use Rattle.zone_rdata.specs.Fault.{IfFault};
 ghost use Rattle.zone_rdata.specs.Record.{Record};
@@ -91,11 +91,7 @@ impl Transfer {
         }
     }
 
-    /// Ends the records with the fault at a place.
-    ///
-    /// # Errors
-    ///
-    /// Memory was refused.
+    /// Ends the records with the fault at a place, and passes `Memory` on as `AllocError`.
     // Not inlined: a fault has room for a name, and only what is refused needs it.
     #[cold]
     #[inline(never)]
@@ -103,6 +99,7 @@ impl Transfer {
         ensures count { self.new.messages ≡ self.old.messages }
         ensures stopped { OnOk result ((f : Fault) × (failing ≡ Failing.Fault f) × (self.new
             ≡ record self.old { decided = record self.old.decided { ending = Some (f, place) } })) }
+        ensures memory { OnErr result (failing ≡ Failing.Memory) }
     {
         match Failing::from(failing) {
             Failing::Fault(fault) => {
