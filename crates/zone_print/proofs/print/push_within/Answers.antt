@@ -1,9 +1,7 @@
 -- A text over the limit is refused, and what else stops is want of memory.
-use Rattle.std.proofs.Common.{◌≡◌, ◌++◌, [], arith, sym, ◌∙◌}
-use Rattle.std.proofs.lemmas.List.{append-nil}
+use Rattle.std.proofs.Common.{arith}
 use Rattle.std.proofs.lemmas.Result.{err_from_is_err_and}
 use Rattle.zone_print.specs.Writing.{large, memory}
-use Rattle.zone_print.proofs.Lines.{line_moves, line_ends}
 use Rattle.zone_print.proofs.print.push_within.Goals as goal
 
 pub returns-then-text_len-limit-clause-stopped : goal.returns-then-text_len-limit-clause-stopped
