@@ -15,6 +15,7 @@ mod growth;
 mod items;
 mod messages;
 mod names;
+mod notation;
 mod orders;
 mod parsing;
 mod pieces;

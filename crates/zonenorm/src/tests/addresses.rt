@@ -5,7 +5,7 @@ use crate::tests::items::Stated;
 use std::test::Fail;
 
 /// Texts that are shortened or written out.
-static SHORTENED: [Stated; 14] = [
+static SHORTENED: &[Stated] = &[
     Stated("IN AAAA ::FFFF:10.0.0.1", Ok("::ffff:a00:1")),
     Stated("IN AAAA 0:0:0:0:0:ffff:a00:1", Ok("::ffff:a00:1")),
     Stated("IN AAAA 0:0:0:0:0:0:0:0", Ok("::")),
@@ -23,7 +23,7 @@ static SHORTENED: [Stated; 14] = [
 ];
 
 /// The examples of RFC 4291 2.2 and RFC 5952 4.
-static OF_THE_STANDARDS: [Stated; 12] = [
+static OF_THE_STANDARDS: &[Stated] = &[
     Stated("IN AAAA ::", Ok("::")),
     Stated("IN AAAA ::1", Ok("::1")),
     Stated("IN AAAA 0:0:0:0:0:0:13.1.68.3", Ok("::d01:4403")),
@@ -48,7 +48,7 @@ static OF_THE_STANDARDS: [Stated; 12] = [
 ];
 
 /// What is no address of IPv6, the empty word among it.
-static NOT_IPV6: [Stated; 14] = [
+static NOT_IPV6: &[Stated] = &[
     Stated("IN AAAA 1:2:3:4:5:6:7::8", Err("BadRdata")),
     Stated("IN AAAA 1::2::3", Err("BadRdata")),
     Stated("IN AAAA 12345::", Err("BadRdata")),
@@ -67,14 +67,14 @@ static NOT_IPV6: [Stated; 14] = [
 
 #[test]
 fn addresses_of_ipv6(rt: HostRuntime) -> Result<(), Fail> {
-    assert_eq!(rt; first_wrong(rt.alloc(), &SHORTENED)?, None);
-    assert_eq!(rt; first_wrong(rt.alloc(), &OF_THE_STANDARDS)?, None);
-    assert_eq!(rt; first_wrong(rt.alloc(), &NOT_IPV6)?, None);
+    assert_eq!(rt; first_wrong(rt.alloc(), SHORTENED)?, None);
+    assert_eq!(rt; first_wrong(rt.alloc(), OF_THE_STANDARDS)?, None);
+    assert_eq!(rt; first_wrong(rt.alloc(), NOT_IPV6)?, None);
     Ok(())
 }
 
 /// Addresses of IPv4, and what is none, the empty word among it.
-static IPV4: [Stated; 12] = [
+static IPV4: &[Stated] = &[
     Stated("IN A 010.000.00.001", Ok("10.0.0.1")),
     Stated("IN A 255.255.255.255", Ok("255.255.255.255")),
     Stated("IN A 10.0.0", Err("BadRdata")),
@@ -91,6 +91,6 @@ static IPV4: [Stated; 12] = [
 
 #[test]
 fn addresses_of_ipv4(rt: HostRuntime) -> Result<(), Fail> {
-    assert_eq!(rt; first_wrong(rt.alloc(), &IPV4)?, None);
+    assert_eq!(rt; first_wrong(rt.alloc(), IPV4)?, None);
     Ok(())
 }

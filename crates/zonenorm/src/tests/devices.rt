@@ -100,7 +100,7 @@ impl Case for Broken {
     }
 }
 
-static BROKEN: [Broken; 6] = [
+static BROKEN: &[Broken] = &[
     Broken(b"$TTL 1h\n@ ", ErrorKind::Other),
     Broken(b"$TTL 1h\n@ ", ErrorKind::Interrupted),
     Broken(
@@ -114,7 +114,7 @@ static BROKEN: [Broken; 6] = [
 
 #[test]
 fn a_failing_reader_is_told(rt: HostRuntime) -> Result<(), Fail> {
-    assert_eq!(rt; first_wrong(rt.alloc(), &BROKEN)?, None);
+    assert_eq!(rt; first_wrong(rt.alloc(), BROKEN)?, None);
     Ok(())
 }
 
@@ -201,7 +201,7 @@ impl Case for Narrowed {
     }
 }
 
-static NARROWED: [Narrowed; 6] = [
+static NARROWED: &[Narrowed] = &[
     Narrowed(1, 100, true, TEXT),
     Narrowed(1, usize::MAX, true, TEXT),
     Narrowed(1, 0, false, b""),
@@ -212,7 +212,7 @@ static NARROWED: [Narrowed; 6] = [
 
 #[test]
 fn a_narrow_writer_has_a_front(rt: HostRuntime) -> Result<(), Fail> {
-    assert_eq!(rt; first_wrong(rt.alloc(), &NARROWED)?, None);
+    assert_eq!(rt; first_wrong(rt.alloc(), NARROWED)?, None);
     Ok(())
 }
 
@@ -242,7 +242,7 @@ impl Case for Mute {
     }
 }
 
-static MUTE: [Mute; 5] = [
+static MUTE: &[Mute] = &[
     Mute(&["normalise", "x."], FILE, 4, Some(b"write failed\n")),
     Mute(&["explain", "x."], FILE, 4, Some(b"write failed\n")),
     Mute(
@@ -257,6 +257,6 @@ static MUTE: [Mute; 5] = [
 
 #[test]
 fn what_cannot_be_told_fails(rt: HostRuntime) -> Result<(), Fail> {
-    assert_eq!(rt; first_wrong(rt.alloc(), &MUTE)?, None);
+    assert_eq!(rt; first_wrong(rt.alloc(), MUTE)?, None);
     Ok(())
 }

@@ -22,10 +22,10 @@ struct InTwo;
 impl Question for InTwo {
     fn is_answered(alloc: Global, vector: &Vector) -> Result<bool, Fail> {
         let origin = vector.origin()?;
-        let reading = read_file(alloc, &origin, vector.file)?;
+        let reading = read_file(alloc, &origin, vector.file())?;
         Ok(
             may_end_so(&vector.answer, &reading)
-                && is_right_in_two::<TextSource>(alloc, &origin, vector.file, &reading)?,
+                && is_right_in_two::<TextSource>(alloc, &origin, vector.file(), &reading)?,
         )
     }
 }
@@ -42,8 +42,8 @@ struct Singly;
 impl Question for Singly {
     fn is_answered(alloc: Global, vector: &Vector) -> Result<bool, Fail> {
         let origin = vector.origin()?;
-        let reading = read_file(alloc, &origin, vector.file)?;
-        is_right_singly::<TextSource>(alloc, &origin, vector.file, &reading)
+        let reading = read_file(alloc, &origin, vector.file())?;
+        is_right_singly::<TextSource>(alloc, &origin, vector.file(), &reading)
     }
 }
 
@@ -53,7 +53,7 @@ fn files_in_single_octets(rt: HostRuntime) -> Result<(), Fail> {
     Ok(())
 }
 
-static SCRIPTS: [Script; 11] = [
+static SCRIPTS: &[Script] = &[
     Script {
         name: "record_is_decided_at_its_line_feed",
         origin: b"x.",
@@ -214,6 +214,6 @@ static SCRIPTS: [Script; 11] = [
 
 #[test]
 fn files_are_decided(rt: HostRuntime) -> Result<(), Fail> {
-    assert_eq!(rt; wrong_script::<TextSource>(rt.alloc(), &SCRIPTS)?, None);
+    assert_eq!(rt; wrong_script::<TextSource>(rt.alloc(), SCRIPTS)?, None);
     Ok(())
 }

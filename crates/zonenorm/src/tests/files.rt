@@ -47,7 +47,7 @@ fn are_recorded(reading: Reading, records: &[Recorded]) -> bool {
     wanted.next().is_none()
 }
 
-static FILED: [Filed; 9] = [
+static FILED: &[Filed] = &[
     Filed(
         b"x. 3600 IN NS n.x.\nx. 3600 IN SOA n.x. h.x. 1 2 3 4 5\n",
         &[
@@ -100,7 +100,7 @@ impl Case for Refused {
     }
 }
 
-static REFUSED: [Refused; 15] = [
+static REFUSED: &[Refused] = &[
     Refused(
         b"x. 60 IN NS n.x.\na..x. 60 IN NS n.x.\nb 60 IN NS n.x.\n",
         1,
@@ -132,8 +132,8 @@ static REFUSED: [Refused; 15] = [
 
 #[test]
 fn files_as_records(rt: HostRuntime) -> Result<(), Fail> {
-    assert_eq!(rt; first_wrong(rt.alloc(), &FILED)?, None);
-    assert_eq!(rt; first_wrong(rt.alloc(), &REFUSED)?, None);
+    assert_eq!(rt; first_wrong(rt.alloc(), FILED)?, None);
+    assert_eq!(rt; first_wrong(rt.alloc(), REFUSED)?, None);
     Ok(())
 }
 
@@ -160,7 +160,7 @@ impl Named for Read {
     }
 }
 
-static READ: [Read; 2] = [
+static READ: &[Read] = &[
     Read {
         name: "reader_of_a_file_gives_the_records_before_a_fault",
         origin: b"x.",
@@ -186,6 +186,6 @@ static READ: [Read; 2] = [
 
 #[test]
 fn files_are_read(rt: HostRuntime) -> Result<(), Fail> {
-    assert_eq!(rt; first_wrong_name(rt.alloc(), &READ)?, None);
+    assert_eq!(rt; first_wrong_name(rt.alloc(), READ)?, None);
     Ok(())
 }

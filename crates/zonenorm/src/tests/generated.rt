@@ -115,7 +115,7 @@ impl Case for ManyData {
     }
 }
 
-static MANY_DATA: [ManyData; 6] = [
+static MANY_DATA: &[ManyData] = &[
     ManyData(15),
     ManyData(16),
     ManyData(17),
@@ -126,7 +126,7 @@ static MANY_DATA: [ManyData; 6] = [
 
 #[test]
 fn sets_of_many_data_are_sorted(rt: HostRuntime) -> Result<(), Fail> {
-    assert_eq!(rt; first_wrong(rt.alloc(), &MANY_DATA)?, None);
+    assert_eq!(rt; first_wrong(rt.alloc(), MANY_DATA)?, None);
     Ok(())
 }
 
@@ -190,7 +190,7 @@ impl Named for Unending {
     }
 }
 
-static UNENDING: [Unending; 4] = [
+static UNENDING: &[Unending] = &[
     Unending {
         name: "line_feeds_for_ever",
         front: b"",
@@ -215,6 +215,6 @@ static UNENDING: [Unending; 4] = [
 
 #[test]
 fn endless_inputs_are_too_long(rt: HostRuntime) -> Result<(), Fail> {
-    assert_eq!(rt; first_wrong_name(rt.alloc(), &UNENDING)?, None);
+    assert_eq!(rt; first_wrong_name(rt.alloc(), UNENDING)?, None);
     Ok(())
 }

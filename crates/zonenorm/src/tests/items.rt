@@ -77,7 +77,7 @@ impl Case for Stated {
 }
 
 /// Data in words.
-static WORDS: [Stated; 15] = [
+static WORDS: &[Stated] = &[
     Stated("IN NS \\035", Ok("#.x.")),
     Stated("IN MX 010 M", Ok("10 m.x.")),
     Stated(
@@ -105,7 +105,7 @@ static WORDS: [Stated; 15] = [
 ];
 
 /// Data in generic form (RFC 3597 5).
-static GENERIC: [Stated; 10] = [
+static GENERIC: &[Stated] = &[
     Stated("IN A \\# 4 0a00 0001", Ok("10.0.0.1")),
     Stated("CH A \\# 4 0a00 0001", Ok("\\# 4 0a000001")),
     Stated("IN NS \\# 5 014e015800", Ok("n.x.")),
@@ -128,7 +128,7 @@ static GENERIC: [Stated; 10] = [
 ];
 
 /// Words that are missing, left over, malformed or out of range.
-static BAD_WORDS: [Stated; 15] = [
+static BAD_WORDS: &[Stated] = &[
     Stated("IN NS", Err("BadRdata")),
     Stated("IN NS \"a\"", Err("BadRdata")),
     Stated("IN NS a..b", Err("EmptyLabel")),
@@ -153,7 +153,7 @@ static BAD_WORDS: [Stated; 15] = [
 ];
 
 /// Data in generic form that is malformed, or is no value of its type.
-static BAD_GENERIC: [Stated; 11] = [
+static BAD_GENERIC: &[Stated] = &[
     Stated("IN NS \\#", Err("BadGeneric")),
     Stated("IN A \\# 3 0A0000", Err("BadRdata")),
     Stated("IN A \\# 4 0A0000", Err("BadGeneric")),
@@ -169,10 +169,10 @@ static BAD_GENERIC: [Stated; 11] = [
 
 #[test]
 fn data_of_lines(rt: HostRuntime) -> Result<(), Fail> {
-    assert_eq!(rt; first_wrong(rt.alloc(), &WORDS)?, None);
-    assert_eq!(rt; first_wrong(rt.alloc(), &GENERIC)?, None);
-    assert_eq!(rt; first_wrong(rt.alloc(), &BAD_WORDS)?, None);
-    assert_eq!(rt; first_wrong(rt.alloc(), &BAD_GENERIC)?, None);
+    assert_eq!(rt; first_wrong(rt.alloc(), WORDS)?, None);
+    assert_eq!(rt; first_wrong(rt.alloc(), GENERIC)?, None);
+    assert_eq!(rt; first_wrong(rt.alloc(), BAD_WORDS)?, None);
+    assert_eq!(rt; first_wrong(rt.alloc(), BAD_GENERIC)?, None);
     Ok(())
 }
 
@@ -198,7 +198,7 @@ impl Case for Held {
     }
 }
 
-static HELD: [Held; 5] = [
+static HELD: &[Held] = &[
     Held {
         origin: "example.",
         line: "IN SOA Ns1 host.master. 0002024 2h 3600 1209600 4294967295",
@@ -238,7 +238,7 @@ static HELD: [Held; 5] = [
 
 #[test]
 fn data_as_it_is_held(rt: HostRuntime) -> Result<(), Fail> {
-    assert_eq!(rt; first_wrong(rt.alloc(), &HELD)?, None);
+    assert_eq!(rt; first_wrong(rt.alloc(), HELD)?, None);
     Ok(())
 }
 
@@ -253,7 +253,7 @@ impl Case for Compared {
     }
 }
 
-static COMPARED: [Compared; 5] = [
+static COMPARED: &[Compared] = &[
     Compared("IN NS A.", "IN NS b.", Ordering::Less),
     Compared("IN NS b.", "IN NS B.", Ordering::Equal),
     Compared(
@@ -275,6 +275,6 @@ static COMPARED: [Compared; 5] = [
 
 #[test]
 fn data_in_order(rt: HostRuntime) -> Result<(), Fail> {
-    assert_eq!(rt; first_wrong(rt.alloc(), &COMPARED)?, None);
+    assert_eq!(rt; first_wrong(rt.alloc(), COMPARED)?, None);
     Ok(())
 }

@@ -43,7 +43,7 @@ impl Named for InMessage {
     }
 }
 
-static IN_MESSAGES: [InMessage; 11] = [
+static IN_MESSAGES: &[InMessage] = &[
     InMessage {
         name: "pointer_to_itself",
         behind: b"\xc0\x0c",
@@ -168,7 +168,7 @@ impl Named for InChain {
     }
 }
 
-static IN_CHAINS: [InChain; 4] = [
+static IN_CHAINS: &[InChain] = &[
     InChain {
         name: "chain_of_128_pointers",
         labels: 0,
@@ -205,7 +205,7 @@ static IN_CHAINS: [InChain; 4] = [
 
 #[test]
 fn names_in_messages(rt: HostRuntime) -> Result<(), Fail> {
-    assert_eq!(rt; first_wrong_name(rt.alloc(), &IN_MESSAGES)?, None);
-    assert_eq!(rt; first_wrong_name(rt.alloc(), &IN_CHAINS)?, None);
+    assert_eq!(rt; first_wrong_name(rt.alloc(), IN_MESSAGES)?, None);
+    assert_eq!(rt; first_wrong_name(rt.alloc(), IN_CHAINS)?, None);
     Ok(())
 }

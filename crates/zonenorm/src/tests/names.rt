@@ -49,7 +49,7 @@ impl Case for Spelled {
     }
 }
 
-static SPELLED: [Spelled; 9] = [
+static SPELLED: &[Spelled] = &[
     Spelled {
         text: LONGEST_TEXT,
         origin: b"",
@@ -115,7 +115,7 @@ impl Case for Unspelled {
     }
 }
 
-static UNSPELLED: [Unspelled; 17] = [
+static UNSPELLED: &[Unspelled] = &[
     Unspelled(
         b"aaaaaaaaaaaaaaaaaaaaaaaaaaaaaaaaaaaaaaaaaaaaaaaaaaaaaaaaaaaaaaa.aaaaaaaaaaaaaaaaaaaaaaaaaaaaaaaaaaaaaaaaaaaaaaaaaaaaaaaaaaaaaaa.aaaaaaaaaaaaaaaaaaaaaaaaaaaaaaaaaaaaaaaaaaaaaaaaaaaaaaaaaaaaaaa.aaaaaaaaaaaaaaaaaaaaaaaaaaaaaaaaaaaaaaaaaaaaaaaaaaaaaaaaaaaaaa.",
         b"",
@@ -157,8 +157,8 @@ static UNSPELLED: [Unspelled; 17] = [
 
 #[test]
 fn texts_of_names(rt: HostRuntime) -> Result<(), Fail> {
-    assert_eq!(rt; first_wrong(rt.alloc(), &SPELLED)?, None);
-    assert_eq!(rt; first_wrong(rt.alloc(), &UNSPELLED)?, None);
+    assert_eq!(rt; first_wrong(rt.alloc(), SPELLED)?, None);
+    assert_eq!(rt; first_wrong(rt.alloc(), UNSPELLED)?, None);
     Ok(())
 }
 
@@ -173,7 +173,7 @@ impl Case for Escaped {
     }
 }
 
-static ESCAPED: [Escaped; 2] = [Escaped(b".b", b'.', b"b"), Escaped(b"046b", b'.', b"b")];
+static ESCAPED: &[Escaped] = &[Escaped(b".b", b'.', b"b"), Escaped(b"046b", b'.', b"b")];
 
 /// A name, an apex, and whether the name is within that zone.
 struct Within(&'static [u8], &'static [u8], bool);
@@ -186,7 +186,7 @@ impl Case for Within {
     }
 }
 
-static WITHIN: [Within; 6] = [
+static WITHIN: &[Within] = &[
     Within(b"b.y.", b"x.", false),
     Within(b"x.", b"x.", true),
     Within(b"x.", b".", true),
@@ -197,13 +197,13 @@ static WITHIN: [Within; 6] = [
 
 #[test]
 fn escapes_and_names_within(rt: HostRuntime) -> Result<(), Fail> {
-    assert_eq!(rt; first_wrong(rt.alloc(), &ESCAPED)?, None);
-    assert_eq!(rt; first_wrong(rt.alloc(), &WITHIN)?, None);
+    assert_eq!(rt; first_wrong(rt.alloc(), ESCAPED)?, None);
+    assert_eq!(rt; first_wrong(rt.alloc(), WITHIN)?, None);
     Ok(())
 }
 
 /// The example of RFC 4034 6.1, in order.
-static ORDERED: [&[u8]; 9] = [
+static ORDERED: &[&[u8]] = &[
     b"example.",
     b"a.example.",
     b"yljkjljk.a.example.",
@@ -274,7 +274,7 @@ fn has_labels(name: &Name, labels: &[&[u8]]) -> bool {
     wanted.next().is_none()
 }
 
-static BUILT: [Built; 3] = [
+static BUILT: &[Built] = &[
     Built {
         labels: &[],
         refused: b"",
@@ -302,7 +302,7 @@ static BUILT: [Built; 3] = [
 
 #[test]
 fn names_are_built(rt: HostRuntime) -> Result<(), Fail> {
-    assert_eq!(rt; first_wrong(rt.alloc(), &BUILT)?, None);
+    assert_eq!(rt; first_wrong(rt.alloc(), BUILT)?, None);
     assert_eq!(rt; Name::root().wire(), b"\x00".as_slice());
     Ok(())
 }
@@ -317,7 +317,7 @@ impl Case for Shown {
     }
 }
 
-static SHOWN: [Shown; 5] = [
+static SHOWN: &[Shown] = &[
     Shown(NameFault::EmptyLabel, "a label is empty"),
     Shown(NameFault::LabelTooLong, "a label has more than 63 octets"),
     Shown(NameFault::NameTooLong, "a name has more than 255 octets"),
@@ -327,7 +327,7 @@ static SHOWN: [Shown; 5] = [
 
 #[test]
 fn faults_of_names_are_shown(rt: HostRuntime) -> Result<(), Fail> {
-    assert_eq!(rt; first_wrong(rt.alloc(), &SHOWN)?, None);
+    assert_eq!(rt; first_wrong(rt.alloc(), SHOWN)?, None);
     Ok(())
 }
 

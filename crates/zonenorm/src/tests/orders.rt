@@ -80,7 +80,7 @@ impl Case for Line {
     }
 }
 
-static LINES: [Line; 25] = [
+static LINES: &[Line] = &[
     Line(&["normalise", "X."], Given::Normalise(Some(b"x."))),
     Line(&["normalise", "."], Given::Normalise(Some(b"."))),
     Line(
@@ -119,6 +119,6 @@ static LINES: [Line; 25] = [
 
 #[test]
 fn command_lines(rt: HostRuntime) -> Result<(), Fail> {
-    assert_eq!(rt; first_wrong(rt.alloc(), &LINES)?, None);
+    assert_eq!(rt; first_wrong(rt.alloc(), LINES)?, None);
     Ok(())
 }

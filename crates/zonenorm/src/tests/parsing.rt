@@ -1,35 +1,11 @@
 //! Whole messages, and the records of their answers (RFC 1035 4.1).
+use crate::tests::notation::message_of;
 use crate::tests::readings::line_of;
 use crate::tests::{Case, Named, fault_name, first_wrong_name, judged};
 use std::alloc::Global;
 use std::test::Fail;
 use zone_rdata::{Failing, Rr};
 use zone_wire::{Message, Question};
-
-/// The octets of their hexadecimal digits, in lower case.
-///
-/// # Errors
-///
-/// Want of memory, and another digit.
-pub(super) fn octets_of(alloc: Global, digits: &str) -> Result<Vec<u8>, Fail> {
-    let mut octets = Vec::new(alloc);
-    for pair in digits.as_bytes().chunks(2) {
-        let [high, low] = pair else {
-            return Err(Fail::from("half an octet"));
-        };
-        octets.push(digit(*high)? << 4 | digit(*low)?)?;
-    }
-    Ok(octets)
-}
-
-/// The value of a hexadecimal digit.
-fn digit(octet: u8) -> Result<u8, Fail> {
-    match octet {
-        b'0'..=b'9' => Ok(octet - b'0'),
-        b'a'..=b'f' => Ok(octet - b'a' + 10),
-        _ => Err(Fail::from("no digit")),
-    }
-}
 
 /// What a message has: its ID, the name, type and class that it asks for, and where its answers
 /// begin.
@@ -68,7 +44,7 @@ impl Whole {
     }
 }
 
-/// A message, and what it has, or its fault and the offset of that.
+/// A message in notation, and what it has, or its fault and the offset of that.
 struct Parsed {
     name: &'static str,
     message: &'static str,
@@ -78,7 +54,7 @@ struct Parsed {
 impl Case for Parsed {
     fn is_right(&self, alloc: Global) -> Result<bool, Fail> {
         match (
-            Message::parse(&octets_of(alloc, self.message)?),
+            Message::parse(&message_of(alloc, self.message)?),
             &self.answer,
         ) {
             (Ok(message), Ok(whole)) => Ok(whole.is(&message)),
@@ -96,10 +72,10 @@ impl Named for Parsed {
     }
 }
 
-static PARSED: [Parsed; 7] = [
+static PARSED: &[Parsed] = &[
     Parsed {
         name: "small_message_is_parsed",
-        message: "00018400000100030000000001780000fc0001c00c0006000100000e10001c016ec00c0168c00c0000000100000002000000030000000400000005c00c0002000100000e100002c01fc00c0006000100000e100018c01fc0230000000100000002000000030000000400000005",
+        message: "header 1 8400 1 3 0 0; QUESTION; OPENING; SERVER; CLOSING",
         answer: Ok(Whole {
             id: 1,
             question: Some((b"\x01x\0", 252, 1)),
@@ -108,32 +84,32 @@ static PARSED: [Parsed; 7] = [
     },
     Parsed {
         name: "eleven_octets_are_no_header",
-        message: "0001840000010003000000",
+        message: "#0001840000010003000000",
         answer: Err(("ShortMessage", 0)),
     },
     Parsed {
         name: "one_octet_after_the_last_record",
-        message: "00018400000100030000000001780000fc0001c00c0006000100000e10001c016ec00c0168c00c0000000100000002000000030000000400000005c00c0002000100000e100002c01fc00c0006000100000e100018c01fc023000000010000000200000003000000040000000500",
+        message: "header 1 8400 1 3 0 0; QUESTION; OPENING; SERVER; CLOSING; #00",
         answer: Err(("TrailingOctets", 0)),
     },
     Parsed {
         name: "two_questions_are_refused",
-        message: "00018400000200030000000001780000fc0001c00c0006000100000e10001c016ec00c0168c00c0000000100000002000000030000000400000005c00c0002000100000e100002c01fc00c0006000100000e100018c01fc0230000000100000002000000030000000400000005",
+        message: "header 1 8400 2 3 0 0; QUESTION; OPENING; SERVER; CLOSING",
         answer: Err(("BadCounts", 0)),
     },
     Parsed {
         name: "authority_records_are_refused",
-        message: "00018400000100030001000001780000fc0001c00c0006000100000e10001c016ec00c0168c00c0000000100000002000000030000000400000005c00c0002000100000e100002c01fc00c0006000100000e100018c01fc0230000000100000002000000030000000400000005",
+        message: "header 1 8400 1 3 1 0; QUESTION; OPENING; SERVER; CLOSING",
         answer: Err(("BadCounts", 0)),
     },
     Parsed {
         name: "additional_record_missing",
-        message: "00018400000100030000000101780000fc0001c00c0006000100000e10001c016ec00c0168c00c0000000100000002000000030000000400000005c00c0002000100000e100002c01fc00c0006000100000e100018c01fc0230000000100000002000000030000000400000005",
+        message: "header 1 8400 1 3 0 1; QUESTION; OPENING; SERVER; CLOSING",
         answer: Err(("ShortMessage", 109)),
     },
     Parsed {
         name: "message_without_a_question",
-        message: "000184000000000300000000016e0178000001000100000e1000040a000001c00e0002000100000e100002c00cc00e0006000100000e10001ac00c0168c00e0000000100000002000000030000000400000005",
+        message: "header 1 8400 0 3 0 0; n.x. 3600 IN A #0a000001; @14 3600 IN NS @12; @14 3600 IN SOA @12 h@14 1 2 3 4 5",
         answer: Ok(Whole {
             id: 1,
             question: None,
@@ -144,11 +120,11 @@ static PARSED: [Parsed; 7] = [
 
 #[test]
 fn messages_are_parsed(rt: HostRuntime) -> Result<(), Fail> {
-    assert_eq!(rt; first_wrong_name(rt.alloc(), &PARSED)?, None);
+    assert_eq!(rt; first_wrong_name(rt.alloc(), PARSED)?, None);
     Ok(())
 }
 
-/// A message, the offset of an answer, and the canonical line and the data of its record, or its
+/// A message in notation, the offset of an answer, and the canonical line and the data of its record, or its
 /// fault.
 struct Stated {
     name: &'static str,
@@ -172,7 +148,7 @@ impl Stated {
 
 impl Case for Stated {
     fn is_right(&self, alloc: Global) -> Result<bool, Fail> {
-        let octets = octets_of(alloc, self.message)?;
+        let octets = message_of(alloc, self.message)?;
         let Ok(message) = Message::parse(&octets) else {
             return Ok(false);
         };
@@ -191,46 +167,46 @@ impl Named for Stated {
     }
 }
 
-static STATED: [Stated; 7] = [
+static STATED: &[Stated] = &[
     Stated {
         name: "name_server_answer_is_read",
-        message: "00018400000100030000000001780000fc0001c00c0006000100000e10001c016ec00c0168c00c0000000100000002000000030000000400000005c00c0002000100000e100002c01fc00c0006000100000e100018c01fc0230000000100000002000000030000000400000005",
+        message: "header 1 8400 1 3 0 0; QUESTION; OPENING; SERVER; CLOSING",
         offset: 59,
         answer: Ok((b"x. 3600 IN NS n.x.", b"\x01n\x01x\0")),
     },
     Stated {
         name: "answer_of_class_255",
-        message: "00018400000100030000000001780000fc0001c00c0006000100000e10001c016ec00c0168c00c0000000100000002000000030000000400000005c00c000200ff00000e100002c01fc00c0006000100000e100018c01fc0230000000100000002000000030000000400000005",
+        message: "header 1 8400 1 3 0 0; QUESTION; OPENING; @12 3600 CLASS255 NS @31; CLOSING",
         offset: 59,
         answer: Err("BadClass"),
     },
     Stated {
         name: "answer_of_type_41",
-        message: "00018400000100030000000001780000fc0001c00c0006000100000e10001c016ec00c0168c00c0000000100000002000000030000000400000005c00c0029000100000e100002c01fc00c0006000100000e100018c01fc0230000000100000002000000030000000400000005",
+        message: "header 1 8400 1 3 0 0; QUESTION; OPENING; @12 3600 IN OPT @31; CLOSING",
         offset: 59,
         answer: Err("MetaType"),
     },
     Stated {
         name: "answer_of_type_17",
-        message: "00018400000100030000000001780000fc0001c00c0006000100000e10001c016ec00c0168c00c0000000100000002000000030000000400000005c00c0011000100000e100002c01fc00c0006000100000e100018c01fc0230000000100000002000000030000000400000005",
+        message: "header 1 8400 1 3 0 0; QUESTION; OPENING; @12 3600 IN TYPE17 @31; CLOSING",
         offset: 59,
         answer: Err("CompressibleType"),
     },
     Stated {
         name: "answer_data_that_points_to_itself",
-        message: "00018400000100030000000001780000fc0001c00c0006000100000e10001c016ec00c0168c00c0000000100000002000000030000000400000005c00c0002000100000e100002c047c00c0006000100000e100018c01fc0230000000100000002000000030000000400000005",
+        message: "header 1 8400 1 3 0 0; QUESTION; OPENING; @12 3600 IN NS @71; CLOSING",
         offset: 59,
         answer: Err("BadPointer"),
     },
     Stated {
         name: "answer_data_that_points_to_an_owner",
-        message: "00018400000100030000000001780000fc0001c00c0006000100000e10001c016ec00c0168c00c0000000100000002000000030000000400000005c00c0002000100000e100002c03bc00c0006000100000e100018c01fc0230000000100000002000000030000000400000005",
+        message: "header 1 8400 1 3 0 0; QUESTION; OPENING; @12 3600 IN NS @59; CLOSING",
         offset: 59,
         answer: Ok((b"x. 3600 IN NS x.", b"\x01x\0")),
     },
     Stated {
         name: "answer_ttl_with_its_top_bit_set",
-        message: "00018400000100030000000001780000fc0001c00c0006000100000e10001c016ec00c0168c00c0000000100000002000000030000000400000005c00c0002000180000e100002c01fc00c0006000100000e100018c01fc0230000000100000002000000030000000400000005",
+        message: "header 1 8400 1 3 0 0; QUESTION; OPENING; @12 2147487248 IN NS @31; CLOSING",
         offset: 59,
         answer: Ok((b"x. 0 IN NS n.x.", b"\x01n\x01x\0")),
     },
@@ -238,6 +214,6 @@ static STATED: [Stated; 7] = [
 
 #[test]
 fn answers_state_records(rt: HostRuntime) -> Result<(), Fail> {
-    assert_eq!(rt; first_wrong_name(rt.alloc(), &STATED)?, None);
+    assert_eq!(rt; first_wrong_name(rt.alloc(), STATED)?, None);
     Ok(())
 }

@@ -1,22 +1,22 @@
 //! The whole program over readers and writers, from its words to its exit status.
 use crate::order::{LineFault, order_of};
 use crate::run::run;
+use crate::tests::notation::stream_of;
 use crate::tests::orders::words_of;
-use crate::tests::parsing::octets_of;
+use crate::tests::streams::{IN_TWO, OTHER_SERIAL, SMALL};
 use crate::tests::{Case, Named, first_wrong_name, had_memory, roomy};
 use std::alloc::Global;
 use std::io;
 use std::io::{ErrorKind, Read};
 use std::test::Fail;
 
-/// What an input gives: octets, written as text or in hexadecimal digits, and then its end or an
-/// error.
+/// What an input gives: a text, or a stream in notation, and then its end or an error.
 #[derive(Clone, Copy)]
 enum Given {
     Text(&'static str),
-    Hex(&'static str),
+    Stream(&'static str),
     BrokenText(&'static str),
-    BrokenHex(&'static str),
+    BrokenStream(&'static str),
 }
 
 impl Given {
@@ -27,12 +27,12 @@ impl Given {
                 octets.extend_from_slice(text.as_bytes())?;
                 Ok(octets)
             }
-            Given::Hex(digits) | Given::BrokenHex(digits) => octets_of(alloc, digits),
+            Given::Stream(lines) | Given::BrokenStream(lines) => stream_of(alloc, lines),
         }
     }
 
     fn is_broken(self) -> bool {
-        matches!(self, Given::BrokenText(_) | Given::BrokenHex(_))
+        matches!(self, Given::BrokenText(_) | Given::BrokenStream(_))
     }
 }
 
@@ -104,14 +104,12 @@ impl Named for Program {
     }
 }
 
-static COMPARISONS: [Program; 7] = [
+static COMPARISONS: &[Program] = &[
     Program {
         name: "file_and_transfer_of_one_zone_are_the_same",
         words: &["compare", "x.", "p", "transfer", "q"],
         first: Given::Text("$TTL 1h\n@ SOA N h 1 2 3 4 5\n  NS n\n"),
-        second: Given::Hex(
-            "006d00018400000100030000000001780000fc0001c00c0006000100000e10001c016ec00c0168c00c0000000100000002000000030000000400000005c00c0002000100000e100002c01fc00c0006000100000e100018c01fc0230000000100000002000000030000000400000005",
-        ),
+        second: Given::Stream(SMALL),
         status: 0,
         output: "same\n",
         told: "",
@@ -119,9 +117,7 @@ static COMPARISONS: [Program; 7] = [
     Program {
         name: "transfer_and_file_of_one_zone_are_the_same",
         words: &["compare", "transfer", "p", "x.", "q"],
-        first: Given::Hex(
-            "006d00018400000100030000000001780000fc0001c00c0006000100000e10001c016ec00c0168c00c0000000100000002000000030000000400000005c00c0002000100000e100002c01fc00c0006000100000e100018c01fc0230000000100000002000000030000000400000005",
-        ),
+        first: Given::Stream(SMALL),
         second: Given::Text("$TTL 1h\n@ SOA N h 1 2 3 4 5\n  NS n\n"),
         status: 0,
         output: "same\n",
@@ -131,9 +127,7 @@ static COMPARISONS: [Program; 7] = [
         name: "one_record_more_differs_at_the_line_after_the_shorter",
         words: &["compare", "x.", "p", "transfer", "q"],
         first: Given::Text("$TTL 1h\n@ SOA N h 1 2 3 4 5\n  NS n\n"),
-        second: Given::Hex(
-            "005400018400000100020000000101780000fc0001c00c0006000100000e10001c016ec00c0168c00c0000000100000002000000030000000400000005c00c0002000100000e100002c01f00002904d00000000000000053000184000000000300000000016e0178000001000100000e1000040a000001c00e0002000100000e100002c00cc00e0006000100000e10001ac00c0168c00e0000000100000002000000030000000400000005",
-        ),
+        second: Given::Stream(IN_TWO),
         status: 1,
         output: "different at line 3\n",
         told: "",
@@ -141,9 +135,7 @@ static COMPARISONS: [Program; 7] = [
     Program {
         name: "one_record_less_differs_at_the_line_after_the_shorter",
         words: &["compare", "transfer", "p", "x.", "q"],
-        first: Given::Hex(
-            "005400018400000100020000000101780000fc0001c00c0006000100000e10001c016ec00c0168c00c0000000100000002000000030000000400000005c00c0002000100000e100002c01f00002904d00000000000000053000184000000000300000000016e0178000001000100000e1000040a000001c00e0002000100000e100002c00cc00e0006000100000e10001ac00c0168c00e0000000100000002000000030000000400000005",
-        ),
+        first: Given::Stream(IN_TWO),
         second: Given::Text("$TTL 1h\n@ SOA N h 1 2 3 4 5\n  NS n\n"),
         status: 1,
         output: "different at line 3\n",
@@ -178,7 +170,7 @@ static COMPARISONS: [Program; 7] = [
     },
 ];
 
-static MORE_COMPARISONS: [Program; 6] = [
+static MORE_COMPARISONS: &[Program] = &[
     Program {
         name: "zones_differ_in_the_second_line",
         words: &["compare", "x.", "p", "x.", "q"],
@@ -201,7 +193,7 @@ static MORE_COMPARISONS: [Program; 6] = [
         name: "both_inputs_refused_names_the_first",
         words: &["compare", "x.", "p", "transfer", "q"],
         first: Given::Text("@ 60 SOA n h 1 2 3 4 5\n$INCLUDE f\n"),
-        second: Given::Hex(""),
+        second: Given::Stream(""),
         status: 3,
         output: "",
         told: "first: F16 IncludeDirective at line 2: $INCLUDE isn't read\n",
@@ -243,7 +235,7 @@ static MORE_COMPARISONS: [Program; 6] = [
     },
 ];
 
-static EXPLANATIONS: [Program; 6] = [
+static EXPLANATIONS: &[Program] = &[
     Program {
         name: "explain_counts_the_records_of_an_accepted_file",
         words: &["explain", "x."],
@@ -265,9 +257,7 @@ static EXPLANATIONS: [Program; 6] = [
     Program {
         name: "explain_counts_the_records_of_an_accepted_transfer",
         words: &["explain", "transfer"],
-        first: Given::Hex(
-            "005400018400000100020000000101780000fc0001c00c0006000100000e10001c016ec00c0168c00c0000000100000002000000030000000400000005c00c0002000100000e100002c01f00002904d00000000000000053000184000000000300000000016e0178000001000100000e1000040a000001c00e0002000100000e100002c00cc00e0006000100000e10001ac00c0168c00e0000000100000002000000030000000400000005",
-        ),
+        first: Given::Stream(IN_TWO),
         second: Given::BrokenText(""),
         status: 0,
         output: "accepted, records: 3\n",
@@ -276,9 +266,7 @@ static EXPLANATIONS: [Program; 6] = [
     Program {
         name: "explain_names_a_differing_soa_with_message_and_offset",
         words: &["explain", "transfer"],
-        first: Given::Hex(
-            "006d00018400000100030000000001780000fc0001c00c0006000100000e10001c016ec00c0168c00c0000000100000002000000030000000400000005c00c0002000100000e100002c01fc00c0006000100000e100018c01fc0230000000200000002000000030000000400000005",
-        ),
+        first: Given::Stream(OTHER_SERIAL),
         second: Given::BrokenText(""),
         status: 3,
         output: "F36 SoaMismatch at message 1 offset 73: a later SOA differs from the opening one\n",
@@ -287,9 +275,7 @@ static EXPLANATIONS: [Program; 6] = [
     Program {
         name: "explain_tells_the_error_code",
         words: &["explain", "transfer"],
-        first: Given::Hex(
-            "006d00018405000100030000000001780000fc0001c00c0006000100000e10001c016ec00c0168c00c0000000100000002000000030000000400000005c00c0002000100000e100002c01fc00c0006000100000e100018c01fc0230000000100000002000000030000000400000005",
-        ),
+        first: Given::Stream("header 1 8405 1 3 0 0; QUESTION; OPENING; SERVER; CLOSING"),
         second: Given::BrokenText(""),
         status: 3,
         output: "F26 ErrorCode 5 at message 1 offset 0: the message carries an error code\n",
@@ -306,7 +292,7 @@ static EXPLANATIONS: [Program; 6] = [
     },
 ];
 
-static PROGRAMS: [Program; 13] = [
+static PROGRAMS: &[Program] = &[
     Program {
         name: "program_normalises_the_first_run",
         words: &["normalise", "x."],
@@ -347,9 +333,7 @@ static PROGRAMS: [Program; 13] = [
         name: "program_compares_a_file_and_a_transfer",
         words: &["compare", "x.", "p", "transfer", "q"],
         first: Given::Text("$TTL 1h\n@ SOA N h 1 2 3 4 5\n  NS n\n"),
-        second: Given::Hex(
-            "006d00018400000100030000000001780000fc0001c00c0006000100000e10001c016ec00c0168c00c0000000100000002000000030000000400000005c00c0002000100000e100002c01fc00c0006000100000e100018c01fc0230000000100000002000000030000000400000005",
-        ),
+        second: Given::Stream(SMALL),
         status: 0,
         output: "same\n",
         told: "",
@@ -358,9 +342,7 @@ static PROGRAMS: [Program; 13] = [
         name: "program_compares_two_zones_that_differ",
         words: &["compare", "x.", "p", "transfer", "r"],
         first: Given::Text("$TTL 1h\n@ SOA N h 1 2 3 4 5\n  NS n\n"),
-        second: Given::Hex(
-            "005400018400000100020000000101780000fc0001c00c0006000100000e10001c016ec00c0168c00c0000000100000002000000030000000400000005c00c0002000100000e100002c01f00002904d00000000000000053000184000000000300000000016e0178000001000100000e1000040a000001c00e0002000100000e100002c00cc00e0006000100000e10001ac00c0168c00e0000000100000002000000030000000400000005",
-        ),
+        second: Given::Stream(IN_TWO),
         status: 1,
         output: "different at line 3\n",
         told: "",
@@ -405,9 +387,7 @@ static PROGRAMS: [Program; 13] = [
         name: "compare_whose_first_reader_fails",
         words: &["compare", "x.", "p", "transfer", "q"],
         first: Given::BrokenText("$TTL 1h\n@ "),
-        second: Given::Hex(
-            "006d00018400000100030000000001780000fc0001c00c0006000100000e10001c016ec00c0168c00c0000000100000002000000030000000400000005c00c0002000100000e100002c01fc00c0006000100000e100018c01fc0230000000100000002000000030000000400000005",
-        ),
+        second: Given::Stream(SMALL),
         status: 4,
         output: "",
         told: "first: read failed\n",
@@ -416,7 +396,7 @@ static PROGRAMS: [Program; 13] = [
         name: "compare_whose_second_reader_fails",
         words: &["compare", "x.", "p", "transfer", "q"],
         first: Given::Text("$TTL 1h\n@ SOA N h 1 2 3 4 5\n  NS n\n"),
-        second: Given::BrokenHex("006d0001840000010003"),
+        second: Given::BrokenStream("#006d0001840000010003"),
         status: 4,
         output: "",
         told: "second: read failed\n",
@@ -425,7 +405,7 @@ static PROGRAMS: [Program; 13] = [
         name: "second_input_is_not_read_after_a_refused_first",
         words: &["compare", "x.", "p", "transfer", "q"],
         first: Given::Text(""),
-        second: Given::BrokenHex(""),
+        second: Given::BrokenStream(""),
         status: 3,
         output: "",
         told: "first: F42 NoSoa in the input: the zone has no SOA record\n",
@@ -434,19 +414,19 @@ static PROGRAMS: [Program; 13] = [
 
 #[test]
 fn comparisons(rt: HostRuntime) -> Result<(), Fail> {
-    assert_eq!(rt; first_wrong_name(rt.alloc(), &COMPARISONS)?, None);
-    assert_eq!(rt; first_wrong_name(rt.alloc(), &MORE_COMPARISONS)?, None);
+    assert_eq!(rt; first_wrong_name(rt.alloc(), COMPARISONS)?, None);
+    assert_eq!(rt; first_wrong_name(rt.alloc(), MORE_COMPARISONS)?, None);
     Ok(())
 }
 
 #[test]
 fn explanations(rt: HostRuntime) -> Result<(), Fail> {
-    assert_eq!(rt; first_wrong_name(rt.alloc(), &EXPLANATIONS)?, None);
+    assert_eq!(rt; first_wrong_name(rt.alloc(), EXPLANATIONS)?, None);
     Ok(())
 }
 
 #[test]
 fn programs(rt: HostRuntime) -> Result<(), Fail> {
-    assert_eq!(rt; first_wrong_name(rt.alloc(), &PROGRAMS)?, None);
+    assert_eq!(rt; first_wrong_name(rt.alloc(), PROGRAMS)?, None);
     Ok(())
 }

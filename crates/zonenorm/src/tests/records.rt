@@ -37,11 +37,11 @@ impl Case for Ttl {
     }
 }
 
-static TTLS: [Ttl; 2] = [Ttl(2147483647, true), Ttl(2147483648, false)];
+static TTLS: &[Ttl] = &[Ttl(2147483647, true), Ttl(2147483648, false)];
 
 #[test]
 fn records_of_31_bits(rt: HostRuntime) -> Result<(), Fail> {
-    assert_eq!(rt; first_wrong(rt.alloc(), &TTLS)?, None);
+    assert_eq!(rt; first_wrong(rt.alloc(), TTLS)?, None);
     Ok(())
 }
 

@@ -32,7 +32,7 @@ struct OfOctets;
 
 impl Question for OfOctets {
     fn is_answered(alloc: Global, vector: &Vector) -> Result<bool, Fail> {
-        let answered = normalise_bytes(alloc, Form::File(&vector.origin()?), vector.file);
+        let answered = normalise_bytes(alloc, Form::File(&vector.origin()?), vector.file());
         is_wanted(alloc, &vector.answer, answered)
     }
 }
@@ -53,7 +53,7 @@ struct OfAReader;
 
 impl Question for OfAReader {
     fn is_answered(alloc: Global, vector: &Vector) -> Result<bool, Fail> {
-        let (mut reader, mut written) = (vector.file, roomy(alloc)?);
+        let (mut reader, mut written) = (vector.file(), roomy(alloc)?);
         let origin = vector.origin()?;
         let answered = normalise(alloc, Form::File(&origin), &mut reader, &mut written);
         match (answered, &vector.answer) {
@@ -102,7 +102,7 @@ fn ran<R: Read>(alloc: Global, origin: Option<Name>, reader: &mut R) -> Result<R
 
 /// The line that explains why a file is refused, with its line feed.
 fn refusal_line(alloc: Global, vector: &Vector) -> Result<String, Fail> {
-    let answered = normalise_bytes(alloc, Form::File(&vector.origin()?), vector.file);
+    let answered = normalise_bytes(alloc, Form::File(&vector.origin()?), vector.file());
     let mut line = explain_line(alloc, &answered.err().ok_or("accepted")?)?;
     line.push('\n')?;
     had_memory(line.as_bytes())?;
@@ -128,8 +128,10 @@ struct Runs;
 
 impl Question for Runs {
     fn is_answered(alloc: Global, vector: &Vector) -> Result<bool, Fail> {
-        let mut reader = vector.file;
-        let mut sparing = Sparing { left: vector.file };
+        let mut reader = vector.file();
+        let mut sparing = Sparing {
+            left: vector.file(),
+        };
         let at_once = ran(alloc, Some(vector.origin()?), &mut reader)?;
         let singly = ran(alloc, Some(vector.origin()?), &mut sparing)?;
         Ok(is_run(alloc, vector, &at_once)? && is_run(alloc, vector, &singly)?)
@@ -168,9 +170,9 @@ struct BrokenRuns;
 
 impl Question for BrokenRuns {
     fn is_answered(alloc: Global, vector: &Vector) -> Result<bool, Fail> {
-        let len = vector.file.len();
+        let len = vector.file().len();
         for count in [0, len / 2, len] {
-            let (left, _) = vector.file.split_at(count);
+            let (left, _) = vector.file().split_at(count);
             let error = ErrorKind::Other;
             let (mut breaking, mut ailing) = (Breaking { left, error }, Ailing { left });
             if !is_broken(alloc, Some(vector.origin()?), &mut breaking)?
@@ -231,7 +233,7 @@ struct ReadBack;
 impl Question for ReadBack {
     fn is_answered(alloc: Global, vector: &Vector) -> Result<bool, Fail> {
         let origin = vector.origin()?;
-        is_kept(alloc, Form::File(&origin), vector.file, &vector.answer)
+        is_kept(alloc, Form::File(&origin), vector.file(), &vector.answer)
     }
 }
 
@@ -246,7 +248,7 @@ struct Explained;
 
 impl Question for Explained {
     fn is_answered(alloc: Global, vector: &Vector) -> Result<bool, Fail> {
-        let (mut reader, mut written) = (vector.file, roomy(alloc)?);
+        let (mut reader, mut written) = (vector.file(), roomy(alloc)?);
         let origin = vector.origin()?;
         let answered = explain(alloc, Form::File(&origin), &mut reader, &mut written);
         match (answered, &vector.answer) {

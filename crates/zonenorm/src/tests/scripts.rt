@@ -1,5 +1,6 @@
 //! Calls of a source that is fed, and what each answers.
 use crate::tests::is_explained;
+use crate::tests::notation::stream_of;
 use crate::tests::pieces::Fed;
 use crate::tests::readings::Given;
 use std::alloc::Global;
@@ -11,6 +12,8 @@ use zone_rdata::Stop;
 pub(super) enum Step {
     /// A piece is fed.
     Feed(&'static [u8]),
+    /// The octets of a stream in notation are fed, from one offset up to another.
+    Part(&'static str, usize, usize),
     /// The next record is given.
     Gives(Given),
     /// Nothing is decided, or nothing is left.
@@ -51,6 +54,11 @@ fn is_answered<S: Fed>(alloc: Global, source: &mut S, step: &Step) -> Result<boo
     match step {
         Step::Feed(piece) => {
             source.hand(piece)?;
+            Ok(true)
+        }
+        Step::Part(lines, from, to) => {
+            let octets = stream_of(alloc, lines)?;
+            source.hand(octets.get(*from..*to).ok_or("no such part")?)?;
             Ok(true)
         }
         Step::Finish => {

@@ -1,237 +1,166 @@
-//! Streams of messages (RFC 5936 2.2), in tables that are small enough for one proof each.
-use crate::tests::transfers::Stream;
-use crate::tests::vectors::Answer;
+//! Zone transfers in notation, and the answer that each must get (RFC 5936).
 
-pub(super) static FIRST_STREAMS: [Stream; 7] = [
-    Stream {
-        name: "small_transfer_gives_two_lines",
-        octets: "006d00018400000100030000000001780000fc0001c00c0006000100000e10001c016ec00c0168c00c0000000100000002000000030000000400000005c00c0002000100000e100002c01fc00c0006000100000e100018c01fc0230000000100000002000000030000000400000005",
-        answer: Answer::Text(b"x. 3600 IN SOA n.x. h.x. 1 2 3 4 5\nx. 3600 IN NS n.x.\n"),
-    },
-    Stream {
-        name: "empty_transfer_has_no_closing_soa",
-        octets: "",
-        answer: Answer::Refused("F38 NoClosingSoa at message 1 offset 0"),
-    },
-    Stream {
-        name: "transfer_in_two_messages",
-        octets: "005400018400000100020000000101780000fc0001c00c0006000100000e10001c016ec00c0168c00c0000000100000002000000030000000400000005c00c0002000100000e100002c01f00002904d00000000000000053000184000000000300000000016e0178000001000100000e1000040a000001c00e0002000100000e100002c00cc00e0006000100000e10001ac00c0168c00e0000000100000002000000030000000400000005",
-        answer: Answer::Text(
-            b"x. 3600 IN SOA n.x. h.x. 1 2 3 4 5\nx. 3600 IN NS n.x.\nn.x. 3600 IN A 10.0.0.1\n",
-        ),
-    },
-    Stream {
-        name: "closing_soa_with_another_serial",
-        octets: "006d00018400000100030000000001780000fc0001c00c0006000100000e10001c016ec00c0168c00c0000000100000002000000030000000400000005c00c0002000100000e100002c01fc00c0006000100000e100018c01fc0230000000200000002000000030000000400000005",
-        answer: Answer::Refused("F36 SoaMismatch at message 1 offset 73"),
-    },
-    Stream {
-        name: "record_after_the_closing_soa",
-        octets: "007b00018400000100040000000001780000fc0001c00c0006000100000e10001c016ec00c0168c00c0000000100000002000000030000000400000005c00c0002000100000e100002c01fc00c0006000100000e100018c01fc0230000000100000002000000030000000400000005c00c0002000100000e100002c01f",
-        answer: Answer::Refused("F37 AfterClosing at message 1 offset 109"),
-    },
-    Stream {
-        name: "one_octet_after_the_last_frame",
-        octets: "006d00018400000100030000000001780000fc0001c00c0006000100000e10001c016ec00c0168c00c0000000100000002000000030000000400000005c00c0002000100000e100002c01fc00c0006000100000e100018c01fc023000000010000000200000003000000040000000500",
-        answer: Answer::Refused("F22 ShortFrame at message 2 offset 0"),
-    },
-    Stream {
-        name: "message_marked_as_truncated",
-        octets: "006d00018600000100030000000001780000fc0001c00c0006000100000e10001c016ec00c0168c00c0000000100000002000000030000000400000005c00c0002000100000e100002c01fc00c0006000100000e100018c01fc0230000000100000002000000030000000400000005",
-        answer: Answer::Refused("F25 Truncated at message 1 offset 0"),
-    },
-];
+/// The transfer of the zone `x.` with an SOA and a name server, in one message.
+pub(super) const SMALL: &str = "header 1 8400 1 3 0 0; QUESTION; OPENING; SERVER; CLOSING";
 
-pub(super) static SECOND_STREAMS: [Stream; 7] = [
-    Stream {
-        name: "message_with_an_error_code",
-        octets: "006d00018405000100030000000001780000fc0001c00c0006000100000e10001c016ec00c0168c00c0000000100000002000000030000000400000005c00c0002000100000e100002c01fc00c0006000100000e100018c01fc0230000000100000002000000030000000400000005",
-        answer: Answer::Refused("F26 ErrorCode 5 at message 1 offset 0"),
-    },
-    Stream {
-        name: "message_that_is_a_query",
-        octets: "006d00010400000100030000000001780000fc0001c00c0006000100000e10001c016ec00c0168c00c0000000100000002000000030000000400000005c00c0002000100000e100002c01fc00c0006000100000e100018c01fc0230000000100000002000000030000000400000005",
-        answer: Answer::Refused("F24 NotAResponse at message 1 offset 0"),
-    },
-    Stream {
-        name: "question_of_another_type",
-        octets: "006d00018400000100030000000001780000010001c00c0006000100000e10001c016ec00c0168c00c0000000100000002000000030000000400000005c00c0002000100000e100002c01fc00c0006000100000e100018c01fc0230000000100000002000000030000000400000005",
-        answer: Answer::Refused("F29 BadQuestion at message 1 offset 12"),
-    },
-    Stream {
-        name: "question_of_another_class",
-        octets: "006d00018400000100030000000001780000fc0003c00c0006000100000e10001c016ec00c0168c00c0000000100000002000000030000000400000005c00c0002000100000e100002c01fc00c0006000100000e100018c01fc0230000000100000002000000030000000400000005",
-        answer: Answer::Refused("F29 BadQuestion at message 1 offset 19"),
-    },
-    Stream {
-        name: "transfer_given_twice",
-        octets: "006d00018400000100030000000001780000fc0001c00c0006000100000e10001c016ec00c0168c00c0000000100000002000000030000000400000005c00c0002000100000e100002c01fc00c0006000100000e100018c01fc0230000000100000002000000030000000400000005006d00018400000100030000000001780000fc0001c00c0006000100000e10001c016ec00c0168c00c0000000100000002000000030000000400000005c00c0002000100000e100002c01fc00c0006000100000e100018c01fc0230000000100000002000000030000000400000005",
-        answer: Answer::Refused("F37 AfterClosing at message 2 offset 19"),
-    },
-    Stream {
-        name: "second_message_with_another_id",
-        octets: "006d00018400000100030000000001780000fc0001c00c0006000100000e10001c016ec00c0168c00c0000000100000002000000030000000400000005c00c0002000100000e100002c01fc00c0006000100000e100018c01fc0230000000100000002000000030000000400000005006d00028400000100030000000001780000fc0001c00c0006000100000e10001c016ec00c0168c00c0000000100000002000000030000000400000005c00c0002000100000e100002c01fc00c0006000100000e100018c01fc0230000000100000002000000030000000400000005",
-        answer: Answer::Refused("F28 IdMismatch at message 2 offset 0"),
-    },
-    Stream {
-        name: "frame_of_no_octets",
-        octets: "0000",
-        answer: Answer::Refused("F23 ShortMessage at message 1 offset 0"),
-    },
-];
+/// Such a transfer in two messages: the first ends with an OPT record, and the second has an
+/// address more.
+pub(super) const IN_TWO: &str = "\
+header 1 8400 1 2 0 1; QUESTION; OPENING; SERVER; . 0 CLASS1232 OPT
+header 1 8400 0 3 0 0; n.x. 3600 IN A #0a000001; @14 3600 IN NS @12; @14 3600 IN SOA @12 h@14 1 2 3 4 5
+";
 
-pub(super) static THIRD_STREAMS: [Stream; 7] = [
-    Stream {
-        name: "first_answer_is_not_an_soa",
-        octets: "002100018400000100010000000001780000fc0001c00c0002000100000e100002c00c",
-        answer: Answer::Refused("F35 NoOpeningSoa at message 1 offset 19"),
-    },
-    Stream {
-        name: "message_without_answers_alone",
-        octets: "000c000184000000000000000000",
-        answer: Answer::Refused("F38 NoClosingSoa at message 2 offset 0"),
-    },
-    Stream {
-        name: "closing_soa_with_another_ttl",
-        octets: "006d00018400000100030000000001780000fc0001c00c0006000100000e10001c016ec00c0168c00c0000000100000002000000030000000400000005c00c0002000100000e100002c01fc00c0006000180000e100018c01fc0230000000100000002000000030000000400000005",
-        answer: Answer::Refused("F36 SoaMismatch at message 1 offset 73"),
-    },
-    Stream {
-        name: "ttl_with_its_top_bit_set_is_zero",
-        octets: "006d00018400000100030000000001780000fc0001c00c0006000180000000001c016ec00c0168c00c0000000100000002000000030000000400000005c00c00020001000000000002c01fc00c00060001800000000018c01fc0230000000100000002000000030000000400000005",
-        answer: Answer::Text(b"x. 0 IN SOA n.x. h.x. 1 2 3 4 5\nx. 0 IN NS n.x.\n"),
-    },
-    Stream {
-        name: "first_of_two_frames_alone",
-        octets: "005400018400000100020000000101780000fc0001c00c0006000100000e10001c016ec00c0168c00c0000000100000002000000030000000400000005c00c0002000100000e100002c01f00002904d0000000000000",
-        answer: Answer::Refused("F38 NoClosingSoa at message 2 offset 0"),
-    },
-    Stream {
-        name: "answer_count_far_too_high",
-        octets: "006d000184000001ffff0000000001780000fc0001c00c0006000100000e10001c016ec00c0168c00c0000000100000002000000030000000400000005c00c0002000100000e100002c01fc00c0006000100000e100018c01fc0230000000100000002000000030000000400000005",
-        answer: Answer::Refused("F23 ShortMessage at message 1 offset 109"),
-    },
-    Stream {
-        name: "answer_count_one_too_low",
-        octets: "006d00018400000100020000000001780000fc0001c00c0006000100000e10001c016ec00c0168c00c0000000100000002000000030000000400000005c00c0002000100000e100002c01fc00c0006000100000e100018c01fc0230000000100000002000000030000000400000005",
-        answer: Answer::Refused("F34 TrailingOctets at message 1 offset 0"),
-    },
-];
+/// The small transfer with another serial in its closing SOA.
+pub(super) const OTHER_SERIAL: &str =
+    "header 1 8400 1 3 0 0; QUESTION; OPENING; SERVER; @12 3600 IN SOA @31 @35 2 2 3 4 5";
 
-pub(super) static FOURTH_STREAMS: [Stream; 7] = [
-    Stream {
-        name: "question_counted_as_missing",
-        octets: "006d00018400000000030000000001780000fc0001c00c0006000100000e10001c016ec00c0168c00c0000000100000002000000030000000400000005c00c0002000100000e100002c01fc00c0006000100000e100018c01fc0230000000100000002000000030000000400000005",
-        answer: Answer::Refused("F23 ShortMessage at message 1 offset 26"),
-    },
-    Stream {
-        name: "upper_case_question_name",
-        octets: "006d00018400000100030000000001580000fc0001c00c0006000100000e10001c016ec00c0168c00c0000000100000002000000030000000400000005c00c0002000100000e100002c01fc00c0006000100000e100018c01fc0230000000100000002000000030000000400000005",
-        answer: Answer::Text(b"x. 3600 IN SOA n.x. h.x. 1 2 3 4 5\nx. 3600 IN NS n.x.\n"),
-    },
-    Stream {
-        name: "two_questions_in_a_transfer",
-        octets: "006d00018400000200030000000001780000fc0001c00c0006000100000e10001c016ec00c0168c00c0000000100000002000000030000000400000005c00c0002000100000e100002c01fc00c0006000100000e100018c01fc0230000000100000002000000030000000400000005",
-        answer: Answer::Refused("F27 BadCounts at message 1 offset 0"),
-    },
-    Stream {
-        name: "authority_records_in_a_transfer",
-        octets: "006d00018400000100030001000001780000fc0001c00c0006000100000e10001c016ec00c0168c00c0000000100000002000000030000000400000005c00c0002000100000e100002c01fc00c0006000100000e100018c01fc0230000000100000002000000030000000400000005",
-        answer: Answer::Refused("F27 BadCounts at message 1 offset 0"),
-    },
-    Stream {
-        name: "octet_after_the_last_record_of_a_message",
-        octets: "006e00018400000100030000000001780000fc0001c00c0006000100000e10001c016ec00c0168c00c0000000100000002000000030000000400000005c00c0002000100000e100002c01fc00c0006000100000e100018c01fc023000000010000000200000003000000040000000500",
-        answer: Answer::Refused("F34 TrailingOctets at message 1 offset 0"),
-    },
-    Stream {
-        name: "reserved_label_in_an_owner",
-        octets: "006d00018400000100030000000001780000fc0001c00c0006000100000e10001c016ec00c0168c00c0000000100000002000000030000000400000005400c0002000100000e100002c01fc00c0006000100000e100018c01fc0230000000100000002000000030000000400000005",
-        answer: Answer::Refused("F30 ReservedLabel at message 1 offset 59"),
-    },
-    Stream {
-        name: "owner_that_points_to_itself",
-        octets: "006d00018400000100030000000001780000fc0001c00c0006000100000e10001c016ec00c0168c00c0000000100000002000000030000000400000005c03b0002000100000e100002c01fc00c0006000100000e100018c01fc0230000000100000002000000030000000400000005",
-        answer: Answer::Refused("F31 BadPointer at message 1 offset 59"),
-    },
-];
-
-pub(super) static FIFTH_STREAMS: [Stream; 7] = [
-    Stream {
-        name: "structural_fault_before_a_fault_of_data",
-        octets: "006d00018400000100030000000001780000fc0001c00c0006000100000e10001c016ec00c0168c00c0000000100000002000000030000000400000005c00c0002000100000e100002c047c0490006000100000e100018c01fc0230000000100000002000000030000000400000005",
-        answer: Answer::Refused("F31 BadPointer at message 1 offset 73"),
-    },
-    Stream {
-        name: "answer_of_another_class",
-        octets: "006d00018400000100030000000001780000fc0001c00c0006000100000e10001c016ec00c0168c00c0000000100000002000000030000000400000005c00c0002000300000e100002c01fc00c0006000100000e100018c01fc0230000000100000002000000030000000400000005",
-        answer: Answer::Refused("F39 ClassMismatch at message 1 offset 59"),
-    },
-    Stream {
-        name: "opcode_not_zero",
-        octets: "006d00018c00000100030000000001780000fc0001c00c0006000100000e10001c016ec00c0168c00c0000000100000002000000030000000400000005c00c0002000100000e100002c01fc00c0006000100000e100018c01fc0230000000100000002000000030000000400000005",
-        answer: Answer::Refused("F24 NotAResponse at message 1 offset 0"),
-    },
-    Stream {
-        name: "refused_type_in_a_transfer",
-        octets: "006d00018400000100030000000001780000fc0001c00c0006000100000e10001c016ec00c0168c00c0000000100000002000000030000000400000005c00c0007000100000e100002c01fc00c0006000100000e100018c01fc0230000000100000002000000030000000400000005",
-        answer: Answer::Refused("F33 CompressibleType at message 1 offset 59"),
-    },
-    Stream {
-        name: "later_question_of_another_name",
-        octets: "005400018400000100020000000101780000fc0001c00c0006000100000e10001c016ec00c0168c00c0000000100000002000000030000000400000005c00c0002000100000e100002c01f00002904d0000000000000001300018400000100000000000001790000fc0001",
-        answer: Answer::Refused("F29 BadQuestion at message 2 offset 12"),
-    },
-    Stream {
-        name: "record_outside_the_zone_in_a_transfer",
-        octets: "006c00018400000100030000000001780000fc0001c00c0006000100000e10001c016ec00c0168c00c0000000100000002000000030000000400000005000002000100000e100002c01fc00c0006000100000e100018c01fc0230000000100000002000000030000000400000005",
-        answer: Answer::Refused("F43 OutOfZone . in the input"),
-    },
-    Stream {
-        name: "octet_left_over_in_the_data",
-        octets: "006e00018400000100030000000001780000fc0001c00c0006000100000e10001c016ec00c0168c00c0000000100000002000000030000000400000005c00c0002000100000e100003c01f00c00c0006000100000e100018c01fc0230000000100000002000000030000000400000005",
-        answer: Answer::Refused("F9 BadRdata at message 1 offset 59"),
-    },
-];
-
-pub(super) static SIXTH_STREAMS: [Stream; 7] = [
-    Stream {
-        name: "txt_of_no_octets_in_a_transfer",
-        octets: "006b00018400000100030000000001780000fc0001c00c0006000100000e10001c016ec00c0168c00c0000000100000002000000030000000400000005c00c0010000100000e100000c00c0006000100000e100018c01fc0230000000100000002000000030000000400000005",
-        answer: Answer::Refused("F9 BadRdata at message 1 offset 59"),
-    },
-    Stream {
-        name: "additional_records_may_be_of_any_kind",
-        octets: "007c00018400000100030000000101780000fc0001c00c0006000100000e10001c016ec00c0168c00c0000000100000002000000030000000400000005c00c0002000100000e100002c01fc00c0006000100000e100018c01fc0230000000100000002000000030000000400000005c01f001800ff000000000003c0ffee",
-        answer: Answer::Text(b"x. 3600 IN SOA n.x. h.x. 1 2 3 4 5\nx. 3600 IN NS n.x.\n"),
-    },
-    Stream {
-        name: "address_of_another_class_in_a_transfer",
-        octets: "006e00018400000100030000000001780000fc0003c00c0006000300000e10001c016ec00c0168c00c0000000100000002000000030000000400000005c00c0001000300000e1000030a0000c00c0006000300000e100018c01fc0230000000100000002000000030000000400000005",
-        answer: Answer::Text(
-            b"x. 3600 CH SOA n.x. h.x. 1 2 3 4 5\nx. 3600 CH TYPE1 \\# 3 0a0000\n",
-        ),
-    },
-    Stream {
-        name: "compressed_service_target_is_followed",
-        octets: "007300018400000100030000000001780000fc0001c00c0006000100000e10001c016ec00c0168c00c0000000100000002000000030000000400000005c00c0021000100000e1000080000000513c4c01fc00c0006000100000e100018c01fc0230000000100000002000000030000000400000005",
-        answer: Answer::Text(b"x. 3600 IN SOA n.x. h.x. 1 2 3 4 5\nx. 3600 IN SRV 0 5 5060 n.x.\n"),
-    },
-    Stream {
-        name: "type_17_in_a_transfer_is_still_refused",
-        octets: "006d00018400000100030000000001780000fc0001c00c0006000100000e10001c016ec00c0168c00c0000000100000002000000030000000400000005c00c0011000100000e100002c01fc00c0006000100000e100018c01fc0230000000100000002000000030000000400000005",
-        answer: Answer::Refused("F33 CompressibleType at message 1 offset 59"),
-    },
-    Stream {
-        name: "service_data_too_short_in_a_transfer",
-        octets: "006d00018400000100030000000001780000fc0001c00c0006000100000e10001c016ec00c0168c00c0000000100000002000000030000000400000005c00c0021000100000e100002c01fc00c0006000100000e100018c01fc0230000000100000002000000030000000400000005",
-        answer: Answer::Refused("F9 BadRdata at message 1 offset 59"),
-    },
-    Stream {
-        name: "compressed_naptr_replacement_is_followed",
-        octets: "007500018400000100030000000001780000fc0001c00c0006000100000e10001c016ec00c0168c00c0000000100000002000000030000000400000005c00c0023000100000e10000a0064000a01550000c01fc00c0006000100000e100018c01fc0230000000100000002000000030000000400000005",
-        answer: Answer::Text(
-            b"x. 3600 IN SOA n.x. h.x. 1 2 3 4 5\nx. 3600 IN NAPTR 100 10 \"U\" \"\" \"\" n.x.\n",
-        ),
-    },
-];
+/// Rows as of master files, with streams in the place of files.
+pub(super) const STREAMS: &str = "\
+== small_transfer_gives_two_lines
+header 1 8400 1 3 0 0; QUESTION; OPENING; SERVER; CLOSING
+=>
+x. 3600 IN SOA n.x. h.x. 1 2 3 4 5
+x. 3600 IN NS n.x.
+== empty_transfer_has_no_closing_soa
+=> F38 NoClosingSoa at message 1 offset 0
+== transfer_in_two_messages
+header 1 8400 1 2 0 1; QUESTION; OPENING; SERVER; . 0 CLASS1232 OPT
+header 1 8400 0 3 0 0; n.x. 3600 IN A #0a000001; @14 3600 IN NS @12; @14 3600 IN SOA @12 h@14 1 2 3 4 5
+=>
+x. 3600 IN SOA n.x. h.x. 1 2 3 4 5
+x. 3600 IN NS n.x.
+n.x. 3600 IN A 10.0.0.1
+== closing_soa_with_another_serial
+header 1 8400 1 3 0 0; QUESTION; OPENING; SERVER; @12 3600 IN SOA @31 @35 2 2 3 4 5
+=> F36 SoaMismatch at message 1 offset 73
+== record_after_the_closing_soa
+header 1 8400 1 4 0 0; QUESTION; OPENING; SERVER; CLOSING; SERVER
+=> F37 AfterClosing at message 1 offset 109
+== one_octet_after_the_last_frame
+header 1 8400 1 3 0 0; QUESTION; OPENING; SERVER; CLOSING
+#00
+=> F22 ShortFrame at message 2 offset 0
+== message_marked_as_truncated
+header 1 8600 1 3 0 0; QUESTION; OPENING; SERVER; CLOSING
+=> F25 Truncated at message 1 offset 0
+== message_with_an_error_code
+header 1 8405 1 3 0 0; QUESTION; OPENING; SERVER; CLOSING
+=> F26 ErrorCode 5 at message 1 offset 0
+== message_that_is_a_query
+header 1 400 1 3 0 0; QUESTION; OPENING; SERVER; CLOSING
+=> F24 NotAResponse at message 1 offset 0
+== question_of_another_type
+header 1 8400 1 3 0 0; question x. A IN; OPENING; SERVER; CLOSING
+=> F29 BadQuestion at message 1 offset 12
+== question_of_another_class
+header 1 8400 1 3 0 0; question x. AXFR CH; OPENING; SERVER; CLOSING
+=> F29 BadQuestion at message 1 offset 19
+== transfer_given_twice
+header 1 8400 1 3 0 0; QUESTION; OPENING; SERVER; CLOSING
+header 1 8400 1 3 0 0; QUESTION; OPENING; SERVER; CLOSING
+=> F37 AfterClosing at message 2 offset 19
+== second_message_with_another_id
+header 1 8400 1 3 0 0; QUESTION; OPENING; SERVER; CLOSING
+header 2 8400 1 3 0 0; QUESTION; OPENING; SERVER; CLOSING
+=> F28 IdMismatch at message 2 offset 0
+== frame_of_no_octets
+#0000
+=> F23 ShortMessage at message 1 offset 0
+== first_answer_is_not_an_soa
+header 1 8400 1 1 0 0; QUESTION; @12 3600 IN NS @12
+=> F35 NoOpeningSoa at message 1 offset 19
+== message_without_answers_alone
+header 1 8400 0 0 0 0
+=> F38 NoClosingSoa at message 2 offset 0
+== closing_soa_with_another_ttl
+header 1 8400 1 3 0 0; QUESTION; OPENING; SERVER; @12 2147487248 IN SOA @31 @35 1 2 3 4 5
+=> F36 SoaMismatch at message 1 offset 73
+== ttl_with_its_top_bit_set_is_zero
+header 1 8400 1 3 0 0; QUESTION; @12 2147483648 IN SOA n@12 h@12 1 2 3 4 5; @12 0 IN NS @31; @12 2147483648 IN SOA @31 @35 1 2 3 4 5
+=>
+x. 0 IN SOA n.x. h.x. 1 2 3 4 5
+x. 0 IN NS n.x.
+== first_of_two_frames_alone
+header 1 8400 1 2 0 1; QUESTION; OPENING; SERVER; . 0 CLASS1232 OPT
+=> F38 NoClosingSoa at message 2 offset 0
+== answer_count_far_too_high
+header 1 8400 1 ffff 0 0; QUESTION; OPENING; SERVER; CLOSING
+=> F23 ShortMessage at message 1 offset 109
+== answer_count_one_too_low
+header 1 8400 1 2 0 0; QUESTION; OPENING; SERVER; CLOSING
+=> F34 TrailingOctets at message 1 offset 0
+== question_counted_as_missing
+header 1 8400 0 3 0 0; QUESTION; OPENING; SERVER; CLOSING
+=> F23 ShortMessage at message 1 offset 26
+== upper_case_question_name
+header 1 8400 1 3 0 0; question X. AXFR IN; OPENING; SERVER; CLOSING
+=>
+x. 3600 IN SOA n.x. h.x. 1 2 3 4 5
+x. 3600 IN NS n.x.
+== two_questions_in_a_transfer
+header 1 8400 2 3 0 0; QUESTION; OPENING; SERVER; CLOSING
+=> F27 BadCounts at message 1 offset 0
+== authority_records_in_a_transfer
+header 1 8400 1 3 1 0; QUESTION; OPENING; SERVER; CLOSING
+=> F27 BadCounts at message 1 offset 0
+== octet_after_the_last_record_of_a_message
+header 1 8400 1 3 0 0; QUESTION; OPENING; SERVER; CLOSING; #00
+=> F34 TrailingOctets at message 1 offset 0
+== reserved_label_in_an_owner
+header 1 8400 1 3 0 0; QUESTION; OPENING; #400c 3600 IN NS @31; CLOSING
+=> F30 ReservedLabel at message 1 offset 59
+== owner_that_points_to_itself
+header 1 8400 1 3 0 0; QUESTION; OPENING; @59 3600 IN NS @31; CLOSING
+=> F31 BadPointer at message 1 offset 59
+== structural_fault_before_a_fault_of_data
+header 1 8400 1 3 0 0; QUESTION; OPENING; @12 3600 IN NS @71; @73 3600 IN SOA @31 @35 1 2 3 4 5
+=> F31 BadPointer at message 1 offset 73
+== answer_of_another_class
+header 1 8400 1 3 0 0; QUESTION; OPENING; @12 3600 CH NS @31; CLOSING
+=> F39 ClassMismatch at message 1 offset 59
+== opcode_not_zero
+header 1 8c00 1 3 0 0; QUESTION; OPENING; SERVER; CLOSING
+=> F24 NotAResponse at message 1 offset 0
+== refused_type_in_a_transfer
+header 1 8400 1 3 0 0; QUESTION; OPENING; @12 3600 IN TYPE7 @31; CLOSING
+=> F33 CompressibleType at message 1 offset 59
+== later_question_of_another_name
+header 1 8400 1 2 0 1; QUESTION; OPENING; SERVER; . 0 CLASS1232 OPT
+header 1 8400 1 0 0 0; question y. AXFR IN
+=> F29 BadQuestion at message 2 offset 12
+== record_outside_the_zone_in_a_transfer
+header 1 8400 1 3 0 0; QUESTION; OPENING; . 3600 IN NS @31; CLOSING
+=> F43 OutOfZone . in the input
+== octet_left_over_in_the_data
+header 1 8400 1 3 0 0; QUESTION; OPENING; @12 3600 IN NS @31 #00; CLOSING
+=> F9 BadRdata at message 1 offset 59
+== txt_of_no_octets_in_a_transfer
+header 1 8400 1 3 0 0; QUESTION; OPENING; @12 3600 IN TXT; CLOSING
+=> F9 BadRdata at message 1 offset 59
+== additional_records_may_be_of_any_kind
+header 1 8400 1 3 0 1; QUESTION; OPENING; SERVER; CLOSING; @31 0 CLASS255 TYPE24 #c0ffee
+=>
+x. 3600 IN SOA n.x. h.x. 1 2 3 4 5
+x. 3600 IN NS n.x.
+== address_of_another_class_in_a_transfer
+header 1 8400 1 3 0 0; question x. AXFR CH; @12 3600 CH SOA n@12 h@12 1 2 3 4 5; @12 3600 CH A #0a0000; @12 3600 CH SOA @31 @35 1 2 3 4 5
+=>
+x. 3600 CH SOA n.x. h.x. 1 2 3 4 5
+x. 3600 CH TYPE1 \\# 3 0a0000
+== compressed_service_target_is_followed
+header 1 8400 1 3 0 0; QUESTION; OPENING; @12 3600 IN SRV 0 5 5060 @31; CLOSING
+=>
+x. 3600 IN SOA n.x. h.x. 1 2 3 4 5
+x. 3600 IN SRV 0 5 5060 n.x.
+== type_17_in_a_transfer_is_still_refused
+header 1 8400 1 3 0 0; QUESTION; OPENING; @12 3600 IN TYPE17 @31; CLOSING
+=> F33 CompressibleType at message 1 offset 59
+== service_data_too_short_in_a_transfer
+header 1 8400 1 3 0 0; QUESTION; OPENING; @12 3600 IN SRV @31; CLOSING
+=> F9 BadRdata at message 1 offset 59
+== compressed_naptr_replacement_is_followed
+header 1 8400 1 3 0 0; QUESTION; OPENING; @12 3600 IN NAPTR 100 10 #01550000 @31; CLOSING
+=>
+x. 3600 IN SOA n.x. h.x. 1 2 3 4 5
+x. 3600 IN NAPTR 100 10 \"U\" \"\" \"\" n.x.
+";

@@ -3,15 +3,13 @@
 use crate::form::Form;
 use crate::order::Order;
 use crate::run::run;
-use crate::tests::parsing::octets_of;
+use crate::tests::notation::{message_of, stream_of};
 use crate::tests::pieces::{Fed, MOST, is_right_in_two, is_right_singly};
 use crate::tests::readings::{Given, is_read, line_of};
 use crate::tests::runs::{is_broken_anywhere, is_kept, is_wanted};
 use crate::tests::scripts::{Script, Step, wrong_script};
-use crate::tests::streams::{
-    FIFTH_STREAMS, FIRST_STREAMS, FOURTH_STREAMS, SECOND_STREAMS, SIXTH_STREAMS, THIRD_STREAMS,
-};
-use crate::tests::vectors::Answer;
+use crate::tests::streams::{IN_TWO, OTHER_SERIAL, SMALL, STREAMS};
+use crate::tests::vectors::{Answer, Question, Vector, wrong_in};
 use crate::tests::{Case, Named, first_wrong, first_wrong_name, had_memory, is_explained, roomy};
 use crate::{normalise, normalise_bytes};
 use std::alloc::Global;
@@ -19,13 +17,6 @@ use std::test::Fail;
 use zone_name::Name;
 use zone_rdata::{Place, RrSource, Stop};
 use zone_wire::{TransferSource, read_transfer};
-
-/// A stream in hexadecimal digits, and the answer that it must get.
-pub(super) struct Stream {
-    pub(super) name: &'static str,
-    pub(super) octets: &'static str,
-    pub(super) answer: Answer,
-}
 
 /// What `normalise` writes, over a reader of these octets.
 fn written(alloc: Global, octets: &[u8]) -> Result<Result<Vec<u8>, Stop>, Fail> {
@@ -62,101 +53,42 @@ fn is_ran(alloc: Global, answer: &Answer, octets: &[u8]) -> Result<bool, Fail> {
     }
 }
 
-impl Case for Stream {
-    fn is_right(&self, alloc: Global) -> Result<bool, Fail> {
-        let octets = octets_of(alloc, self.octets)?;
+/// What each way to normalise a stream answers.
+struct Normalised;
+
+impl Question for Normalised {
+    fn is_answered(alloc: Global, vector: &Vector) -> Result<bool, Fail> {
+        let octets = stream_of(alloc, vector.input)?;
         let answered = normalise_bytes(alloc, Form::Transfer, &octets);
         Ok(
-            is_wanted(alloc, &self.answer, answered)?
-                && is_wanted(alloc, &self.answer, written(alloc, &octets)?)?
-                && is_ran(alloc, &self.answer, &octets)?
+            is_wanted(alloc, &vector.answer, answered)?
+                && is_wanted(alloc, &vector.answer, written(alloc, &octets)?)?
+                && is_ran(alloc, &vector.answer, &octets)?
                 && is_broken_anywhere(alloc, &octets)?
-                && is_kept(alloc, Form::Transfer, &octets, &self.answer)?,
+                && is_kept(alloc, Form::Transfer, &octets, &vector.answer)?,
         )
     }
 }
 
-impl Named for Stream {
-    fn name(&self) -> &'static str {
-        self.name
-    }
+#[test]
+fn streams_are_normalised(rt: HostRuntime) -> Result<(), Fail> {
+    assert_eq!(rt; wrong_in::<Normalised>(rt.alloc(), STREAMS)?, None);
+    Ok(())
 }
 
-/// The rest of a transfer's message after its flags.
-const AFTER_FLAGS: &str =
-    "000100030000000001780000fc0001c00c0006000100000e10001c016ec00c0168c00c0000000100000002000000030000000400000005c00c0002000100000e100002c01fc00c0006000100000e100018c01fc0230000000100000002000000030000000400000005";
-
-/// A message with this error code (RFC 1035 4.1.1).
-struct Coded(u8);
-
-impl Case for Coded {
-    fn is_right(&self, alloc: Global) -> Result<bool, Fail> {
-        let mut stream = octets_of(alloc, "006d000184")?;
-        stream.push(self.0)?;
-        stream.extend_from_slice(&octets_of(alloc, AFTER_FLAGS)?)?;
-        let answered = normalise_bytes(alloc, Form::Transfer, &stream);
-        let front = format!(in alloc; "F26 ErrorCode {} at message 1 offset 0", self.0)?;
-        is_explained(alloc, &answered.err().ok_or("accepted")?, front.as_str())
-    }
-}
-
-static CODED: [Coded; 15] = [
-    Coded(1),
-    Coded(2),
-    Coded(3),
-    Coded(4),
-    Coded(5),
-    Coded(6),
-    Coded(7),
-    Coded(8),
-    Coded(9),
-    Coded(10),
-    Coded(11),
-    Coded(12),
-    Coded(13),
-    Coded(14),
-    Coded(15),
-];
-
+/// The fault of the small transfer with each error code from 1 to 15 (RFC 1035 4.1.1).
 #[test]
 fn error_codes_are_told(rt: HostRuntime) -> Result<(), Fail> {
-    assert_eq!(rt; first_wrong(rt.alloc(), &CODED)?, None);
-    Ok(())
-}
-
-#[test]
-fn first_streams_are_normalised(rt: HostRuntime) -> Result<(), Fail> {
-    assert_eq!(rt; first_wrong_name(rt.alloc(), &FIRST_STREAMS)?, None);
-    Ok(())
-}
-
-#[test]
-fn second_streams_are_normalised(rt: HostRuntime) -> Result<(), Fail> {
-    assert_eq!(rt; first_wrong_name(rt.alloc(), &SECOND_STREAMS)?, None);
-    Ok(())
-}
-
-#[test]
-fn third_streams_are_normalised(rt: HostRuntime) -> Result<(), Fail> {
-    assert_eq!(rt; first_wrong_name(rt.alloc(), &THIRD_STREAMS)?, None);
-    Ok(())
-}
-
-#[test]
-fn fourth_streams_are_normalised(rt: HostRuntime) -> Result<(), Fail> {
-    assert_eq!(rt; first_wrong_name(rt.alloc(), &FOURTH_STREAMS)?, None);
-    Ok(())
-}
-
-#[test]
-fn fifth_streams_are_normalised(rt: HostRuntime) -> Result<(), Fail> {
-    assert_eq!(rt; first_wrong_name(rt.alloc(), &FIFTH_STREAMS)?, None);
-    Ok(())
-}
-
-#[test]
-fn sixth_streams_are_normalised(rt: HostRuntime) -> Result<(), Fail> {
-    assert_eq!(rt; first_wrong_name(rt.alloc(), &SIXTH_STREAMS)?, None);
+    let mut stream = stream_of(rt.alloc(), SMALL)?;
+    for code in 1..16u8 {
+        if let Some(flags) = stream.get_mut(5) {
+            *flags = code;
+        }
+        let answered = normalise_bytes(rt.alloc(), Form::Transfer, &stream);
+        let front = format!(in rt.alloc(); "F26 ErrorCode {code} at message 1 offset 0")?;
+        let stop = answered.err().ok_or("accepted")?;
+        assert!(rt; is_explained(rt.alloc(), &stop, front.as_str())?);
+    }
     Ok(())
 }
 
@@ -184,55 +116,25 @@ impl Fed for TransferSource {
     }
 }
 
-/// The name of the first stream that gives other records or another fault, where it is fed in
-/// pieces.
-fn first_miscut(alloc: Global, streams: &[Stream]) -> Result<Option<&'static str>, Fail> {
-    let root = Name::root();
-    for stream in streams {
-        let octets = octets_of(alloc, stream.octets)?;
+/// What a source gives that is fed the stream in two pieces, cut at each octet, and that is fed it
+/// octet by octet.
+struct InPieces;
+
+impl Question for InPieces {
+    fn is_answered(alloc: Global, vector: &Vector) -> Result<bool, Fail> {
+        let root = Name::root();
+        let octets = stream_of(alloc, vector.input)?;
         let reading = read_transfer(alloc, &octets)?;
-        if !is_right_in_two::<TransferSource>(alloc, &root, &octets, &reading)?
-            || !is_right_singly::<TransferSource>(alloc, &root, &octets, &reading)?
-        {
-            return Ok(Some(stream.name));
-        }
+        Ok(
+            is_right_in_two::<TransferSource>(alloc, &root, &octets, &reading)?
+                && is_right_singly::<TransferSource>(alloc, &root, &octets, &reading)?,
+        )
     }
-    Ok(None)
 }
 
 #[test]
-fn first_streams_in_pieces(rt: HostRuntime) -> Result<(), Fail> {
-    assert_eq!(rt; first_miscut(rt.alloc(), &FIRST_STREAMS)?, None);
-    Ok(())
-}
-
-#[test]
-fn second_streams_in_pieces(rt: HostRuntime) -> Result<(), Fail> {
-    assert_eq!(rt; first_miscut(rt.alloc(), &SECOND_STREAMS)?, None);
-    Ok(())
-}
-
-#[test]
-fn third_streams_in_pieces(rt: HostRuntime) -> Result<(), Fail> {
-    assert_eq!(rt; first_miscut(rt.alloc(), &THIRD_STREAMS)?, None);
-    Ok(())
-}
-
-#[test]
-fn fourth_streams_in_pieces(rt: HostRuntime) -> Result<(), Fail> {
-    assert_eq!(rt; first_miscut(rt.alloc(), &FOURTH_STREAMS)?, None);
-    Ok(())
-}
-
-#[test]
-fn fifth_streams_in_pieces(rt: HostRuntime) -> Result<(), Fail> {
-    assert_eq!(rt; first_miscut(rt.alloc(), &FIFTH_STREAMS)?, None);
-    Ok(())
-}
-
-#[test]
-fn sixth_streams_in_pieces(rt: HostRuntime) -> Result<(), Fail> {
-    assert_eq!(rt; first_miscut(rt.alloc(), &SIXTH_STREAMS)?, None);
+fn streams_in_pieces(rt: HostRuntime) -> Result<(), Fail> {
+    assert_eq!(rt; wrong_in::<InPieces>(rt.alloc(), STREAMS)?, None);
     Ok(())
 }
 
@@ -247,7 +149,7 @@ struct Prefixes {
 
 impl Case for Prefixes {
     fn is_right(&self, alloc: Global) -> Result<bool, Fail> {
-        let octets = octets_of(alloc, self.octets)?;
+        let octets = stream_of(alloc, self.octets)?;
         for count in self.from..=self.to.min(octets.len()) {
             let (front, _) = octets.split_at(count.min(octets.len()));
             let answered = normalise_bytes(alloc, Form::Transfer, front);
@@ -266,24 +168,24 @@ impl Named for Prefixes {
     }
 }
 
-static PREFIXES: [Prefixes; 3] = [
+static PREFIXES: &[Prefixes] = &[
     Prefixes {
         name: "every_prefix_of_the_small_transfer",
-        octets: "006d00018400000100030000000001780000fc0001c00c0006000100000e10001c016ec00c0168c00c0000000100000002000000030000000400000005c00c0002000100000e100002c01fc00c0006000100000e100018c01fc0230000000100000002000000030000000400000005",
+        octets: SMALL,
         from: 1,
         to: 110,
         front: "F22 ShortFrame at message 1 offset 0",
     },
     Prefixes {
         name: "every_prefix_inside_the_first_of_two_frames",
-        octets: "005400018400000100020000000101780000fc0001c00c0006000100000e10001c016ec00c0168c00c0000000100000002000000030000000400000005c00c0002000100000e100002c01f00002904d00000000000000053000184000000000300000000016e0178000001000100000e1000040a000001c00e0002000100000e100002c00cc00e0006000100000e10001ac00c0168c00e0000000100000002000000030000000400000005",
+        octets: IN_TWO,
         from: 1,
         to: 85,
         front: "F22 ShortFrame at message 1 offset 0",
     },
     Prefixes {
         name: "every_prefix_inside_the_second_of_two_frames",
-        octets: "005400018400000100020000000101780000fc0001c00c0006000100000e10001c016ec00c0168c00c0000000100000002000000030000000400000005c00c0002000100000e100002c01f00002904d00000000000000053000184000000000300000000016e0178000001000100000e1000040a000001c00e0002000100000e100002c00cc00e0006000100000e10001ac00c0168c00e0000000100000002000000030000000400000005",
+        octets: IN_TWO,
         from: 87,
         to: 170,
         front: "F22 ShortFrame at message 2 offset 0",
@@ -292,7 +194,7 @@ static PREFIXES: [Prefixes; 3] = [
 
 #[test]
 fn streams_cut_short(rt: HostRuntime) -> Result<(), Fail> {
-    assert_eq!(rt; first_wrong_name(rt.alloc(), &PREFIXES)?, None);
+    assert_eq!(rt; first_wrong_name(rt.alloc(), PREFIXES)?, None);
     Ok(())
 }
 
@@ -306,7 +208,7 @@ struct Read {
 
 impl Case for Read {
     fn is_right(&self, alloc: Global) -> Result<bool, Fail> {
-        let reading = read_transfer(alloc, &octets_of(alloc, self.stream)?)?;
+        let reading = read_transfer(alloc, &stream_of(alloc, self.stream)?)?;
         is_read(alloc, &reading, self.placed, self.ending)
     }
 }
@@ -317,10 +219,10 @@ impl Named for Read {
     }
 }
 
-static READ: [Read; 3] = [
+static READ: &[Read] = &[
     Read {
         name: "reader_of_a_stream_gives_its_records",
-        stream: "005400018400000100020000000101780000fc0001c00c0006000100000e10001c016ec00c0168c00c0000000100000002000000030000000400000005c00c0002000100000e100002c01f00002904d00000000000000053000184000000000300000000016e0178000001000100000e1000040a000001c00e0002000100000e100002c00cc00e0006000100000e10001ac00c0168c00e0000000100000002000000030000000400000005",
+        stream: IN_TWO,
         placed: &[
             Given(b"x. 3600 IN SOA n.x. h.x. 1 2 3 4 5", Place::Message(1, 19)),
             Given(b"x. 3600 IN NS n.x.", Place::Message(1, 59)),
@@ -331,7 +233,7 @@ static READ: [Read; 3] = [
     },
     Read {
         name: "reader_of_a_stream_gives_the_records_before_a_fault",
-        stream: "006d00018400000100030000000001780000fc0001c00c0006000100000e10001c016ec00c0168c00c0000000100000002000000030000000400000005c00c0002000100000e100002c01fc00c0006000100000e100018c01fc0230000000200000002000000030000000400000005",
+        stream: OTHER_SERIAL,
         placed: &[
             Given(b"x. 3600 IN SOA n.x. h.x. 1 2 3 4 5", Place::Message(1, 19)),
             Given(b"x. 3600 IN NS n.x.", Place::Message(1, 59)),
@@ -340,7 +242,7 @@ static READ: [Read; 3] = [
     },
     Read {
         name: "reader_of_a_stream_gives_no_record_of_a_broken_message",
-        stream: "006e00018400000100030000000001780000fc0001c00c0006000100000e10001c016ec00c0168c00c0000000100000002000000030000000400000005c00c0002000100000e100002c01fc00c0006000100000e100018c01fc023000000010000000200000003000000040000000500",
+        stream: "header 1 8400 1 3 0 0; QUESTION; OPENING; SERVER; CLOSING; #00",
         placed: &[],
         ending: Some("F34 TrailingOctets at message 1 offset 0"),
     },
@@ -348,18 +250,16 @@ static READ: [Read; 3] = [
 
 #[test]
 fn streams_are_read(rt: HostRuntime) -> Result<(), Fail> {
-    assert_eq!(rt; first_wrong_name(rt.alloc(), &READ)?, None);
+    assert_eq!(rt; first_wrong_name(rt.alloc(), READ)?, None);
     Ok(())
 }
 
-static SCRIPTS: [Script; 4] = [
+static SCRIPTS: &[Script] = &[
     Script {
         name: "transfer_is_decided_at_its_last_octet",
         origin: b".",
         steps: &[
-            Step::Feed(
-                b"\0m\0\x01\x84\0\0\x01\0\x03\0\0\0\0\x01x\0\0\xfc\0\x01\xc0\x0c\0\x06\0\x01\0\0\x0e\x10\0\x1c\x01n\xc0\x0c\x01h\xc0\x0c\0\0\0\x01\0\0\0\x02\0\0\0\x03\0\0\0\x04\0\0\0\x05\xc0\x0c\0\x02\0\x01\0\0\x0e\x10\0\x02\xc0\x1f\xc0\x0c\0\x06\0\x01\0\0\x0e\x10\0\x18\xc0\x1f\xc0#\0\0\0\x01\0\0\0\x02\0\0\0\x03\0\0\0\x04\0\0\0",
-            ),
+            Step::Part(SMALL, 0, 110),
             Step::Undecided(110),
             Step::Waits,
             Step::Feed(b"\x05"),
@@ -375,9 +275,7 @@ static SCRIPTS: [Script; 4] = [
         name: "transfer_that_ends_inside_its_frame",
         origin: b".",
         steps: &[
-            Step::Feed(
-                b"\0m\0\x01\x84\0\0\x01\0\x03\0\0\0\0\x01x\0\0\xfc\0\x01\xc0\x0c\0\x06\0\x01\0\0\x0e\x10\0\x1c\x01n\xc0\x0c\x01h\xc0\x0c\0\0\0\x01\0\0\0\x02\0\0\0\x03\0\0\0\x04\0\0\0\x05\xc0\x0c\0\x02\0\x01\0\0\x0e\x10\0\x02\xc0\x1f\xc0\x0c\0\x06\0\x01\0\0\x0e\x10\0\x18\xc0\x1f\xc0#\0\0\0\x01\0\0\0\x02\0\0\0\x03\0\0\0\x04\0\0\0",
-            ),
+            Step::Part(SMALL, 0, 110),
             Step::Undecided(110),
             Step::Waits,
             Step::Finish,
@@ -399,16 +297,12 @@ static SCRIPTS: [Script; 4] = [
         name: "records_of_the_first_message_are_decided_before_the_second",
         origin: b".",
         steps: &[
-            Step::Feed(
-                b"\0T\0\x01\x84\0\0\x01\0\x02\0\0\0\x01\x01x\0\0\xfc\0\x01\xc0\x0c\0\x06\0\x01\0\0\x0e\x10\0\x1c\x01n\xc0\x0c\x01h\xc0\x0c\0\0\0\x01\0\0\0\x02\0\0\0\x03\0\0\0\x04\0\0\0\x05\xc0\x0c\0\x02\0\x01\0\0\x0e\x10\0\x02\xc0\x1f\0\0)\x04\xd0\0\0\0\0\0\0",
-            ),
+            Step::Part(IN_TWO, 0, 86),
             Step::Undecided(0),
             Step::Gives(Given(b"x. 3600 IN SOA n.x. h.x. 1 2 3 4 5", Place::Message(1, 19))),
             Step::Gives(Given(b"x. 3600 IN NS n.x.", Place::Message(1, 59))),
             Step::Waits,
-            Step::Feed(
-                b"\0S\0\x01\x84\0\0\0\0\x03\0\0\0\0\x01n\x01x\0\0\x01\0\x01\0\0\x0e\x10\0\x04\x0a\0\0\x01\xc0\x0e\0\x02\0\x01\0\0\x0e\x10\0\x02\xc0\x0c\xc0\x0e\0\x06\0\x01\0\0\x0e\x10\0\x1a\xc0\x0c\x01h\xc0\x0e\0\0\0\x01\0\0\0\x02\0\0\0\x03\0\0\0\x04\0\0\0\x05",
-            ),
+            Step::Part(IN_TWO, 86, 171),
             Step::Gives(Given(b"n.x. 3600 IN A 10.0.0.1", Place::Message(2, 12))),
             Step::Gives(Given(b"x. 3600 IN NS n.x.", Place::Message(2, 31))),
             Step::Waits,
@@ -421,17 +315,21 @@ static SCRIPTS: [Script; 4] = [
 
 #[test]
 fn streams_are_decided(rt: HostRuntime) -> Result<(), Fail> {
-    assert_eq!(rt; wrong_script::<TransferSource>(rt.alloc(), &SCRIPTS)?, None);
+    assert_eq!(rt; wrong_script::<TransferSource>(rt.alloc(), SCRIPTS)?, None);
     Ok(())
 }
 
-/// A message of 65535 octets in its frame, up to its last field of data, which has 65464 octets.
-const GREATEST: &str =
-    "ffff00018400000100020000000001780000fc0001c00c0006000100000e10001c016ec00c0168c00c0000000100000002000000030000000400000005c00c02db000100000e10ffb8";
+/// A message of 65535 octets in its frame, up to the octets of its last record's data, which are
+/// 65464.
+fn greatest_front(alloc: Global) -> Result<Vec<u8>, Fail> {
+    message_of(
+        alloc,
+        "#ffff; header 1 8400 1 2 0 0; QUESTION; OPENING; #c00c02db000100000e10ffb8",
+    )
+}
 
 /// The frame of a message with the closing SOA.
-const CLOSING: &str =
-    "00350001840000000001000000000178000006000100000e10001c016ec00c0168c00c0000000100000002000000030000000400000005";
+const CLOSING: &str = "header 1 8400 0 1 0 0; x. 3600 IN SOA n@12 h@12 1 2 3 4 5";
 
 /// The line of the record of type 731, whose data is so many octets 0.
 fn zeros_line(alloc: Global, count: usize) -> Result<Vec<u8>, Fail> {
@@ -445,9 +343,9 @@ fn zeros_line(alloc: Global, count: usize) -> Result<Vec<u8>, Fail> {
 
 #[test]
 fn the_greatest_message_is_normalised(rt: HostRuntime) -> Result<(), Fail> {
-    let mut stream = octets_of(rt.alloc(), GREATEST)?;
+    let mut stream = greatest_front(rt.alloc())?;
     stream.resize(65_537, 0)?;
-    stream.extend_from_slice(&octets_of(rt.alloc(), CLOSING)?)?;
+    stream.extend_from_slice(&stream_of(rt.alloc(), CLOSING)?)?;
     let text = normalise_bytes(rt.alloc(), Form::Transfer, &stream)?;
     let zeros = zeros_line(rt.alloc(), 65_464)?;
     assert_eq!(rt; text.len(), 130_992);
@@ -473,7 +371,7 @@ fn gives_greatest(alloc: Global, source: &mut TransferSource) -> Result<bool, Fa
 
 #[test]
 fn the_greatest_frame_is_kept(rt: HostRuntime) -> Result<(), Fail> {
-    let mut frame = octets_of(rt.alloc(), GREATEST)?;
+    let mut frame = greatest_front(rt.alloc())?;
     frame.resize(65_536, 0)?;
     let mut source = TransferSource::new(rt.alloc());
     source.hand(&frame)?;
@@ -482,7 +380,7 @@ fn the_greatest_frame_is_kept(rt: HostRuntime) -> Result<(), Fail> {
     source.hand(b"\0")?;
     assert_eq!(rt; source.undecided(), 0);
     assert!(rt; gives_greatest(rt.alloc(), &mut source)?);
-    source.hand(&octets_of(rt.alloc(), CLOSING)?)?;
+    source.hand(&stream_of(rt.alloc(), CLOSING)?)?;
     assert!(rt; source.next()?.is_none());
     source.end()?;
     assert!(rt; source.next()?.is_none());

@@ -16,6 +16,7 @@ mod sets;
 mod short_files;
 
 /// What a file is to be answered.
+#[derive(Drop)]
 pub(super) enum Answer {
     /// Its canonical text.
     Text(&'static [u8]),
@@ -23,11 +24,12 @@ pub(super) enum Answer {
     Refused(&'static str),
 }
 
-/// A master file, its origin, and the answer that it must get.
+/// A master file and its origin, or a stream in notation, and the answer that it must get.
+#[derive(Drop)]
 pub(super) struct Vector {
     pub(super) name: &'static str,
-    pub(super) origin: &'static [u8],
-    pub(super) file: &'static [u8],
+    origin: &'static str,
+    pub(super) input: &'static str,
     pub(super) answer: Answer,
 }
 
@@ -38,7 +40,12 @@ impl Vector {
     ///
     /// That it is no absolute name.
     pub(super) fn origin(&self) -> Result<Name, Fail> {
-        Ok(Name::from_text(self.origin, None)?)
+        Ok(Name::from_text(self.origin.as_bytes(), None)?)
+    }
+
+    /// The octets of the file.
+    pub(super) fn file(&self) -> &'static [u8] {
+        self.input.as_bytes()
     }
 }
 
@@ -52,10 +59,37 @@ pub(super) trait Question {
     fn is_answered(alloc: Global, vector: &Vector) -> Result<bool, Fail>;
 }
 
-/// The name of the first vector of a table that gets another answer.
-fn wrong_in<Q: Question>(alloc: Global, table: &[Vector]) -> Result<Option<&'static str>, Fail> {
-    for vector in table {
-        if !Q::is_answered(alloc, vector)? {
+/// The vector of a row, which has a name on its first line, and the origin of a file; then the input;
+/// and after `=>` the canonical text from the next line on, or on that line what explains the
+/// refusal.
+fn vector_of(row: &'static str) -> Option<Vector> {
+    let (head, rest) = row.split_once('\n')?;
+    let (name, origin) = head.split_once(' ').unwrap_or((head, "."));
+    let (input, answer) = rest.split_once("=>")?;
+    let answer = match answer.strip_prefix('\n') {
+        Some(text) => Answer::Text(text.as_bytes()),
+        None => Answer::Refused(answer.trim()),
+    };
+    Some(Vector {
+        name,
+        origin,
+        input,
+        answer,
+    })
+}
+
+/// The name of the first vector of a table that gets another answer. `== ` stands before each row.
+pub(super) fn wrong_in<Q: Question>(
+    alloc: Global,
+    table: &'static str,
+) -> Result<Option<&'static str>, Fail> {
+    for row in table.split("== ") {
+        // Nothing stands before the first row.
+        if row.is_empty() {
+            continue;
+        }
+        let vector = vector_of(row).ok_or(row)?;
+        if !Q::is_answered(alloc, &vector)? {
             return Ok(Some(vector.name));
         }
     }
@@ -65,17 +99,17 @@ fn wrong_in<Q: Question>(alloc: Global, table: &[Vector]) -> Result<Option<&'sta
 /// The name of the first vector of all that gets another answer.
 pub(super) fn wrong<Q: Question>(alloc: Global) -> Result<Option<&'static str>, Fail> {
     for table in [
-        short_files::FILES.as_slice(),
-        &names::FILES,
-        &data::FILES,
-        &lexing::FILES,
-        &directives::FILES,
-        &sets::FILES,
-        &printing::FILES,
-        &services::FILES,
-        &groups::FILES,
-        &kept::FILES,
-        &read_back::FILES,
+        short_files::FILES,
+        names::FILES,
+        data::FILES,
+        lexing::FILES,
+        directives::FILES,
+        sets::FILES,
+        printing::FILES,
+        services::FILES,
+        groups::FILES,
+        kept::FILES,
+        read_back::FILES,
     ] {
         if let Some(name) = wrong_in::<Q>(alloc, table)? {
             return Ok(Some(name));

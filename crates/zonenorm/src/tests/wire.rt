@@ -29,7 +29,7 @@ impl Case for Wired {
     }
 }
 
-static WIRED: [Wired; 6] = [
+static WIRED: &[Wired] = &[
     Wired(
         15,
         b"\x00\x0a\x01M\x01x\x00",
@@ -51,7 +51,7 @@ static WIRED: [Wired; 6] = [
 
 #[test]
 fn data_of_octets(rt: HostRuntime) -> Result<(), Fail> {
-    assert_eq!(rt; first_wrong(rt.alloc(), &WIRED)?, None);
+    assert_eq!(rt; first_wrong(rt.alloc(), WIRED)?, None);
     Ok(())
 }
 
@@ -124,7 +124,7 @@ impl Case for Built {
 const LETTERS: &[u8] =
     b"aaaaaaaaaaaaaaaaaaaaaaaaaaaaaaaaaaaaaaaaaaaaaaaaaaaaaaaaaaaaaaaaaaaaaaaaaaaaaaaaaaaaaaaaaaaaaaaaaaaaaaaaaaaaaaaaaaaaaaaaaaaaaaaaaaaaaaaaaaaaaaaaaaaaaaaaaaaaaaaaaaaaaaaaaaaaaaaaaaaaaaaaaaaaaaaaaaaaaaaaaaaaaaaaaaaaaaaaaaaaaaaaaaaaaaaaaaaaaaaaaaaaaaaaaaaaaaaa";
 
-static BUILT: [Built; 7] = [
+static BUILT: &[Built] = &[
     Built(
         15,
         &[
@@ -178,6 +178,6 @@ static BUILT: [Built; 7] = [
 
 #[test]
 fn data_of_parts(rt: HostRuntime) -> Result<(), Fail> {
-    assert_eq!(rt; first_wrong(rt.alloc(), &BUILT)?, None);
+    assert_eq!(rt; first_wrong(rt.alloc(), BUILT)?, None);
     Ok(())
 }

@@ -36,7 +36,7 @@ impl Case for ReadClass {
     }
 }
 
-static CLASSES: [ReadClass; 9] = [
+static CLASSES: &[ReadClass] = &[
     ReadClass(Asked::Word(b"In"), Ok(Some((1, b"IN")))),
     ReadClass(Asked::Word(b"in"), Ok(Some((1, b"IN")))),
     ReadClass(Asked::Word(b"class0032"), Ok(Some((32, b"CLASS32")))),
@@ -77,7 +77,7 @@ impl Case for ReadKind {
     }
 }
 
-static KINDS: [ReadKind; 13] = [
+static KINDS: &[ReadKind] = &[
     ReadKind(Asked::Word(b"sOa"), 1, Ok((6, b"SOA"))),
     ReadKind(Asked::Word(b"SOA"), 1, Ok((6, b"SOA"))),
     ReadKind(Asked::Word(b"ns"), 1, Ok((2, b"NS"))),
@@ -95,8 +95,8 @@ static KINDS: [ReadKind; 13] = [
 
 #[test]
 fn classes_and_types(rt: HostRuntime) -> Result<(), Fail> {
-    assert_eq!(rt; first_wrong(rt.alloc(), &CLASSES)?, None);
-    assert_eq!(rt; first_wrong(rt.alloc(), &KINDS)?, None);
+    assert_eq!(rt; first_wrong(rt.alloc(), CLASSES)?, None);
+    assert_eq!(rt; first_wrong(rt.alloc(), KINDS)?, None);
     Ok(())
 }
 
@@ -109,7 +109,7 @@ impl Case for Time {
     }
 }
 
-static TIMES: [Time; 8] = [
+static TIMES: &[Time] = &[
     Time(b"1h30M", Some(5400)),
     Time(b"1W1s", Some(604801)),
     Time(b"0000h1w", Some(604800)),
@@ -130,7 +130,7 @@ impl Case for SoaField {
     }
 }
 
-static SOA_FIELDS: [SoaField; 4] = [
+static SOA_FIELDS: &[SoaField] = &[
     SoaField(1, Some(Field::Name)),
     SoaField(2, Some(Field::Serial)),
     SoaField(6, Some(Field::Time)),
@@ -139,7 +139,7 @@ static SOA_FIELDS: [SoaField; 4] = [
 
 #[test]
 fn times_and_fields(rt: HostRuntime) -> Result<(), Fail> {
-    assert_eq!(rt; first_wrong(rt.alloc(), &TIMES)?, None);
-    assert_eq!(rt; first_wrong(rt.alloc(), &SOA_FIELDS)?, None);
+    assert_eq!(rt; first_wrong(rt.alloc(), TIMES)?, None);
+    assert_eq!(rt; first_wrong(rt.alloc(), SOA_FIELDS)?, None);
     Ok(())
 }

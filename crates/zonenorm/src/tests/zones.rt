@@ -97,7 +97,7 @@ impl Case for Zoned {
 const SOA: &[u8] =
     b"\x01n\x01x\x00\x01h\x01x\x00\0\0\0\x01\0\0\0\x02\0\0\0\x03\0\0\0\x04\0\0\0\x05";
 
-static ZONED: [Zoned; 5] = [
+static ZONED: &[Zoned] = &[
     Zoned(
         b"x. 3600 IN NS n.x.\nx. 3600 IN SOA n.x. h.x. 1 2 3 4 5\n",
         Ok(Whole(
@@ -127,7 +127,7 @@ static ZONED: [Zoned; 5] = [
 
 #[test]
 fn zones_of_files(rt: HostRuntime) -> Result<(), Fail> {
-    assert_eq!(rt; first_wrong(rt.alloc(), &ZONED)?, None);
+    assert_eq!(rt; first_wrong(rt.alloc(), ZONED)?, None);
     Ok(())
 }
 
