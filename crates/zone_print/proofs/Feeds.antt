@@ -7,6 +7,7 @@ use Rattle.std.specs.Net.Addr.{segments_of}
 use Rattle.std.specs.Net.Text.{hex, leading_zero_digits, compressed_text, longest_zero_run}
 use Rattle.hex.specs.Hex.{lower_digits, encode_with, encode_lower}
 use Rattle.std.specs.Fmt.{digit_glyph, digits, digits_onto}
+use Rattle.zone_name.proofs.Pushing.{AllByRecursion-append}
 use Rattle.zone_name.specs.Text.{is_special, is_printed, decimal_escape, octet_text, label_text, name_text}
 use Rattle.zone_rdata.specs.declared.field.Field.{Field}
 use Rattle.zone_rdata.specs.Field.{FieldValue, name, u32_value, u16_value, fixed, string, strings, values_of, field_items}
@@ -25,8 +26,7 @@ use Rattle.zone_print.specs.Canonical.{line}
 use Rattle.zone_print.specs.Laws.{HasNoFeed, EndsWithItsFeed}
 
 pub none_append : (xs ys : List ℕ) → HasNoFeed xs → HasNoFeed ys → HasNoFeed (xs ++ ys)
-none_append [] ys p q = q
-none_append (x ∷ xs) ys p q = (p.0, none_append xs ys p.1 q)
+none_append xs ys p q = AllByRecursion-append _ xs ys p q
 
 none_if : (b : Bool) (xs ys : List ℕ) → (b ≡ true → HasNoFeed xs) → (b ≡ false → HasNoFeed ys) → HasNoFeed (if b then xs else ys)
 none_if true xs ys p q = p refl
@@ -139,7 +139,7 @@ none_drop (suc n) [] h = tt
 none_drop (suc n) (x ∷ xs) h = none_drop n xs h.1
 
 none_char : (d : ℕ) → digit_char d ≢ 10
-none_char d = glyph_if (nat_lt d 10) (48 + d) (87 + d) (high _ (48 + d) refl (omega arith)) (high _ (87 + d) refl (omega arith))
+none_char d = none_glyph d
 
 none_hex : (n : ℕ) → HasNoFeed (hex n)
 unfolding hex
@@ -185,10 +185,6 @@ none_encoded (c ∷ octets) = (none_digit lower_digits (c / 16) (none_tested low
 abbrev AreFeedless : List RawItem → Type 0
 AreFeedless items = AllByRecursion (λ i. HasNoFeed (written_item i)) items
 
-none_items : (xs ys : List RawItem) → AreFeedless xs → AreFeedless ys → AreFeedless (xs ++ ys)
-none_items [] ys p q = q
-none_items (x ∷ xs) ys p q = (p.0, none_items xs ys p.1 q)
-
 none_strings : (many : List (List ℕ)) → AreFeedless (map string_item many)
 none_strings [] = tt
 none_strings (octets ∷ many) = (none_string octets, none_strings many)
@@ -203,7 +199,7 @@ none_field (strings many) = none_strings many
 
 none_fields : (values : List FieldValue) → AreFeedless (flat_map field_items values)
 none_fields [] = tt
-none_fields (v ∷ values) = none_items (field_items v) (flat_map field_items values) (none_field v) (none_fields values)
+none_fields (v ∷ values) = AllByRecursion-append _ (field_items v) (flat_map field_items values) (none_field v) (none_fields values)
 
 none_generic : (octets : List ℕ) → AreFeedless (generic_items octets)
 none_generic [] = (none_tested (codes "\\#") refl, (none_decimal 0, tt))

@@ -165,14 +165,13 @@ pub record WholeEntries : Type 0 where
 
 states_each : WholeEntries → (origin : Labels) (before : List Entry) (number : ℕ) (ended : List (List Token)) (records : List Record) → IsOrigin origin before origin → AreLines ended records → StateEach origin before (numbered number ended) (placed_from number records)
 states_each wholes origin before number [] [] under are = refl
-states_each wholes origin before number [] (r ∷ records) under are = absurd are
-states_each wholes origin before number (p ∷ ended) [] under are = absurd are
 states_each wholes origin before number (p ∷ ended) (r ∷ records) under are =
     let whole : StatesWhole (entry_of number p) r = at_line number p r are.0 in
     let next : StateEach origin (entry_of number p ∷ before) (numbered (number + 1) ended) (placed_from (number + 1) records) =
     states_each wholes origin (entry_of number p ∷ before) (number + 1) ended records (wholes.leaves origin origin before (entry_of number p) r under whole) are.2 in
     states_one (record { rr = r; place = Line number }) (placed_from (number + 1) records) (wholes.stated origin origin before (entry_of number p) r under whole) refl refl
     (subst (λ n. StateEach origin (entry_of number p ∷ before) (numbered n ended) (placed_from (number + 1) records)) (ap (λ n. number + n) (sym are.1)) next)
+states_each wholes origin before number ended records under are = absurd are
 
 pub lines_back : ((r : Record) → IsRecord r → IsLineOf r (line r))
     → ((front rest : List ℕ) (tokens more : List Token) → Cuts front tokens → EndInLineFeed tokens → Cuts rest more → Cuts (front ++ rest) (tokens ++ more))

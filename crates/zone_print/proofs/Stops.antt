@@ -1,16 +1,15 @@
 -- Why a text was not written.
 use Rattle.std.proofs.Common.{ℕ, ◌≤◌, List, length, Option, Result, Ok, Err, IfErr, OnErr}
 use Rattle.zone_rdata.specs.declared.fault.Stop.{Stop}
-use Rattle.zone_rdata.specs.declared.fault.Stop.TheVariants.{Refused, Read, Write, Memory}
+use Rattle.zone_rdata.specs.declared.fault.Stop.TheVariants.{Write, Memory}
 use Rattle.zone_print.specs.Machine.Writing.{IsOfWriting}
 use Rattle.zone_print.specs.Writing.{AppendsPart, StopsWrite, TellsWrite}
 
 -- a text within the limit was written in part
 stop_within : (works failed : Type 0) (limit : ℕ) (text : List ℕ) (old new : Option (List ℕ)) (stop : Stop) → length text ≤ limit → IsOfWriting works failed stop → AppendsPart old new text → StopsWrite limit text old new stop
-stop_within works failed limit text old new (Refused fault place) short is part = absurd is
-stop_within works failed limit text old new Read short is part = absurd is
 stop_within works failed limit text old new Write short is part = StopsWrite.write short part
 stop_within works failed limit text old new Memory short is part = StopsWrite.memory short part
+stop_within works failed limit text old new stop short is part = absurd is
 
 -- the same of an answer
 pub stops_within : {T : Type 0} (works failed : Type 0) (limit : ℕ) (text : List ℕ) (old new : Option (List ℕ)) (answer : Result T Stop) → length text ≤ limit → IfErr answer (IsOfWriting works failed) → OnErr answer (AppendsPart old new text) → IfErr answer (StopsWrite limit text old new)
@@ -19,10 +18,9 @@ stops_within works failed limit text old new (Err stop) short is part = stop_wit
 
 -- what stops the writing tells of the writer
 tells_stop : (works failed : Type 0) (stop : Stop) → IsOfWriting works failed stop → TellsWrite works failed stop
-tells_stop works failed (Refused fault place) is = absurd is
-tells_stop works failed Read is = absurd is
 tells_stop works failed Write is = is
 tells_stop works failed Memory is = is
+tells_stop works failed stop is = absurd is
 
 pub tells_writing : {T : Type 0} (works failed : Type 0) (answer : Result T Stop) → IfErr answer (IsOfWriting works failed) → IfErr answer (TellsWrite works failed)
 tells_writing works failed (Ok x) is = tt

@@ -25,9 +25,8 @@ no_gaps_tail c [] none = tt
 no_gaps_tail c (d ∷ text) none = none.1
 
 no_gaps_lacks : (text : List ℕ) → Lacks 58 text → NoGaps text
-no_gaps_lacks [] lacks = tt
-no_gaps_lacks (c ∷ []) lacks = tt
 no_gaps_lacks (c ∷ d ∷ text) lacks = (λ e f. lacks.0 e, no_gaps_lacks (d ∷ text) lacks.1)
+no_gaps_lacks text lacks = tt
 
 no_gaps_colon : (text : List ℕ) → Lacks 58 text → NoGaps (58 ∷ text)
 no_gaps_colon [] lacks = tt

@@ -43,17 +43,13 @@ number_printed n fits = record {
 }
 
 pub ipv4_printed : (octets : List ℕ) → length octets ≡ 4 → AllByRecursion (λ c. c < 256) octets → IsIpv4Address (ipv4_text octets) octets
-ipv4_printed [] len each = absurd (omega arith)
-ipv4_printed (a ∷ []) len each = absurd (omega arith)
-ipv4_printed (a ∷ b ∷ []) len each = absurd (omega arith)
-ipv4_printed (a ∷ b ∷ c ∷ []) len each = absurd (omega arith)
-ipv4_printed (a ∷ b ∷ c ∷ d ∷ e ∷ octets) len each = absurd (omega arith)
 ipv4_printed (a ∷ b ∷ c ∷ d ∷ []) len each = record {
   numbers = decimal a ∷ decimal b ∷ decimal c ∷ decimal d ∷ [];
   counted = refl;
   parted = simp append_assoc;
   each = (number_printed a each.0, (number_printed b each.1.0, (number_printed c each.1.1.0, (number_printed d each.1.1.1.0, tt))));
 }
+ipv4_printed octets len each = absurd (omega arith)
 
 -- ---- groups
 
@@ -135,20 +131,15 @@ zero_pairs (suc n) =
 
 -- the groups of octets
 segments_each : (octets : List ℕ) → AllByRecursion (λ c. c < 256) octets → AllGroups (segments_of octets)
-segments_each [] each = tt
-segments_each (a ∷ []) each = tt
 segments_each (a ∷ b ∷ octets) each = (let h = each.0 in let l = each.1.0 in omega arith, segments_each octets each.1.1)
+segments_each octets each = tt
 
 pub segments_count : (count : ℕ) (octets : List ℕ) → length octets ≡ 2 * count → length (segments_of octets) ≡ count
 segments_count zero [] len = refl
-segments_count (suc count) [] len = absurd (omega arith)
-segments_count count (a ∷ []) len = absurd (omega arith)
-segments_count zero (a ∷ b ∷ octets) len = absurd (omega arith)
 segments_count (suc count) (a ∷ b ∷ octets) len = ap suc (segments_count count octets (omega arith))
+segments_count count octets len = absurd (omega arith)
 
 segments_back : (count : ℕ) (octets : List ℕ) → length octets ≡ 2 * count → AllByRecursion (λ c. c < 256) octets → pairs (segments_of octets) ≡ octets
-segments_back zero [] len each = refl
-segments_back (suc count) [] len each = refl
 segments_back count (a ∷ []) len each = absurd (omega arith)
 segments_back zero (a ∷ b ∷ octets) len each = absurd (omega arith)
 segments_back (suc count) (a ∷ b ∷ octets) len each =
@@ -156,6 +147,7 @@ segments_back (suc count) (a ∷ b ∷ octets) len each =
     let high_is : (a * 256 + b) / 256 ≡ a = omega arith in
     let low_is : (a * 256 + b) % 256 ≡ b = omega arith in
     ap (λ c. c ∷ (a * 256 + b) % 256 ∷ pairs (segments_of octets)) high_is ∙ ap (λ c. a ∷ c ∷ pairs (segments_of octets)) low_is ∙ ap (λ o. a ∷ b ∷ o) (segments_back count octets (omega arith) each.1.1)
+segments_back count [] len each = refl
 
 -- groups around a run of zeros
 around_printed : (groups octets : List ℕ) (start len : ℕ) → length groups ≡ 8 → AllGroups groups → pairs groups ≡ octets → IsZeroRun groups start len → 1 < len → IsIpv6Address (shortened_groups groups start len) octets

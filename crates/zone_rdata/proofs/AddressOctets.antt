@@ -16,11 +16,10 @@ zeros_bytes (suc n) = (omega arith, zeros_bytes n)
 
 numbers_bytes : (numbers : List (List ℕ)) (octets : List ℕ) → AllZip IsOctetNumber numbers octets → (length octets ≡ length numbers) × AreBytes octets
 numbers_bytes [] [] each = (refl, tt)
-numbers_bytes [] (n ∷ octets) each = absurd each
-numbers_bytes (a ∷ numbers) [] each = absurd each
 numbers_bytes (a ∷ numbers) (n ∷ octets) each =
     let rest = numbers_bytes numbers octets each.1 in
     (ap suc rest.0, (omega (arith, each.0.short), rest.1))
+numbers_bytes numbers octets each = absurd each
 
 pub ipv4_count : (text octets : List ℕ) → IsIpv4Address text octets → length octets ≡ 4
 ipv4_count text octets are = (numbers_bytes are.numbers octets are.each).0 ∙ are.counted

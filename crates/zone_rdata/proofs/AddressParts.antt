@@ -10,9 +10,8 @@ use Rattle.zone_rdata.proofs.Addresses.{cut_same, not_cut, group_lacks, group_sa
 use Rattle.zone_name.proofs.Pushing.{AllByRecursion-append}
 
 some_numbers : (text : List ℕ) (numbers : List (List ℕ)) → length numbers ≡ 4 → text ≡ join_with_byte 46 numbers → 0 < length text
-some_numbers text [] counted parted = absurd (omega arith)
-some_numbers text (a ∷ []) counted parted = absurd (omega arith)
 some_numbers text (a ∷ b ∷ numbers) counted parted = omega (arith, ap length parted, length-append a (46 ∷ join_with_byte 46 (b ∷ numbers)))
+some_numbers text numbers counted parted = absurd (omega arith)
 
 pub ipv4_some : (text octets : List ℕ) → IsIpv4Address text octets → 0 < length text
 ipv4_some text octets is = some_numbers text is.numbers is.counted is.parted
@@ -101,9 +100,8 @@ parts_end ends (q ∷ r ∷ parts) p each is = (each.0, parts_end ends (r ∷ pa
 
 text_end : (parts : List AddressPart) (p : AddressPart) → parts_text (parts ++ p ∷ []) ≡ behind parts p.text
 unfolding behind
-text_end [] p = refl
-text_end (q ∷ []) p = refl
 text_end (q ∷ r ∷ parts) p = ap (λ t. q.text ++ 58 ∷ t) (text_end (r ∷ parts) p)
+text_end parts p = refl
 
 octets_push : (parts : List AddressPart) (p : AddressPart) → parts_octets (parts ++ p ∷ []) ≡ parts_octets parts ++ p.octets
 octets_push parts p = flat_map-append (λ (p : AddressPart). p.octets) parts (p ∷ []) ∙ ap (λ o. parts_octets parts ++ o) (append-nil p.octets)

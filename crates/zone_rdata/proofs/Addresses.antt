@@ -71,8 +71,6 @@ pub record NumbersSplit (count : ℕ) (text octets : List ℕ) : Type 0 where
   pub value : octets ≡ number ∷ others
 
 split_numbers : (count : ℕ) (text octets : List ℕ) (numbers : List (List ℕ)) → length numbers ≡ suc (suc count) → text ≡ join_with_byte 46 numbers → AllZip IsOctetNumber numbers octets → NumbersSplit count text octets
-split_numbers count text octets [] counted parted each = absurd (omega arith)
-split_numbers count text octets (a ∷ []) counted parted each = absurd (omega arith)
 split_numbers count text [] (a ∷ b ∷ numbers) counted parted each = absurd each
 split_numbers count text (n ∷ octets) (a ∷ b ∷ numbers) counted parted each = record {
   front = a;
@@ -84,6 +82,7 @@ split_numbers count text (n ∷ octets) (a ∷ b ∷ numbers) counted parted eac
   are = record { numbers = b ∷ numbers; counted = omega arith; parted = refl; each = each.1 };
   value = refl;
 }
+split_numbers count text octets numbers counted parted each = absurd (omega arith)
 
 numbers_split : (count : ℕ) (text octets : List ℕ) → AreNumbers (suc (suc count)) text octets → NumbersSplit count text octets
 numbers_split count text octets are = split_numbers count text octets are.numbers are.counted are.parted are.each
@@ -115,11 +114,10 @@ numbers_cut count text front rest octets cut are =
     }
 
 last_number : (text octets : List ℕ) (numbers : List (List ℕ)) → length numbers ≡ 1 → text ≡ join_with_byte 46 numbers → AllZip IsOctetNumber numbers octets → (n : ℕ) × (IsOctetNumber text n × (octets ≡ n ∷ []))
-last_number text octets [] counted parted each = absurd (omega arith)
-last_number text octets (a ∷ b ∷ numbers) counted parted each = absurd (omega arith)
 last_number text [] (a ∷ []) counted parted each = absurd each
 last_number text (n ∷ m ∷ octets) (a ∷ []) counted parted each = absurd each.1
 last_number text (n ∷ []) (a ∷ []) counted parted each = (n, (subst (λ t. IsOctetNumber t n) (sym parted) each.0, refl))
+last_number text octets numbers counted parted each = absurd (omega arith)
 
 pub numbers_last : (text octets : List ℕ) → AreNumbers 1 text octets → (n : ℕ) × (IsOctetNumber text n × (octets ≡ n ∷ []))
 numbers_last text octets are = last_number text octets are.numbers are.counted are.parted are.each

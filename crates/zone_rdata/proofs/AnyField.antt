@@ -9,7 +9,7 @@ use Rattle.zone_rdata.specs.declared.field.Field.TheVariants.{Name, Octets, OneS
 use Rattle.zone_rdata.specs.Builder.{FitsString}
 use Rattle.zone_rdata.specs.Fault.{fault_of}
 use Rattle.zone_rdata.specs.Field.{FieldValue, Holds, IsFieldFault, SpellsField, Suits, field_at, field_items, field_octets, field_text, items_behind, own_items}
-use Rattle.zone_rdata.specs.Item.{IsGeneric, RawItem, bare, quoted}
+use Rattle.zone_rdata.specs.Item.{IsGeneric, RawItem, bare}
 use Rattle.zone_rdata.specs.Layout.{IsSized}
 use Rattle.zone_rdata.specs.Machine.Appending.{BeginsWithValue}
 use Rattle.zone_rdata.specs.Machine.Building.{IsReal, part_field}
@@ -107,11 +107,10 @@ field_or_fault names origin is f items low = (kind_of f).laws.or_fault names ori
 
 pub field_fault_once : NameFaultOnce → (origin : List (List ℕ)) (f : Field) (items : List RawItem) (a b : Fault) → IsFieldFault origin f items a → IsFieldFault origin f items b → a ≡ b
 field_fault_once names origin Strings items a b x y = strings_fault_once items a b x y
-field_fault_once names origin f [] a b x y = x ∙ sym y
 field_fault_once names origin OneString (item ∷ items) a b x y = fault-once item a b x y
-field_fault_once names origin f (quoted text ∷ items) a b x y = x ∙ sym y
 field_fault_once names origin Name (bare text ∷ items) a b x y = x.2 ∙ ap fault_of (names (Some origin) text x.0 y.0 x.1 y.1) ∙ sym y.2
 field_fault_once names origin f (bare text ∷ items) a b x y = x.0 ∙ sym y.0
+field_fault_once names origin f items a b x y = x ∙ sym y
 
 -- ---- the items that are printed
 

@@ -53,7 +53,6 @@ plain_part fields.Strings = λ e. cc
 plain_part f = λ e. cc
 
 more_plain : (f : Field) (n : ℕ) → AllByRecursion (λ g. g ≢ fields.Strings) (more_fields f n)
-more_plain fields.Strings zero = tt
 more_plain fields.Strings (suc n) = (λ e. cc, more_plain fields.Strings n)
 more_plain f n = tt
 
@@ -64,9 +63,8 @@ plain_fields (f ∷ []) (suc n) = (plain_part f, more_plain f n)
 plain_fields (f ∷ g ∷ row) (suc n) = (plain_part f, plain_fields (g ∷ row) n)
 
 plain_last : (row : List Field) → AllByRecursion (λ f. f ≢ fields.Strings) row → StringsLast row
-plain_last [] each = tt
-plain_last (f ∷ []) each = tt
 plain_last (f ∷ g ∷ row) each = (each.0, plain_last (g ∷ row) each.1)
+plain_last row each = tt
 
 more_push : (n : ℕ) → more_fields fields.Strings (suc n) ≡ more_fields fields.Strings n ++ fields.OneString ∷ []
 more_push zero = refl
@@ -86,9 +84,8 @@ fields_push (g ∷ h ∷ row) f (suc n) e = ap (λ r. part_field g ∷ r) (field
 
 hold_push : (row : List Field) (values : List FieldValue) (f : Field) (v : FieldValue) → HoldEach row values → Holds f v → HoldEach (row ++ f ∷ []) (values ++ v ∷ [])
 hold_push [] [] f v each h = (h, tt)
-hold_push [] (w ∷ values) f v each h = absurd each
-hold_push (g ∷ row) [] f v each h = absurd each
 hold_push (g ∷ row) (w ∷ values) f v each h = (each.0, hold_push row values f v each.1 h)
+hold_push row values f v each h = absurd each
 
 some_field : (o : Option Field) (v : FieldValue) → Suits o v → (f : Field) × (o ≡ Some f) × Suits (Some f) v
 some_field (Some f) v s = (f, refl, s)
@@ -138,31 +135,26 @@ record ManyParts (values : List FieldValue) : Type 0 where
 
 join_parts : (n : ℕ) (values : List FieldValue) → HoldEach (more_fields fields.Strings n) values → ManyParts values
 join_parts zero [] h = record { many = []; each = tt; same = refl }
-join_parts zero (v ∷ values) h = absurd h
-join_parts (suc n) [] h = absurd h
 join_parts (suc n) (string s ∷ values) h =
     let rest = join_parts n values h.1 in
     record { many = s ∷ rest.many; each = (h.0, rest.each); same = ap (λ o. with_length s ++ o) rest.same }
 join_parts (suc n) (v ∷ values) h = absurd h.0
+join_parts n values h = absurd h
 
 last_whole : (f : Field) (n : ℕ) (values : List FieldValue) → HoldEach (part_fields (f ∷ []) (suc n)) values → WholeParts (f ∷ []) (octets_of values)
-last_whole fields.Strings n [] h = absurd h
 last_whole fields.Strings n (string s ∷ values) h =
     let rest = join_parts n values h.1 in
     record { own = strings (s ∷ rest.many) ∷ []; each = (record { some = omega arith; each = (h.0, rest.each) }, tt); same = append-nil (with_length s ++ flat_map with_length rest.many) ∙ ap (λ o. with_length s ++ o) rest.same }
 last_whole fields.Strings n (v ∷ values) h = absurd h.0
-last_whole f n [] h = absurd h
 last_whole f n (v ∷ []) h = record { own = v ∷ []; each = (h.0, tt); same = refl }
 last_whole f n (v ∷ w ∷ values) h = absurd h.1
+last_whole f n [] h = absurd h
 
 whole_by : (row : List Field) (n : ℕ) (values : List FieldValue) → StringsLast row → length row ≤ n → HoldEach (part_fields row n) values → WholeParts row (octets_of values)
 whole_by [] zero [] last past h = record { own = []; each = tt; same = refl }
-whole_by [] zero (v ∷ values) last past h = absurd h
 whole_by [] (suc n) [] last past h = record { own = []; each = tt; same = refl }
-whole_by [] (suc n) (v ∷ values) last past h = absurd h
 whole_by (f ∷ row) zero values last past h = absurd (omega arith)
 whole_by (f ∷ []) (suc n) values last past h = last_whole f n values h
-whole_by (f ∷ g ∷ row) (suc n) [] last past h = absurd h
 whole_by (f ∷ g ∷ row) (suc n) (v ∷ values) last past h =
     let rest = whole_by (g ∷ row) n values last.1 (omega arith) h.1 in
     record { own = v ∷ rest.own; each = (whole_part f v last.0 h.0, rest.each); same = ap (λ o. field_octets v ++ o) rest.same }
@@ -170,6 +162,7 @@ whole_by (f ∷ g ∷ row) (suc n) (v ∷ values) last past h =
     whole_part : (f : Field) (v : FieldValue) → f ≢ fields.Strings → Holds (part_field f) v → Holds f v
     whole_part fields.Strings v other h = absurd (other refl)
     whole_part f v other h = h
+whole_by row n values last past h = absurd h
 
 pub whole_laid : (row : List Field) (count : ℕ) (octets : List ℕ) → StringsLast row → length row ≤ count → ArePushedParts (Some row) count octets → AreLaidOut row octets
 whole_laid row count octets last past held =

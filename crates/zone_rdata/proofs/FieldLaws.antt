@@ -59,9 +59,8 @@ low_at (c ∷ octets) low zero = low.0
 low_at (c ∷ octets) low (suc i) = low_at octets low.1 i
 
 pub low_take : (n : ℕ) (octets : List ℕ) → AreLow octets → AreLow (take n octets)
-low_take zero octets low = tt
-low_take (suc n) [] low = tt
 low_take (suc n) (c ∷ octets) low = (low.0, low_take n octets low.1)
+low_take n octets low = tt
 
 pub low_drop : (n : ℕ) (octets : List ℕ) → AreLow octets → AreLow (drop n octets)
 low_drop zero octets low = low

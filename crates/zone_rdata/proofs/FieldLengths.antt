@@ -27,13 +27,9 @@ octet_length : (n : ℕ) → n < 256 → length (decimal n) ≤ 3
 octet_length n short = length-decimal-le 3 n (omega arith) (omega arith) (omega arith)
 
 pub ipv4_length : (octets : List ℕ) → length octets ≡ 4 → AllByRecursion (λ c. c < 256) octets → length (ipv4_text octets) ≤ 15
-ipv4_length [] size low = absurd (omega arith)
-ipv4_length (a ∷ []) size low = absurd (omega arith)
-ipv4_length (a ∷ b ∷ []) size low = absurd (omega arith)
-ipv4_length (a ∷ b ∷ c ∷ []) size low = absurd (omega arith)
-ipv4_length (a ∷ b ∷ c ∷ d ∷ e ∷ octets) size low = absurd (omega arith)
 ipv4_length (a ∷ b ∷ c ∷ d ∷ []) size low =
     dotted_length (decimal a) (decimal b) (decimal c) (decimal d) (octet_length a low.0) (octet_length b low.1.0) (octet_length c low.1.1.0) (octet_length d low.1.1.1.0)
+ipv4_length octets size low = absurd (omega arith)
 
 left_length : (n : ℕ) (digits : List ℕ) → length digits ≡ 4 → length (drop n digits) ≤ 4
 left_length n digits four = omega (arith, length-drop n digits)

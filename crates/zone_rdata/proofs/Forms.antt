@@ -1,11 +1,10 @@
 -- What items state for a layout, if there is one, and why they state nothing.
-use Rattle.std.proofs.Common.{◌≡◌, ℕ, ◌≤◌, List, length, refl, sym, ap, ◌∙◌, subst, Bool, true, false, IsTrue, ◌↔◌, Option, Some, None, Result, Ok, Err}
+use Rattle.std.proofs.Common.{◌≡◌, ℕ, ◌≤◌, List, length, refl, sym, ap, ◌∙◌, subst, Bool, false, IsTrue, ◌↔◌, Option, Some, None, Result, Ok, Err}
 use Rattle.std.specs.Prelude.{IfOk, IfErr, IsErrAnd, option_map}
 use Rattle.zone_rdata.specs.declared.fault.Failing.TheVariants as failings
 use Rattle.zone_rdata.specs.declared.fault.Failing.{Failing}
 use Rattle.zone_rdata.specs.declared.fault.Fault.{Fault}
 use Rattle.zone_rdata.specs.declared.fault.Fault.TheVariants.{BadRdata, BadGeneric}
-use Rattle.zone_rdata.specs.declared.field.Field.{Field}
 use Rattle.zone_rdata.specs.declared.layout.Layout.{Layout}
 use Rattle.zone_rdata.specs.DataFault.{IsFaultFor, IsFormFault, IsWordsFault, no_value, opaque_words}
 use Rattle.zone_rdata.specs.DataFault as faults

@@ -108,9 +108,8 @@ form_digits items digits item n fault e states short bad =
     subst (GenericFault items) (sym bad.0) (bad_digits n digits (record { item = item; parts = e; states = states }) short bad.1)
 
 pub form_parts : (items : List Item) (d : Item) → 2 ≤ length items → IsGeneric (map raw items) → map raw items ≡ generic_mark ∷ raw (get_or items 1 d) ∷ map raw (drop 2 items)
-form_parts [] d two marked = absurd (omega arith)
-form_parts (a ∷ []) d two marked = absurd (omega arith)
 form_parts (a ∷ b ∷ items) d two marked = let same : raw a ≡ generic_mark = cc (marked.1) in ap (λ x. x ∷ raw b ∷ map raw items) same
+form_parts items d two marked = absurd (omega arith)
 
 pub length_beyond : (item : Item) (text : List ℕ) (number most : ℕ) → raw item ≡ bare text → (m : ℕ) × (IsDecimal text m × (number ≡ min most m)) → 65535 < number → LengthFault (raw item) RdataTooLong
 length_beyond item text number most is found over = beyond found.0 (subst (λ r. StatesLength r found.0) (sym is) found.1.0) (let e = found.1.1 in omega arith)

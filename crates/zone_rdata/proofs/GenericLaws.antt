@@ -45,15 +45,11 @@ generic-never_both items octets _ x (bad_digits n digits form short bad) =
     bad octets (subst (λ d. JoinTo d octets) (forms_digits items (length octets) n x.digits digits x.form form) x.joined) (forms_length items (length octets) n x.digits digits x.form form)
 
 pub generic_fault-once : (items : List RawItem) (a b : Fault) → GenericFault items a → GenericFault items b → a ≡ b
-generic_fault-once items _ _ (no_length marked none) (no_length _ _) = refl
 generic_fault-once items _ _ (no_length marked none) (long_length n digits form over) = absurd (none n digits form)
-generic_fault-once items _ _ (no_length marked none) (bad_digits n digits form short bad) = refl
 generic_fault-once items _ _ (long_length n digits form over) (no_length marked none) = absurd (none n digits form)
-generic_fault-once items _ _ (long_length n digits form over) (long_length _ _ _ _) = refl
 generic_fault-once items _ _ (long_length n digits form over) (bad_digits m more form' short bad) = absurd (omega (arith, forms_length items n m digits more form form'))
-generic_fault-once items _ _ (bad_digits n digits form short bad) (no_length marked none) = refl
 generic_fault-once items _ _ (bad_digits m more form' short bad) (long_length n digits form over) = absurd (omega (arith, forms_length items n m digits more form form'))
-generic_fault-once items _ _ (bad_digits n digits form short bad) (bad_digits _ _ _ _ _) = refl
+generic_fault-once items _ _ _ _ = refl
 
 -- ---- a text is a decimal number or none
 pub decimal_or_not : (text : List ℕ) → Choice (IsDecimal text)

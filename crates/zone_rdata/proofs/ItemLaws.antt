@@ -20,19 +20,16 @@ use Rattle.zone_rdata.specs.DataFault as faults
 each_once : NamesOnce → (origin : List (List ℕ)) (row : List Field) (items : List RawItem) (vs ws : List FieldValue) → SpellEach origin row items vs → SpellEach origin row items ws → vs ≡ ws
 each_once names origin [] [] [] [] h k = refl
 each_once names origin [] [] [] (w ∷ ws) h k = absurd k
-each_once names origin [] [] (v ∷ vs) ws h k = absurd h
-each_once names origin [] (i ∷ items) vs ws h k = absurd h
-each_once names origin (f ∷ row) items [] ws h k = absurd h
 each_once names origin (f ∷ row) items (v ∷ vs) [] h k = absurd k
 each_once names origin (f ∷ row) items (v ∷ vs) (w ∷ ws) h k =
     ap (λ x. x ∷ vs) (field_once names origin f (own_items f items) v w h.0 k.0) ∙ ap (λ xs. w ∷ xs) (each_once names origin row (items_behind f items) vs ws h.1 k.1)
+each_once names origin row items vs ws h k = absurd h
 
 first_never : NamesNever → (origin : List (List ℕ)) (row : List Field) (items : List RawItem) (values : List FieldValue) (fault : Fault) → SpellEach origin row items values → FirstFieldFault origin row items fault → ⊥
 first_never names origin [] [] values fault h bad = bad
-first_never names origin [] (item ∷ items) values fault h bad = h
-first_never names origin (f ∷ row) items [] fault h bad = h
 first_never names origin (f ∷ row) items (v ∷ values) fault h (inl bad) = field_never names origin f (own_items f items) v fault h.0 bad
 first_never names origin (f ∷ row) items (v ∷ values) fault h (inr more) = first_never names origin row (items_behind f items) values fault h.1 more.2
+first_never names origin row items values fault h bad = h
 
 first_once : NamesNever → NameFaultOnce → (origin : List (List ℕ)) (row : List Field) (items : List RawItem) (a b : Fault) → FirstFieldFault origin row items a → FirstFieldFault origin row items b → a ≡ b
 first_once names once origin [] [] a b x y = absurd x

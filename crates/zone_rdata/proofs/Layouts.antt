@@ -22,11 +22,10 @@ values_next f row v octets h last =
 
 pub values_back : (row : List Field) (values : List FieldValue) → StringsLast row → HoldEach row values → values_of row (octets_of values) ≡ values
 values_back [] [] last h = refl
-values_back [] (v ∷ values) last h = absurd h
-values_back (f ∷ row) [] last h = absurd h
 values_back (f ∷ []) (v ∷ []) last h = values_next f [] v [] h.0 (λ e. refl)
 values_back (f ∷ []) (v ∷ w ∷ values) last h = absurd h.1
 values_back (f ∷ g ∷ row) (v ∷ values) last h = values_next f (g ∷ row) v (octets_of values) h.0 (λ e. absurd (last.0 e)) ∙ ap (λ vs. v ∷ vs) (values_back (g ∷ row) values last.1 h.1)
+values_back row values last h = absurd h
 
 pub laid_out : (row : List Field) (values : List FieldValue) → StringsLast row → HoldEach row values → AreLaidOut row (octets_of values)
 laid_out row values last h =
@@ -48,9 +47,8 @@ canonical_length (Some row) octets canonical is = uncompressed_length row octets
 
 pub low_values : (row : List Field) (values : List FieldValue) → HoldEach row values → AreLow (octets_of values)
 low_values [] [] held = tt
-low_values [] (v ∷ values) held = absurd held
-low_values (f ∷ row) [] held = absurd held
 low_values (f ∷ row) (v ∷ values) held = AllByRecursion-append (λ c. c < 256) (field_octets v) (octets_of values) (field_low f v held.0) (low_values row values held.1)
+low_values row values held = absurd held
 
 pub held_data : (class kind : ℕ) (row : List Field) (values : List FieldValue) → layout class kind ≡ Some row → HoldEach row values → length (octets_of values) ≤ 65535 → IsData class kind (octets_of values)
 held_data class kind row values e held short = record {
@@ -61,12 +59,11 @@ held_data class kind row values e held short = record {
 
 short_values : (row : List Field) (values : List FieldValue) → AllByRecursion (λ f. f ≢ Strings) row → AllByRecursion IsSized row → HoldEach row values → length (octets_of values) ≤ 256 * length row
 short_values [] [] others sized held = omega arith
-short_values [] (v ∷ values) others sized held = absurd held
-short_values (f ∷ row) [] others sized held = absurd held
 short_values (f ∷ row) (v ∷ values) others sized held =
     let first = field_short f v others.0 sized.0 held.0 in
     let rest = short_values row values others.1 sized.1 held.1 in
     omega (arith, first, rest, length-append (field_octets v) (octets_of values))
+short_values row values others sized held = absurd held
 
 pub stringless_short : (class kind : ℕ) (row : List Field) (values : List FieldValue) → layout class kind ≡ Some row → AllByRecursion (λ f. f ≢ Strings) row → HoldEach row values → length (octets_of values) ≤ 65535
 stringless_short class kind row values e others held =

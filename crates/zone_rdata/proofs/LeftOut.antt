@@ -5,6 +5,7 @@ use Rattle.std.specs.List.{flat_map, AllByRecursion}
 use Rattle.hex.proofs.HexLemmas.{decode_of-ok}
 use Rattle.zone_name.specs.Name.{with_length}
 use Rattle.zone_name.proofs.Octets.{length-frames}
+use Rattle.zone_name.proofs.Pushing.{AllByRecursion-front}
 use Rattle.zone_rdata.specs.declared.fault.Fault.{Fault}
 use Rattle.zone_rdata.specs.declared.field.Field.{Field}
 use Rattle.zone_rdata.specs.declared.field.Field.TheVariants.{Strings}
@@ -22,10 +23,6 @@ use Rattle.zone_rdata.proofs.Tables.{table_row}
 
 -- ---- data has at most as many items as octets, but for a few
 
-first_written : (first more : List RawItem) → AllByRecursion IsWritten (first ++ more) → AllByRecursion IsWritten first
-first_written [] more each = tt
-first_written (item ∷ first) more each = (each.0, first_written first more each.1)
-
 joined_long : (first more : List RawItem) (octets : List ℕ) → AllByRecursion IsWritten first → JoinTo (first ++ more) octets → length first ≤ length octets
 joined_long [] more octets written h = omega arith
 joined_long (bare text ∷ first) more octets written h =
@@ -38,15 +35,14 @@ string_each (item ∷ items) [] h = absurd h
 string_each (item ∷ items) (octets ∷ many) h = omega (arith, string_each items many h.1)
 
 spelt_long : (origin : List (List ℕ)) (fields : List Field) (items : List RawItem) (values : List FieldValue) → SpellEach origin fields items values → length items ≤ length fields + length (octets_of values)
-spelt_long origin [] [] values h = omega arith
 spelt_long origin [] (item ∷ items) values h = absurd h
 spelt_long origin (f ∷ fields) items [] h = absurd h
 spelt_long origin (Strings ∷ fields) items (strings many ∷ values) h =
     omega (arith, string_each items many h.0.each, length-frames many, length-append (flat_map with_length many) (octets_of values))
 spelt_long origin (Strings ∷ fields) items (v ∷ values) h = absurd h.0
-spelt_long origin (f ∷ fields) [] (v ∷ values) h = omega arith
 spelt_long origin (f ∷ fields) (item ∷ items) (v ∷ values) h =
     omega (arith, spelt_long origin fields items values h.1, length-append (field_octets v) (octets_of values))
+spelt_long origin fields [] values h = omega arith
 
 -- ---- words
 
@@ -95,14 +91,13 @@ fields_fault origin (f ∷ fields) (item ∷ first) more others fault few out (i
 
 fields_more : (origin : List (List ℕ)) (fields : List Field) (first more others : List RawItem) (values : List FieldValue) → length fields < length first → LeavesOut more others → SpellEach origin fields (first ++ others) values → (all : List FieldValue) × SpellEach origin fields (first ++ more) all
 fields_more origin fields [] more others values few out h = absurd (omega (arith, few))
-fields_more origin [] (item ∷ first) more others values few out h = absurd h
-fields_more origin (f ∷ fields) (item ∷ first) more others [] few out h = absurd h
 fields_more origin (Strings ∷ fields) (item ∷ first) more others (v ∷ values) few out h =
     let all = all_strings origin item first more others v out h.0 in
     (all.0 ∷ values, (all.1, h.1))
 fields_more origin (f ∷ fields) (item ∷ first) more others (v ∷ values) few out h =
     let all = fields_more origin fields first more others values (omega (arith, few)) out h.1 in
     (v ∷ all.0, (h.0, all.1))
+fields_more origin fields (item ∷ first) more others values few out h = absurd h
 
 words_fault : (origin : List (List ℕ)) (fields : List Field) (first more others : List RawItem) (fault : Fault) → length fields ≤ 7 → 65543 ≤ length first → LeavesOut more others → IsWordsFault origin fields (first ++ others) fault → IsWordsFault origin fields (first ++ more) fault
 words_fault origin fields first more others _ few many out (unspelt fault bad) =
@@ -123,8 +118,6 @@ mark_same : (a : RawItem) (items others : List RawItem) → IsGeneric (a ∷ ite
 mark_same a items others marked = (others, (let e = marked.1 in cc))
 
 generic_fault : (first more others : List RawItem) (fault : Fault) → AllByRecursion IsWritten first → 65543 ≤ length first → GenericFault (first ++ others) fault → GenericFault (first ++ more) fault
-generic_fault [] more others fault written many bad = absurd (omega (arith, many))
-generic_fault (a ∷ []) more others fault written many bad = absurd (omega (arith, many))
 generic_fault (a ∷ b ∷ digits) more others _ written many (no_length marked none) =
     no_length (mark_same a _ _ marked) (λ n found form. none n (digits ++ others) (form_same a b _ _ found n form))
 generic_fault (a ∷ b ∷ digits) more others _ written many (long_length n found form over) =
@@ -132,13 +125,13 @@ generic_fault (a ∷ b ∷ digits) more others _ written many (long_length n fou
 generic_fault (a ∷ b ∷ digits) more others _ written many (bad_digits n found form short bad) =
     bad_digits n (digits ++ more) (form_same a b _ _ found n form) short
     (λ octets joined count. absurd (omega (arith, joined_long digits more octets written.1.1 joined, count, short, many)))
+generic_fault first more others fault written many bad = absurd (omega (arith, many))
 
 generic_never : (first others : List RawItem) (octets : List ℕ) → AllByRecursion IsWritten first → 65543 ≤ length first → StatesGeneric (first ++ others) octets → ⊥
-generic_never [] others octets written many h = omega (arith, many)
-generic_never (a ∷ []) others octets written many h = omega (arith, many)
 generic_never (a ∷ b ∷ digits) others octets written many h =
     let joined : JoinTo (digits ++ others) octets = subst (λ t. JoinTo t octets) (digits_of a b (digits ++ others) h.digits (length octets) h.form) h.joined in
     omega (arith, joined_long digits others octets written.1.1 joined, h.short, many)
+generic_never first others octets written many h = omega (arith, many)
 
 form_fault : (laid : Option (List Field)) (first more others : List RawItem) (fault : Fault) → AllByRecursion IsWritten first → 65543 ≤ length first → IsFormFault laid (first ++ others) fault → IsFormFault laid (first ++ more) fault
 form_fault laid first more others _ written many (malformed fault bad) = malformed fault (generic_fault first more others fault written many bad)
@@ -174,14 +167,14 @@ pub fault_of_all : (origin : List (List ℕ)) (class kind : ℕ) (items kept : L
 fault_of_all origin class kind items kept fault written short bad =
     let all : AllByRecursion IsWritten (short.first ++ short.more) = subst (AllByRecursion IsWritten) short.whole written in
     let first = subst (λ t. IsFaultFor origin (layout class kind) t fault) short.are_kept bad.first in
-    let found = fault_for origin (layout class kind) short.first short.more short.others fault (are_few class kind) (first_written short.first short.more all) short.many short.out first in
+    let found = fault_for origin (layout class kind) short.first short.more short.others fault (are_few class kind) (AllByRecursion-front IsWritten short.first short.more all) short.many short.out first in
     record { first = subst (λ t. IsFaultFor origin (layout class kind) t fault) (sym short.whole) found }
 
 -- they state no data
 pub state_none : (origin : List (List ℕ)) (class kind : ℕ) (items kept : List RawItem) (octets : List ℕ) → AllByRecursion IsWritten items → AreShortened 65543 items kept → States origin class kind kept octets → ⊥
 state_none origin class kind items kept octets written short h =
     let all : AllByRecursion IsWritten (short.first ++ short.more) = subst (AllByRecursion IsWritten) short.whole written in
-    never_for origin (layout class kind) short.first short.others octets (are_few class kind) (first_written short.first short.more all) short.many
+    never_for origin (layout class kind) short.first short.others octets (are_few class kind) (AllByRecursion-front IsWritten short.first short.more all) short.many
     (subst (λ t. StatesFor origin (layout class kind) t octets) short.are_kept h.stated)
 
 -- ---- one item more

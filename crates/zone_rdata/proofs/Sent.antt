@@ -7,7 +7,7 @@ use Rattle.std.proofs.lemmas.List.Concat.{flat_map-append}
 use Rattle.zone_name.specs.Name.{IsLabel, IsName, folded_octet, folded_label, folded, with_length, wire}
 use Rattle.zone_name.specs.Spelling.{IsLabelFault}
 use Rattle.zone_name.specs.declared.fault.NameFault.{NameFault}
-use Rattle.zone_name.specs.declared.fault.NameFault.TheVariants.{EmptyLabel, LabelTooLong, NameTooLong, BadEscape, RelativeName}
+use Rattle.zone_name.specs.declared.fault.NameFault.TheVariants.{EmptyLabel, LabelTooLong, NameTooLong}
 use Rattle.zone_rdata.specs.Machine.Fronts.{BeginsWithSent}
 use Rattle.zone_name.proofs.Pushing.{AllByRecursion-append, AllByRecursion-back}
 
@@ -15,13 +15,12 @@ use Rattle.zone_name.proofs.Pushing.{AllByRecursion-append, AllByRecursion-back}
 -- lists of one length are cut off alike
 pub append_same : (x y a b : List ℕ) → length x ≡ length y → x ++ a ≡ y ++ b → (x ≡ y) × (a ≡ b)
 append_same [] [] a b count e = (refl, e)
-append_same [] (d ∷ y) a b count e = absurd (omega arith)
-append_same (c ∷ x) [] a b count e = absurd (omega arith)
 append_same (c ∷ x) (d ∷ y) a b count e =
     let heads : c ≡ d = cc in
     let tails : x ++ a ≡ y ++ b = cc in
     let rest = append_same x y a b (omega arith) tails in
     (ap (λ h. h ∷ x) heads ∙ ap (λ t. d ∷ t) rest.0, rest.1)
+append_same x y a b count e = absurd (omega arith)
 
 -- what stands after its length is cut off alike
 pub frame_same : (x y a b : List ℕ) → with_length x ++ a ≡ with_length y ++ b → (x ≡ y) × (a ≡ b)
@@ -142,8 +141,7 @@ refused_by : (fault : NameFault) (labels : List (List ℕ)) (label : List ℕ) (
 refused_by EmptyLabel labels label r is only empty long too_long some fits = absurd (omega (arith, empty.0 is))
 refused_by LabelTooLong labels label r is only empty long too_long some fits = absurd (omega (arith, long.0 is, fits.short))
 refused_by NameTooLong labels label r is only empty long too_long some fits = absurd (omega (arith, (too_long.0 is).2, fits.room))
-refused_by BadEscape labels label r is only empty long too_long some fits = only
-refused_by RelativeName labels label r is only empty long too_long some fits = only
+refused_by fault labels label r is only empty long too_long some fits = only
 
 pub no_label : (octets rest : List ℕ) (labels : List (List ℕ)) (c : ℕ) (behind label : List ℕ) (fault : NameFault) (r : Result (Unit {0}) NameFault) → HasCut octets labels rest → rest ≡ c ∷ behind → 0 < c → c ≤ length behind → label ≡ take c behind → r ≡ Err fault → IsLabelFault fault → ((r ≡ Err EmptyLabel) ↔ (length label ≡ 0)) → ((r ≡ Err LabelTooLong) ↔ (63 < length label)) → ((r ≡ Err NameTooLong) ↔ ((0 < length label) × (length label ≤ 63) × (255 < length (wire (labels ++ label ∷ []))))) → (name : List (List ℕ)) (tail : List ℕ) → BeginsWithSent octets name tail → ⊥
 no_label octets rest labels c behind label fault r cut e some fits same is only empty long too_long name tail b =

@@ -16,10 +16,8 @@ use Rattle.zone_rdata.proofs.Layouts.{AreFor, canonical_laid, canonical_length, 
 
 pub spelt_hold : (origin : List (List ℕ)) (row : List Field) (items : List RawItem) (values : List FieldValue) → SpellEach origin row items values → HoldEach row values
 spelt_hold origin [] [] [] h = tt
-spelt_hold origin [] [] (v ∷ values) h = absurd h
-spelt_hold origin [] (i ∷ items) values h = absurd h
-spelt_hold origin (f ∷ row) items [] h = absurd h
 spelt_hold origin (f ∷ row) items (v ∷ values) h = (field_holds origin f (own_items f items) v h.0, spelt_hold origin row (items_behind f items) values h.1)
+spelt_hold origin row items values h = absurd h
 
 -- the octets that items state for a layout of the table are data
 stated_laid : (origin : List (List ℕ)) (class kind : ℕ) (laid : Option (List Field)) (items : List RawItem) (octets : List ℕ) → laid ≡ layout class kind → StatesFor origin laid items octets → AreFor laid octets

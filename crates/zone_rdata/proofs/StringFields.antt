@@ -42,15 +42,12 @@ strings_len octets = strings_by_len (length octets) octets (omega arith)
 
 -- more fuel than octets changes nothing
 fuel_same : (m n : ℕ) (octets : List ℕ) → length octets ≤ m → length octets ≤ n → strings_by m octets ≡ strings_by n octets
-fuel_same zero zero octets p q = refl
-fuel_same zero (suc n) [] p q = refl
 fuel_same zero (suc n) (c ∷ octets) p q = absurd (omega arith)
-fuel_same (suc m) zero [] p q = refl
 fuel_same (suc m) zero (c ∷ octets) p q = absurd (omega arith)
-fuel_same (suc m) (suc n) [] p q = refl
 fuel_same (suc m) (suc n) (c ∷ octets) p q =
     let parts : length (take c octets) + length (drop c octets) ≡ length octets = sym (length-append (take c octets) (drop c octets)) ∙ ap length (take-append-drop c octets) in
     ap (λ t. take c octets ∷ t) (fuel_same m n (drop c octets) (omega (arith, parts)) (omega (arith, parts)))
+fuel_same m n octets p q = refl
 
 strings_next : (c : ℕ) (octets : List ℕ) → strings_of (c ∷ octets) ≡ take c octets ∷ strings_of (drop c octets)
 unfolding strings_of

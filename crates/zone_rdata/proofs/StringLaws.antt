@@ -3,7 +3,7 @@ use Rattle.std.proofs.Common.{◌≡◌, ◌≢◌, ℕ, ◌<◌, Bool, true, fa
 use Rattle.std.specs.Prelude.{map}
 use Rattle.std.specs.List.{AllByRecursion}
 use Rattle.std.proofs.lemmas.Bool.{and_parts, or_parts, or_cases, eqb-true, eqb-false, leb-true}
-use Rattle.zone_name.specs.Spelling.{Written, plain, escaped, decimal, text_of, octet_of, IsUnit, no_octet, written_text, written_octets, is_digit}
+use Rattle.zone_name.specs.Spelling.{Written, plain, text_of, octet_of, IsUnit, no_octet, written_text, written_octets, is_digit}
 use Rattle.zone_rdata.specs.declared.fault.Fault.{Fault}
 use Rattle.zone_rdata.specs.Item.{RawItem, quoted}
 use Rattle.zone_rdata.specs.Strings.{IsString, SpellsString, StringFault, StandsInQuotes, is_quote, inside_text, is_shown, unit_text}
@@ -94,8 +94,7 @@ units_line (c ∷ octets) = AllByRecursion-append (λ d. d ≢ 10) (text_of (pri
 
 unit_of_quoted : (w : Written) → IsUnit is_quote w → IsUnit no_octet w
 unit_of_quoted (plain c) is = (refl, is.1)
-unit_of_quoted (escaped c) is = is
-unit_of_quoted (decimal x y z) is = is
+unit_of_quoted w is = is
 
 pub printed-spells : (octets : List ℕ) → IsString octets → SpellsString (quoted (inside_text octets)) octets
 printed-spells octets is = record {

@@ -136,11 +136,10 @@ abbrev is_layout : List Field → Bool
 is_layout row = nat_le (length row) 7 && (strings_last row && list_all is_sized row)
 
 last_is : (row : List Field) → strings_last row ≡ true → StringsLast row
-last_is [] e = tt
-last_is (f ∷ []) e = tt
 last_is (f ∷ g ∷ row) e =
     let both = and_parts (not (is_strings f)) (strings_last (g ∷ row)) e in
     (λ same. false≢true (sym (not-true (is_strings f) both.0) ∙ ap is_strings same), last_is (g ∷ row) both.1)
+last_is row e = tt
 
 sized_is : (f : Field) → is_sized f ≡ true → IsSized f
 sized_is (fields.Octets n) e = elim (or_cases (n == 4) (n == 16) e) [ inl four ↦ inl (eqb-true n 4 four) | inr more ↦ inr (eqb-true n 16 more) ]

@@ -11,6 +11,7 @@ use Rattle.zone_rdata.proofs.Lists.{from_place}
 use Rattle.zone_rdata.proofs.Tables.{table_row}
 use Rattle.zone_rdata.proofs.AnyField.{front_once, front_or_none}
 use Rattle.zone_rdata.proofs.Choices.{Choice, choice_as}
+use Rattle.zone_name.proofs.Pushing.{AllByRecursion-back}
 use Rattle.zone_rdata.proofs.FieldLaws.{AreLow, FrontChoice}
 use Rattle.std.specs.List.{flat_map}
 use Rattle.zone_name.specs.Name.{folded_octet, folded_label, folded, with_length}
@@ -22,13 +23,12 @@ Reads (f ∷ row) octets canonical = (value : FieldValue) × ((rest more : List 
 
 reads_by : (row : List Field) (values : List FieldValue) (octets : List ℕ) → StringsLast row → HoldEach row values → AreSent values octets → Reads row octets (octets_of values)
 reads_by [] [] octets last held sent = (sent, refl)
-reads_by [] (v ∷ values) octets last held sent = absurd held
-reads_by (f ∷ row) [] octets last held sent = absurd held
 reads_by (f ∷ []) (v ∷ []) octets last held sent =
     (v, (sent.1, [], record { held = held.0; front = sent.0; sent = sent.2; parts = sent.3; last = λ e. sent.4 }, refl, (sent.4, refl)))
 reads_by (f ∷ []) (v ∷ w ∷ values) octets last held sent = absurd held.1
 reads_by (f ∷ g ∷ row) (v ∷ values) octets last held sent =
     (v, (sent.1, octets_of values, record { held = held.0; front = sent.0; sent = sent.2; parts = sent.3; last = λ e. absurd (last.0 e) }, refl, reads_by (g ∷ row) values sent.1 last.1 held.1 sent.4))
+reads_by row values octets last held sent = absurd held
 
 pub to_reads : (row : List Field) (octets canonical : List ℕ) → StringsLast row → IsUncompressed row octets canonical → Reads row octets canonical
 to_reads row octets canonical last u = subst (Reads row octets) (sym u.whole) (reads_by row u.values octets last u.held u.sent)
@@ -127,10 +127,6 @@ pub uncompressed_length : (fields : List Field) (octets canonical : List ℕ) �
 uncompressed_length fields octets canonical u = ap length u.whole ∙ are_sent_length u.values octets u.sent
 
 -- ---- octets have a canonical form in a layout or none
-low_behind : (front rest : List ℕ) → AreLow (front ++ rest) → AreLow rest
-low_behind [] rest low = low
-low_behind (c ∷ front) rest low = low_behind front rest low.1
-
 after_value : (f : Field) (row : List Field) (octets : List ℕ) (value : FieldValue) (rest : List ℕ) → BeginsWithValue f octets value rest → Choice (Reads row rest) → Choice (Reads (f ∷ row) octets)
 after_value f row octets value rest begins (inl found) = inl (field_octets value ++ found.0, (value, (rest, found.0, begins, refl, found.1)))
 after_value f row octets value rest begins (inr none) = inr (λ canonical h. none h.1.1 (subst (λ r. Reads row r h.1.1) (front_once f octets h.0 value h.1.0 rest h.1.2 begins).1 h.1.4))
@@ -139,7 +135,7 @@ first_value : (f : Field) (row : List Field) (octets : List ℕ) → AreLow octe
 first_value f row octets low (inr none) others = inr (λ canonical h. none h.0 h.1.0 h.1.2)
 first_value f row octets low (inl found) others =
     let begins = found.1.1 in
-    after_value f row octets found.0 found.1.0 begins (others found.1.0 (low_behind begins.front found.1.0 (subst AreLow begins.parts low)))
+    after_value f row octets found.0 found.1.0 begins (others found.1.0 (AllByRecursion-back _ begins.front found.1.0 (subst AreLow begins.parts low)))
 
 nothing_left : (octets : List ℕ) → Choice (Reads [] octets)
 nothing_left [] = inl ([], (refl, refl))

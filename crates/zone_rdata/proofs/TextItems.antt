@@ -2,7 +2,6 @@
 -- data.
 use Rattle.std.proofs.Common.{List, None, Option, Some, [], ap, arith, drop, length, length-append, map, nat_lt, refl, subst, sym, true, ℕ, ◌++◌, ◌<◌, ◌∙◌, ◌∷◌, ◌≡◌, ◌≤◌}
 use Rattle.std.specs.List.{AllByRecursion, flat_map, join_with_byte}
-use Rattle.std.specs.Prelude.{decimal}
 use Rattle.std.proofs.lemmas.Bool.Decides.{nat_tests}
 use Rattle.std.proofs.lemmas.List.{append-nil, length-map, map-append}
 use Rattle.std.proofs.lemmas.List.Concat.{flat_map-append}
@@ -12,7 +11,7 @@ use Rattle.zone_rdata.specs.declared.field.Field.TheVariants.{Strings}
 use Rattle.zone_rdata.specs.Field.{FieldValue, HoldEach, Holds, field_items, field_text, string, strings, values_of}
 use Rattle.zone_rdata.specs.Fields.OneString.{string_item}
 use Rattle.zone_rdata.specs.Generic.{digit_items, generic_items}
-use Rattle.zone_rdata.specs.Item.{IsGeneric, RawItem, bare}
+use Rattle.zone_rdata.specs.Item.{IsGeneric, RawItem}
 use Rattle.zone_rdata.specs.Layout.{IsLayout, IsSized, StringsLast, layout}
 use Rattle.zone_rdata.specs.Machine.Printing.{laid_out_text}
 use Rattle.zone_rdata.specs.Record.{Data, IsRdata}
@@ -56,11 +55,10 @@ field_spaced f v h = append-nil (32 ∷ field_text v)
 
 each_spaced : (row : List Field) (values : List FieldValue) → HoldEach row values → all_spaced (map written_item (flat_map field_items values)) ≡ all_spaced (map field_text values)
 each_spaced [] [] h = refl
-each_spaced [] (v ∷ values) h = absurd h
-each_spaced (f ∷ row) [] h = absurd h
 each_spaced (f ∷ row) (v ∷ values) h =
     let items = map written_item (flat_map field_items values) in
     ap all_spaced (map-append written_item (field_items v) (flat_map field_items values)) ∙ flat_map-append (λ t. 32 ∷ t) (map written_item (field_items v)) items ∙ ap (λ t. t ++ all_spaced items) (field_spaced f v h.0) ∙ ap (λ t. 32 ∷ field_text v ++ t) (each_spaced row values h.1)
+each_spaced row values h = absurd h
 
 generic_written : (octets : List ℕ) → generic_text octets ≡ join_with_byte 32 (map written_item (generic_items octets))
 generic_written [] = printed-text []
@@ -87,10 +85,9 @@ digits_stand (c ∷ octets) low = (bare_hex c octets low, tt)
 
 each_stand : (row : List Field) (values : List FieldValue) → AllByRecursion IsSized row → HoldEach row values → StandEach (flat_map field_items values)
 each_stand [] [] sized h = tt
-each_stand [] (v ∷ values) sized h = absurd h
-each_stand (f ∷ row) [] sized h = absurd h
 each_stand (f ∷ row) (v ∷ values) sized h =
     AllByRecursion-append Stands (field_items v) (flat_map field_items values) (field_stands f v sized.0 h.0) (each_stand row values sized.1 h.1)
+each_stand row values sized h = absurd h
 
 laid_out_stand : (laid : Option (List Field)) (octets : List ℕ) → ((row : List Field) → laid ≡ Some row → IsLayout row) → length octets ≤ 65535 → AllByRecursion (λ c. c < 256) octets → AreFor laid octets → StandEach (laid_out_items laid octets)
 laid_out_stand None octets table short low value = (bare_mark, (bare_decimal (length octets) (omega arith), digits_stand octets low))
@@ -133,20 +130,18 @@ next_spelt names origin f row v items values sized h last rest =
 
 each_spelt : NamesPrinted → (origin : List (List ℕ)) (row : List Field) (values : List FieldValue) → StringsLast row → AllByRecursion IsSized row → HoldEach row values → SpellEach origin row (flat_map field_items values) values
 each_spelt names origin [] [] last sized h = tt
-each_spelt names origin [] (v ∷ values) last sized h = absurd h
-each_spelt names origin (f ∷ row) [] last sized h = absurd h
 each_spelt names origin (f ∷ []) (v ∷ []) last sized h = next_spelt names origin f [] v [] [] sized.0 h.0 (λ e. refl) tt
 each_spelt names origin (f ∷ []) (v ∷ w ∷ values) last sized h = absurd h.1
 each_spelt names origin (f ∷ g ∷ row) (v ∷ values) last sized h =
     next_spelt names origin f (g ∷ row) v (flat_map field_items values) values sized.0 h.0 (λ e. absurd (last.0 e)) (each_spelt names origin (g ∷ row) values last.1 sized.1 h.1)
+each_spelt names origin row values last sized h = absurd h
 
 -- ---- the first item is not the mark of the generic form
 
 fields_unmarked : (row : List Field) (values : List FieldValue) → AllByRecursion IsSized row → HoldEach row values → IsGeneric (flat_map field_items values) → ⊥
 fields_unmarked [] [] sized h g = cc g.1
-fields_unmarked [] (v ∷ values) sized h g = h
-fields_unmarked (f ∷ row) [] sized h g = h
 fields_unmarked (f ∷ row) (v ∷ values) sized h g = field_unmarked f v (flat_map field_items values) sized.0 h.0 g
+fields_unmarked row values sized h g = h
 
 -- ---- the items state the data
 

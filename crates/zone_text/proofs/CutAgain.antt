@@ -15,8 +15,6 @@ front_whole p [] others tokens e = ap (λ t. p ∷ t) e
 front_whole p (entry ∷ ended) others tokens e = ap (λ t. p ∷ t) e
 
 pub cut_whole : (depth : ℕ) (tokens : List Token) → joined (cut_from depth tokens).ended ++ (cut_from depth tokens).open_tokens ≡ tokens
-cut_whole zero [] = refl
-cut_whole (suc depth) [] = refl
 cut_whole zero (line_feed ∷ tokens) = ap (λ t. line_feed ∷ t) (cut_whole zero tokens)
 cut_whole (suc depth) (line_feed ∷ tokens) = front_whole line_feed (cut_from (suc depth) tokens).ended _ _ (cut_whole (suc depth) tokens)
 cut_whole zero (opening ∷ tokens) = front_whole opening (cut_from (suc zero) tokens).ended _ _ (cut_whole (suc zero) tokens)
@@ -31,6 +29,7 @@ cut_whole zero (bare u ∷ tokens) = front_whole (bare u) (cut_from zero tokens)
 cut_whole (suc depth) (bare u ∷ tokens) = front_whole (bare u) (cut_from (suc depth) tokens).ended _ _ (cut_whole (suc depth) tokens)
 cut_whole zero (quoted u ∷ tokens) = front_whole (quoted u) (cut_from zero tokens).ended _ _ (cut_whole zero tokens)
 cut_whole (suc depth) (quoted u ∷ tokens) = front_whole (quoted u) (cut_from (suc depth) tokens).ended _ _ (cut_whole (suc depth) tokens)
+cut_whole depth [] = refl
 
 -- ---- ended entries: cut again with more after them they are the first, they end in a line feed,
 -- at depth zero
@@ -47,12 +46,7 @@ pub record AreEnded (depth : ℕ) (ended : List (List Token)) : Type 0 where
 end_after : (p : Token) (entry : List Token) (rest : List Token) → 0 < length entry → EndInLineFeed (entry ++ rest) → EndInLineFeed (p ∷ entry ++ rest)
 end_after p [] rest some ends = absurd (omega arith)
 end_after (blank c) (q ∷ entry) rest some ends = ends
-end_after opening (q ∷ entry) rest some ends = ends
-end_after closing (q ∷ entry) rest some ends = ends
-end_after line_feed (q ∷ entry) rest some ends = ends
-end_after (comment o) (q ∷ entry) rest some ends = ends
-end_after (bare u) (q ∷ entry) rest some ends = ends
-end_after (quoted u) (q ∷ entry) rest some ends = ends
+end_after p (q ∷ entry) rest some ends = ends
 
 front_ended : (depth next : ℕ) (p : Token) (ended : List (List Token)) (others : List Token) → ((tokens : List Token) → cut_from depth (p ∷ tokens) ≡ in_front_of p (cut_from next tokens)) → AreEnded next ended → AreEnded depth (in_front p ended others).ended
 front_ended depth next p [] others step are = record { each = tt; ends = tt; again = λ entry rest more e. absurd (let t : ⊥ = cc in t) }
@@ -113,13 +107,10 @@ depth_zero [] are = refl
 depth_zero (entry ∷ ended) are = are entry ended refl
 
 ended_depth : (depth last : ℕ) (tokens : List Token) → depth_after depth tokens ≡ Some last → (entry : List Token) (rest : List (List Token)) → (cut_from depth tokens).ended ≡ entry ∷ rest → depth_after depth (joined (cut_from depth tokens).ended) ≡ Some zero
-ended_depth zero last [] d entry rest e = absurd (let t : ⊥ = cc in t)
-ended_depth (suc depth) last [] d entry rest e = absurd (let t : ⊥ = cc in t)
 ended_depth zero last (line_feed ∷ tokens) d entry rest e = depth_zero (cut_from zero tokens).ended (ended_depth zero last tokens d)
 ended_depth (suc depth) last (line_feed ∷ tokens) d entry rest e = front_depth (suc depth) (suc depth) line_feed (cut_from (suc depth) tokens).ended (cut_from (suc depth) tokens).open_tokens (λ ps. refl) (ended_depth (suc depth) last tokens d) entry rest e
 ended_depth zero last (opening ∷ tokens) d entry rest e = front_depth zero (suc zero) opening (cut_from (suc zero) tokens).ended (cut_from (suc zero) tokens).open_tokens (λ ps. refl) (ended_depth (suc zero) last tokens d) entry rest e
 ended_depth (suc depth) last (opening ∷ tokens) d entry rest e = front_depth (suc depth) (suc (suc depth)) opening (cut_from (suc (suc depth)) tokens).ended (cut_from (suc (suc depth)) tokens).open_tokens (λ ps. refl) (ended_depth (suc (suc depth)) last tokens d) entry rest e
-ended_depth zero last (closing ∷ tokens) d entry rest e = absurd (let t : ⊥ = cc in t)
 ended_depth (suc depth) last (closing ∷ tokens) d entry rest e = front_depth (suc depth) depth closing (cut_from depth tokens).ended (cut_from depth tokens).open_tokens (λ ps. refl) (ended_depth depth last tokens d) entry rest e
 ended_depth zero last (blank c ∷ tokens) d entry rest e = front_depth zero zero (blank c) (cut_from zero tokens).ended (cut_from zero tokens).open_tokens (λ ps. refl) (ended_depth zero last tokens d) entry rest e
 ended_depth (suc depth) last (blank c ∷ tokens) d entry rest e = front_depth (suc depth) (suc depth) (blank c) (cut_from (suc depth) tokens).ended (cut_from (suc depth) tokens).open_tokens (λ ps. refl) (ended_depth (suc depth) last tokens d) entry rest e
@@ -129,6 +120,7 @@ ended_depth zero last (bare u ∷ tokens) d entry rest e = front_depth zero zero
 ended_depth (suc depth) last (bare u ∷ tokens) d entry rest e = front_depth (suc depth) (suc depth) (bare u) (cut_from (suc depth) tokens).ended (cut_from (suc depth) tokens).open_tokens (λ ps. refl) (ended_depth (suc depth) last tokens d) entry rest e
 ended_depth zero last (quoted u ∷ tokens) d entry rest e = front_depth zero zero (quoted u) (cut_from zero tokens).ended (cut_from zero tokens).open_tokens (λ ps. refl) (ended_depth zero last tokens d) entry rest e
 ended_depth (suc depth) last (quoted u ∷ tokens) d entry rest e = front_depth (suc depth) (suc depth) (quoted u) (cut_from (suc depth) tokens).ended (cut_from (suc depth) tokens).open_tokens (λ ps. refl) (ended_depth (suc depth) last tokens d) entry rest e
+ended_depth depth last tokens d entry rest e = absurd (let t : ⊥ = cc in t)
 
 pub ended_at_zero : (last : ℕ) (tokens : List Token) → depth_after zero tokens ≡ Some last → depth_after zero (joined (cut_from zero tokens).ended) ≡ Some zero
 ended_at_zero last tokens d = depth_zero (cut_from zero tokens).ended (ended_depth zero last tokens d)

@@ -3,12 +3,12 @@ use Rattle.std.proofs.Common.{◌≡◌, ℕ, zero, suc, ◌-◌, ◌<◌, List,
 use Rattle.std.specs.List.{AllByRecursion}
 use Rattle.std.proofs.lemmas.Bool.{both_ways}
 use Rattle.std.proofs.lemmas.List.{append-nil}
-use Rattle.zone_name.specs.Spelling.{Written, plain, escaped, decimal, text_of, written_text}
+use Rattle.zone_name.specs.Spelling.{Written, plain, text_of, written_text}
 use Rattle.zone_rdata.specs.declared.fault.Fault.{Fault}
 use Rattle.zone_text.specs.Tokens.{Token, blank, opening, closing, line_feed, comment, bare, quoted, token_text, text, is_blank, ends_item, IsToken, MayFollow, AllFollow, depth_after, Cuts}
 use Rattle.zone_text.specs.Breaks.{IsBroken, closes_nothing, no_escape, no_quoted_escape, no_quote, not_closed, MayEndBefore, Breaks}
 use Rattle.zone_text.specs.Machine.Cutting.{Front, takes, stops, front_of, depth_past, Cutting, cut_on, cut_by, cutting}
-use Rattle.zone_name.proofs.Units.{NoUnit, at_end, at_octet, at_backslash, first_of_unit, first_of_none}
+use Rattle.zone_name.proofs.Units.{NoUnit, at_end, at_octet, at_backslash, first_of_unit, first_of_none, text_of-some}
 use Rattle.zone_text.proofs.Fronts.{EndsComment, Stops, HasRoom, Takes, Ends, IsFront, front_is, front_takes, front_stops}
 
 -- ---- which token may follow which, by the octets
@@ -28,35 +28,22 @@ unit_stands (w ∷ units) rest is none =
 no_line_feed : (units : List Written) (rest : List ℕ) → IsToken (bare units) → EndsComment (written_text units ++ rest) → ⊥
 no_line_feed [] rest is ends = omega (arith, is.0)
 no_line_feed (plain c ∷ units) rest is ends = both_ways (ends_item c) is.1.0.0 (ap ends_item ends)
-no_line_feed (escaped c ∷ units) rest is ends = omega (arith, ends)
-no_line_feed (decimal x y z ∷ units) rest is ends = omega (arith, ends)
+no_line_feed units rest is ends = omega (arith, ends)
 
 follows_comment : (octets : List ℕ) (q : Token) (rest : List ℕ) → IsToken q → EndsComment (token_text q ++ rest) → MayFollow (comment octets) q
 follows_comment octets (blank c) rest is ends = both_ways (is_blank c) (ap is_blank ends) is
 follows_comment octets line_feed rest is ends = tt
-follows_comment octets opening rest is ends = absurd (omega (arith, ends))
-follows_comment octets closing rest is ends = absurd (omega (arith, ends))
-follows_comment octets (comment more) rest is ends = absurd (omega (arith, ends))
 follows_comment octets (bare units) rest is ends = no_line_feed units rest is ends
-follows_comment octets (quoted units) rest is ends = absurd (omega (arith, ends))
+follows_comment octets q rest is ends = absurd (omega (arith, ends))
 
 follows_bare : (units : List Written) (q : Token) (rest : List ℕ) → IsToken q → NoUnit ends_item (token_text q ++ rest) → MayFollow (bare units) q
 follows_bare units (bare more) rest is none = unit_stands more rest is none
-follows_bare units (blank c) rest is none = tt
-follows_bare units line_feed rest is none = tt
-follows_bare units opening rest is none = tt
-follows_bare units closing rest is none = tt
-follows_bare units (comment more) rest is none = tt
-follows_bare units (quoted more) rest is none = tt
+follows_bare units q rest is none = tt
 
 follows : (p q : Token) (rest : List ℕ) → IsToken q → Stops p (token_text q ++ rest) → MayFollow p q
-follows (blank c) q rest is stop = tt
-follows line_feed q rest is stop = tt
-follows opening q rest is stop = tt
-follows closing q rest is stop = tt
 follows (comment octets) q rest is stop = follows_comment octets q rest is stop
 follows (bare units) q rest is stop = follows_bare units q rest is stop
-follows (quoted units) q rest is stop = tt
+follows p q rest is stop = tt
 
 after_bare : (units : List Written) (q : Token) (rest : List ℕ) → IsToken q → MayFollow (bare units) q → NoUnit ends_item (token_text q ++ rest)
 after_bare units (blank c) rest is may = at_octet c rest refl (rw is refl)
@@ -69,21 +56,12 @@ after_bare units (quoted more) rest is may = at_octet 34 ((written_text more ++ 
 
 comment_passed : (octets : List ℕ) (q : Token) (rest : List ℕ) → MayFollow (comment octets) q → EndsComment (token_text q ++ rest)
 comment_passed octets line_feed rest may = refl
-comment_passed octets (blank c) rest may = absurd may
-comment_passed octets opening rest may = absurd may
-comment_passed octets closing rest may = absurd may
-comment_passed octets (comment more) rest may = absurd may
-comment_passed octets (bare more) rest may = absurd may
-comment_passed octets (quoted more) rest may = absurd may
+comment_passed octets q rest may = absurd may
 
 behind : (p q : Token) (rest : List ℕ) → IsToken q → MayFollow p q → Stops p (token_text q ++ rest)
-behind (blank c) q rest is may = tt
-behind line_feed q rest is may = tt
-behind opening q rest is may = tt
-behind closing q rest is may = tt
 behind (comment octets) q rest is may = comment_passed octets q rest may
 behind (bare units) q rest is may = after_bare units q rest is may
-behind (quoted units) q rest is may = tt
+behind p q rest is may = tt
 
 -- ---- what may follow the last token
 
@@ -107,46 +85,27 @@ ends_comment depth [] fault broken ends = refl
 ends_comment depth (c ∷ rest) fault broken ends = absurd (breaks_no_line_feed depth c rest fault broken ends)
 
 stops_at_end : (p : Token) (depth : ℕ) (rest : List ℕ) (fault : Option Fault) → Ends depth rest fault → MayEndBefore (p ∷ []) rest → Stops p rest
-stops_at_end (blank c) depth rest fault ends last = tt
-stops_at_end line_feed depth rest fault ends last = tt
-stops_at_end opening depth rest fault ends last = tt
-stops_at_end closing depth rest fault ends last = tt
 stops_at_end (comment octets) depth rest fault ends last = subst EndsComment (sym last) tt
 stops_at_end (bare units) depth rest None ends last = at_end ends.1
 stops_at_end (bare units) depth rest (Some fault) ends last = ends_bare depth rest fault ends
-stops_at_end (quoted units) depth rest fault ends last = tt
+stops_at_end p depth rest fault ends last = tt
 
 ends_at_stop : (p : Token) (depth : ℕ) (rest : List ℕ) (fault : Option Fault) → Ends depth rest fault → Stops p rest → MayEndBefore (p ∷ []) rest
-ends_at_stop (blank c) depth rest fault ends stop = tt
-ends_at_stop line_feed depth rest fault ends stop = tt
-ends_at_stop opening depth rest fault ends stop = tt
-ends_at_stop closing depth rest fault ends stop = tt
 ends_at_stop (comment octets) depth rest None ends stop = ends.1
 ends_at_stop (comment octets) depth rest (Some fault) ends stop = ends_comment depth rest fault ends stop
-ends_at_stop (bare units) depth rest fault ends stop = tt
-ends_at_stop (quoted units) depth rest fault ends stop = tt
+ends_at_stop p depth rest fault ends stop = tt
 
 -- ---- depths
 
 pub depth_on : (depth : ℕ) (p : Token) (tokens : List Token) → HasRoom depth p → depth_after depth (p ∷ tokens) ≡ depth_after (depth_past depth p) tokens
-depth_on depth (blank c) tokens room = refl
-depth_on depth line_feed tokens room = refl
-depth_on depth opening tokens room = refl
 depth_on zero closing tokens room = absurd (omega arith)
 depth_on (suc depth) closing tokens room = let e : depth ≡ suc depth - 1 = omega arith in ap (λ d. depth_after d tokens) e
-depth_on depth (comment octets) tokens room = refl
-depth_on depth (bare units) tokens room = refl
-depth_on depth (quoted units) tokens room = refl
+depth_on depth p tokens room = refl
 
 pub room_of : (depth at : ℕ) (p : Token) (tokens : List Token) → depth_after depth (p ∷ tokens) ≡ Some at → HasRoom depth p
-room_of depth at (blank c) tokens e = tt
-room_of depth at line_feed tokens e = tt
-room_of depth at opening tokens e = tt
 room_of zero at closing tokens e = absurd (let none_is_some : None ≡ Some at = e in cc)
 room_of (suc depth) at closing tokens e = omega arith
-room_of depth at (comment octets) tokens e = tt
-room_of depth at (bare units) tokens e = tt
-room_of depth at (quoted units) tokens e = tt
+room_of depth at p tokens e = tt
 
 -- ---- the whole text
 
@@ -184,12 +143,7 @@ follow_on p (q ∷ tokens) rest after stop whole each follow =
 -- only the last token matters
 pub last_same : (p q : Token) (tokens : List Token) (after : List ℕ) → MayEndBefore (p ∷ q ∷ tokens) after ≡ MayEndBefore (q ∷ tokens) after
 last_same (blank c) q tokens after = refl
-last_same line_feed q tokens after = refl
-last_same opening q tokens after = refl
-last_same closing q tokens after = refl
-last_same (comment octets) q tokens after = refl
-last_same (bare units) q tokens after = refl
-last_same (quoted units) q tokens after = refl
+last_same p q tokens after = refl
 
 pub last_in_front : (p q : Token) (tokens : List Token) (after : List ℕ) → MayEndBefore (q ∷ tokens) after → MayEndBefore (p ∷ q ∷ tokens) after
 last_in_front p q tokens after last = subst (λ P. P) (sym (last_same p q tokens after)) last
@@ -210,17 +164,10 @@ one_token_more depth octets rest p tokens fault front more = record {
   ends = more.ends;
 }
 
-some_octet : (p : Token) → IsToken p → 0 < length (token_text p)
-some_octet (blank c) is = omega arith
-some_octet line_feed is = omega arith
-some_octet opening is = omega arith
-some_octet closing is = omega arith
-some_octet (comment octets) is = omega arith
+pub some_octet : (p : Token) → IsToken p → 0 < length (token_text p)
 some_octet (bare []) is = absurd (omega (arith, is.0))
-some_octet (bare (plain c ∷ units)) is = omega arith
-some_octet (bare (escaped c ∷ units)) is = omega arith
-some_octet (bare (decimal x y z ∷ units)) is = omega arith
-some_octet (quoted units) is = omega arith
+some_octet (bare (w ∷ units)) is = omega (arith, text_of-some w, length-append (text_of w) (written_text units))
+some_octet p is = omega arith
 
 shorter : (octets rest : List ℕ) (p : Token) → IsToken p → octets ≡ token_text p ++ rest → length rest < length octets
 shorter octets rest p is e = omega (arith, ap length e, length-append (token_text p) rest, some_octet p is)
@@ -289,15 +236,9 @@ cutting_only octets tokens fault is = cut_only tokens (suc (length octets)) zero
 -- ---- cut or broken
 
 last_of_whole : (tokens : List Token) → MayEndBefore tokens []
-last_of_whole [] = tt
-last_of_whole (blank c ∷ []) = tt
-last_of_whole (line_feed ∷ []) = tt
-last_of_whole (opening ∷ []) = tt
-last_of_whole (closing ∷ []) = tt
 last_of_whole (comment octets ∷ []) = refl
-last_of_whole (bare units ∷ []) = tt
-last_of_whole (quoted units ∷ []) = tt
 last_of_whole (p ∷ q ∷ tokens) = last_in_front p q tokens [] (last_of_whole (q ∷ tokens))
+last_of_whole tokens = tt
 
 pub is_cut : (octets : List ℕ) (tokens : List Token) → Cuts octets tokens → IsCut zero octets tokens None
 is_cut octets tokens cut = record {

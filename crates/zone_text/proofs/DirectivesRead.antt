@@ -1,7 +1,7 @@
 -- `$ORIGIN` and `$TTL` read after known defaults.
 use Rattle.std.proofs.Common.{◌≡◌, ℕ, List, [], ◌∷◌, Some, refl, sym, ap, ◌∙◌, subst}
 use Rattle.zone_name.specs.Common.{Labels}
-use Rattle.zone_rdata.specs.Item.{RawItem, bare, quoted}
+use Rattle.zone_rdata.specs.Item.{RawItem, bare}
 use Rattle.zone_text.specs.Defaults.{AreDefaults, IsTtlOrNone}
 use Rattle.zone_text.specs.Entries.{Entry}
 use Rattle.zone_text.specs.Forms.{sets_origin, sets_ttl, form_of}
@@ -12,10 +12,8 @@ use Rattle.zone_text.specs.declared.defaults.Defaults.{Defaults}
 use Rattle.zone_text.proofs.Inheriting.{leaves, same_default, same_origin}
 
 origin_states : (origin : Labels) (before : List Entry) (items : List RawItem) (text : List ℕ) (name : Labels) → one_bare items ≡ Some text → SpellsAfter origin before text name → StatesNothing origin before (sets_origin items)
-origin_states origin before [] text name e spells = absurd (let clash : ⊥ = cc in clash)
-origin_states origin before (quoted other ∷ items) text name e spells = absurd (let clash : ⊥ = cc in clash)
 origin_states origin before (bare other ∷ []) text name e spells = let same : text ≡ other = cc in (name, subst (λ t. SpellsAfter origin before t name) same spells)
-origin_states origin before (bare other ∷ item ∷ items) text name e spells = absurd (let clash : ⊥ = cc in clash)
+origin_states origin before items text name e spells = absurd (let clash : ⊥ = cc in clash)
 
 pub origin_set : (origin : Labels) (before : List Entry) (entry : Entry) (d next : Defaults) (items : List RawItem) → AreDefaults origin before d → form_of entry ≡ sets_origin items → SetsOrigin items d next → StatesNothing origin before (form_of entry) × AreDefaults origin (entry ∷ before) next
 origin_set origin before entry d next items so_far form sets =
@@ -27,10 +25,8 @@ origin_set origin before entry d next items so_far form sets =
     )
 
 ttl_states : (origin : Labels) (before : List Entry) (items : List RawItem) (text : List ℕ) (seconds : ℕ) → one_bare items ≡ Some text → IsTtl text seconds → StatesNothing origin before (sets_ttl items)
-ttl_states origin before [] text seconds e ttl = absurd (let clash : ⊥ = cc in clash)
-ttl_states origin before (quoted other ∷ items) text seconds e ttl = absurd (let clash : ⊥ = cc in clash)
 ttl_states origin before (bare other ∷ []) text seconds e ttl = let same : text ≡ other = cc in (seconds, subst (λ t. IsTtl t seconds) same ttl)
-ttl_states origin before (bare other ∷ item ∷ items) text seconds e ttl = absurd (let clash : ⊥ = cc in clash)
+ttl_states origin before items text seconds e ttl = absurd (let clash : ⊥ = cc in clash)
 
 pub ttl_set : (origin : Labels) (before : List Entry) (entry : Entry) (d next : Defaults) (items : List RawItem) → AreDefaults origin before d → form_of entry ≡ sets_ttl items → SetsTtl items d next → StatesNothing origin before (form_of entry) × AreDefaults origin (entry ∷ before) next
 ttl_set origin before entry d next items so_far form sets =

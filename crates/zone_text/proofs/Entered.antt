@@ -1,7 +1,7 @@
 -- An entry states a record, states nothing or has a fault: one of the three at most, and each once.
 use Rattle.std.proofs.Common.{◌≡◌, ℕ, List, [], ◌∷◌, Option, Some, None, Ok, Err, ◌⊎◌, inl, inr, refl, sym, ◌∙◌, subst}
 use Rattle.zone_rdata.specs.Record.{Record}
-use Rattle.zone_rdata.specs.Spelling.{bare, quoted}
+use Rattle.zone_rdata.specs.Spelling.{bare}
 use Rattle.zone_rdata.specs.declared.fault.Fault.{Fault}
 use Rattle.zone_text.specs.Entries.{Entry}
 use Rattle.zone_text.specs.Forms.{EntryForm, no_items, sets_origin, sets_ttl, includes, unknown, owned, unowned, form_of, Parts, parts_of, parts_in, parts_after}
@@ -26,11 +26,7 @@ pub record FaultySteps (origin : List (List ℕ)) (before : List Entry) (entry :
 owner_fault_parts : (origin : List (List ℕ)) (before : List Entry) (form : EntryForm) (fault : Fault) → OwnerFault origin before form fault → (parts : Parts) × (parts_in form ≡ Some parts)
 owner_fault_parts origin before (owned owner items) fault h = (parts_after [] items, refl)
 owner_fault_parts origin before (unowned items) fault h = (parts_after [] items, refl)
-owner_fault_parts origin before no_items fault h = absurd h
-owner_fault_parts origin before (sets_origin items) fault h = absurd h
-owner_fault_parts origin before (sets_ttl items) fault h = absurd h
-owner_fault_parts origin before includes fault h = absurd h
-owner_fault_parts origin before unknown fault h = absurd h
+owner_fault_parts origin before form fault h = absurd h
 
 faulty_steps : (origin : List (List ℕ)) (before : List Entry) (entry : Entry) (fault : Fault) → EntryFault origin before entry fault → DirectiveFault origin before (form_of entry) fault ⊎ FaultySteps origin before entry fault
 faulty_steps origin before entry fault (of_directive h) = inl h
@@ -61,43 +57,27 @@ directive_fault_once lower origin before includes f g x y = x ∙ sym y
 directive_fault_once lower origin before unknown f g x y = x ∙ sym y
 directive_fault_once lower origin before (sets_origin items) f g x y = item_fault_once lower origin before (one_bare items) f g x y
 directive_fault_once lower origin before (sets_ttl items) f g x y = default_fault_once (one_bare items) f g x y
-directive_fault_once lower origin before no_items f g x y = absurd x
-directive_fault_once lower origin before (owned owner items) f g x y = absurd x
-directive_fault_once lower origin before (unowned items) f g x y = absurd x
+directive_fault_once lower origin before form f g x y = absurd x
 
 -- a directive has no parts of a record
 directive_or_record : (origin : List (List ℕ)) (before : List Entry) (form : EntryForm) (fault : Fault) (parts : Parts) → DirectiveFault origin before form fault → parts_in form ≡ Some parts → ⊥
-directive_or_record origin before includes fault parts x split = cc
-directive_or_record origin before unknown fault parts x split = cc
-directive_or_record origin before (sets_origin items) fault parts x split = cc
-directive_or_record origin before (sets_ttl items) fault parts x split = cc
 directive_or_record origin before no_items fault parts x split = x
 directive_or_record origin before (owned owner items) fault parts x split = x
 directive_or_record origin before (unowned items) fault parts x split = x
+directive_or_record origin before form fault parts x split = cc
 
 pub nothing_or_parts : (origin : List (List ℕ)) (before : List Entry) (form : EntryForm) (parts : Parts) → StatesNothing origin before form → parts_in form ≡ Some parts → ⊥
-nothing_or_parts origin before no_items parts x split = cc
-nothing_or_parts origin before (sets_origin items) parts x split = cc
-nothing_or_parts origin before (sets_ttl items) parts x split = cc
-nothing_or_parts origin before includes parts x split = cc
-nothing_or_parts origin before unknown parts x split = cc
 nothing_or_parts origin before (owned owner items) parts x split = x
 nothing_or_parts origin before (unowned items) parts x split = x
+nothing_or_parts origin before form parts x split = cc
 
 nothing_or_directive : Lower → (origin : List (List ℕ)) (before : List Entry) (form : EntryForm) (fault : Fault) → StatesNothing origin before form → DirectiveFault origin before form fault → ⊥
 nothing_or_directive lower origin before (sets_origin (bare text ∷ [])) fault x y = name_or_fault lower origin before text x.0 fault x.1 y
 nothing_or_directive lower origin before (sets_ttl (bare text ∷ [])) fault x y = y.1 x.0 x.1
-nothing_or_directive lower origin before (sets_origin []) fault x y = x
-nothing_or_directive lower origin before (sets_origin (quoted text ∷ items)) fault x y = x
-nothing_or_directive lower origin before (sets_origin (bare text ∷ item ∷ items)) fault x y = x
-nothing_or_directive lower origin before (sets_ttl []) fault x y = x
-nothing_or_directive lower origin before (sets_ttl (quoted text ∷ items)) fault x y = x
-nothing_or_directive lower origin before (sets_ttl (bare text ∷ item ∷ items)) fault x y = x
-nothing_or_directive lower origin before includes fault x y = x
-nothing_or_directive lower origin before unknown fault x y = x
 nothing_or_directive lower origin before no_items fault x y = y
 nothing_or_directive lower origin before (owned owner items) fault x y = y
 nothing_or_directive lower origin before (unowned items) fault x y = y
+nothing_or_directive lower origin before form fault x y = x
 
 -- the three outcomes
 

@@ -16,7 +16,7 @@ use Rattle.zone_rdata.specs.declared.fault.Fault.{Fault}
 use Rattle.zone_rdata.specs.declared.fault.Fault.TheVariants.{BadTtl, BadClass}
 use Rattle.zone_text.specs.Entries.{Entry}
 use Rattle.zone_text.specs.EntryFault.{IsNameFaultAfter, WordFault, WordsFault}
-use Rattle.zone_text.specs.Forms.{EntryForm, no_items, sets_origin, sets_ttl, includes, unknown, owned, unowned, form_of, Word, ttl, class, Parts, parts_of, parts_in, parts_after, class_among, word_after, begins_with_digit, is_class_word, ttl_among, unless_stated}
+use Rattle.zone_text.specs.Forms.{EntryForm, sets_origin, owned, form_of, Word, ttl, class, Parts, parts_of, parts_in, parts_after, class_among, word_after, begins_with_digit, is_class_word, ttl_among, unless_stated}
 use Rattle.zone_text.specs.Inherited.{IsOrigin, SpellsAfter, IsLastOwner, IsOwner, HasClass, IsTtl, or_else, latest, origin_text, owner_text, class_word}
 use Rattle.zone_text.specs.Machine.Lower.{Lower, Choices}
 use Rattle.zone_text.specs.Outcome.{AllState, AreOctetItems}
@@ -30,25 +30,12 @@ abbrev OriginFact : List (List ℕ) → List Entry → Option (List ℕ) → Typ
 OriginFact origin before o = (name : List (List ℕ)) × (MatchOption o (IsOrigin origin before name) (λ text. SpellsAfter origin before text name) × IsName name)
 
 origin_nothing : (origin : List (List ℕ)) (before : List Entry) (form : EntryForm) → StatesNothing origin before form → ((name : List (List ℕ)) × (IsOrigin origin before name × IsName name)) → OriginFact origin before (origin_text form)
-origin_nothing origin before no_items h above = above
-origin_nothing origin before (sets_origin []) h above = above
-origin_nothing origin before (sets_origin (quoted text ∷ items)) h above = above
 origin_nothing origin before (sets_origin (bare text ∷ [])) h above = (h.0, (h.1, h.1.1.1.name))
-origin_nothing origin before (sets_origin (bare text ∷ item ∷ items)) h above = above
-origin_nothing origin before (sets_ttl items) h above = above
-origin_nothing origin before includes h above = above
-origin_nothing origin before unknown h above = above
-origin_nothing origin before (owned owner items) h above = above
-origin_nothing origin before (unowned items) h above = above
+origin_nothing origin before form h above = above
 
 origin_record : (origin : List (List ℕ)) (before : List Entry) (form : EntryForm) (parts : Parts) → parts_in form ≡ Some parts → ((name : List (List ℕ)) × (IsOrigin origin before name × IsName name)) → OriginFact origin before (origin_text form)
-origin_record origin before no_items parts e above = above
 origin_record origin before (sets_origin items) parts e above = absurd cc
-origin_record origin before (sets_ttl items) parts e above = above
-origin_record origin before includes parts e above = above
-origin_record origin before unknown parts e above = above
-origin_record origin before (owned owner items) parts e above = above
-origin_record origin before (unowned items) parts e above = above
+origin_record origin before form parts e above = above
 
 origin_by : (origin : List (List ℕ)) (before : List Entry) (entry : Entry) → StatesNothing origin before (form_of entry) ⊎ ((r : Record) × StatesRecord origin before entry r) → ((name : List (List ℕ)) × (IsOrigin origin before name × IsName name)) → (name : List (List ℕ)) × (IsOrigin origin (entry ∷ before) name × IsName name)
 origin_by origin before entry (inl n) above = origin_nothing origin before (form_of entry) n above
@@ -64,23 +51,13 @@ abbrev pub OwnerChoice : List (List ℕ) → List Entry → Option (List ℕ) �
 OwnerChoice origin before o = ((name : List (List ℕ)) × (MatchOption o (IsLastOwner origin before name) (λ text. SpellsAfter origin before text name) × IsName name)) ⊎ ((name : List (List ℕ)) → MatchOption o (IsLastOwner origin before name) (λ text. SpellsAfter origin before text name) → ⊥)
 
 owner_nothing : (origin : List (List ℕ)) (before : List Entry) (form : EntryForm) → StatesNothing origin before form → OwnerChoice origin before None → OwnerChoice origin before (owner_text form)
-owner_nothing origin before no_items h last = last
-owner_nothing origin before (sets_origin items) h last = last
-owner_nothing origin before (sets_ttl items) h last = last
-owner_nothing origin before includes h last = last
-owner_nothing origin before unknown h last = last
 owner_nothing origin before (owned owner items) h last = absurd h
-owner_nothing origin before (unowned items) h last = last
+owner_nothing origin before form h last = last
 
 owner_record : (origin : List (List ℕ)) (before : List Entry) (form : EntryForm) (name : List (List ℕ)) → IsOwner origin before form name → OwnerChoice origin before None → OwnerChoice origin before (owner_text form)
-owner_record origin before no_items name h last = last
-owner_record origin before (sets_origin items) name h last = last
-owner_record origin before (sets_ttl items) name h last = last
-owner_record origin before includes name h last = last
-owner_record origin before unknown name h last = last
 owner_record origin before (owned (bare text) items) name h last = inl (name, (h, h.1.1.name))
 owner_record origin before (owned (quoted text) items) name h last = absurd h
-owner_record origin before (unowned items) name h last = last
+owner_record origin before form name h last = last
 
 owner_by : (origin : List (List ℕ)) (before : List Entry) (entry : Entry) → StatesNothing origin before (form_of entry) ⊎ ((r : Record) × StatesRecord origin before entry r) → OwnerChoice origin before None → OwnerChoice origin before (owner_text (form_of entry))
 owner_by origin before entry (inl n) last = owner_nothing origin before (form_of entry) n last
@@ -140,10 +117,8 @@ IsKnown (class text) = is_class_word text ≡ true
 
 word_known : (a b : Bool) (s t : Option (List ℕ)) (text : List ℕ) (word : Word) → is_class_word text ≡ b → (if a then unless_stated s (ttl text) else if b then unless_stated t (class text) else None) ≡ Some word → IsKnown word
 word_known true b None t text word e h = let same : ttl text ≡ word = cc in subst IsKnown same tt
-word_known true b (Some other) t text word e h = absurd (let clash : ⊥ = cc in clash)
 word_known false true s None text word e h = let same : class text ≡ word = cc in subst IsKnown same e
-word_known false true s (Some other) text word e h = absurd (let clash : ⊥ = cc in clash)
-word_known false false s t text word e h = absurd (let clash : ⊥ = cc in clash)
+word_known a b s t text word e h = absurd (let clash : ⊥ = cc in clash)
 
 after_known : (words : List Word) (item : RawItem) (word : Word) → word_after words item ≡ Some word → IsKnown word
 after_known words (quoted text) word e = absurd (let clash : ⊥ = cc in clash)

@@ -106,9 +106,8 @@ kind_by text items low (inl found) = inl (text, (items, (found.0, (refl, (low, f
 kind_by text items low (inr bad) = inr bad
 
 kind_or_fault : Choices → (rest : List RawItem) → AreOctetItems rest → KindChoice rest
-kind_or_fault choices [] low = inr (UnknownType, refl)
-kind_or_fault choices (quoted text ∷ items) low = inr (UnknownType, refl)
 kind_or_fault choices (bare text ∷ items) low = kind_by text items low.1 (choices.kind text)
+kind_or_fault choices rest low = inr (UnknownType, refl)
 
 from_kind : Lower → Choices → (origin : List (List ℕ)) (before : List Entry) (entry : Entry) (parts : Parts) (owner : List (List ℕ)) → IsName origin → AllState origin before → parts_of entry ≡ Some parts → IsOwner origin before (form_of entry) owner → IsName owner → AllByRecursion HasValue parts.words → KindChoice parts.rest → Outcome origin before entry
 from_kind lower choices origin before entry parts owner is states split owns name words (inr bad) = inr (inr (bad.0, of_kind owner parts owns split words bad.1))
@@ -140,12 +139,8 @@ last_outcome : (origin : List (List ℕ)) (before : List Entry) (items : List Ra
 last_outcome origin before items (inl found) = inl found
 last_outcome origin before items (inr no_owner) = inr (NoOwner, (refl, no_owner))
 
-name_outcome : (origin : List (List ℕ)) (before : List Entry) (text : List ℕ) (items : List RawItem) → NameChoice origin before text → OwnerOutcome origin before (owned (bare text) items)
-name_outcome origin before text items (inl found) = inl found
-name_outcome origin before text items (inr bad) = inr bad
-
 owned_outcome : Choices → (origin : List (List ℕ)) (before : List Entry) (owner : RawItem) (items : List RawItem) → IsName origin → AllState origin before → AreOctetItems (owner ∷ items) → OwnerOutcome origin before (owned owner items)
-owned_outcome choices origin before (bare text) items is states low = name_outcome origin before text items (name_or_fault choices origin before text is states low.0)
+owned_outcome choices origin before (bare text) items is states low = name_or_fault choices origin before text is states low.0
 owned_outcome choices origin before (quoted text) items is states low = inr (NoOwner, refl)
 
 -- ---- directives
@@ -158,20 +153,16 @@ origin_text_by origin before text (inl found) = inl (found.0, found.1.0)
 origin_text_by origin before text (inr bad) = inr bad
 
 origin_or_fault : Choices → (origin : List (List ℕ)) (before : List Entry) (items : List RawItem) → IsName origin → AllState origin before → AreOctetItems items → DirectiveChoice origin before (sets_origin items)
-origin_or_fault choices origin before [] is states low = inr (BadDirective, refl)
-origin_or_fault choices origin before (quoted text ∷ items) is states low = inr (BadDirective, refl)
 origin_or_fault choices origin before (bare text ∷ []) is states low = origin_text_by origin before text (name_or_fault choices origin before text is states low.0)
-origin_or_fault choices origin before (bare text ∷ item ∷ items) is states low = inr (BadDirective, refl)
+origin_or_fault choices origin before items is states low = inr (BadDirective, refl)
 
 default_by : (origin : List (List ℕ)) (before : List Entry) (text : List ℕ) → ((seconds : ℕ) × IsTtl text seconds) ⊎ ((seconds : ℕ) → IsTtl text seconds → ⊥) → DirectiveChoice origin before (sets_ttl (bare text ∷ []))
 default_by origin before text (inl found) = inl found
 default_by origin before text (inr no_ttl) = inr (BadTtl, (refl, no_ttl))
 
 default_or_fault : Lower → Choices → (origin : List (List ℕ)) (before : List Entry) (items : List RawItem) → DirectiveChoice origin before (sets_ttl items)
-default_or_fault lower choices origin before [] = inr (BadDirective, refl)
-default_or_fault lower choices origin before (quoted text ∷ items) = inr (BadDirective, refl)
 default_or_fault lower choices origin before (bare text ∷ []) = default_by origin before text (ttl_word_by lower text (choices.time text))
-default_or_fault lower choices origin before (bare text ∷ item ∷ items) = inr (BadDirective, refl)
+default_or_fault lower choices origin before items = inr (BadDirective, refl)
 
 directive_outcome : (origin : List (List ℕ)) (before : List Entry) (entry : Entry) → DirectiveChoice origin before (form_of entry) → Outcome origin before entry
 directive_outcome origin before entry (inl n) = inl n
@@ -205,10 +196,9 @@ low_directive (quoted text) items low = tt
 low_directive (bare text) items low = low_by _ _ _ items low
   where
     low_by : (a b c : Bool) (items : List RawItem) → AreOctetItems items → LowForm (if a then sets_origin items else if b then sets_ttl items else if c then includes else unknown)
-    low_by true b c items low = low
-    low_by false true c items low = low
     low_by false false true items low = tt
     low_by false false false items low = tt
+    low_by a b c items low = low
 
 low_first : (a b : Bool) (item : RawItem) (items : List RawItem) → AreOctetItems (item ∷ items) → LowForm (if a then directive item items else if b then unowned (item ∷ items) else owned item items)
 low_first true b item items low = low_directive item items low.1

@@ -3,6 +3,7 @@ use Rattle.std.proofs.Common.{ℕ, zero, ◌+◌, ◌<◌, ◌==◌, List, [], �
 use Rattle.std.specs.List.{flat_map, AllByRecursion, count_by}
 use Rattle.std.proofs.lemmas.Grind.{flat_map-append}
 use Rattle.zone_name.specs.Name.{IsName}
+use Rattle.zone_name.proofs.Pushing.{AllByRecursion-front, AllByRecursion-back}
 use Rattle.zone_rdata.specs.Spelling.{RawItem}
 use Rattle.zone_rdata.specs.declared.fault.Fault.{Fault}
 use Rattle.zone_rdata.specs.declared.fault.Place.TheVariants.{Line}
@@ -16,7 +17,7 @@ use Rattle.zone_text.specs.File.{states_none, states_one}
 use Rattle.zone_text.specs.Lasting.{StaysBroken, BreaksAtEnd}
 use Rattle.zone_text.specs.Machine.Lower.{Lower, Choices}
 use Rattle.zone_text.specs.Outcome.{AllState, AreOctetItems}
-use Rattle.zone_text.specs.Tokens.{Token, blank, opening, closing, line_feed, comment, bare, quoted, token_text, text, Cuts}
+use Rattle.zone_text.specs.Tokens.{Token, bare, quoted, token_text, text, Cuts}
 use Rattle.zone_text.proofs.Cuttings.{cut_not_broken, cut_or_broken}
 use Rattle.zone_text.proofs.Ending.{entries_text}
 use Rattle.zone_text.proofs.EntryOutcome.{Outcome, entry_outcome}
@@ -28,37 +29,25 @@ use Rattle.zone_text.proofs.ForGood.{ends_not_for_good}
 abbrev AreLow : List ℕ → Type 0
 AreLow octets = AllByRecursion (λ c. c < 256) octets
 
-low_front : (front rest : List ℕ) → AreLow (front ++ rest) → AreLow front
-low_front [] rest low = tt
-low_front (c ∷ front) rest low = (low.0, low_front front rest low.1)
-
-low_after : (front rest : List ℕ) → AreLow (front ++ rest) → AreLow rest
-low_after [] rest low = low
-low_after (c ∷ front) rest low = low_after front rest low.1
-
 low_item : (p : Token) (items : List RawItem) → AreLow (token_text p) → AreOctetItems items → AreOctetItems (item_of p ++ items)
-low_item (blank c) items low others = others
-low_item opening items low others = others
-low_item closing items low others = others
-low_item line_feed items low others = others
-low_item (comment octets) items low others = others
 low_item (bare units) items low others = (low, others)
-low_item (quoted units) items low others = (low_front (written_text units) (34 ∷ []) low.1, others)
+low_item (quoted units) items low others = (AllByRecursion-front _ (written_text units) (34 ∷ []) low.1, others)
+low_item p items low others = others
 
 low_items : (tokens : List Token) → AreLow (text tokens) → AreOctetItems (flat_map item_of tokens)
 low_items [] low = tt
-low_items (p ∷ tokens) low = low_item p (flat_map item_of tokens) (low_front (token_text p) (text tokens) low) (low_items tokens (low_after (token_text p) (text tokens) low))
+low_items (p ∷ tokens) low = low_item p (flat_map item_of tokens) (AllByRecursion-front _ (token_text p) (text tokens) low) (low_items tokens (AllByRecursion-back _ (token_text p) (text tokens) low))
 
 abbrev AreLowEntries : List Entry → Type 0
 AreLowEntries entries = AllByRecursion (λ (entry : Entry). AreOctetItems entry.items) entries
 
 low_entries : (line : ℕ) (entries : List (List Token)) → AreLow (flat_map text entries) → AreLowEntries (numbered line entries)
 low_entries line [] low = tt
-low_entries line (tokens ∷ entries) low = (low_items tokens (low_front (text tokens) (flat_map text entries) low), low_entries (line + count_by (λ c. c == 10) (text tokens)) entries (low_after (text tokens) (flat_map text entries) low))
+low_entries line (tokens ∷ entries) low = (low_items tokens (AllByRecursion-front _ (text tokens) (flat_map text entries) low), low_entries (line + count_by (λ c. c == 10) (text tokens)) entries (AllByRecursion-back _ (text tokens) (flat_map text entries) low))
 
 low_ended : (ended : List (List Token)) (open_tokens : List Token) → AreLow (flat_map text (and_last ended open_tokens)) → AreLow (flat_map text ended)
 low_ended ended [] low = low
-low_ended ended (p ∷ tokens) low = low_front (flat_map text ended) (flat_map text ((p ∷ tokens) ∷ [])) (subst AreLow (flat_map-append text ended ((p ∷ tokens) ∷ [])) low)
+low_ended ended (p ∷ tokens) low = AllByRecursion-front _ (flat_map text ended) (flat_map text ((p ∷ tokens) ∷ [])) (subst AreLow (flat_map-append text ended ((p ∷ tokens) ∷ [])) low)
 
 low_of : (tokens : List Token) → AreLow (text tokens) → AreLowEntries (entries_of tokens)
 low_of tokens low =
@@ -96,7 +85,7 @@ file_by lower choices origin octets is low (inl cut) =
     (found.0, (found.1.0, whole cut.0 cut.1 found.1.1))
 file_by lower choices origin octets is low (inr bad) =
     let behind : Ending = Some (bad.1, Line (open_line bad.0)) in
-    let found = readings lower choices origin is behind (ended_entries bad.0) [] tt (low_ended_of bad.0 (low_front (text bad.0) bad.2.rest (subst AreLow bad.2.whole low))) in
+    let found = readings lower choices origin is behind (ended_entries bad.0) [] tt (low_ended_of bad.0 (AllByRecursion-front _ (text bad.0) bad.2.rest (subst AreLow bad.2.whole low))) in
     (found.0, (found.1.0, broken bad.0 bad.1 bad.2 found.1.1))
 
 pub file_reads : Lower → Choices → (origin : List (List ℕ)) (octets : List ℕ) → IsName origin → AllByRecursion (λ c. c < 256) octets → (placed : List Placed) × ((ending : Ending) × FileReads origin octets placed ending)
@@ -117,7 +106,7 @@ decided_by lower choices origin octets is low (inl cut) =
     let found = readings lower choices origin is None (ended_entries cut.0) [] tt (low_ended_of cut.0 (subst AreLow cut.1.whole low)) in
     (found.0, (found.1.0, undecided cut.0 (inl cut.1) (λ fault good. cut_not_broken octets cut.0 cut.0 fault cut.1 good.breaks) found.1.1))
 decided_by lower choices origin octets is low (inr bad) =
-    broken_by lower choices origin octets is bad.0 bad.1 bad.2 (low_ended_of bad.0 (low_front (text bad.0) bad.2.rest (subst AreLow bad.2.whole low))) (break_stays_or_ends octets bad.0 bad.1 bad.2)
+    broken_by lower choices origin octets is bad.0 bad.1 bad.2 (low_ended_of bad.0 (AllByRecursion-front _ (text bad.0) bad.2.rest (subst AreLow bad.2.whole low))) (break_stays_or_ends octets bad.0 bad.1 bad.2)
 
 pub file_is_decided : Lower → Choices → (origin : List (List ℕ)) (octets : List ℕ) → IsName origin → AllByRecursion (λ c. c < 256) octets → (placed : List Placed) × ((ending : Ending) × Decided origin octets placed ending)
 file_is_decided lower choices origin octets is low = decided_by lower choices origin octets is low (cut_or_broken octets)

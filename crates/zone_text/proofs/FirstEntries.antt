@@ -5,7 +5,7 @@ use Rattle.std.proofs.Math.Seq.{take-append_seam}
 use Rattle.std.proofs.lemmas.Bool.{or_parts, eqb-false, eqb-true, both_ways, ne_eqb}
 use Rattle.std.proofs.lemmas.List.{append-nil, length-map, take-append-drop}
 use Rattle.std.proofs.lemmas.List.Elements.{recursion_from_All}
-use Rattle.zone_name.specs.Spelling.{Written, plain, escaped, decimal, written_text, IsUnit}
+use Rattle.zone_name.specs.Spelling.{plain, written_text, IsUnit}
 use Rattle.zone_name.proofs.Units.{NoUnit, at_octet}
 use Rattle.zone_rdata.specs.Item.{RawItem}
 use Rattle.zone_rdata.specs.Item as raw
@@ -21,7 +21,7 @@ use Rattle.zone_text.specs.Machine.Scan.{IsOneEntry}
 use Rattle.zone_text.specs.declared.intake.Intake.{Intake}
 use Rattle.zone_text.proofs.BlankLines.{comment_front}
 use Rattle.zone_text.proofs.PartTaken.{FollowsOn}
-use Rattle.zone_text.proofs.Cuttings.{cuts, is_cut, one_cut, one_token_more}
+use Rattle.zone_text.proofs.Cuttings.{cuts, is_cut, one_cut, one_token_more, some_octet}
 use Rattle.zone_text.proofs.FedPieces.{HasFed, fed_more}
 use Rattle.zone_text.proofs.Followed.{follow_one}
 use Rattle.zone_text.proofs.Fronts.{Takes, Stops}
@@ -99,25 +99,10 @@ quoted_in_front octets after inside rest c whole is found = record {
   stated = ap (λ t. raw.quoted t ∷ []) (plain_text inside);
 }
 
-text_some : (units : List Written) → 0 < length units → 0 < length (written_text units)
-text_some [] some = absurd (omega (arith, some))
-text_some (plain c ∷ units) some = omega arith
-text_some (escaped c ∷ units) some = omega arith
-text_some (decimal x y z ∷ units) some = omega arith
-
-token_long : (p : Token) → IsToken p → 0 < length (token_text p)
-token_long (blank c) is = omega arith
-token_long opening is = omega arith
-token_long closing is = omega arith
-token_long line_feed is = omega arith
-token_long (comment octets) is = omega arith
-token_long (bare units) is = text_some units is.0
-token_long (quoted units) is = omega arith
-
 pub in_front_shorter : (octets rest : List ℕ) (items : List RawItem) → IsInFront octets items rest → length rest < length octets
 in_front_shorter octets rest items found =
     let len : length octets ≡ length (token_text found.token) + length rest = ap length found.whole ∙ length-append (token_text found.token) rest in
-    omega (arith, len, token_long found.token found.is)
+    omega (arith, len, some_octet found.token found.is)
 
 -- ---- tokens up to the line feed
 
@@ -153,21 +138,16 @@ bare_stops (c ∷ tail) some at = at_octet c tail refl at
 
 takes_token : (p : Token) (rest tail after : List ℕ) → IsToken p → IsInside p → EndsBefore p rest → rest ≡ tail ++ after → 0 < length tail → Takes zero (token_text p ++ tail) p tail
 takes_token (blank c) rest tail after is inside at e some = record { whole = refl; token = is; stop = tt; room = tt }
-takes_token opening rest tail after is inside at e some = absurd inside
-takes_token closing rest tail after is inside at e some = absurd inside
-takes_token line_feed rest tail after is inside at e some = absurd inside
 takes_token (comment octets) rest tail after is inside at e some = record { whole = refl; token = is; stop = comment_stops tail (ends_within _ rest tail after e some at); room = tt }
 takes_token (bare units) rest tail after is inside at e some = record { whole = refl; token = is; stop = bare_stops tail some (ends_within _ rest tail after e some at); room = tt }
 takes_token (quoted units) rest tail after is inside at e some = record { whole = refl; token = is; stop = tt; room = tt }
+takes_token p rest tail after is inside at e some = absurd inside
 
 more_cut : (p : Token) (tail : List ℕ) (more : List Token) → IsInside p → Takes zero (token_text p ++ tail) p tail → IsOneEntry tail more → IsOneEntry (token_text p ++ tail) (p ∷ more)
-more_cut (blank c) tail more inside takes one = record { cut = cuts _ _ (one_token_more zero _ tail (blank c) more None takes (is_cut tail more one.cut)); ended = ap (in_front_of (blank c)) one.ended }
 more_cut opening tail more inside takes one = absurd inside
 more_cut closing tail more inside takes one = absurd inside
 more_cut line_feed tail more inside takes one = absurd inside
-more_cut (comment octets) tail more inside takes one = record { cut = cuts _ _ (one_token_more zero _ tail (comment octets) more None takes (is_cut tail more one.cut)); ended = ap (in_front_of (comment octets)) one.ended }
-more_cut (bare units) tail more inside takes one = record { cut = cuts _ _ (one_token_more zero _ tail (bare units) more None takes (is_cut tail more one.cut)); ended = ap (in_front_of (bare units)) one.ended }
-more_cut (quoted units) tail more inside takes one = record { cut = cuts _ _ (one_token_more zero _ tail (quoted units) more None takes (is_cut tail more one.cut)); ended = ap (in_front_of (quoted units)) one.ended }
+more_cut p tail more inside takes one = record { cut = cuts _ _ (one_token_more zero _ tail p more None takes (is_cut tail more one.cut)); ended = ap (in_front_of p) one.ended }
 
 more_by : (octets rest left : List ℕ) (kept new items : List RawItem) (so_far : IsCutTo octets rest kept) → IsInFront rest items left → AreKept (so_far.so_far ++ items) new → IsCutTo octets left new
 more_by octets rest left kept new items so_far found are_kept = record {

@@ -113,7 +113,7 @@ abbrev pub IsFront : ℕ → List ℕ → Front → Type 0
 IsFront depth octets (takes p rest) = Takes depth octets p rest
 IsFront depth octets (stops fault) = Ends depth octets fault
 
-first_octet_is : (c d : ℕ) (rest : List ℕ) → c ≡ d → c ∷ rest ≡ d ∷ rest
+pub first_octet_is : (c d : ℕ) (rest : List ℕ) → c ≡ d → c ∷ rest ≡ d ∷ rest
 first_octet_is c d rest e = ap (λ t. t ∷ rest) e
 
 quoted_is : (depth c : ℕ) (octets : List ℕ) (units : List Written) (rest : List ℕ) → c ≡ 34 → octets ≡ written_text units ++ rest → AllByRecursion (IsUnit is_quote) units → NoUnit is_quote rest → IsFront depth (c ∷ octets) (quoted_front units rest)

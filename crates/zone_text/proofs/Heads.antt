@@ -3,7 +3,7 @@ use Rattle.std.proofs.Common.{◌≡◌, ℕ, List, [], ◌∷◌, drop, map, Op
 use Rattle.std.specs.Prelude.{IsSomeAnd, unwrap_or, option_and_then}
 use Rattle.std.proofs.lemmas.List.{drop-map}
 use Rattle.zone_name.specs.Common.{Labels}
-use Rattle.zone_rdata.specs.Item.{RawItem, bare, quoted, raw}
+use Rattle.zone_rdata.specs.Item.{RawItem, bare, raw}
 use Rattle.zone_rdata.specs.Words.{IsClassWord, IsKind, IsKindWord, IsWordFault}
 use Rattle.zone_rdata.specs.declared.fault.Fault.{Fault}
 use Rattle.zone_rdata.specs.declared.fault.Fault.TheVariants.{UnknownType}
@@ -27,9 +27,8 @@ kind_refused origin before entry d name items behind values fault is are bad =
     of_kind name (parts_after [] items) is.owner is.parts are.words.each (subst (λ rest. KindFault rest fault) (sym are.rest) bad)
 
 no_bare : (behind : List RawItem) → ((text : List ℕ) (rest : List RawItem) → behind ≡ bare text ∷ rest → ⊥) → KindFault behind UnknownType
-no_bare [] none = refl
-no_bare (quoted text ∷ rest) none = refl
 no_bare (bare text ∷ rest) none = absurd (none text rest refl)
+no_bare behind none = refl
 
 -- nothing bare stands at the type's place
 pub kind_missing : (origin : Labels) (before : List Entry) (entry : Entry) (d : Defaults) (name : Labels) (items behind : List RawItem) (values : Words) → IsRecordEntry origin before entry d name items → ArePartsOf (parts_after [] items) values behind → ((text : List ℕ) (rest : List RawItem) → behind ≡ bare text ∷ rest → ⊥) → EntryFault origin before entry UnknownType

@@ -8,7 +8,7 @@ use Rattle.zone_rdata.specs.Minimum.{minimum}
 use Rattle.zone_rdata.specs.Number.{IsTime}
 use Rattle.zone_text.specs.Defaults.{AreDefaults, IsOneOrNone, IsTtlOrNone}
 use Rattle.zone_text.specs.Entries.{Entry}
-use Rattle.zone_text.specs.Forms.{EntryForm, no_items, sets_origin, sets_ttl, includes, unknown, owned, unowned, form_of, Parts, parts_in, parts_of, class_among, ttl_among}
+use Rattle.zone_text.specs.Forms.{EntryForm, sets_origin, sets_ttl, form_of, Parts, parts_in, parts_of, class_among, ttl_among}
 use Rattle.zone_text.specs.Inherited.{IsOrigin, IsLastOwner, IsTtl, SpellsAfter, class_word, default_ttl_text, latest, or_else, origin_text, owner_text, stated_ttl, ttl_text}
 use Rattle.zone_text.specs.Machine.EntryReading.{with_owner}
 use Rattle.zone_text.specs.Machine.Lower.{Lower}
@@ -81,13 +81,9 @@ same_default before entry form seconds is none so_far =
 
 -- a record sets neither the origin nor `$TTL`
 no_directive : (form : EntryForm) (parts : Parts) → parts_in form ≡ Some parts → (origin_text form ≡ None) × (default_ttl_text form ≡ None)
-no_directive no_items parts e = (refl, refl)
 no_directive (sets_origin items) parts e = absurd (let clash : ⊥ = cc in clash)
 no_directive (sets_ttl items) parts e = absurd (let clash : ⊥ = cc in clash)
-no_directive includes parts e = (refl, refl)
-no_directive unknown parts e = (refl, refl)
-no_directive (owned owner items) parts e = (refl, refl)
-no_directive (unowned items) parts e = (refl, refl)
+no_directive form parts e = (refl, refl)
 
 minimum_by : Lower → (origin : Labels) (before : List Entry) (entry : Entry) (head : Head) (octets : List ℕ) (own carried : Option ℕ) → HasHead origin before entry head → StatesData origin before head octets → minimum (record { class = head.class; kind = head.kind; octets = octets }) ≡ own → IsOneOrNone (IsLastMinimum origin before) carried → IsOneOrNone (IsLastMinimum origin (entry ∷ before)) (option_or own carried)
 minimum_by lower origin before entry head octets (Some n) carried has rdata e so_far = inl (record { head = head; octets = octets; has = has; rdata = rdata; field = e })

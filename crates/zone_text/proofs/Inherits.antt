@@ -3,10 +3,10 @@ use Rattle.std.proofs.Common.{◌≡◌, ℕ, List, [], ◌∷◌, Some, inl, in
 use Rattle.zone_name.specs.Spelling.{Spells}
 use Rattle.zone_rdata.specs.Minimum.{minimum}
 use Rattle.zone_rdata.specs.Number.{IsTime}
-use Rattle.zone_rdata.specs.Spelling.{bare, quoted, States}
+use Rattle.zone_rdata.specs.Spelling.{bare, States}
 use Rattle.zone_rdata.specs.Words.{IsClassWord}
 use Rattle.zone_text.specs.Entries.{Entry}
-use Rattle.zone_text.specs.Forms.{EntryForm, no_items, sets_origin, sets_ttl, includes, unknown, owned, unowned, form_of}
+use Rattle.zone_text.specs.Forms.{EntryForm, owned, unowned, form_of}
 use Rattle.zone_text.specs.Inherited.{IsOrigin, SpellsAfter, IsLastOwner, IsOwner, HasClass, stated_ttl, latest, origin_text, owner_text, class_word}
 use Rattle.zone_text.specs.Records.{Head, HasHead, StatesData, StatesMinimum, IsLastMinimum, HasTtl}
 use Rattle.zone_text.proofs.Once.{match_once}
@@ -32,13 +32,8 @@ last_owner_once lower origin (entry ∷ before) a b x y =
 
 pub owner_once : Lower → (origin : List (List ℕ)) (before : List Entry) (form : EntryForm) → Once (List (List ℕ)) (IsOwner origin before form)
 owner_once lower origin before (owned (bare text) items) a b x y = spells_after_once lower origin before text a b x y
-owner_once lower origin before (owned (quoted text) items) a b x y = absurd x
 owner_once lower origin before (unowned items) a b x y = last_owner_once lower origin before a b x y
-owner_once lower origin before no_items a b x y = absurd x
-owner_once lower origin before (sets_origin items) a b x y = absurd x
-owner_once lower origin before (sets_ttl items) a b x y = absurd x
-owner_once lower origin before includes a b x y = absurd x
-owner_once lower origin before unknown a b x y = absurd x
+owner_once lower origin before form a b x y = absurd x
 
 pub class_once : Lower → (before : List Entry) (entry : Entry) → Once ℕ (HasClass before entry)
 class_once lower before entry a b x y =

@@ -36,8 +36,7 @@ heads c d xs ys e = cc
 bare_first : (units : List Written) (c : ℕ) (after rest : List ℕ) → IsToken (bare units) → c ∷ after ≡ written_text units ++ rest → ends_item c ≡ false
 bare_first [] c after rest is e = absurd (omega (arith, is.0))
 bare_first (plain d ∷ units) c after rest is e = ap ends_item (heads c d _ _ e) ∙ is.1.0.0
-bare_first (escaped d ∷ units) c after rest is e = ap ends_item (heads c 92 _ _ e)
-bare_first (decimal x y z ∷ units) c after rest is e = ap ends_item (heads c 92 _ _ e)
+bare_first units c after rest is e = ap ends_item (heads c 92 _ _ e)
 
 token_first : (p : Token) (c : ℕ) (after rest : List ℕ) → IsToken p → c ∷ after ≡ token_text p ++ rest → IsFirstOf p c
 token_first (blank d) c after rest is e = ap is_blank (heads c d _ _ e) ∙ is
@@ -56,13 +55,8 @@ bare_text_some (decimal x y z ∷ units) rest is e = cc
 
 -- a token has octets
 token_some : (p : Token) (rest : List ℕ) → IsToken p → [] ≡ token_text p ++ rest → ⊥
-token_some (blank d) rest is e = cc
-token_some opening rest is e = cc
-token_some closing rest is e = cc
-token_some line_feed rest is e = cc
-token_some (comment octets) rest is e = cc
 token_some (bare units) rest is e = bare_text_some units rest is e
-token_some (quoted units) rest is e = cc
+token_some p rest is e = cc
 
 -- ---- the first token by its first octet
 
@@ -82,13 +76,10 @@ pub plain_front : (octets after : List ℕ) (c : ℕ) → octets ≡ c ∷ after
 plain_front octets after c whole no_quote no_comment ends p rest is at e = by p is (sym whole ∙ e) (token_first p c after rest is (sym whole ∙ e))
   where
     by : (p : Token) → IsToken p → c ∷ after ≡ token_text p ++ rest → IsFirstOf p c → Front [] after p rest
-    by (blank d) is e first = (refl, tails _ _ _ _ e)
-    by opening is e first = (refl, tails _ _ _ _ e)
-    by closing is e first = (refl, tails _ _ _ _ e)
-    by line_feed is e first = (refl, tails _ _ _ _ e)
     by (comment octets) is e first = absurd (no_comment first)
     by (bare units) is e first = absurd (both_ways (ends_item c) first ends)
     by (quoted units) is e first = absurd (no_quote first)
+    by p is e first = (refl, tails _ _ _ _ e)
 
 no_blank : (c d : ℕ) → c ≡ d → is_blank d ≡ false → is_blank c ≡ true → ⊥
 no_blank c d e not_one is = both_ways (is_blank c) (ap is_blank e ∙ not_one) is
@@ -98,25 +89,18 @@ comment_front octets after left c n whole is_comment len behind p rest is at e =
   where
     by : (p : Token) → IsToken p → EndsBefore p rest → c ∷ after ≡ token_text p ++ rest → IsFirstOf p c → Front [] left p rest
     by (blank d) is at e first = absurd (no_blank c 59 is_comment refl first)
-    by opening is at e first = absurd (omega arith)
-    by closing is at e first = absurd (omega arith)
-    by line_feed is at e first = absurd (omega arith)
     by (comment octets) is at e first =
         let text : after ≡ octets ++ rest = tails _ _ _ _ e in
         let whole_len : n ≡ length octets = len ∙ (ap (λ t. length (before_line_feed t)) text ∙ comment_len_of octets rest is at) in
         (refl, behind ∙ (rw (whole_len, text) (drop-append_seam octets rest)))
     by (bare units) is at e first = absurd (both_ways (ends_item c) first (ap ends_item is_comment))
-    by (quoted units) is at e first = absurd (omega arith)
+    by p is at e first = absurd (omega arith)
 
 pub quoted_front : (octets after inside close left : List ℕ) (c n m : ℕ) → octets ≡ c ∷ after → c ≡ 34 → n ≡ item_len is_quote false after → inside ≡ take n after → close ≡ drop n after → m ≡ min (length close) 1 → left ≡ drop m close → FrontIs octets (raw.quoted inside ∷ []) left
 quoted_front octets after inside close left c n m whole quote len front back one behind p rest is at e = by p is (sym whole ∙ e) (token_first p c after rest is (sym whole ∙ e))
   where
     by : (p : Token) → IsToken p → c ∷ after ≡ token_text p ++ rest → IsFirstOf p c → Front (raw.quoted inside ∷ []) left p rest
     by (blank d) is e first = absurd (no_blank c 34 quote refl first)
-    by opening is e first = absurd (omega arith)
-    by closing is e first = absurd (omega arith)
-    by line_feed is e first = absurd (omega arith)
-    by (comment octets) is e first = absurd (omega arith)
     by (bare units) is e first = absurd (both_ways (ends_item c) first (ap ends_item quote))
     by (quoted units) is e first =
         let text : after ≡ written_text units ++ 34 ∷ rest = tails _ _ _ _ e ∙ append_assoc (written_text units) (34 ∷ []) rest in
@@ -126,21 +110,18 @@ quoted_front octets after inside close left c n m whole quote len front back one
         let outer_len : length close ≡ suc (length rest) = ap length outer in
         let first_one : m ≡ 1 = omega arith in
         (ap (λ t. raw.quoted t ∷ []) inner, behind ∙ rw (first_one, outer) refl)
+    by p is e first = absurd (omega arith)
 
 pub bare_front : (octets after item left : List ℕ) (c n : ℕ) → octets ≡ c ∷ after → ends_item c ≡ false → n ≡ item_len ends_item false octets → item ≡ take n octets → left ≡ drop n octets → FrontIs octets (raw.bare item ∷ []) left
 bare_front octets after item left c n whole goes_on len front back p rest is at e = by p is at e (token_first p c after rest is (sym whole ∙ e))
   where
     by : (p : Token) → IsToken p → EndsBefore p rest → octets ≡ token_text p ++ rest → IsFirstOf p c → Front (raw.bare item ∷ []) left p rest
     by (blank d) is at e first = absurd (both_ways (ends_item c) goes_on (rw first refl))
-    by opening is at e first = absurd (both_ways (ends_item c) goes_on (ap ends_item first))
-    by closing is at e first = absurd (both_ways (ends_item c) goes_on (ap ends_item first))
-    by line_feed is at e first = absurd (both_ways (ends_item c) goes_on (ap ends_item first))
-    by (comment octets) is at e first = absurd (both_ways (ends_item c) goes_on (ap ends_item first))
     by (bare units) is at e first =
         let whole_len : n ≡ length (written_text units) = len ∙ (ap (item_len ends_item false) e ∙ item_len_of ends_item units rest bare_ends is.1 at) in
         let inner : item ≡ written_text units = front ∙ rw (whole_len, e) (take-append_seam (written_text units) rest) in
         (ap (λ t. raw.bare t ∷ []) inner, back ∙ rw (whole_len, e) (drop-append_seam (written_text units) rest))
-    by (quoted units) is at e first = absurd (both_ways (ends_item c) goes_on (ap ends_item first))
+    by p is at e first = absurd (both_ways (ends_item c) goes_on (ap ends_item first))
 
 -- an octet that begins a bare item is taken
 some_octets : (octets after : List ℕ) (c n : ℕ) → octets ≡ c ∷ after → ends_item c ≡ false → n ≡ item_len ends_item false octets → 0 < n
@@ -161,12 +142,6 @@ bare_takes octets after left c n whole goes_on len within back =
 
 -- a token ends before those after it
 ends_after : (p : Token) (tokens : List Token) → AllByRecursion IsToken tokens → AllFollow (p ∷ tokens) → EndsBefore p (text tokens)
-ends_after (blank c) tokens each follow = tt
-ends_after opening tokens each follow = tt
-ends_after closing tokens each follow = tt
-ends_after line_feed tokens each follow = tt
-ends_after (quoted units) tokens each follow = tt
-ends_after (bare units) [] each follow = tt
 ends_after (bare units) (blank c ∷ tokens) each follow = rw (each.0) refl
 ends_after (bare units) (opening ∷ tokens) each follow = refl
 ends_after (bare units) (closing ∷ tokens) each follow = refl
@@ -174,7 +149,6 @@ ends_after (bare units) (line_feed ∷ tokens) each follow = refl
 ends_after (bare units) (comment octets ∷ tokens) each follow = refl
 ends_after (bare units) (bare more ∷ tokens) each follow = absurd follow.0
 ends_after (bare units) (quoted more ∷ tokens) each follow = refl
-ends_after (comment octets) [] each follow = tt
 ends_after (comment octets) (blank c ∷ tokens) each follow = absurd follow.0
 ends_after (comment octets) (opening ∷ tokens) each follow = absurd follow.0
 ends_after (comment octets) (closing ∷ tokens) each follow = absurd follow.0
@@ -182,6 +156,7 @@ ends_after (comment octets) (line_feed ∷ tokens) each follow = refl
 ends_after (comment octets) (comment more ∷ tokens) each follow = absurd follow.0
 ends_after (comment octets) (bare more ∷ tokens) each follow = absurd follow.0
 ends_after (comment octets) (quoted more ∷ tokens) each follow = absurd follow.0
+ends_after p tokens each follow = tt
 
 -- the tokens that are left, and the items of those before them, of which these are kept
 pub record IsLeft (rest : List ℕ) (kept : List RawItem) (tokens : List Token) : Type 0 where

@@ -3,7 +3,8 @@ use Rattle.std.proofs.Common.{◌≡◌, ℕ, ◌<◌, ◌≤◌, Bool, List, []
 use Rattle.std.specs.List.{flat_map, AllByRecursion}
 use Rattle.std.proofs.lemmas.List.{append-nil}
 use Rattle.zone_name.specs.Spelling.{Written, plain, escaped, decimal, text_of, octet_of, written_text, written_octets, IsUnit, no_octet}
-use Rattle.zone_name.proofs.Pushing.{AllByRecursion-append}
+use Rattle.zone_name.proofs.Pushing.{AllByRecursion-append, AllByRecursion-front, AllByRecursion-back}
+use Rattle.zone_name.proofs.Units.{text_of-some}
 use Rattle.zone_rdata.specs.Item.{RawItem}
 use Rattle.zone_rdata.specs.Item as raw
 use Rattle.zone_rdata.specs.Machine.LeftOut.{IsWritten}
@@ -11,25 +12,16 @@ use Rattle.zone_rdata.specs.Strings.{SpellsString, item_text}
 use Rattle.zone_rdata.proofs.LeftOut.{one_kept, one_left_out}
 use Rattle.zone_text.specs.Entries.{item_of}
 use Rattle.zone_text.specs.Machine.Kept.{AreKept, IsShort, Keeps}
-use Rattle.zone_text.specs.Tokens.{Token, blank, opening, closing, line_feed, comment, bare, quoted, IsToken}
+use Rattle.zone_text.specs.Tokens.{Token, bare, quoted, IsToken}
 
 -- ---- an item of a token
 
 abbrev Low : List ℕ → Type 0
 Low octets = AllByRecursion (λ c. c < 256) octets
 
-low_front : (octets more : List ℕ) → Low (octets ++ more) → Low octets
-low_front [] more low = tt
-low_front (c ∷ octets) more low = (low.0, low_front octets more low.1)
-
-low_back : (octets more : List ℕ) → Low (octets ++ more) → Low more
-low_back [] more low = low
-low_back (c ∷ octets) more low = low_back octets more low.1
-
 unit_anywhere : (out : ℕ → Bool) (w : Written) → IsUnit out w → IsUnit no_octet w
 unit_anywhere out (plain c) is = (refl, is.1)
-unit_anywhere out (escaped c) is = is
-unit_anywhere out (decimal x y z) is = is
+unit_anywhere out w is = is
 
 units_anywhere : (out : ℕ → Bool) (units : List Written) → AllByRecursion (IsUnit out) units → AllByRecursion (IsUnit no_octet) units
 units_anywhere out [] each = tt
@@ -43,16 +35,11 @@ octet_low out (decimal x y z) is low = omega (arith, is.3)
 octets_low : (out : ℕ → Bool) (units : List Written) → AllByRecursion (IsUnit out) units → Low (written_text units) → Low (written_octets units)
 octets_low out [] each low = tt
 octets_low out (w ∷ units) each low =
-    (octet_low out w each.0 (low_front (text_of w) (written_text units) low), octets_low out units each.1 (low_back (text_of w) (written_text units) low))
-
-unit_some : (w : Written) → 0 < length (text_of w)
-unit_some (plain c) = omega arith
-unit_some (escaped c) = omega arith
-unit_some (decimal x y z) = omega arith
+    (octet_low out w each.0 (AllByRecursion-front _ (text_of w) (written_text units) low), octets_low out units each.1 (AllByRecursion-back _ (text_of w) (written_text units) low))
 
 no_longer : (units : List Written) → length (written_octets units) ≤ length (written_text units)
 no_longer [] = omega arith
-no_longer (w ∷ units) = omega (arith, unit_some w, no_longer units, length-append (text_of w) (written_text units))
+no_longer (w ∷ units) = omega (arith, text_of-some w, no_longer units, length-append (text_of w) (written_text units))
 
 units_spell : (out : ℕ → Bool) (units : List Written) (item : RawItem) → AllByRecursion (IsUnit out) units → item_text item ≡ written_text units → IsShort item → SpellsString item (written_octets units)
 units_spell out units item each text short = record {
@@ -71,28 +58,20 @@ same_item a b e = cc
 
 -- a short item spells a string
 pub short_spells : (p : Token) (item : RawItem) → IsToken p → item ∷ [] ≡ item_of p → IsShort item → (octets : List ℕ) × SpellsString item octets
-short_spells (blank c) item is e short = absurd cc
-short_spells opening item is e short = absurd cc
-short_spells closing item is e short = absurd cc
-short_spells line_feed item is e short = absurd cc
-short_spells (comment octets) item is e short = absurd cc
 short_spells (bare units) item is e short = (written_octets units, units_spell _ units item is.1 (ap item_text (same_item item _ e)) short)
 short_spells (quoted units) item is e short = (written_octets units, units_spell _ units item is (ap item_text (same_item item _ e)) short)
+short_spells p item is e short = absurd cc
 
 -- ---- items of tokens
 
 bare_written : (units : List Written) → 0 < length units → 0 < length (written_text units)
 bare_written [] some = absurd (omega (arith, some))
-bare_written (w ∷ units) some = omega (arith, unit_some w, length-append (text_of w) (written_text units))
+bare_written (w ∷ units) some = omega (arith, text_of-some w, length-append (text_of w) (written_text units))
 
 token_written : (p : Token) → IsToken p → AllByRecursion IsWritten (item_of p)
-token_written (blank c) is = tt
-token_written opening is = tt
-token_written closing is = tt
-token_written line_feed is = tt
-token_written (comment octets) is = tt
 token_written (bare units) is = (bare_written units is.0, tt)
 token_written (quoted units) is = (tt, tt)
+token_written p is = tt
 
 pub items_written : (tokens : List Token) → AllByRecursion IsToken tokens → AllByRecursion IsWritten (flat_map item_of tokens)
 items_written [] each = tt

@@ -13,7 +13,7 @@ use Rattle.zone_rdata.specs.declared.fault.Place.{Place}
 use Rattle.zone_rdata.specs.declared.source.Reading.{Reading}
 use Rattle.zone_rdata.proofs.LeftOut.{after_item, are_many, at_least, begin_with, fault_of_all, state_none}
 use Rattle.zone_text.specs.Entries.{Entry, entry_of, first_octet, item_of}
-use Rattle.zone_text.specs.EntryFault.{DefaultTtlFault, DirectiveFault, EntryFault, KindFault, OriginFault, OwnerFault, WordsFault, of_directive, of_kind, of_owner, of_rdata, of_ttl, of_words}
+use Rattle.zone_text.specs.EntryFault.{DirectiveFault, EntryFault, KindFault, OwnerFault, WordsFault, of_directive, of_kind, of_owner, of_rdata, of_ttl, of_words}
 use Rattle.zone_text.specs.Forms.{EntryForm, Parts, Word, begins_with_digit, class, class_among, directive, form_by, form_of, includes, is_class_word, owned, parts_after, parts_in, sets_origin, sets_ttl, ttl, ttl_among, unknown, unless_stated, unowned, word_after}
 use Rattle.zone_text.specs.Inherited.{IsOwner, class_word, latest, one_bare, or_else}
 use Rattle.zone_rdata.specs.Words.{IsClassWord}
@@ -43,10 +43,9 @@ LongForms (unowned items) (unowned kept) = Long 65551 items kept
 LongForms form other = ⊥
 
 word_long : (a b c : Bool) (items kept : List RawItem) → (2 ≤ length items) × (2 ≤ length kept) → LongForms (if a then sets_origin items else if b then sets_ttl items else if c then includes else unknown) (if a then sets_origin kept else if b then sets_ttl kept else if c then includes else unknown)
-word_long true b c items kept many = many
-word_long false true c items kept many = many
 word_long false false true items kept many = tt
 word_long false false false items kept many = tt
+word_long a b c items kept many = many
 
 directive_long : (word : RawItem) (items kept : List RawItem) → Long 65551 items kept → LongForms (directive word items) (directive word kept)
 directive_long (quoted text) items kept long = tt
@@ -72,18 +71,13 @@ forms_long first items kept long =
     subst (λ t. LongForms (form_by first items) (form_by first t)) (sym begin.are_kept) half
 
 no_one_bare : (items : List RawItem) → 2 ≤ length items → one_bare items ≡ None
-no_one_bare [] many = absurd (omega (arith, many))
 no_one_bare (quoted text ∷ items) many = refl
-no_one_bare (bare text ∷ []) many = absurd (omega (arith, many))
 no_one_bare (bare text ∷ item ∷ items) many = refl
+no_one_bare items many = absurd (omega (arith, many))
 
 directive_fault : (origin : Labels) (before : List Entry) (form other : EntryForm) (fault : Fault) → LongForms form other → DirectiveFault origin before other fault → DirectiveFault origin before form fault
-directive_fault origin before (sets_origin items) (sets_origin kept) fault h bad =
-    let none : OriginFault origin before None fault = subst (λ o. OriginFault origin before o fault) (no_one_bare kept h.1) bad in
-    subst (λ o. OriginFault origin before o fault) (sym (no_one_bare items h.0)) none
-directive_fault origin before (sets_ttl items) (sets_ttl kept) fault h bad =
-    let none : DefaultTtlFault None fault = subst (λ o. DefaultTtlFault o fault) (no_one_bare kept h.1) bad in
-    subst (λ o. DefaultTtlFault o fault) (sym (no_one_bare items h.0)) none
+directive_fault origin before (sets_origin items) (sets_origin kept) fault h bad = rw (no_one_bare items h.0) (rw (no_one_bare kept h.1) at bad)
+directive_fault origin before (sets_ttl items) (sets_ttl kept) fault h bad = rw (no_one_bare items h.0) (rw (no_one_bare kept h.1) at bad)
 directive_fault origin before includes includes fault h bad = bad
 directive_fault origin before unknown unknown fault h bad = bad
 directive_fault origin before (owned owner items) (owned other kept) fault h bad = absurd bad

@@ -1,13 +1,12 @@
 -- What is settled of a text by its front.
 use Rattle.std.proofs.Common.{◌≡◌, ℕ, zero, ◌≤◌, false, List, [], ◌∷◌, ◌++◌, length, Option, Some, None, refl, sym, ap, ◌∙◌, subst, arith, append_assoc, ◌⊎◌, inl, inr}
-use Rattle.std.proofs.lemmas.Bool.{both_ways}
 use Rattle.std.proofs.lemmas.List.{append-nil}
 use Rattle.std.proofs.lemmas.List.Concat.{flat_map-append}
 use Rattle.zone_name.specs.Spelling.{Written, plain, escaped, decimal, text_of, octet_of, IsEscape, IsBadEscape, is_digit, written_text}
 use Rattle.zone_rdata.specs.declared.fault.Fault.{Fault}
 use Rattle.zone_rdata.specs.declared.fault.Fault.TheVariants.{BadEscape, UnbalancedParenthesis}
 use Rattle.zone_name.proofs.Pushing.{AllByRecursion-append, AllByRecursion-front, AllByRecursion-back}
-use Rattle.zone_text.specs.Tokens.{Token, blank, opening, closing, line_feed, comment, bare, quoted, token_text, text, IsToken, AllFollow, depth_after, Cuts}
+use Rattle.zone_text.specs.Tokens.{Token, blank, line_feed, comment, token_text, text, IsToken, AllFollow, depth_after, Cuts}
 use Rattle.zone_text.specs.Breaks.{IsBroken, closes_nothing, no_escape, no_quoted_escape, no_quote, not_closed, MayEndBefore, Breaks}
 use Rattle.zone_text.specs.Lasting.{EndInLineFeed, IsLostEscape, at_line_end, one_digit, two_digits, too_great, StaysBroken, closing_stays, escape_stays, quoted_escape_stays, BreaksForGood}
 use Rattle.zone_text.specs.Machine.Cutting.{stops, depth_past}
@@ -22,21 +21,11 @@ line_feed_then (p ∷ more) follow = (tt, follow)
 
 ends_after : (p q : Token) (tokens : List Token) → EndInLineFeed (p ∷ q ∷ tokens) → EndInLineFeed (q ∷ tokens)
 ends_after (blank c) q tokens ends = ends
-ends_after line_feed q tokens ends = ends
-ends_after opening q tokens ends = ends
-ends_after closing q tokens ends = ends
-ends_after (comment octets) q tokens ends = ends
-ends_after (bare units) q tokens ends = ends
-ends_after (quoted units) q tokens ends = ends
+ends_after p q tokens ends = ends
 
 the_line_feed : (p : Token) → EndInLineFeed (p ∷ []) → p ≡ line_feed
 the_line_feed line_feed ends = refl
-the_line_feed (blank c) ends = absurd ends
-the_line_feed opening ends = absurd ends
-the_line_feed closing ends = absurd ends
-the_line_feed (comment octets) ends = absurd ends
-the_line_feed (bare units) ends = absurd ends
-the_line_feed (quoted units) ends = absurd ends
+the_line_feed p ends = absurd ends
 
 follow_append : (tokens more : List Token) → AllFollow tokens → EndInLineFeed tokens → AllFollow more → AllFollow (tokens ++ more)
 follow_append [] more follow ends others = others
@@ -44,9 +33,8 @@ follow_append (p ∷ []) more follow ends others = subst (λ q. AllFollow (q ∷
 follow_append (p ∷ q ∷ tokens) more follow ends others = (follow.0, follow_append (q ∷ tokens) more follow.1 (ends_after p q tokens ends) others)
 
 follow_front : (tokens more : List Token) → AllFollow (tokens ++ more) → AllFollow tokens
-follow_front [] more follow = tt
-follow_front (p ∷ []) more follow = tt
 follow_front (p ∷ q ∷ tokens) more follow = (follow.0, follow_front (q ∷ tokens) more follow.1)
+follow_front tokens more follow = tt
 
 follow_back : (tokens more : List Token) → AllFollow (tokens ++ more) → AllFollow more
 follow_back [] more follow = follow
@@ -138,38 +126,14 @@ line_end_is_no_digit c (inr e) = rw e refl
 
 -- no written octet begins such a text, nor one that it begins
 begins_none : (rest more after : List ℕ) (w : Written) → IsLostEscape rest → IsEscape w → rest ++ more ≡ text_of w ++ after → ⊥
-begins_none rest more after (plain d) (at_line_end c others e is) written h = absurd written
-begins_none rest more after (escaped d) (at_line_end c others e is) written h =
-    let r : rest ++ more ≡ 92 ∷ c ∷ (others ++ more) = ap (λ t. t ++ more) e in
-    let same : c ≡ d = cc in
-    elim is as (λ s. ⊥) [ inl feed ↦ written.1 (sym same ∙ feed) | inr return ↦ written.2 (sym same ∙ return) ]
-begins_none rest more after (decimal x y z) (at_line_end c others e is) written h =
-    let r : rest ++ more ≡ 92 ∷ c ∷ (others ++ more) = ap (λ t. t ++ more) e in
-    let same : c ≡ x = cc in
-    both_ways (is_digit c) (line_end_is_no_digit c is) (ap is_digit same ∙ written.0)
-begins_none rest more after (plain d) (one_digit x c others e is is_not) written h = absurd written
-begins_none rest more after (escaped d) (one_digit x c others e is is_not) written h =
-    let r : rest ++ more ≡ 92 ∷ x ∷ c ∷ (others ++ more) = ap (λ t. t ++ more) e in
-    let same : x ≡ d = cc in
-    both_ways (is_digit x) (ap is_digit same ∙ written.0) is
-begins_none rest more after (decimal u v w) (one_digit x c others e is is_not) written h =
-    let r : rest ++ more ≡ 92 ∷ x ∷ c ∷ (others ++ more) = ap (λ t. t ++ more) e in
-    let same : c ≡ v = cc in
-    both_ways (is_digit c) is_not (ap is_digit same ∙ written.1)
-begins_none rest more after (plain d) (two_digits x y c others e is is_one is_not) written h = absurd written
-begins_none rest more after (escaped d) (two_digits x y c others e is is_one is_not) written h =
-    let r : rest ++ more ≡ 92 ∷ x ∷ y ∷ c ∷ (others ++ more) = ap (λ t. t ++ more) e in
-    let same : x ≡ d = cc in
-    both_ways (is_digit x) (ap is_digit same ∙ written.0) is
-begins_none rest more after (decimal u v w) (two_digits x y c others e is is_one is_not) written h =
-    let r : rest ++ more ≡ 92 ∷ x ∷ y ∷ c ∷ (others ++ more) = ap (λ t. t ++ more) e in
-    let same : c ≡ w = cc in
-    both_ways (is_digit c) is_not (ap is_digit same ∙ written.2)
-begins_none rest more after (plain d) (too_great x y z others e is is_one is_too great) written h = absurd written
-begins_none rest more after (escaped d) (too_great x y z others e is is_one is_too great) written h =
-    let r : rest ++ more ≡ 92 ∷ x ∷ y ∷ z ∷ (others ++ more) = ap (λ t. t ++ more) e in
-    let same : x ≡ d = cc in
-    both_ways (is_digit x) (ap is_digit same ∙ written.0) is
+begins_none rest more after (escaped d) (at_line_end c others e (inl feed)) written h = written.1 (cc (ap (λ t. t ++ more) e))
+begins_none rest more after (escaped d) (at_line_end c others e (inr return)) written h = written.2 (cc (ap (λ t. t ++ more) e))
+begins_none rest more after (decimal x y z) (at_line_end c others e is) written h = cc (ap (λ t. t ++ more) e, line_end_is_no_digit c is, written.0)
+begins_none rest more after (decimal u v w) (one_digit x c others e is is_not) written h = cc (ap (λ t. t ++ more) e, written.1)
+begins_none rest more after (decimal u v w) (two_digits x y c others e is is_one is_not) written h = cc (ap (λ t. t ++ more) e, written.2)
+begins_none rest more after (escaped d) (one_digit x c others e is is_not) written h = cc (ap (λ t. t ++ more) e, written.0)
+begins_none rest more after (escaped d) (two_digits x y c others e is is_one is_not) written h = cc (ap (λ t. t ++ more) e, written.0)
+begins_none rest more after (escaped d) (too_great x y z others e is is_one is_too great) written h = cc (ap (λ t. t ++ more) e, written.0)
 begins_none rest more after (decimal u v w) (too_great x y z others e is is_one is_too great) written h =
     let r : rest ++ more ≡ 92 ∷ x ∷ y ∷ z ∷ (others ++ more) = ap (λ t. t ++ more) e in
     let one : u ≡ x = cc in
@@ -177,6 +141,7 @@ begins_none rest more after (decimal u v w) (too_great x y z others e is is_one 
     let three : w ≡ z = cc in
     let few : octet_of (decimal u v w) ≤ 255 = written.3 in
     omega arith
+begins_none rest more after (plain d) _ written h = absurd written
 
 pub begins_backslash : (rest : List ℕ) → IsLostEscape rest → (after : List ℕ) × (rest ≡ 92 ∷ after)
 begins_backslash rest (at_line_end c others e is) = (c ∷ others, e)
@@ -241,15 +206,9 @@ stays_some rest (quoted_escape_stays units after each whole lost) none = cc
 
 -- no comment is the last token before what breaks a text as it stands
 last_before : (tokens : List Token) (rest after : List ℕ) → (rest ≡ [] → ⊥) → MayEndBefore tokens rest → MayEndBefore tokens after
-last_before [] rest after some last = tt
-last_before (blank c ∷ []) rest after some last = tt
-last_before (line_feed ∷ []) rest after some last = tt
-last_before (opening ∷ []) rest after some last = tt
-last_before (closing ∷ []) rest after some last = tt
 last_before (comment octets ∷ []) rest after some last = absurd (some last)
-last_before (bare units ∷ []) rest after some last = tt
-last_before (quoted units ∷ []) rest after some last = tt
 last_before (p ∷ q ∷ tokens) rest after some last = last_in_front p q tokens after (last_before (q ∷ tokens) rest after some (last_after p (q ∷ tokens) rest last))
+last_before tokens rest after some last = tt
 
 pub breaks_for_good : (octets more : List ℕ) (tokens : List Token) (fault : Fault) → BreaksForGood octets tokens fault → BreaksForGood (octets ++ more) tokens fault
 breaks_for_good octets more tokens fault good =

@@ -72,9 +72,8 @@ pub line_entry : (items : List Token) → AllByRecursion IsItem items → entrie
 line_entry items are = ap (λ (c : Cut). numbered 1 (and_last c.ended c.open_tokens)) (line_ended items are)
 
 pub line_items : (items : List Token) → flat_map item_of (line_of items) ≡ flat_map item_of items
-line_items [] = refl
-line_items (item ∷ []) = refl
 line_items (item ∷ next ∷ items) = ap (λ (raws : List RawItem). item_of item ++ raws) (line_items (next ∷ items))
+line_items items = refl
 
 -- ---- the entry that states every part
 

@@ -11,7 +11,7 @@ use Rattle.zone_rdata.specs.Words.{IsClass, IsKind, IsKindWord}
 use Rattle.zone_rdata.specs.declared.fault.Fault.{Fault}
 use Rattle.zone_rdata.specs.declared.fault.Fault.TheVariants.{NoTtl, BadTtl}
 use Rattle.zone_text.specs.Entries.{Entry}
-use Rattle.zone_text.specs.Forms.{EntryForm, no_items, sets_origin, sets_ttl, includes, unknown, owned, unowned, form_of, Word, ttl, class, Parts}
+use Rattle.zone_text.specs.Forms.{EntryForm, owned, unowned, form_of, Word, ttl, class, Parts}
 use Rattle.zone_text.specs.Inherited.{IsOrigin, SpellsAfter, IsOwner, HasClass}
 use Rattle.zone_text.specs.Records.{HasValue, HasTtl}
 use Rattle.zone_text.specs.EntryFault.{IsNameFaultAfter, OwnerFault, WordFault, WordsFault, KindFault, TtlFault, none, long}
@@ -52,21 +52,12 @@ owner_fault_once : Lower → (origin : List (List ℕ)) (before : List Entry) (f
 owner_fault_once lower origin before (owned (quoted text) items) f g x y = x ∙ sym y
 owner_fault_once lower origin before (owned (bare text) items) f g x y = name_fault_once lower origin before text f g x y
 owner_fault_once lower origin before (unowned items) f g x y = x.0 ∙ sym y.0
-owner_fault_once lower origin before no_items f g x y = absurd x
-owner_fault_once lower origin before (sets_origin items) f g x y = absurd x
-owner_fault_once lower origin before (sets_ttl items) f g x y = absurd x
-owner_fault_once lower origin before includes f g x y = absurd x
-owner_fault_once lower origin before unknown f g x y = absurd x
+owner_fault_once lower origin before form f g x y = absurd x
 
 owner_or_fault : Lower → (origin : List (List ℕ)) (before : List Entry) (form : EntryForm) (name : List (List ℕ)) (fault : Fault) → IsOwner origin before form name → OwnerFault origin before form fault → ⊥
-owner_or_fault lower origin before (owned (quoted text) items) name f x y = x
 owner_or_fault lower origin before (owned (bare text) items) name f x y = name_or_fault lower origin before text name f x y
 owner_or_fault lower origin before (unowned items) name f x y = y.1 name x
-owner_or_fault lower origin before no_items name f x y = x
-owner_or_fault lower origin before (sets_origin items) name f x y = x
-owner_or_fault lower origin before (sets_ttl items) name f x y = x
-owner_or_fault lower origin before includes name f x y = x
-owner_or_fault lower origin before unknown name f x y = x
+owner_or_fault lower origin before form name f x y = x
 
 -- the words before the type
 
@@ -112,9 +103,8 @@ kind_once lower rest (a, xs) (b, ys) x y =
     cc
 
 kind_fault_once : Lower → (rest : List RawItem) → Once Fault (KindFault rest)
-kind_fault_once lower [] f g x y = x ∙ sym y
-kind_fault_once lower (quoted text ∷ items) f g x y = x ∙ sym y
 kind_fault_once lower (bare text ∷ items) f g x y = lower.kind_fault text f g x y
+kind_fault_once lower rest f g x y = x ∙ sym y
 
 kind_or_fault : Lower → (rest : List RawItem) (k : KindAnd) (fault : Fault) → HasKind rest k → KindFault rest fault → ⊥
 kind_or_fault lower [] k f x y = let e = x.items in absurd (let h : ⊥ = cc in h)

@@ -24,7 +24,7 @@ use Rattle.zone_text.specs.Machine.Cutting.{depth_past}
 use Rattle.zone_text.specs.Machine.Scan.{on, fed_line, closed, open_step, quoted_step, comment_step, ends_number, escape_step, step_in, step_of, scan_on, scan_of, unclosed, end_fault_of}
 use Rattle.zone_text.specs.Machine.Scan as machine
 use Rattle.zone_text.proofs.Escapes.{malformed_is_bad}
-use Rattle.zone_text.proofs.Fronts.{Takes}
+use Rattle.zone_text.proofs.Fronts.{Takes, first_octet_is}
 use Rattle.zone_text.proofs.Lasting.{begins_backslash}
 
 -- ---- tokens and what is open after them
@@ -72,15 +72,11 @@ Begins c (quoted units) = c ≡ 34
 
 begins : (c : ℕ) (octets : List ℕ) (p : Token) (rest : List ℕ) → IsToken p → c ∷ octets ≡ token_text p ++ rest → Begins c p
 begins c octets (blank d) rest is e = let same : c ≡ d = cc in ap is_blank same ∙ is
-begins c octets line_feed rest is e = cc
-begins c octets opening rest is e = cc
-begins c octets closing rest is e = cc
-begins c octets (comment more) rest is e = cc
 begins c octets (bare []) rest is e = absurd (omega (arith, is.0))
 begins c octets (bare (plain d ∷ units)) rest is e = let same : c ≡ d = cc in ap ends_item same ∙ is.1.0.0
 begins c octets (bare (escaped d ∷ units)) rest is e = let same : c ≡ 92 = cc in ap ends_item same
 begins c octets (bare (decimal x y z ∷ units)) rest is e = let same : c ≡ 92 = cc in ap ends_item same
-begins c octets (quoted units) rest is e = cc
+begins c octets p rest is e = cc
 
 escape_begins : (step : Step) (octets : List ℕ) → EscapeAt step octets → (more : List ℕ) × (octets ≡ 92 ∷ more)
 escape_begins (On at) octets open_escape = cut_begins open_escape.1
@@ -90,14 +86,12 @@ escape_begins (On at) octets open_escape = cut_begins open_escape.1
     cut_begins (after_digit x e dx) = (x ∷ [], e)
     cut_begins (after_two_digits x y e dx dy) = (x ∷ y ∷ [], e)
 escape_begins LostEscape octets lost = begins_backslash octets lost
-escape_begins Ends octets open_escape = absurd open_escape
-escape_begins ClosesNothing octets open_escape = absurd open_escape
+escape_begins step octets open_escape = absurd open_escape
 
 pub escape_is_bad : (step : Step) (octets : List ℕ) → EscapeAt step octets → IsBadEscape octets
 escape_is_bad (On at) octets open_escape = malformed_is_bad octets (inr open_escape.1)
 escape_is_bad LostEscape octets lost = malformed_is_bad octets (inl lost)
-escape_is_bad Ends octets open_escape = absurd open_escape
-escape_is_bad ClosesNothing octets open_escape = absurd open_escape
+escape_is_bad step octets open_escape = absurd open_escape
 
 no_escape_begins : (step : Step) (c : ℕ) (octets text : List ℕ) → text ≡ c ∷ octets → c ≢ 92 → EscapeAt step text → ⊥
 no_escape_begins step c octets text e other open_escape =
@@ -135,28 +129,22 @@ module _ (step : Step) (depth : ℕ) (w : Written) (is : IsUnit is_quote w) (oct
         room = tt;
       }) tt more
   quoted_more rest (blank d) front none more = absurd (let no : false ≡ true = begins 34 octets (blank d) rest front.token (sym e ∙ front.whole) in cc)
-  quoted_more rest line_feed front none more = absurd (omega (arith, begins 34 octets line_feed rest front.token (sym e ∙ front.whole)))
-  quoted_more rest opening front none more = absurd (omega (arith, begins 34 octets opening rest front.token (sym e ∙ front.whole)))
-  quoted_more rest closing front none more = absurd (omega (arith, begins 34 octets closing rest front.token (sym e ∙ front.whole)))
-  quoted_more rest (comment others) front none more = absurd (omega (arith, begins 34 octets (comment others) rest front.token (sym e ∙ front.whole)))
   quoted_more rest (bare units) front none more = absurd (let no : true ≡ false = begins 34 octets (bare units) rest front.token (sym e ∙ front.whole) in cc)
+  quoted_more rest p front none more = absurd (omega (arith, begins 34 octets p rest front.token (sym e ∙ front.whole)))
 
-  push_quoted_in : Reads step depth text → Reads step depth (34 ∷ (text_of w ++ octets))
-  push_quoted_in (ends depth text s d f) = absurd (others_begin 34 10 octets [] text e f (λ h. omega arith))
-  push_quoted_in (closes depth text s d f) = absurd (others_begin 34 41 octets [] text e f (λ h. omega arith))
-  push_quoted_in (runs_out depth text ran f) = absurd (none_begins 34 octets text e f)
-  push_quoted_in (in_quote depth text units ran each f) =
+  push_quoted : Reads step depth text → Reads step depth (34 ∷ (text_of w ++ octets))
+  push_quoted (ends depth text s d f) = absurd (others_begin 34 10 octets [] text e f (λ h. omega arith))
+  push_quoted (closes depth text s d f) = absurd (others_begin 34 41 octets [] text e f (λ h. omega arith))
+  push_quoted (runs_out depth text ran f) = absurd (none_begins 34 octets text e f)
+  push_quoted (in_quote depth text units ran each f) =
       in_quote depth (34 ∷ (text_of w ++ octets)) (w ∷ units) ran (is, each) (ap (λ t. 34 ∷ (text_of w ++ t)) (rest_after 34 octets (written_text units) text e f))
-  push_quoted_in (in_escape depth text open_escape) = absurd (no_escape_begins step 34 octets text e (λ h. omega arith) open_escape)
-  push_quoted_in (in_quoted_escape depth text units after each f open_escape) =
+  push_quoted (in_escape depth text open_escape) = absurd (no_escape_begins step 34 octets text e (λ h. omega arith) open_escape)
+  push_quoted (in_quoted_escape depth text units after each f open_escape) =
       in_quoted_escape depth (34 ∷ (text_of w ++ octets)) (w ∷ units) after (is, each) (
       ap (λ t. 34 ∷ (text_of w ++ t)) (rest_after 34 octets (written_text units ++ after) text e f)
       ∙ ap (λ t. 34 ∷ t) (sym (append_assoc (text_of w) (written_text units) after))
       ) open_escape
-  push_quoted_in (then_more depth text p rest front none more) = quoted_more rest p front none more
-
-push_quoted : (step : Step) (depth : ℕ) (w : Written) (octets : List ℕ) → IsUnit is_quote w → Reads step depth (34 ∷ octets) → Reads step depth (34 ∷ (text_of w ++ octets))
-push_quoted step depth w octets is more = push_quoted_in step depth w is octets (34 ∷ octets) refl more
+  push_quoted (then_more depth text p rest front none more) = quoted_more rest p front none more
 
 -- ---- an octet more before what a semicolon opened
 
@@ -170,23 +158,17 @@ module _ (step : Step) (depth c : ℕ) (is : c ≢ 10) (octets text : List ℕ) 
         room = tt;
       }) tt more
   comment_more rest (blank d) front none more = absurd (let no : false ≡ true = begins 59 octets (blank d) rest front.token (sym e ∙ front.whole) in cc)
-  comment_more rest line_feed front none more = absurd (omega (arith, begins 59 octets line_feed rest front.token (sym e ∙ front.whole)))
-  comment_more rest opening front none more = absurd (omega (arith, begins 59 octets opening rest front.token (sym e ∙ front.whole)))
-  comment_more rest closing front none more = absurd (omega (arith, begins 59 octets closing rest front.token (sym e ∙ front.whole)))
-  comment_more rest (quoted units) front none more = absurd (omega (arith, begins 59 octets (quoted units) rest front.token (sym e ∙ front.whole)))
   comment_more rest (bare units) front none more = absurd (let no : true ≡ false = begins 59 octets (bare units) rest front.token (sym e ∙ front.whole) in cc)
+  comment_more rest p front none more = absurd (omega (arith, begins 59 octets p rest front.token (sym e ∙ front.whole)))
 
-  push_comment_in : Reads step depth text → Reads step depth (59 ∷ c ∷ octets)
-  push_comment_in (ends depth text s d f) = absurd (others_begin 59 10 octets [] text e f (λ h. omega arith))
-  push_comment_in (closes depth text s d f) = absurd (others_begin 59 41 octets [] text e f (λ h. omega arith))
-  push_comment_in (runs_out depth text ran f) = absurd (none_begins 59 octets text e f)
-  push_comment_in (in_quote depth text units ran each f) = absurd (others_begin 59 34 octets (written_text units) text e f (λ h. omega arith))
-  push_comment_in (in_escape depth text open_escape) = absurd (no_escape_begins step 59 octets text e (λ h. omega arith) open_escape)
-  push_comment_in (in_quoted_escape depth text units after each f open_escape) = absurd (others_begin 59 34 octets (written_text units ++ after) text e f (λ h. omega arith))
-  push_comment_in (then_more depth text p rest front none more) = comment_more rest p front none more
-
-push_comment : (step : Step) (depth c : ℕ) (octets : List ℕ) → c ≢ 10 → Reads step depth (59 ∷ octets) → Reads step depth (59 ∷ c ∷ octets)
-push_comment step depth c octets is more = push_comment_in step depth c is octets (59 ∷ octets) refl more
+  push_comment : Reads step depth text → Reads step depth (59 ∷ c ∷ octets)
+  push_comment (ends depth text s d f) = absurd (others_begin 59 10 octets [] text e f (λ h. omega arith))
+  push_comment (closes depth text s d f) = absurd (others_begin 59 41 octets [] text e f (λ h. omega arith))
+  push_comment (runs_out depth text ran f) = absurd (none_begins 59 octets text e f)
+  push_comment (in_quote depth text units ran each f) = absurd (others_begin 59 34 octets (written_text units) text e f (λ h. omega arith))
+  push_comment (in_escape depth text open_escape) = absurd (no_escape_begins step 59 octets text e (λ h. omega arith) open_escape)
+  push_comment (in_quoted_escape depth text units after each f open_escape) = absurd (others_begin 59 34 octets (written_text units ++ after) text e f (λ h. omega arith))
+  push_comment (then_more depth text p rest front none more) = comment_more rest p front none more
 
 -- ---- a unit of a bare item more
 
@@ -295,18 +277,15 @@ OneMore mode depth c Ends = Reads Ends depth (opened mode (c ∷ []))
 OneMore mode depth c LostEscape = Reads LostEscape depth (opened mode (c ∷ []))
 OneMore mode depth c ClosesNothing = Reads ClosesNothing depth (opened mode (c ∷ []))
 
-one_octet : (c d : ℕ) (octets : List ℕ) → c ≡ d → c ∷ octets ≡ d ∷ octets
-one_octet c d octets e = ap (λ t. t ∷ octets) e
-
 open_line : (depth c : ℕ) → c ≡ 10 → OneMore Open depth c (fed_line depth)
 open_line depth c e = cond_both (depth == 0) Ends (on Open depth) (OneMore Open depth c)
-    (λ d. ends depth (c ∷ []) refl (eqb-true depth 0 d) (one_octet c 10 [] e))
-    (λ d. (tt, λ octets step more. then_more depth (c ∷ octets) line_feed octets (record { whole = one_octet c 10 octets e; token = tt; stop = tt; room = tt }) (eqb-false depth 0 d) more))
+    (λ d. ends depth (c ∷ []) refl (eqb-true depth 0 d) (first_octet_is c 10 [] e))
+    (λ d. (tt, λ octets step more. then_more depth (c ∷ octets) line_feed octets (record { whole = first_octet_is c 10 octets e; token = tt; stop = tt; room = tt }) (eqb-false depth 0 d) more))
 
 open_closing : (depth c : ℕ) → c ≡ 41 → OneMore Open depth c (closed depth)
 open_closing depth c e = cond_both (depth == 0) ClosesNothing (on Open (depth - 1)) (OneMore Open depth c)
-    (λ d. closes depth (c ∷ []) refl (eqb-true depth 0 d) (one_octet c 41 [] e))
-    (λ d. (tt, λ octets step more. then_more depth (c ∷ octets) closing octets (record { whole = one_octet c 41 octets e; token = tt; stop = tt; room = let some : depth ≢ 0 = eqb-false depth 0 d in omega arith }) tt more))
+    (λ d. closes depth (c ∷ []) refl (eqb-true depth 0 d) (first_octet_is c 41 [] e))
+    (λ d. (tt, λ octets step more. then_more depth (c ∷ octets) closing octets (record { whole = first_octet_is c 41 octets e; token = tt; stop = tt; room = let some : depth ≢ 0 = eqb-false depth 0 d in omega arith }) tt more))
 
 open_other : (depth c : ℕ) → c ≢ 92 → (is_blank c ≡ false → ends_item c ≡ false) → OneMore Open depth c (on Open depth)
 open_other depth c no_backslash goes_on = elim (cases_Bool (is_blank c)) as (λ s. OneMore Open depth c (on Open depth)) [
@@ -318,16 +297,16 @@ one_open : (depth c : ℕ) → OneMore Open depth c (open_step depth c)
 one_open depth c =
     let P : Step → Type 0 = OneMore Open depth c in
     cond_both (c == 10) (fed_line depth) _ P (λ e. open_line depth c (eqb-true c 10 e)) λ e0.
-    cond_both (c == 34) (on Quoted depth) _ P (λ e. (tt, λ octets step more. subst (Reads step depth) (sym (one_octet c 34 octets (eqb-true c 34 e))) more)) λ e1.
+    cond_both (c == 34) (on Quoted depth) _ P (λ e. (tt, λ octets step more. subst (Reads step depth) (sym (first_octet_is c 34 octets (eqb-true c 34 e))) more)) λ e1.
     cond_both (c == 40) (on Open (depth + 1)) _ P (λ e. (
       tt,
       λ octets step more.
           let next : Reads step (suc depth) octets = subst (λ d. Reads step d octets) (let n : depth + 1 ≡ suc depth = omega arith in n) more in
-          then_more depth (c ∷ octets) opening octets (record { whole = one_octet c 40 octets (eqb-true c 40 e); token = tt; stop = tt; room = tt }) tt next,
+          then_more depth (c ∷ octets) opening octets (record { whole = first_octet_is c 40 octets (eqb-true c 40 e); token = tt; stop = tt; room = tt }) tt next,
     )) λ e2.
     cond_both (c == 41) (closed depth) _ P (λ e. open_closing depth c (eqb-true c 41 e)) λ e3.
-    cond_both (c == 59) (on Comment depth) _ P (λ e. (tt, λ octets step more. subst (Reads step depth) (sym (one_octet c 59 octets (eqb-true c 59 e))) more)) λ e4.
-    cond_both (c == 92) (on (Escaped Begun) depth) (on Open depth) P (λ e. (tt, λ octets step more. subst (Reads step depth) (sym (one_octet c 92 octets (eqb-true c 92 e))) more)) λ e5.
+    cond_both (c == 59) (on Comment depth) _ P (λ e. (tt, λ octets step more. subst (Reads step depth) (sym (first_octet_is c 59 octets (eqb-true c 59 e))) more)) λ e4.
+    cond_both (c == 92) (on (Escaped Begun) depth) (on Open depth) P (λ e. (tt, λ octets step more. subst (Reads step depth) (sym (first_octet_is c 92 octets (eqb-true c 92 e))) more)) λ e5.
     open_other depth c (eqb-false c 92 e5) (λ h. rw (h, e0, e1, e2, e3, e4) refl)
 
 one_quoted : (depth c : ℕ) → OneMore Quoted depth c (quoted_step depth c)
@@ -336,15 +315,15 @@ one_quoted depth c =
     cond_both (c == 34) (on Open depth) _ P (λ e. (
       tt,
       λ octets step more. then_more depth (34 ∷ c ∷ octets) (quoted []) octets (record {
-        whole = ap (λ t. 34 ∷ t) (one_octet c 34 octets (eqb-true c 34 e));
+        whole = ap (λ t. 34 ∷ t) (first_octet_is c 34 octets (eqb-true c 34 e));
         token = tt;
         stop = tt;
         room = tt;
       }) tt more,
     )) λ e0.
     cond_both (c == 92) (on (QuotedEscaped Begun) depth) (on Quoted depth) P
-    (λ e. (tt, λ octets step more. subst (λ t. Reads step depth (34 ∷ t)) (sym (one_octet c 92 octets (eqb-true c 92 e))) more))
-    (λ e. (tt, λ octets step more. push_quoted step depth (plain c) octets (e0, eqb-false c 92 e) more))
+    (λ e. (tt, λ octets step more. subst (λ t. Reads step depth (34 ∷ t)) (sym (first_octet_is c 92 octets (eqb-true c 92 e))) more))
+    (λ e. (tt, λ octets step more. push_quoted step depth (plain c) (e0, eqb-false c 92 e) octets (34 ∷ octets) refl more))
 
 -- the comment that a line feed ends
 ends_comment : (step : Step) (depth c : ℕ) (octets : List ℕ) → c ≡ 10 → Reads step depth (c ∷ octets) → Reads step depth (59 ∷ c ∷ octets)
@@ -352,14 +331,12 @@ ends_comment step depth c octets e more = then_more depth (59 ∷ c ∷ octets) 
 
 comment_line : (depth c : ℕ) → c ≡ 10 → (step : Step) → OneMore Open depth c step → OneMore Comment depth c step
 comment_line depth c e (On next) open_more = (open_more.0, λ octets step more. ends_comment step depth c octets e (open_more.1 octets step more))
-comment_line depth c e Ends open_more = ends_comment Ends depth c [] e open_more
-comment_line depth c e LostEscape open_more = ends_comment LostEscape depth c [] e open_more
-comment_line depth c e ClosesNothing open_more = ends_comment ClosesNothing depth c [] e open_more
+comment_line depth c e step open_more = ends_comment step depth c [] e open_more
 
 one_comment : (depth c : ℕ) → OneMore Comment depth c (comment_step depth c)
 one_comment depth c = cond_both (c == 10) (fed_line depth) (on Comment depth) (OneMore Comment depth c)
     (λ e. comment_line depth c (eqb-true c 10 e) (fed_line depth) (open_line depth c (eqb-true c 10 e)))
-    (λ e. (tt, λ octets step more. push_comment step depth c octets (eqb-false c 10 e) more))
+    (λ e. (tt, λ octets step more. push_comment step depth c (eqb-false c 10 e) octets (59 ∷ octets) refl more))
 
 one_escaped : (depth c : ℕ) (escape : Escape) (behind : AfterBackslash) → EscapeBy escape c behind → OneMore (Escaped escape) depth c (escape_step (λ e. Escaped e) Open depth behind)
 one_escaped depth c escape (Inside next) by = (by.0, λ octets step more. subst (Reads step depth) (sym (by.1 octets)) more)
@@ -368,7 +345,7 @@ one_escaped depth c escape Lost by = in_escape depth (escape_text escape (c ∷ 
 
 one_quoted_escaped : (depth c : ℕ) (escape : Escape) (behind : AfterBackslash) → EscapeBy escape c behind → OneMore (QuotedEscaped escape) depth c (escape_step (λ e. QuotedEscaped e) Quoted depth behind)
 one_quoted_escaped depth c escape (Inside next) by = (by.0, λ octets step more. subst (λ t. Reads step depth (34 ∷ t)) (sym (by.1 octets)) more)
-one_quoted_escaped depth c escape Whole by = (tt, λ octets step more. subst (λ t. Reads step depth (34 ∷ t)) (sym (by.2 octets)) (push_quoted step depth by.0 octets (unit_of_escape is_quote by.0 by.1) more))
+one_quoted_escaped depth c escape Whole by = (tt, λ octets step more. subst (λ t. Reads step depth (34 ∷ t)) (sym (by.2 octets)) (push_quoted step depth by.0 (unit_of_escape is_quote by.0 by.1) octets (34 ∷ octets) refl more))
 one_quoted_escaped depth c escape Lost by = in_quoted_escape depth (34 ∷ escape_text escape (c ∷ [])) [] (escape_text escape (c ∷ [])) tt refl by
 
 one_more : (mode : Mode) (depth c : ℕ) → HoldsDigits mode → OneMore mode depth c (step_in mode depth c)
@@ -399,9 +376,7 @@ reads_by at c rest (On next) one more =
     let n : ℕ = (scan_of next rest).taken in
     let same : suc n ≡ 1 + n = omega arith in
     subst (λ m. Reads (scan_of next rest).step at.depth (opened at.mode (take m (c ∷ rest)))) same (one.1 (take n rest) (scan_of next rest).step (more next one.0))
-reads_by at c rest Ends one more = one
-reads_by at c rest LostEscape one more = one
-reads_by at c rest ClosesNothing one more = one
+reads_by at c rest step one more = one
 
 pub reads : (octets : List ℕ) (at : ScanState) → HoldsDigits at.mode → Reads (scan_of at octets).step at.depth (opened at.mode (take (scan_of at octets).taken octets))
 unfolding scan_of

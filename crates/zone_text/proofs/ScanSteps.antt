@@ -3,7 +3,7 @@ use Rattle.std.proofs.Common.{◌≡◌, ℕ, suc, Bool, ◌+◌, ◌-◌, ◌<�
 use Rattle.std.proofs.Math.Seq.{drop-length}
 use Rattle.std.proofs.lemmas.Bool.{cond_both, or_parts, both_ways}
 use Rattle.zone_text.specs.declared.scan.AfterBackslash.{AfterBackslash}
-use Rattle.zone_text.specs.declared.scan.AfterBackslash.TheVariants.{Inside, Whole, Lost}
+use Rattle.zone_text.specs.declared.scan.AfterBackslash.TheVariants.{Lost}
 use Rattle.zone_text.specs.declared.scan.Escape.{Escape}
 use Rattle.zone_text.specs.declared.scan.Mode.{Mode}
 use Rattle.zone_text.specs.declared.scan.Mode.TheVariants.{Open, Quoted, Comment, Escaped, QuotedEscaped}
@@ -31,8 +31,7 @@ stays_in : (mode : Mode) (depth c : ℕ) → moves mode c ≡ false → step_in 
 stays_in Open depth c e = stays_open depth c e
 stays_in Quoted depth c e = stays_quoted depth c e
 stays_in Comment depth c e = rw e refl
-stays_in (Escaped escape) depth c e = absurd (both_ways _ e refl)
-stays_in (QuotedEscaped escape) depth c e = absurd (both_ways _ e refl)
+stays_in mode depth c e = absurd (both_ways _ e refl)
 
 pub stays : (at : ScanState) (c : ℕ) → moves at.mode c ≡ false → step_of at c ≡ On at
 stays at c e = stays_in at.mode at.depth c e
@@ -92,9 +91,8 @@ rises_comment : (depth c : ℕ) → Rises depth (comment_step depth c)
 rises_comment depth c = cond_both (c == 10) (fed_line depth) (on Comment depth) (Rises depth) (λ e. rises_fed depth) (λ e. omega arith)
 
 rises_escape : (inside : Escape → Mode) (outside : Mode) (depth : ℕ) (behind : AfterBackslash) → Rises depth (escape_step inside outside depth behind)
-rises_escape inside outside depth (Inside escape) = omega arith
-rises_escape inside outside depth Whole = omega arith
 rises_escape inside outside depth Lost = tt
+rises_escape inside outside depth behind = omega arith
 
 rises_in : (mode : Mode) (depth c : ℕ) → Rises depth (step_in mode depth c)
 rises_in Open depth c = rises_open depth c
@@ -110,9 +108,7 @@ rises at next c e = subst (Rises at.depth) e (rises_in at.mode at.depth c)
 
 last_step : (go_on : ScanState → Scanned) (step : Step) → ((next : ScanState) → step ≡ On next → ⊥) → scan_on go_on step ≡ record { taken = 1; step = step }
 last_step go_on (On next) last = absurd (last next refl)
-last_step go_on Ends last = refl
-last_step go_on LostEscape last = refl
-last_step go_on ClosesNothing last = refl
+last_step go_on step last = refl
 
 pub one_stops : (start at : ScanState) (step : Step) (octets : List ℕ) (i : ℕ) → i < length octets → step ≡ step_of at (get_or octets i 0) → ((next : ScanState) → step ≡ On next → ⊥) → scan_of start octets ≡ further i (scan_of at (drop i octets)) → record { taken = i + 1; step = step } ≡ scan_of start octets
 one_stops start at step octets i in_range e last before =

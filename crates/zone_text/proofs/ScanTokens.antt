@@ -5,7 +5,7 @@ use Rattle.zone_rdata.specs.declared.fault.Fault.{Fault}
 use Rattle.zone_rdata.specs.declared.fault.Fault.TheVariants.{BadEscape, UnclosedQuote, UnbalancedParenthesis}
 use Rattle.zone_text.specs.declared.scan.Step.{Step}
 use Rattle.zone_text.specs.declared.scan.Step.TheVariants.{On, Ends, LostEscape, ClosesNothing}
-use Rattle.zone_text.specs.Tokens.{Token, blank, opening, closing, line_feed, comment, bare, quoted, text}
+use Rattle.zone_text.specs.Tokens.{Token, closing, line_feed, text}
 use Rattle.zone_text.specs.Breaks.{IsBroken, closes_nothing, no_escape, no_quoted_escape, no_quote, not_closed}
 use Rattle.zone_text.specs.Lasting.{IsLostEscape, IsCutOff, StaysBroken, closing_stays, escape_stays, quoted_escape_stays, BreaksAtEnd, nothing_left, quote_open, escape_open, quoted_escape_open}
 use Rattle.zone_text.specs.Entries.{Cut, in_front_of, cut_from}
@@ -49,25 +49,13 @@ pub record IsRead (step : Step) (depth : ℕ) (octets : List ℕ) : Type 0 where
 
 in_entry : (step : Step) (p : Token) (tokens : List Token) → in_front_of p (entry_by step tokens) ≡ entry_by step (p ∷ tokens)
 in_entry (On at) p tokens = refl
-in_entry Ends p tokens = refl
-in_entry LostEscape p tokens = refl
-in_entry ClosesNothing p tokens = refl
+in_entry step p tokens = refl
 
 token_on : (depth : ℕ) (p : Token) (tokens : List Token) → HasRoom depth p → EndsNone depth p → cut_from depth (p ∷ tokens) ≡ in_front_of p (cut_from (depth_past depth p) tokens)
-token_on zero (blank c) tokens room none = refl
-token_on (suc depth) (blank c) tokens room none = refl
 token_on zero line_feed tokens room none = absurd (none refl)
-token_on (suc depth) line_feed tokens room none = refl
-token_on zero opening tokens room none = refl
-token_on (suc depth) opening tokens room none = refl
 token_on zero closing tokens room none = absurd (omega arith)
 token_on (suc depth) closing tokens room none = let e : depth ≡ suc depth - 1 = omega arith in ap (λ d. in_front_of closing (cut_from d tokens)) e
-token_on zero (comment octets) tokens room none = refl
-token_on (suc depth) (comment octets) tokens room none = refl
-token_on zero (bare units) tokens room none = refl
-token_on (suc depth) (bare units) tokens room none = refl
-token_on zero (quoted units) tokens room none = refl
-token_on (suc depth) (quoted units) tokens room none = refl
+token_on depth p tokens room none = refl
 
 no_entry : (depth : ℕ) → cut_from depth [] ≡ record { ended = []; open_tokens = [] }
 no_entry zero = refl
@@ -110,15 +98,12 @@ unclosed_ends depth octets e = cond_both (depth == 0) None (Some UnbalancedParen
 -- the octets ran out
 out_read : (step : Step) (fault : Option Fault) (depth : ℕ) (octets : List ℕ) → RanOut fault step → EndsAt depth octets fault → BreaksAtEnd octets → IsRead step depth octets
 out_read (On at) fault depth octets ran stop left = stop_read (On at) depth octets (subst (EndsAt depth octets) (sym ran) stop) left refl
-out_read Ends fault depth octets ran stop left = absurd ran
-out_read LostEscape fault depth octets ran stop left = absurd ran
-out_read ClosesNothing fault depth octets ran stop left = absurd ran
+out_read step fault depth octets ran stop left = absurd ran
 
 escape_read : (step : Step) (depth : ℕ) (octets after : List ℕ) → EscapeAt step after → IsBroken depth octets BadEscape → (IsCutOff after → BreaksAtEnd octets) → (IsLostEscape after → StaysBroken octets) → IsRead step depth octets
 escape_read (On at) depth octets after open_escape broken at_the_end stays = stop_read (On at) depth octets (subst (EndsAt depth octets) (sym open_escape.0) broken) (at_the_end open_escape.1) refl
 escape_read LostEscape depth octets after open_escape broken at_the_end stays = stop_read LostEscape depth octets broken (stays open_escape) refl
-escape_read Ends depth octets after open_escape broken at_the_end stays = absurd open_escape
-escape_read ClosesNothing depth octets after open_escape broken at_the_end stays = absurd open_escape
+escape_read step depth octets after open_escape broken at_the_end stays = absurd open_escape
 
 token_read : (step : Step) (depth : ℕ) (octets : List ℕ) (p : Token) (rest : List ℕ) → Takes depth octets p rest → EndsNone depth p → IsRead step (depth_past depth p) rest → IsRead step depth octets
 token_read step depth octets p rest front none more = record {

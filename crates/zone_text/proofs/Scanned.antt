@@ -30,9 +30,7 @@ module _ (at : ScanState) (rest b : List ℕ) where
       ap (further 1) (more next e)
       ∙ further_on 1 (length rest) (scan_of at b)
       ∙ (let n : 1 + length rest ≡ suc (length rest) = omega arith in ap (λ m. further m (scan_of at b)) n)
-  go_on_by Ends more e = absurd (let t : ⊥ = cc in t)
-  go_on_by LostEscape more e = absurd (let t : ⊥ = cc in t)
-  go_on_by ClosesNothing more e = absurd (let t : ⊥ = cc in t)
+  go_on_by step more e = absurd (let t : ⊥ = cc in t)
 
 -- a scan that doesn't stop goes on after the octets
 pub step_goes_on : (start at : ScanState) (a b : List ℕ) → (scan_of start a).step ≡ On at → scan_of start (a ++ b) ≡ further (length a) (scan_of at b)
@@ -51,9 +49,7 @@ front_by start c rest (On next) e more =
     ap (λ m. scan_of start (take m (c ∷ rest))) same
     ∙ ap (scan_on (λ s. scan_of s (take n rest))) e
     ∙ ap (further 1) (more next)
-front_by start c rest Ends e more = ap (scan_on (λ s. scan_of s [])) e
-front_by start c rest LostEscape e more = ap (scan_on (λ s. scan_of s [])) e
-front_by start c rest ClosesNothing e more = ap (scan_on (λ s. scan_of s [])) e
+front_by start c rest step e more = ap (scan_on (λ s. scan_of s [])) e
 
 -- the octets that it took give the same answer by themselves
 pub stops_at : (start : ScanState) (octets : List ℕ) → scan_of start (take (scan_of start octets).taken octets) ≡ scan_of start octets
@@ -63,9 +59,7 @@ stops_at start (c ∷ rest) = front_by start c rest (step_of start c) refl (λ n
 
 within_by : (rest : List ℕ) (step : Step) → ((next : ScanState) → (scan_of next rest).taken ≤ length rest) → (scan_on (λ next. scan_of next rest) step).taken ≤ suc (length rest)
 within_by rest (On next) more = omega (arith, more next)
-within_by rest Ends more = omega arith
-within_by rest LostEscape more = omega arith
-within_by rest ClosesNothing more = omega arith
+within_by rest step more = omega arith
 
 pub taken_within : (start : ScanState) (octets : List ℕ) → (scan_of start octets).taken ≤ length octets
 unfolding scan_of
@@ -78,9 +72,7 @@ takes_front start octets = simp length-take (omega (arith, taken_within start oc
 
 depth_by : (start at : ScanState) (c : ℕ) (rest : List ℕ) (step : Step) → step_of start c ≡ step → ((next : ScanState) → (scan_of next rest).step ≡ On at → at.depth ≤ next.depth + length rest) → (scan_on (λ next. scan_of next rest) step).step ≡ On at → at.depth ≤ start.depth + suc (length rest)
 depth_by start at c rest (On next) same more e = omega (arith, more next e, rises start next c same)
-depth_by start at c rest Ends same more e = absurd (let t : ⊥ = cc in t)
-depth_by start at c rest LostEscape same more e = absurd (let t : ⊥ = cc in t)
-depth_by start at c rest ClosesNothing same more e = absurd (let t : ⊥ = cc in t)
+depth_by start at c rest step same more e = absurd (let t : ⊥ = cc in t)
 
 -- each octet opens one parenthesis at the most
 pub unfinished_depth : (start at : ScanState) (octets : List ℕ) → (scan_of start octets).step ≡ On at → at.depth ≤ start.depth + length octets

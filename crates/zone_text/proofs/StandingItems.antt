@@ -4,7 +4,7 @@ use Rattle.std.specs.Prelude.{IfSome}
 use Rattle.std.specs.List.{flat_map, AllByRecursion, join_with_byte}
 use Rattle.std.proofs.lemmas.Bool.{both_ways, not-false}
 use Rattle.std.proofs.lemmas.Bool.Decides.{nat_tests}
-use Rattle.zone_name.specs.Spelling.{Written, plain, escaped, decimal, text_of, IsUnit, written_text}
+use Rattle.zone_name.specs.Spelling.{Written, plain, text_of, IsUnit, written_text}
 use Rattle.zone_name.proofs.Bare.{StandsBare, is_bare, not_bare}
 use Rattle.zone_rdata.specs.Spelling.{RawItem}
 use Rattle.zone_rdata.specs.Spelling as raw
@@ -21,8 +21,7 @@ bare_goes_on c is = grind (arith, nat_tests)
 
 unit_goes_on : (w : Written) → IsUnit not_bare w → IsUnit ends_item w
 unit_goes_on (plain c) is = (bare_goes_on c (not-false (is_bare c) is.0), is.1)
-unit_goes_on (escaped c) is = is
-unit_goes_on (decimal x y z) is = is
+unit_goes_on w is = is
 
 units_go_on : (units : List Written) → AllByRecursion (IsUnit not_bare) units → AllByRecursion (IsUnit ends_item) units
 units_go_on [] each = tt
@@ -94,8 +93,7 @@ bare_begins c is = (grind (arith, nat_tests), λ e. both_ways (is_bare c) (ap is
 
 unit_begins : (w : Written) (rest : List ℕ) → IsUnit not_bare w → IfSome (first_octet (text_of w ++ rest)) BeginsOwner
 unit_begins (plain c) rest is = bare_begins c (not-false (is_bare c) is.0)
-unit_begins (escaped c) rest is = (refl, λ e. omega arith)
-unit_begins (decimal x y z) rest is = (refl, λ e. omega arith)
+unit_begins w rest is = (refl, λ e. omega arith)
 
 units_begin : (units : List Written) (rest : List ℕ) → 0 < length units → AllByRecursion (IsUnit not_bare) units → IfSome (first_octet (written_text units ++ rest)) BeginsOwner
 units_begin [] rest some each = absurd (omega arith)

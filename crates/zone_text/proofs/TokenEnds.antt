@@ -54,8 +54,7 @@ first_at text i less = rw (add-one, drop-cons text i 0) refl
 
 neither : (a b : Bool) → (a || b) ≡ false → (a ≡ false) × (b ≡ false)
 neither false false _ = (refl, refl)
-neither false true none = absurd (both_ways true none refl)
-neither true b none = absurd (both_ways true none refl)
+neither a b none = absurd (both_ways true none refl)
 
 -- an octet that neither ends the item nor is a backslash goes on
 pub plain_on : (ends : ℕ → Bool) (text : List ℕ) (i : ℕ) → i < length text → (ends (get_or text i 0) || get_or text i 0 == 92) ≡ false → Reaches ends text i → Reaches ends text (i + 1)

@@ -45,9 +45,8 @@ ttl_pushed (ttl other ∷ words) text none = absurd (let clash : ⊥ = cc in cla
 ttl_pushed (class other ∷ words) text none = ttl_pushed words text none
 
 pub class_kept : (words : List Word) (text : List ℕ) → class_among (words ++ ttl text ∷ []) ≡ class_among words
-class_kept [] text = refl
 class_kept (ttl other ∷ words) text = class_kept words text
-class_kept (class other ∷ words) text = refl
+class_kept words text = refl
 
 pub class_pushed : (words : List Word) (text : List ℕ) → is_some (class_among words) ≡ false → class_among (words ++ class text ∷ []) ≡ Some text
 class_pushed [] text none = refl
@@ -55,9 +54,8 @@ class_pushed (class other ∷ words) text none = absurd (let clash : ⊥ = cc in
 class_pushed (ttl other ∷ words) text none = class_pushed words text none
 
 pub ttl_kept : (words : List Word) (text : List ℕ) → ttl_among (words ++ class text ∷ []) ≡ ttl_among words
-ttl_kept [] text = refl
 ttl_kept (class other ∷ words) text = ttl_kept words text
-ttl_kept (ttl other ∷ words) text = refl
+ttl_kept words text = refl
 
 abbrev NextHas : List Word → Words → Word → Type 0
 NextHas words next word = HaveValues (words ++ word ∷ []) next

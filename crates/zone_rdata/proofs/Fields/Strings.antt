@@ -140,17 +140,15 @@ front octets (inr none) = inr (none_strings octets none)
 -- ---- the items that spell strings
 each_held : (items : List RawItem) (many : List (List ℕ)) → SpellEachString items many → AllByRecursion IsString many × (length many ≡ length items)
 each_held [] [] h = (tt, refl)
-each_held [] (octets ∷ many) h = absurd h
-each_held (item ∷ items) [] h = absurd h
 each_held (item ∷ items) (octets ∷ many) h = let rest = each_held items many h.1 in ((h.0.string, rest.0), ap suc rest.1)
+each_held items many h = absurd h
 
 each_once : (items : List RawItem) (a b : List (List ℕ)) → SpellEachString items a → SpellEachString items b → a ≡ b
 each_once [] [] [] h k = refl
-each_once [] [] (y ∷ b) h k = absurd k
 each_once [] (x ∷ a) b h k = absurd h
 each_once (item ∷ items) [] b h k = absurd h
-each_once (item ∷ items) (x ∷ a) [] h k = absurd k
 each_once (item ∷ items) (x ∷ a) (y ∷ b) h k = ap (λ z. z ∷ a) (string-once item x y h.0 k.0) ∙ ap (λ z. y ∷ z) (each_once items a b h.1 k.1)
+each_once items a b h k = absurd k
 
 each_never : (items : List RawItem) (many : List (List ℕ)) (fault : Fault) → SpellEachString items many → FirstStringFault items fault → ⊥
 each_never [] many fault h bad = bad

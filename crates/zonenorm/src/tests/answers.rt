@@ -1,4 +1,5 @@
 //! Records of messages (RFC 1035 4.1.3).
+use crate::tests::notation::message_of;
 use crate::tests::{Case, fault_name, first_wrong, judged};
 use std::alloc::Global;
 use std::test::Fail;
@@ -15,28 +16,17 @@ struct Answer(
     Result<(u32, &'static [u8]), &'static str>,
 );
 
-/// A header of three answers, the question for `x.`, which stands at offset 12, and the SOA of `x.`
-/// with `n.x.`, which stands at offset 31, and `h.x.`.
-static FRONT: &[u8] = b"\0\x01\x84\0\0\x01\0\x03\0\0\0\0\x01x\0\0\xfc\0\x01\
-    \xc0\x0c\0\x06\0\x01\0\0\x0e\x10\0\x1c\x01n\xc0\x0c\x01h\xc0\x0c\
-    \0\0\0\x01\0\0\0\x02\0\0\0\x03\0\0\0\x04\0\0\0\x05";
-
-/// The SOA again.
-static BACK: &[u8] = b"\xc0\x0c\0\x06\0\x01\0\0\x0e\x10\0\x18\xc0\x1f\xc0\x23\
-    \0\0\0\x01\0\0\0\x02\0\0\0\x03\0\0\0\x04\0\0\0\x05";
-
 impl Answer {
     /// The message: the SOA, the answer, and the SOA again.
     fn message(&self, alloc: Global) -> Result<Vec<u8>, Fail> {
-        let mut message = Vec::new(alloc);
-        message.extend_from_slice(FRONT)?;
+        let mut message = message_of(alloc, "header 1 8400 1 3 0 0; QUESTION; OPENING")?;
         message.extend_from_slice(b"\xc0\x0c")?;
         message.extend_from_slice(&self.1.to_be_bytes())?;
         message.extend_from_slice(&self.0.to_be_bytes())?;
         message.extend_from_slice(&self.2.to_be_bytes())?;
         message.extend_from_slice(&u16::try_from(self.3.len())?.to_be_bytes())?;
         message.extend_from_slice(self.3)?;
-        message.extend_from_slice(BACK)?;
+        message.extend_from_slice(&message_of(alloc, "CLOSING")?)?;
         Ok(message)
     }
 }

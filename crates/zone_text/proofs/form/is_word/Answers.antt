@@ -5,10 +5,9 @@ use Rattle.zone_rdata.proofs.Words.{same_word}
 use Rattle.zone_text.proofs.form.is_word.Goals as goal
 
 same_test : (a b : Bool) (xs ys : List ℕ) → b ≡ bytes_eq xs ys → (a ≡ true → xs ≡ ys) → (xs ≡ ys → a ≡ true) → a ≡ b
-same_test true true xs ys e there back = refl
 same_test true false xs ys e there back = sym (e ∙ (bytes_eq-Decides xs ys).1 (there refl))
 same_test false true xs ys e there back = back ((bytes_eq-Decides xs ys).0 (sym e))
-same_test false false xs ys e there back = refl
+same_test a b xs ys e there back = refl
 
 pub returns : goal.returns
 returns c =
