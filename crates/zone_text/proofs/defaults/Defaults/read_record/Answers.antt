@@ -29,7 +29,7 @@ returns c origin before entry has =
     let named : Labels → Record = λ owner. record { owner = owner; class = rdata.class; kind = rdata.kind; ttl = c.in-Ok.contents.ttl; octets = rdata.octets } in
     decides_one c.of_parts-rr.result
     (states_record c.lower_laws.ensures origin before entry c.args.self.now reads.head _ _ _ _ _ reads.read (c.of_parts-rr.ensures.value ∙ ap named (c.copy.ensures ∙ sym reads.named)) c.of_parts-rr.ensures.record)
-    (record_left c.lower_laws.ensures origin before entry c.args.self.now (record { origin = c.args.self.now.origin; owner = c.args.self.now.owner; class = c.class.result; default_ttl = c.args.self.now.default_ttl; last_ttl = c.or-self.result; minimum = c.in-Ok.contents.minimum }) reads.head _ _ _ _ c.args.self.now.owner reads.read refl (c.class.ensures ∙ reads.read.class) refl c.or-self.ensures refl (subst (IsOneOrNone (IsLastOwner origin (entry ∷ before))) (sym c.in-Some.is) one.1))
+    (record_left c.lower_laws.ensures origin before entry c.args.self.now (record { origin = c.args.self.now.origin; owner = c.args.self.now.owner; class = c.class-class.result; default_ttl = c.args.self.now.default_ttl; last_ttl = c.or-self.result; minimum = c.in-Ok.contents.minimum }) reads.head _ _ _ _ c.args.self.now.owner reads.read refl (c.class-class.ensures ∙ reads.read.class) refl c.or-self.ensures refl (subst (IsOneOrNone (IsLastOwner origin (entry ∷ before))) (sym c.in-Some.is) one.1))
     c.in_ok-push_back.ensures.items
     refl
 
