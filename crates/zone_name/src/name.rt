@@ -1,4 +1,4 @@
-ghost use Rattle.std.specs.Prelude.{◌≡◌, ◌≤◌, ◌↔◌, List, [], length, IsTrue, IfOk, IfErr, IfSome, Ok, option_copied};
+ghost use Rattle.std.specs.Prelude.{◌≡◌, ◌≤◌, ◌↔◌, List, [], length, IsOk, IsTrue, IfOk, IfErr, IfSome, OnOk, OnErr, Ok, option_copied};
 ghost use Rattle.zone_name.specs.Common.{Octets};
 ghost use Rattle.zone_name.specs.Name.{wire, labels_of, IsName, HoldsName, IsWithin, BeginsWithName};
 ghost use Rattle.zone_name.specs.Spelling.{Spells, FirstFault};
@@ -6,7 +6,7 @@ ghost use Rattle.zone_name.specs.Spelling.{Spells, FirstFault};
 use crate::fault::NameFault;
 use crate::labels::Labels;
 use crate::lent::NameRef;
-use crate::reading::{NameForm, form_of, named};
+use crate::reading::{NameForm, form_of, replace};
 use arrayvec::ArrayVec;
 use std::marker::Model;
 
@@ -48,15 +48,51 @@ impl Name {
             → result ≡ Ok name }
         ensures fault { IfErr result (FirstFault (option_copied origin.entry) text.now) }
     {
+        let mut name = Name::root();
+        name.set_from_text(text, origin)?;
+        Ok(name)
+    }
+
+    /// Becomes the name that the text spells under the origin (RFC 1035 5.1), which is written in
+    /// place. On an error it becomes the root.
+    ///
+    /// # Errors
+    ///
+    /// Those of `from_text`.
+    pub fn set_from_text(&mut self, text: &[u8], origin: Option<&Name>) -> Result<(), NameFault>
+        ensures found { OnOk result (Spells (option_copied origin.entry) text.now self.new) }
+        ensures only { (name : List Octets) → Spells (option_copied origin.entry) text.now name
+            → IsOk result × (self.new ≡ name) }
+        ensures fault { IfErr result (FirstFault (option_copied origin.entry) text.now) }
+        ensures err { OnErr result (self.new ≡ []) }
+    {
         known_origin(origin);
         match form_of(text) {
-            NameForm::Root => Ok(Name::root()),
+            NameForm::Root => {
+                self.hold(b"\0");
+                Ok(())
+            }
             NameForm::Origin => match origin {
-                Some(origin) => Ok(origin.copy()),
-                None => Err(NameFault::RelativeName),
+                Some(origin) => {
+                    self.hold(origin.wire());
+                    Ok(())
+                }
+                None => {
+                    self.hold(b"\0");
+                    Err(NameFault::RelativeName)
+                }
             },
-            NameForm::Labels => named(text, origin),
+            NameForm::Labels => replace(&mut self.octets, text, origin),
         }
+    }
+
+    /// Becomes the name of these octets.
+    fn hold(&mut self, octets: &[u8])
+        requires { HoldsName octets.now }
+        ensures { self.new ≡ labels_of octets.now }
+    {
+        self.octets.clear();
+        let _ = self.octets.try_extend_from_slice(octets);
     }
 
     /// The root of all names: no label (RFC 1035 3.1).

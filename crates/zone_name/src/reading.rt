@@ -1,7 +1,7 @@
-ghost use Rattle.std.specs.Prelude.{◌≡◌, ◌≤◌, ◌<◌, ◌↔◌, ◌++◌, [], ℕ, length, map, slice_index, option_copied};
-ghost use Rattle.std.specs.Prelude.{IsTrue, IfSome, IfOk, IfErr, Ok, Err};
+ghost use Rattle.std.specs.Prelude.{◌≡◌, ◌≤◌, ◌<◌, ◌↔◌, ◌++◌, ◌∷◌, [], ℕ, length, map, slice_index, option_copied};
+ghost use Rattle.std.specs.Prelude.{IsTrue, IfSome, IfOk, IfErr, OnOk, OnErr, Ok, Err};
 ghost use Rattle.zone_name.specs.Common.{Labels};
-ghost use Rattle.zone_name.specs.Name.{HoldsName, IsName, folded_octet, labels_of};
+ghost use Rattle.zone_name.specs.Name.{HoldsName, folded_octet, labels_of};
 ghost use Rattle.zone_name.specs.Spelling.{IsUnit, is_dot, plain};
 ghost use Rattle.zone_name.specs.Machine.LabelWalk.{Collects, reading, under, sized};
 ghost use Rattle.zone_name.specs.Machine.Plain.{WritesLengths};
@@ -302,12 +302,27 @@ fn read_into(
     finish(octets, spelled, origin)
 }
 
-/// The name of a text that is neither `.` nor `@` (RFC 1035 5.1).
-pub(crate) fn named(text: &[u8], origin: Option<&Name>) -> Result<Name, NameFault>
-    ensures value { result ≡ under (option_copied origin.entry) (reading text.now) }
-    ensures name { IfOk result IsName }
+/// Puts the octets of the name of a text that is neither `.` nor `@` in place of those that are
+/// held (RFC 1035 5.1). On an error they are the root's.
+pub(crate) fn replace(
+    octets: &mut ArrayVec<u8, MAX_NAME_LEN>,
+    text: &[u8],
+    origin: Option<&Name>,
+) -> Result<(), NameFault>
+    ensures holds { HoldsName octets.new.items }
+    ensures ok { OnOk result (under (option_copied origin.entry) (reading text.now) ≡ Ok
+        (labels_of octets.new.items)) }
+    ensures err { IfErr result
+        (λ fault. under (option_copied origin.entry) (reading text.now) ≡ Err fault) }
+    ensures root { OnErr result (octets.new.items ≡ 0 ∷ []) }
 {
-    let mut octets = ArrayVec::new();
-    read_into(&mut octets, text, origin)?;
-    Ok(Name::of_octets(octets))
+    octets.clear();
+    match read_into(octets, text, origin) {
+        Ok(()) => Ok(()),
+        Err(fault) => {
+            octets.clear();
+            octets.push(0);
+            Err(fault)
+        }
+    }
 }

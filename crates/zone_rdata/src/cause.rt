@@ -4,7 +4,7 @@ ghost use Rattle.zone_rdata.specs.Cause.{fault_for};
 use crate::fault::Fault;
 use zone_name::NameFault;
 
-/// What words, items, data and messages are refused for, in two octets: a `Fault` has room for a name.
+/// What entries, words, items, data and messages are refused for, in two octets: a `Fault` has room for a name.
 #[derive(Clone, Copy, Debug)]
 pub enum Cause {
     EmptyLabel,
@@ -16,9 +16,15 @@ pub enum Cause {
     UnknownType,
     MetaType,
     BadRdata,
+    BadGeneric,
     StringTooLong,
     RdataTooLong,
     BadNumber,
+    IncludeDirective,
+    UnknownDirective,
+    BadDirective,
+    NoOwner,
+    NoTtl,
     BadTtl,
     ShortMessage,
     NotAResponse,
@@ -55,9 +61,15 @@ impl Cause {
             Cause::UnknownType => Fault::UnknownType,
             Cause::MetaType => Fault::MetaType,
             Cause::BadRdata => Fault::BadRdata,
+            Cause::BadGeneric => Fault::BadGeneric,
             Cause::StringTooLong => Fault::StringTooLong,
             Cause::RdataTooLong => Fault::RdataTooLong,
             Cause::BadNumber => Fault::BadNumber,
+            Cause::IncludeDirective => Fault::IncludeDirective,
+            Cause::UnknownDirective => Fault::UnknownDirective,
+            Cause::BadDirective => Fault::BadDirective,
+            Cause::NoOwner => Fault::NoOwner,
+            Cause::NoTtl => Fault::NoTtl,
             Cause::BadTtl => Fault::BadTtl,
             Cause::ShortMessage => Fault::ShortMessage,
             Cause::NotAResponse => Fault::NotAResponse,

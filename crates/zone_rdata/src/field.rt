@@ -20,7 +20,7 @@ mod time;
 
 use crate::builder::Part;
 use crate::cause::Cause;
-use crate::fault::{Failing, Fault};
+use crate::fault::Fault;
 use crate::item::Item;
 use crate::narrow_failing::NarrowFailing;
 use crate::number::push_decimal;
@@ -98,7 +98,7 @@ impl Field {
         self,
         octets: &'o [u8],
         canonical: &mut Vec<u8>,
-    ) -> Result<&'o [u8], Failing>
+    ) -> Result<&'o [u8], NarrowFailing>
         ensures found { IfOk result (λ rest.
             AppendsValue self octets.now rest.now canonical.old.items canonical.new.items) }
         ensures fault { IfErr result

@@ -7,8 +7,11 @@ ghost use Rattle.zone_rdata.specs.Machine.Appending.{Appends};
 ghost use Rattle.zone_rdata.specs.Machine.GenericLength.{LengthFault};
 ghost use Rattle.zone_rdata.specs.Item.{IsGeneric, raw};
 
-use crate::fault::{Failing, Fault};
+use crate::cause::Cause;
+use crate::fault::Fault;
 use crate::item::Item;
+use crate::narrow_failing::NarrowFailing;
+use crate::narrow_fault::NarrowFault;
 use crate::number::decimal_of;
 use crate::record::LONGEST_DATA;
 use hex::decode_to_slice;
@@ -22,7 +25,7 @@ use std::alloc::Global;
 /// The first of: `BadGeneric` for a length that is missing or no decimal number, `RdataTooLong` for
 /// one over 65,535, and `BadGeneric` for digits that aren't those of so many octets; and `Memory`
 /// where memory is refused.
-pub(crate) fn octets_of_generic(alloc: Global, items: &[Item]) -> Result<Vec<u8>, Failing>
+pub(crate) fn octets_of_generic(alloc: Global, items: &[Item]) -> Result<Vec<u8>, NarrowFailing>
     requires { IsGeneric (map raw items.now) }
     ensures found { IfOk result (λ octets. StatesGeneric (map raw items.now) octets.items) }
     ensures fault { IfErr result (IfFault (GenericFault (map raw items.now))) }
@@ -32,28 +35,28 @@ pub(crate) fn octets_of_generic(alloc: Global, items: &[Item]) -> Result<Vec<u8>
             let len = length_of(*first)?;
             octets_of_digits(alloc, digits, len)
         }
-        _ => Err(Failing::Fault(Fault::BadGeneric)),
+        _ => Err(NarrowFailing::of(Cause::BadGeneric)),
     }
 }
 
 /// The number of octets that an item states.
-fn length_of(item: Item) -> Result<usize, Fault>
+fn length_of(item: Item) -> Result<usize, NarrowFault>
     ensures found { IfOk result (λ n. StatesLength (raw item.entry) n) }
     ensures short { IfOk result (λ n. n ≤ LONGEST_DATA) }
     ensures fault { IfErr result (LengthFault (raw item.entry)) }
 {
     let Item::Bare(text) = item else {
-        return Err(Fault::BadGeneric);
+        return Err(NarrowFault::of(Cause::BadGeneric));
     };
     match decimal_of(text) {
-        None => Err(Fault::BadGeneric),
-        Some(number) if number > LONGEST_DATA as u64 => Err(Fault::RdataTooLong),
+        None => Err(NarrowFault::of(Cause::BadGeneric)),
+        Some(number) if number > LONGEST_DATA as u64 => Err(NarrowFault::of(Cause::RdataTooLong)),
         Some(number) => Ok(number as usize),
     }
 }
 
 /// The octets that the items' digits join to, which are so many.
-fn octets_of_digits(alloc: Global, items: &[Item], len: usize) -> Result<Vec<u8>, Failing>
+fn octets_of_digits(alloc: Global, items: &[Item], len: usize) -> Result<Vec<u8>, NarrowFailing>
     requires { len ≤ LONGEST_DATA }
     ensures found { IfOk result (λ octets. JoinTo (map raw items.now) octets.items) }
     ensures count { IfOk result (λ octets. length octets.items ≡ len) }
@@ -63,21 +66,21 @@ fn octets_of_digits(alloc: Global, items: &[Item], len: usize) -> Result<Vec<u8>
     let mut octets = Vec::with_capacity(alloc, len)?;
     for item in items {
         let Item::Bare(text) = *item else {
-            return Err(Failing::Fault(Fault::BadGeneric));
+            return Err(NarrowFailing::of(Cause::BadGeneric));
         };
         if text.len() / 2 > len - octets.len() {
-            return Err(Failing::Fault(Fault::BadGeneric));
+            return Err(NarrowFailing::of(Cause::BadGeneric));
         }
         push_digits(text, &mut octets)?;
     }
     if octets.len() < len {
-        return Err(Failing::Fault(Fault::BadGeneric));
+        return Err(NarrowFailing::of(Cause::BadGeneric));
     }
     Ok(octets)
 }
 
 /// Appends the octets that hexadecimal digits stand for.
-fn push_digits(text: &[u8], octets: &mut Vec<u8>) -> Result<(), Failing>
+fn push_digits(text: &[u8], octets: &mut Vec<u8>) -> Result<(), NarrowFailing>
     requires few { length octets.old.items ≤ LONGEST_DATA }
     requires fits { length text.now ≤ 131071 }
     ensures found { OnOk result (Appends (λ front. decode_of text.now ≡ Ok front)
@@ -88,5 +91,5 @@ fn push_digits(text: &[u8], octets: &mut Vec<u8>) -> Result<(), Failing>
     let before = octets.len();
     octets.resize(before + text.len() / 2, 0)?;
     let (_, room) = octets.as_mut_slice().split_at_mut(before);
-    decode_to_slice(text, room).map_err(|_| Failing::Fault(Fault::BadGeneric))
+    decode_to_slice(text, room).map_err(|_| NarrowFailing::of(Cause::BadGeneric))
 }

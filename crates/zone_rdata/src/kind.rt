@@ -43,7 +43,7 @@ impl Kind {
         match u16::try_from(number) {
             Ok(0 | 41 | 128..=255) => Err(NarrowFault::of(Cause::MetaType)),
             Ok(number) => Ok(Kind { number }),
-            Err(_) => Err(NarrowFault::unknown_type()),
+            Err(_) => Err(NarrowFault::of(Cause::UnknownType)),
         }
     }
 
@@ -105,7 +105,7 @@ impl Kind {
     {
         match number_of_word(TYPES, b"TYPE", word) {
             Some(number) => Kind::admitted(number),
-            None => Err(NarrowFault::unknown_type()),
+            None => Err(NarrowFault::of(Cause::UnknownType)),
         }
     }
 

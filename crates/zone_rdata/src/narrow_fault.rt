@@ -2,11 +2,13 @@ ghost use Rattle.std.specs.Prelude.{◌≡◌};
 ghost use Rattle.zone_rdata.specs.Cause.{fault_for};
 
 use crate::cause::Cause;
-use crate::fault::{Failing, Fault};
+use crate::fault::Fault;
+use crate::narrow_failing::NarrowFailing;
 use std::marker::Model;
+use zone_name::NameFault;
 
-/// Why a word before a record's data is refused: its TTL, class or type (RFC 1035 5.1). It takes
-/// two octets, where a `Fault` has room for a name. Contracts see the fault.
+/// Why a directive, or a word before a record's data, is refused (RFC 1035 5.1). It takes two
+/// octets, where a `Fault` has room for a name. Contracts see the fault.
 #[derive(Debug, Drop)]
 pub struct NarrowFault {
     cause: Cause,
@@ -23,24 +25,10 @@ impl Model for NarrowFault {
 
 impl NarrowFault {
     /// The fault for the cause.
-    pub(crate) fn of(cause: Cause) -> NarrowFault
+    pub fn of(cause: Cause) -> NarrowFault
         ensures { result ≡ fault_for cause }
     {
         NarrowFault { cause }
-    }
-
-    /// `BadTtl`: a TTL is malformed or over 2147483647 seconds (RFC 2181 8).
-    pub fn bad_ttl() -> NarrowFault
-        ensures { result ≡ Fault.BadTtl }
-    {
-        NarrowFault::of(Cause::BadTtl)
-    }
-
-    /// `UnknownType`: the word of the type is missing or quoted, or is no such word (RFC 3597 5).
-    pub fn unknown_type() -> NarrowFault
-        ensures { result ≡ Fault.UnknownType }
-    {
-        NarrowFault::of(Cause::UnknownType)
     }
 
     /// The fault itself.
@@ -62,12 +50,22 @@ impl From<NarrowFault> for Fault {
     }
 }
 
-impl From<NarrowFault> for Failing {
+impl From<NameFault> for NarrowFault {
+    ghost use Rattle.zone_rdata.specs.Fault.{fault_of};
+
+    ghost from_gives = { λ fault e. e ≡ fault_of fault };
+
+    fn from(fault: NameFault) -> NarrowFault {
+        NarrowFault::of(Cause::from(fault))
+    }
+}
+
+impl From<NarrowFault> for NarrowFailing {
     ghost use Rattle.zone_rdata.specs.declared.fault.Failing.TheVariants as failings;
 
     ghost from_gives = { λ narrow e. e ≡ failings.Fault narrow };
 
-    fn from(narrow: NarrowFault) -> Failing {
-        Failing::Fault(narrow.widened())
+    fn from(narrow: NarrowFault) -> NarrowFailing {
+        NarrowFailing::of(narrow.cause)
     }
 }

@@ -11,6 +11,7 @@ ghost use Rattle.zone_rdata.specs.Spelling.{States, StatesFor, StatesInForm};
 ghost use Rattle.zone_rdata.specs.Text.{data_text};
 ghost use Rattle.zone_rdata.specs.Wire.{IsWireData, IsWireFault};
 
+use crate::cause::Cause;
 use crate::class::Class;
 use crate::fault::{Failing, Fault};
 use crate::generic::octets_of_generic;
@@ -19,6 +20,7 @@ use crate::kind::Kind;
 use crate::laws::items::{data_is_unique, faulty_items_state_none};
 use crate::layout::{Layout, layout_of};
 use crate::minimum::last_number_of;
+use crate::narrow_failing::NarrowFailing;
 use crate::printing::push_data;
 use crate::reading::{are_octets, is_generic, octets_of_items};
 use crate::record::LONGEST_DATA;
@@ -48,7 +50,11 @@ impl Model for Rdata {
 }
 
 /// The canonical octets that items in the generic form state for a layout.
-fn octets_in_form(alloc: Global, layout: Option<Layout>, items: &[Item]) -> Result<Vec<u8>, Failing>
+fn octets_in_form(
+    alloc: Global,
+    layout: Option<Layout>,
+    items: &[Item],
+) -> Result<Vec<u8>, NarrowFailing>
     requires marked { IsGeneric (map raw items.now) }
     requires last { IfSome layout (λ l. StringsLast (fields_of l)) }
     ensures found { IfOk result (λ octets.
@@ -69,7 +75,7 @@ fn octets_for(
     layout: Option<Layout>,
     items: &[Item],
     origin: &Name,
-) -> Result<Vec<u8>, Failing>
+) -> Result<Vec<u8>, NarrowFailing>
     requires { IfSome layout (λ l. StringsLast (fields_of l)) }
     ensures found { IfOk result (λ octets.
         StatesFor origin.now (option_map fields_of layout) (map raw items.now) octets.items) }
@@ -80,8 +86,8 @@ fn octets_for(
         return octets_in_form(alloc, layout, items);
     }
     match layout {
-        Some(layout) => Ok(octets_of_items(alloc, layout, items, origin)?),
-        None => Err(Failing::Fault(Fault::BadGeneric)),
+        Some(layout) => octets_of_items(alloc, layout, items, origin),
+        None => Err(NarrowFailing::of(Cause::BadGeneric)),
     }
 }
 
@@ -100,6 +106,30 @@ impl Rdata {
         items: &[Item],
         origin: &Name,
     ) -> Result<Rdata, Failing>
+        ensures class { IfOk result (λ d. d.class ≡ class) }
+        ensures kind { IfOk result (λ d. d.kind ≡ kind) }
+        ensures found { IfOk result (λ d.
+            States origin.now class kind (map raw items.now) d.octets) }
+        ensures only { (octets : Octets) → States origin.now class kind (map raw items.now) octets
+            → IfOk result (λ d. d.octets ≡ octets) × IfErr result (λ e. e ≡ Failing.Memory) }
+        ensures fault { IfErr result (IfFault
+            (IsDataFault origin.now class kind (map raw items.now))) }
+    {
+        Ok(Rdata::read_items(alloc, class, kind, items, origin)?)
+    }
+
+    /// As `from_items`, with an error of few octets.
+    ///
+    /// # Errors
+    ///
+    /// Those of `from_items`.
+    pub fn read_items(
+        alloc: Global,
+        class: Class,
+        kind: Kind,
+        items: &[Item],
+        origin: &Name,
+    ) -> Result<Rdata, NarrowFailing>
         ensures class { IfOk result (λ d. d.class ≡ class) }
         ensures kind { IfOk result (λ d. d.kind ≡ kind) }
         ensures found { IfOk result (λ d.

@@ -4,8 +4,10 @@ ghost use Rattle.zone_rdata.specs.Layout.{StringsLast, fields_of};
 ghost use Rattle.zone_rdata.specs.Spelling.{IsCanonicalOf};
 ghost use Rattle.zone_rdata.specs.Uncompressed.{IsUncompressed};
 
-use crate::fault::{Failing, Fault};
+use crate::cause::Cause;
+use crate::fault::Fault;
 use crate::layout::Layout;
+use crate::narrow_failing::NarrowFailing;
 use std::alloc::Global;
 
 /// The canonical octets of octets that are one value of a layout, names in any letter case.
@@ -13,7 +15,11 @@ use std::alloc::Global;
 /// # Errors
 ///
 /// `BadRdata` where they aren't; and `Memory` where memory is refused.
-pub(crate) fn canonical_of(alloc: Global, layout: Layout, octets: &[u8]) -> Result<Vec<u8>, Failing>
+pub(crate) fn canonical_of(
+    alloc: Global,
+    layout: Layout,
+    octets: &[u8],
+) -> Result<Vec<u8>, NarrowFailing>
     requires { StringsLast (fields_of layout) }
     ensures found { IfOk result (λ canonical.
         IsUncompressed (fields_of layout) octets.now canonical.items) }
@@ -26,7 +32,7 @@ pub(crate) fn canonical_of(alloc: Global, layout: Layout, octets: &[u8]) -> Resu
         rest = field.push_sent(rest, &mut canonical)?;
     }
     if !rest.is_empty() {
-        return Err(Failing::Fault(Fault::BadRdata));
+        return Err(NarrowFailing::of(Cause::BadRdata));
     }
     Ok(canonical)
 }
@@ -41,7 +47,7 @@ pub(crate) fn canonical_for(
     alloc: Global,
     layout: Option<Layout>,
     octets: &[u8],
-) -> Result<Vec<u8>, Failing>
+) -> Result<Vec<u8>, NarrowFailing>
     requires { IfSome layout (λ l. StringsLast (fields_of l)) }
     ensures found { IfOk result (λ canonical.
         IsCanonicalOf (option_map fields_of layout) octets.now canonical.items) }

@@ -1,21 +1,22 @@
-ghost use Rattle.std.specs.Prelude.{◌≡◌, ℕ, List, [], map, IfErr, OnOk};
+ghost use Rattle.std.specs.Prelude.{◌≡◌, ℕ, List, [], map, Some, IfErr, OnOk};
 ghost use Rattle.std.specs.List.{flat_map};
 ghost use Rattle.zone_name.specs.Common.{Labels};
+ghost use Rattle.zone_name.specs.Spelling.{FirstFault};
 ghost use Rattle.zone_rdata.specs.Item.{raw};
 ghost use Rattle.zone_text.specs.Defaults.{AreDefaults};
 ghost use Rattle.zone_text.specs.Entries.{Entry, entry_of, item_of};
 ghost use Rattle.zone_text.specs.EntryFault.{EntryFault};
 ghost use Rattle.zone_text.specs.Forms.{form_of, owned};
 ghost use Rattle.zone_text.specs.Tokens.{Token, Cuts};
-ghost use Rattle.zone_text.specs.Machine.EntryReading.{DecidesEntry, LeavesNoRecord};
+ghost use Rattle.zone_text.specs.Machine.EntryReading.{DecidesEntry, LeavesNoRecord, SetsOwner};
 ghost use Rattle.zone_text.specs.Machine.Form.{directive_in, form_in};
 ghost use Rattle.zone_text.specs.Machine.Kept.{AreKept};
 
 use crate::form::{Directive, EntryForm, form_of};
 use crate::record::refuse;
 use std::alloc::{AllocError, Global};
-use zone_name::Name;
-use zone_rdata::{Class, Failing, Fault, Item, Place, Reading};
+use zone_name::{Name, NameFault};
+use zone_rdata::{Cause, Class, Item, NarrowFailing, NarrowFault, Place, Reading};
 
 /// What the entries of a master file leave to those after them (RFC 1035 5.1, RFC 2308 4).
 #[derive(Debug, Drop)]
@@ -96,7 +97,7 @@ impl Defaults {
             EntryForm::Blank => Ok(()),
             EntryForm::Directive(directive) => match self.follow(directive) {
                 Ok(()) => Ok(()),
-                Err(fault) => refuse(Failing::Fault(fault), place, decided),
+                Err(fault) => refuse(NarrowFailing::from(fault), place, decided),
             },
             EntryForm::Owned(owner, items) => self.read_owned(alloc, owner, items, place, decided),
             EntryForm::Unowned(items) => self.read_record(alloc, items, place, decided),
@@ -105,7 +106,7 @@ impl Defaults {
 
     /// Follows a directive, which states no record.
     #[inline(never)]
-    fn follow(&mut self, directive: Directive) -> Result<(), Fault>
+    fn follow(&mut self, directive: Directive) -> Result<(), NarrowFault>
         ensures found { (origin : Labels) (before : List Entry) (entry : Entry)
             → AreDefaults origin before self.old → form_of entry ≡ directive_in directive.entry
             → OnOk result (LeavesNoRecord origin before entry self.new) }
@@ -116,8 +117,8 @@ impl Defaults {
         match directive {
             Directive::Origin(items) => self.set_origin(items),
             Directive::Ttl(items) => self.set_default_ttl(items),
-            Directive::Include => Err(Fault::IncludeDirective),
-            Directive::Unknown => Err(Fault::UnknownDirective),
+            Directive::Include => Err(NarrowFault::of(Cause::IncludeDirective)),
+            Directive::Unknown => Err(NarrowFault::of(Cause::UnknownDirective)),
         }
     }
 
@@ -137,12 +138,29 @@ impl Defaults {
             (DecidesEntry origin before entry place decided.old decided.new self.new) }
     {
         let Item::Bare(text) = owner else {
-            return refuse(Failing::Fault(Fault::NoOwner), place, decided);
+            return refuse(NarrowFailing::of(Cause::NoOwner), place, decided);
         };
-        match Name::from_text(text, Some(&self.origin)) {
-            Ok(name) => self.owner = Some(name),
-            Err(fault) => return refuse(Failing::from(fault), place, decided),
+        match self.set_owner(text) {
+            Ok(()) => self.read_record(alloc, items, place, decided),
+            Err(fault) => refuse(NarrowFailing::from(fault), place, decided),
         }
-        self.read_record(alloc, items, place, decided)
+    }
+
+    /// Takes the owner that a text spells, in place of the last one.
+    ///
+    /// # Errors
+    ///
+    /// The faults of the name. The owner then says nothing.
+    fn set_owner(&mut self, text: &[u8]) -> Result<(), NameFault>
+        ensures found { OnOk result (SetsOwner text.now self.old self.new) }
+        ensures fault { IfErr result (FirstFault (Some self.old.origin) text.now) }
+    {
+        match &mut self.owner {
+            Some(owner) => owner.set_from_text(text, Some(&self.origin)),
+            None => {
+                self.owner = Some(Name::from_text(text, Some(&self.origin))?);
+                Ok(())
+            }
+        }
     }
 }

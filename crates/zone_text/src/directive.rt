@@ -9,21 +9,21 @@ ghost use Rattle.zone_text.specs.Machine.EntryReading.{SetsOrigin, SetsTtl, Orig
 use crate::defaults::Defaults;
 use crate::words::{split_bare, ttl_in};
 use zone_name::Name;
-use zone_rdata::{Fault, Item};
+use zone_rdata::{Cause, Fault, Item, NarrowFault};
 
 /// The text of the one item of a directive.
 ///
 /// # Errors
 ///
 /// `BadDirective` where there isn't exactly one item or it is quoted.
-fn one_bare<'t>(items: &[Item<'t>]) -> Result<&'t [u8], Fault>
+fn one_bare<'t>(items: &[Item<'t>]) -> Result<&'t [u8], NarrowFault>
     ensures found { IfOk result (λ text. one_bare (map raw items.now) ≡ Some text.now) }
     ensures fault { IfErr result (λ fault. (fault ≡ Fault.BadDirective)
         × (one_bare (map raw items.now) ≡ None)) }
 {
     match split_bare(items) {
         Some((text, [])) => Ok(text),
-        _ => Err(Fault::BadDirective),
+        _ => Err(NarrowFault::of(Cause::BadDirective)),
     }
 }
 
@@ -33,7 +33,7 @@ impl Defaults {
     /// # Errors
     ///
     /// `BadDirective`, and the faults of the name.
-    pub(crate) fn set_origin(&mut self, items: &[Item]) -> Result<(), Fault>
+    pub(crate) fn set_origin(&mut self, items: &[Item]) -> Result<(), NarrowFault>
         ensures found { OnOk result (SetsOrigin (map raw items.now) self.old self.new) }
         ensures fault { IfErr result
             (OriginFaultUnder self.old.origin (one_bare (map raw items.now))) }
@@ -48,7 +48,7 @@ impl Defaults {
     /// # Errors
     ///
     /// `BadDirective`, and `BadTtl` for a text that is no time or is over 2147483647.
-    pub(crate) fn set_default_ttl(&mut self, items: &[Item]) -> Result<(), Fault>
+    pub(crate) fn set_default_ttl(&mut self, items: &[Item]) -> Result<(), NarrowFault>
         ensures found { OnOk result (SetsTtl (map raw items.now) self.old self.new) }
         ensures fault { IfErr result (DefaultTtlFault (one_bare (map raw items.now))) }
     {

@@ -16,7 +16,8 @@ use crate::laws::entry::lower_laws;
 use crate::words::{split_bare, words_of};
 use std::alloc::{AllocError, Global};
 use zone_rdata::{
-    Class, Failing, Fault, Item, Kind, NarrowFault, Place, Placed, Rdata, Reading, Rr,
+    Cause, Class, Failing, Item, Kind, MAX_TTL, NarrowFailing, NarrowFault, Place, Placed, Rdata,
+    Reading, Rr,
 };
 
 /// What a record states after its owner: the words before its type, its type, and the items of its
@@ -47,14 +48,14 @@ pub(crate) struct Contents {
 #[cold]
 #[inline(never)]
 pub(crate) fn refuse(
-    failing: Failing,
+    failing: NarrowFailing,
     place: Place,
     decided: &mut Reading,
 ) -> Result<(), AllocError>
     ensures decided { OnOk result (Refuses failing place decided.old decided.new) }
     ensures memory { OnErr result (failing ≡ Failing.Memory) }
 {
-    match failing {
+    match Failing::from(failing) {
         Failing::Fault(fault) => {
             decided.ending = Some((fault, place));
             Ok(())
@@ -81,23 +82,22 @@ impl Defaults {
     {
         lower_laws();
         let Some(owner) = &self.owner else {
-            return refuse(Failing::Fault(Fault::NoOwner), place, decided);
+            return refuse(NarrowFailing::of(Cause::NoOwner), place, decided);
         };
-        let owner = owner.copy();
         let contents = match self.contents_of(alloc, items) {
             Ok(contents) => contents,
             Err(failing) => return refuse(failing, place, decided),
         };
-        self.class = contents.rdata.class();
+        if contents.ttl > MAX_TTL {
+            return refuse(NarrowFailing::of(Cause::BadTtl), place, decided);
+        }
+        let class = contents.rdata.class();
+        let rr = Rr::of_parts(owner.copy(), contents.ttl, contents.rdata);
+        decided.placed.push_back(Placed { rr, place })?;
+        self.class = class;
         self.last_ttl = contents.stated_ttl.or(self.last_ttl);
         self.minimum = contents.minimum;
-        match Rr::new(owner, contents.ttl, contents.rdata) {
-            Ok(rr) => {
-                decided.placed.push_back(Placed { rr, place })?;
-                Ok(())
-            }
-            Err(fault) => refuse(Failing::Fault(fault), place, decided),
-        }
+        Ok(())
     }
 
     /// What the items after the owner state or inherit.
@@ -105,7 +105,7 @@ impl Defaults {
     /// # Errors
     ///
     /// The first fault after the owner but `BadTtl` of a TTL that is inherited, and `Memory`.
-    fn contents_of(&self, alloc: Global, items: &[Item]) -> Result<Contents, Failing>
+    fn contents_of(&self, alloc: Global, items: &[Item]) -> Result<Contents, NarrowFailing>
         ensures found { (origin : Labels) (before : List Entry) (entry : Entry) (owner : Labels)
             → IsRecordEntry origin before entry self.now owner (map raw items.now)
             → IfOk result (λ contents. ReadsContents origin before entry self.now owner
@@ -116,11 +116,11 @@ impl Defaults {
     {
         lower_laws();
         let head = self.head_of(items)?;
-        let rdata = Rdata::from_items(alloc, head.class, head.kind, head.rdata, &self.origin)?;
+        let rdata = Rdata::read_items(alloc, head.class, head.kind, head.rdata, &self.origin)?;
         let stated = head.ttl.or(self.default_ttl).or(self.last_ttl);
         let minimum = rdata.soa_minimum().or(self.minimum);
         let Some(ttl) = stated.or(minimum) else {
-            return Err(Failing::Fault(Fault::NoTtl));
+            return Err(NarrowFailing::of(Cause::NoTtl));
         };
         Ok(Contents {
             ttl,
@@ -152,7 +152,7 @@ impl Defaults {
         let (words, count) = words_of(items)?;
         let (_, rest) = items.split_at(count);
         let Some((word, rdata)) = split_bare(rest) else {
-            return Err(NarrowFault::unknown_type());
+            return Err(NarrowFault::of(Cause::UnknownType));
         };
         let kind = Kind::read_word(word)?;
         kind.known();

@@ -7,7 +7,7 @@ ghost use Rattle.zone_text.specs.Forms.{Word, begins_with_digit, parts_after, wo
 ghost use Rattle.zone_text.specs.Inherited.{IsTtl};
 ghost use Rattle.zone_text.specs.Machine.WordValues.{ArePartsOf, HaveValues};
 
-use zone_rdata::{Class, Fault, Item, MAX_TTL, NarrowFault, seconds_of};
+use zone_rdata::{Cause, Class, Fault, Item, MAX_TTL, NarrowFault, seconds_of};
 
 /// The first item's text where the item is bare, and the items after it.
 pub(crate) fn split_bare<'i, 't>(items: &'i [Item<'t>]) -> Option<(&'t [u8], &'i [Item<'t>])>
@@ -41,7 +41,7 @@ pub(crate) fn ttl_in(text: &[u8]) -> Result<u32, NarrowFault>
 {
     match seconds_of(text) {
         Some(seconds) if seconds <= u64::from(MAX_TTL) => Ok(seconds as u32),
-        _ => Err(NarrowFault::bad_ttl()),
+        _ => Err(NarrowFault::of(Cause::BadTtl)),
     }
 }
 

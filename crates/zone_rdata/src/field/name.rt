@@ -8,7 +8,8 @@ ghost use Rattle.zone_rdata.specs.Machine.Appending.{AppendsValue, BeginsWithNon
 ghost use Rattle.zone_rdata.specs.Machine.Fronts.{BeginsWithSent};
 
 use super::Field;
-use crate::fault::{Failing, Fault};
+use crate::cause::Cause;
+use crate::fault::Fault;
 use crate::narrow_failing::NarrowFailing;
 use zone_name::{Name, NameBuilder};
 
@@ -22,7 +23,8 @@ pub(crate) fn push_name(
         (Appends (Spells (Some origin.now) text.now) wire octets.old.items octets.new.items) }
     ensures fault { IfErr result (IfFault (IsNameFault origin.now text.now)) }
 {
-    let name = Name::from_text(text, Some(origin))?;
+    let mut name = Name::root();
+    name.set_from_text(text, Some(origin))?;
     octets.extend_from_slice(name.wire())?;
     Ok(())
 }
@@ -31,14 +33,14 @@ pub(crate) fn push_name(
 pub(crate) fn push_sent_name<'o>(
     octets: &'o [u8],
     canonical: &mut Vec<u8>,
-) -> Result<&'o [u8], Failing>
+) -> Result<&'o [u8], NarrowFailing>
     ensures found { IfOk result (λ rest.
         AppendsValue Field.Name octets.now rest.now canonical.old.items canonical.new.items) }
     ensures fault { IfErr result
         (IfFault (λ f. (f ≡ Fault.BadRdata) × BeginsWithNone Field.Name octets.now)) }
 {
     let Some((name, rest)) = name_at(octets) else {
-        return Err(Failing::Fault(Fault::BadRdata));
+        return Err(NarrowFailing::of(Cause::BadRdata));
     };
     canonical.extend_from_slice(name.wire())?;
     Ok(rest)

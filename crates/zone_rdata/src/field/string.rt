@@ -7,13 +7,15 @@ ghost use Rattle.zone_rdata.specs.Machine.Fronts.{BeginsWithString};
 
 use super::Field;
 use super::prefix::push_prefix;
-use crate::fault::{Failing, Fault};
+use crate::cause::Cause;
+use crate::fault::Fault;
+use crate::narrow_failing::NarrowFailing;
 
 /// Appends the string at the beginning of octets, with its length.
 pub(crate) fn push_sent_string<'o>(
     octets: &'o [u8],
     canonical: &mut Vec<u8>,
-) -> Result<&'o [u8], Failing>
+) -> Result<&'o [u8], NarrowFailing>
     ensures found { IfOk result (λ rest.
         AppendsValue Field.OneString octets.now rest.now canonical.old.items canonical.new.items) }
     ensures fault { IfErr result
@@ -21,7 +23,7 @@ pub(crate) fn push_sent_string<'o>(
 {
     match octets {
         [count, ..] => push_prefix(usize::from(*count) + 1, octets, canonical),
-        [] => Err(Failing::Fault(Fault::BadRdata)),
+        [] => Err(NarrowFailing::of(Cause::BadRdata)),
     }
 }
 

@@ -14,7 +14,7 @@ use super::Field;
 use super::prefix::push_prefix;
 use super::string::split_string;
 use crate::cause::Cause;
-use crate::fault::{Failing, Fault};
+use crate::fault::Fault;
 use crate::item::Item;
 use crate::narrow_failing::NarrowFailing;
 use crate::string::{push_string, push_string_text};
@@ -40,14 +40,14 @@ pub(crate) fn push_strings(items: &[Item], octets: &mut Vec<u8>) -> Result<(), N
 pub(crate) fn push_sent_strings<'o>(
     octets: &'o [u8],
     canonical: &mut Vec<u8>,
-) -> Result<&'o [u8], Failing>
+) -> Result<&'o [u8], NarrowFailing>
     ensures found { IfOk result (λ rest.
         AppendsValue Field.Strings octets.now rest.now canonical.old.items canonical.new.items) }
     ensures fault { IfErr result
         (IfFault (λ f. (f ≡ Fault.BadRdata) × BeginsWithNone Field.Strings octets.now)) }
 {
     if !are_strings(octets) {
-        return Err(Failing::Fault(Fault::BadRdata));
+        return Err(NarrowFailing::of(Cause::BadRdata));
     }
     push_prefix(octets.len(), octets, canonical)
 }

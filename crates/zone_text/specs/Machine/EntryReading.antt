@@ -112,6 +112,12 @@ with_default_ttl seconds d = record {
   minimum = d.minimum;
 }
 
+-- the owner becomes the name that a text spells under the origin
+pub record SetsOwner (text : List ℕ) (d next : Defaults) : Type 0 where
+  pub name : Labels
+  pub spelled : Spells (Some d.origin) text name
+  pub others : next ≡ with_owner (Some name) d
+
 -- `$ORIGIN` has one bare item, the name of which the origin becomes
 pub record SetsOrigin (items : List RawItem) (d next : Defaults) : Type 0 where
   pub text : List ℕ

@@ -6,7 +6,7 @@ use Rattle.zone_rdata.proofs.generic.octets_of_digits.Goals as goal
 
 pub returns-then-text-len-clause-fault : goal.returns-then-text-len-clause-fault
 returns-then-text-len-clause-fault c =
-    (refl, joined_over c.args.items.now c.loop-item.item-index _ _ c.in-Bare.text.now c.loop-item.octets.items c.args.len c.loop-item-test.true refl (ap raw c.in-Bare.is) c.loop-item.invariant.0 c.loop-item.invariant.1 (omega (arith, c.len.ensures, c.if-text-len.true)))
+    rw c.of-then-text-len.ensures (refl, joined_over c.args.items.now c.loop-item.item-index _ _ c.in-Bare.text.now c.loop-item.octets.items c.args.len c.loop-item-test.true refl (ap raw c.in-Bare.is) c.loop-item.invariant.0 c.loop-item.invariant.1 (omega (arith, c.len.ensures, c.if-text-len.true)))
 
 pub returns-in_err-push_digits-clause-fault : goal.returns-in_err-push_digits-clause-fault
 returns-in_err-push_digits-clause-fault c =

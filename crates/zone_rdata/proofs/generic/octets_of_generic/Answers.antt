@@ -13,7 +13,7 @@ returns-in_err-len-in-len2-up-clause-fault c =
     rw (p.1, p.2) (form_faults _ _ _ _ (form_parts c.args.items.now _ c.in-len2-up.len_at_least c.requires) c.in_err-len-in-len2-up.ensures.fault)
 
 pub returns-in_default-clause-fault : goal.returns-in_default-clause-fault
-returns-in_default-clause-fault c = form_missing _ c.requires (omega (arith, c.in_default.len_below, length-map c.args.items.now raw))
+returns-in_default-clause-fault c = rw c.of.ensures (form_missing _ c.requires (omega (arith, c.in_default.len_below, length-map c.args.items.now raw)))
 
 pub returns-in_ok-len-in-len2-up-clause-fault : goal.returns-in_ok-len-in-len2-up-clause-fault
 returns-in_ok-len-in-len2-up-clause-fault c =

@@ -15,7 +15,7 @@ loop-field-preserved c = taken_more _ c.args.octets.now c.loop-field.field-index
 
 pub returns-then-not-is_empty-clause-fault : goal.returns-then-not-is_empty-clause-fault
 returns-then-not-is_empty-clause-fault c =
-    (refl, taken_over _ _ c.args.octets.now c.loop-field.field-index c.loop-field.rest.now c.loop-field.canonical.items c.fields-field-items.ensures c.requires c.loop-field-test.false c.loop-field.invariant (grind (arith, nat_tests, c.is_empty.ensures, c.if-not-is_empty.true)))
+    rw c.of.ensures (refl, taken_over _ _ c.args.octets.now c.loop-field.field-index c.loop-field.rest.now c.loop-field.canonical.items c.fields-field-items.ensures c.requires c.loop-field-test.false c.loop-field.invariant (grind (arith, nat_tests, c.is_empty.ensures, c.if-not-is_empty.true)))
 
 pub returns-clause-found : goal.returns-clause-found
 returns-clause-found c = taken_all _ _ c.args.octets.now c.loop-field.field-index c.loop-field.rest.now _ c.fields-field-items.ensures c.loop-field-test.false c.loop-field.invariant (grind (arith, nat_tests, c.is_empty.ensures, c.if-not-is_empty.false))

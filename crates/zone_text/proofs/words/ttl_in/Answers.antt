@@ -10,7 +10,7 @@ returns-in-Some-clause-found c =
 
 pub returns-in_default-clause-fault : goal.returns-in_default-clause-fault
 returns-in_default-clause-fault c = (
-  c.bad_ttl.ensures,
+  c.of.ensures,
   elim c.in_default.branch [
     | in_default-via-in-Some+else-seconds-from w ↦ time_over _ w.in-Some.seconds w.in-Some.ensures.found (omega arith)
     | in_default-via-in_default w ↦ λ value ttl. w.in_default.ensures.none value ttl.time

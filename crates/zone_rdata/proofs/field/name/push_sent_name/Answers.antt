@@ -3,7 +3,7 @@ use Rattle.zone_rdata.proofs.Fields.Name.{appends_name, none_name}
 use Rattle.zone_rdata.proofs.field.name.push_sent_name.Goals as goal
 
 pub returns-in_default-clause-fault : goal.returns-in_default-clause-fault
-returns-in_default-clause-fault c = (refl, none_name c.args.octets.now c.in_default.ensures.none)
+returns-in_default-clause-fault c = rw c.of.ensures (refl, none_name c.args.octets.now c.in_default.ensures.none)
 
 pub returns-clause-found : goal.returns-clause-found
 returns-clause-found c =

@@ -9,7 +9,7 @@ pub returns-in-Some-clause-err : goal.returns-in-Some-clause-err
 returns-in-Some-clause-err c = IfErr-weaker c.admitted.result _ _ (kind_refused c.args.word.now c.in-Some.number c.in-Some.ensures.found) c.admitted.ensures.err
 
 pub returns-in-None-clause-err : goal.returns-in-None-clause-err
-returns-in-None-clause-err c = rw c.unknown_type.ensures (nameless c.in-None.ensures.none)
+returns-in-None-clause-err c = rw c.of.ensures (nameless c.in-None.ensures.none)
 
 pub returns-in-Some-clause-found : goal.returns-in-Some-clause-found
 returns-in-Some-clause-found c =

@@ -18,8 +18,9 @@ returns-in_err-rdata-clause-fault c origin before entry owner is =
 
 pub returns-in_default-clause-fault : goal.returns-in_default-clause-fault
 returns-in_default-clause-fault c origin before entry owner is =
-    no_ttl c.lower_laws.ensures origin before entry c.args.self.now _ _ _ _
-    (read_to origin before entry c.args.self.now owner _ _ c.in_ok-head.head.ttl c.in_ok-rdata.rdata c.or.result c.or-stated.result c.soa_minimum.result c.or-minimum.result c.or-2.result _ is (c.in_ok-head.ensures.found origin before entry owner is) c.in_ok-rdata.ensures.class c.in_ok-rdata.ensures.kind c.in_ok-rdata.ensures.found c.or.ensures c.or-stated.ensures c.soa_minimum.ensures c.or-minimum.ensures c.or-2.ensures c.in_default.is)
+    rw c.of.ensures
+    (no_ttl c.lower_laws.ensures origin before entry c.args.self.now _ _ _ _
+    (read_to origin before entry c.args.self.now owner _ _ c.in_ok-head.head.ttl c.in_ok-rdata.rdata c.or.result c.or-stated.result c.soa_minimum.result c.or-minimum.result c.or-2.result _ is (c.in_ok-head.ensures.found origin before entry owner is) c.in_ok-rdata.ensures.class c.in_ok-rdata.ensures.kind c.in_ok-rdata.ensures.found c.or.ensures c.or-stated.ensures c.soa_minimum.ensures c.or-minimum.ensures c.or-2.ensures c.in_default.is))
 
 pub returns-clause-found : goal.returns-clause-found
 returns-clause-found c origin before entry owner is = record {

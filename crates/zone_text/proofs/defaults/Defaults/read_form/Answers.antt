@@ -1,11 +1,10 @@
 use Rattle.std.proofs.Common.{ap, ◌∙◌}
-use Rattle.zone_rdata.specs.declared.fault.Failing.TheVariants as failings
 use Rattle.zone_text.specs.Machine.Form.{form_in}
 use Rattle.zone_text.proofs.EntryTaken.{refused_entry}
 use Rattle.zone_text.proofs.defaults.Defaults.read_form.Goals as goal
 
 pub returns-in-Err : goal.returns-in-Err
 returns-in-Err c origin before entry so_far form =
-    refused_entry c.refuse.result origin before entry c.args.place c.args.decided.now c.refuse.new.decided c.follow.new.self (failings.Fault c.in-Err.fault)
-    (c.in-Err.ensures.fault origin before entry so_far (form ∙ ap form_in c.in-Directive.is))
+    refused_entry c.refuse.result origin before entry c.args.place c.args.decided.now c.refuse.new.decided c.follow.new.self c.from.result
+    (rw c.from.ensures (c.in-Err.ensures.fault origin before entry so_far (form ∙ ap form_in c.in-Directive.is)))
     c.refuse.ensures.decided

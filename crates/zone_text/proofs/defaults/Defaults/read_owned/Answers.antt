@@ -1,16 +1,15 @@
-use Rattle.std.proofs.Common.{refl}
+use Rattle.std.proofs.Common.{map, refl, subst, sym}
 use Rattle.zone_rdata.specs.Item.{raw}
-use Rattle.zone_rdata.specs.declared.fault.Failing.TheVariants as failings
-use Rattle.zone_rdata.specs.declared.fault.Fault.TheVariants.{NoOwner}
 use Rattle.zone_text.specs.EntryFault.{of_owner}
+use Rattle.zone_text.specs.Machine.EntryReading.{HasOwnerOrNone}
 use Rattle.zone_text.proofs.EntryTaken.{refused_entry}
 use Rattle.zone_text.proofs.RecordsRead.{has_stated_owner}
 use Rattle.zone_text.proofs.defaults.Defaults.read_owned.Goals as goal
 
 pub returns-in_default : goal.returns-in_default
 returns-in_default c origin before entry so_far form =
-    refused_entry c.refuse.result origin before entry c.args.place c.args.decided.now c.refuse.new.decided _ (failings.Fault NoOwner)
-    (of_owner (rw (form, c.in_default.is) refl))
+    refused_entry c.refuse.result origin before entry c.args.place c.args.decided.now c.refuse.new.decided _ c.of.result
+    (rw c.of.ensures (of_owner (rw (form, c.in_default.is) refl)))
     c.refuse.ensures.decided
 
 pub returns-in-Err : goal.returns-in-Err
@@ -19,7 +18,9 @@ returns-in-Err c origin before entry so_far form =
     (rw c.from.ensures (of_owner (rw (form, c.in-Bare.is) (c.args.self.now.origin, (so_far.under, (c.in-Err.fault, c.in-Err.ensures.fault, refl))))))
     c.refuse-in-Err.ensures.decided
 
-pub returns : goal.returns
-returns c origin before entry so_far form =
+pub returns-in-Ok : goal.returns-in-Ok
+returns-in-Ok c origin before entry so_far form =
+    let sets = c.in-Ok.ensures.found in
     c.read_record.ensures origin before entry
-    (has_stated_owner origin before entry c.args.self.now c.in-Ok.name (raw c.args.owner) _ form so_far (rw c.in-Bare.is (c.args.self.now.origin, (so_far.under, c.in-Ok.ensures.found))))
+    (subst (λ d. HasOwnerOrNone origin before entry d (map raw c.args.items.now)) (sym sets.others)
+    (has_stated_owner origin before entry c.args.self.now sets.name (raw c.args.owner) _ form so_far (rw c.in-Bare.is (c.args.self.now.origin, (so_far.under, sets.spelled)))))
