@@ -1,8 +1,8 @@
 ghost use Rattle.std.specs.Prelude.{◌≡◌, ◌↔◌, IsTrue};
-ghost use Rattle.zone_set.specs.View.{record_of};
+ghost use Rattle.zone_rdata.specs.Lent.{record_of};
 
-use crate::rr::RrRef;
 use zone_name::NameRef;
+use zone_rdata::RrRef;
 
 impl<'z> RrRef<'z> {
     /// Whether the other has the same owner, class, type, TTL and data.
