@@ -63,9 +63,10 @@ fn octets_in_form(alloc: Global, layout: Option<Layout>, items: &[Item]) -> Resu
     }
 }
 
-/// The canonical octets that items state for a layout, in words or in the generic form.
+/// The canonical octets that items state for a layout, in words or in the generic form. Those that
+/// words state are in the memory of a buffer.
 fn octets_for(
-    alloc: Global,
+    buffer: Vec<u8>,
     layout: Option<Layout>,
     items: &[Item],
     origin: &Name,
@@ -77,10 +78,10 @@ fn octets_for(
         (IsFaultFor origin.now (option_map fields_of layout) (map raw items.now))) }
 {
     if is_generic(items) {
-        return octets_in_form(alloc, layout, items);
+        return octets_in_form(*buffer.allocator(), layout, items);
     }
     match layout {
-        Some(layout) => Ok(octets_of_items(alloc, layout, items, origin)?),
+        Some(layout) => Ok(octets_of_items(buffer, layout, items, origin)?),
         None => Err(Failing::Fault(Fault::BadGeneric)),
     }
 }
@@ -109,9 +110,34 @@ impl Rdata {
         ensures fault { IfErr result (IfFault
             (IsDataFault origin.now class kind (map raw items.now))) }
     {
+        Rdata::read_items(Vec::new(alloc), class, kind, items, origin)
+    }
+
+    /// As `from_items`, in the memory of a buffer where the items are words. The octets of the
+    /// buffer go.
+    ///
+    /// # Errors
+    ///
+    /// Those of `from_items`.
+    pub fn read_items(
+        buffer: Vec<u8>,
+        class: Class,
+        kind: Kind,
+        items: &[Item],
+        origin: &Name,
+    ) -> Result<Rdata, Failing>
+        ensures class { IfOk result (λ d. d.class ≡ class) }
+        ensures kind { IfOk result (λ d. d.kind ≡ kind) }
+        ensures found { IfOk result (λ d.
+            States origin.now class kind (map raw items.now) d.octets) }
+        ensures only { (octets : Octets) → States origin.now class kind (map raw items.now) octets
+            → IfOk result (λ d. d.octets ≡ octets) × IfErr result (λ e. e ≡ Failing.Memory) }
+        ensures fault { IfErr result (IfFault
+            (IsDataFault origin.now class kind (map raw items.now))) }
+    {
         data_is_unique();
         faulty_items_state_none();
-        let octets = octets_for(alloc, layout_of(class, kind), items, origin)?;
+        let octets = octets_for(buffer, layout_of(class, kind), items, origin)?;
         are_octets(&octets);
         Ok(Rdata {
             class,
@@ -183,6 +209,13 @@ impl Rdata {
         ensures { result.now ≡ self.now.octets }
     {
         self.octets.as_slice()
+    }
+
+    /// The canonical octets, in their memory.
+    pub(crate) fn into_octets(self) -> Vec<u8>
+        ensures { result.items ≡ self.octets }
+    {
+        self.octets
     }
 
     /// What holds of all data.

@@ -16,7 +16,7 @@ use crate::laws::entry::lower_laws;
 use crate::words::{split_bare, words_of};
 use std::alloc::{AllocError, Global};
 use zone_rdata::{
-    Class, Failing, Fault, Item, Kind, NarrowFault, Place, Placed, Rdata, Reading, Rr,
+    Class, Failing, Fault, Item, Kind, MAX_TTL, NarrowFault, PendingRecords, Place, Rdata,
 };
 
 /// What a record states after its owner: the words before its type, its type, and the items of its
@@ -49,7 +49,7 @@ pub(crate) struct Contents {
 pub(crate) fn refuse(
     failing: Failing,
     place: Place,
-    decided: &mut Reading,
+    decided: &mut PendingRecords,
 ) -> Result<(), AllocError>
     ensures decided { OnOk result (Refuses failing place decided.old decided.new) }
     ensures memory { OnErr result (failing ≡ Failing.Memory) }
@@ -72,7 +72,7 @@ impl Defaults {
         alloc: Global,
         items: &[Item],
         place: Place,
-        decided: &mut Reading,
+        decided: &mut PendingRecords,
     ) -> Result<(), AllocError>
         ensures { (origin : Labels) (before : List Entry) (entry : Entry)
             → HasOwnerOrNone origin before entry self.old (map raw items.now)
@@ -83,29 +83,30 @@ impl Defaults {
         let Some(owner) = &self.owner else {
             return refuse(Failing::Fault(Fault::NoOwner), place, decided);
         };
-        let owner = owner.copy();
-        let contents = match self.contents_of(alloc, items) {
+        let buffer = decided.placed.buffer(alloc);
+        let contents = match self.contents_of(buffer, items) {
             Ok(contents) => contents,
             Err(failing) => return refuse(failing, place, decided),
         };
-        self.class = contents.rdata.class();
+        if contents.ttl > MAX_TTL {
+            return refuse(Failing::Fault(Fault::BadTtl), place, decided);
+        }
+        let class = contents.rdata.class();
+        decided
+            .placed
+            .push(owner, contents.ttl, contents.rdata, place)?;
+        self.class = class;
         self.last_ttl = contents.stated_ttl.or(self.last_ttl);
         self.minimum = contents.minimum;
-        match Rr::new(owner, contents.ttl, contents.rdata) {
-            Ok(rr) => {
-                decided.placed.push_back(Placed { rr, place })?;
-                Ok(())
-            }
-            Err(fault) => refuse(Failing::Fault(fault), place, decided),
-        }
+        Ok(())
     }
 
-    /// What the items after the owner state or inherit.
+    /// What the items after the owner state or inherit. The data is in the memory of a buffer.
     ///
     /// # Errors
     ///
     /// The first fault after the owner but `BadTtl` of a TTL that is inherited, and `Memory`.
-    fn contents_of(&self, alloc: Global, items: &[Item]) -> Result<Contents, Failing>
+    fn contents_of(&self, buffer: Vec<u8>, items: &[Item]) -> Result<Contents, Failing>
         ensures found { (origin : Labels) (before : List Entry) (entry : Entry) (owner : Labels)
             → IsRecordEntry origin before entry self.now owner (map raw items.now)
             → IfOk result (λ contents. ReadsContents origin before entry self.now owner
@@ -116,7 +117,7 @@ impl Defaults {
     {
         lower_laws();
         let head = self.head_of(items)?;
-        let rdata = Rdata::from_items(alloc, head.class, head.kind, head.rdata, &self.origin)?;
+        let rdata = Rdata::read_items(buffer, head.class, head.kind, head.rdata, &self.origin)?;
         let stated = head.ttl.or(self.default_ttl).or(self.last_ttl);
         let minimum = rdata.soa_minimum().or(self.minimum);
         let Some(ttl) = stated.or(minimum) else {

@@ -3,7 +3,7 @@ use Rattle.std.proofs.Common.{◌<◌, true, false, inl, inr, ◌≡◌, refl, s
 use Rattle.zone_name.specs.Common.{Labels}
 use Rattle.zone_rdata.specs.Record.{Record}
 use Rattle.zone_rdata.specs.declared.fault.Failing.TheVariants as failings
-use Rattle.zone_rdata.specs.declared.fault.Fault.TheVariants.{NoOwner}
+use Rattle.zone_rdata.specs.declared.fault.Fault.TheVariants.{BadTtl, NoOwner}
 use Rattle.zone_text.specs.Defaults.{IsOneOrNone}
 use Rattle.zone_text.specs.Inherited.{IsLastOwner}
 use Rattle.zone_text.specs.Machine.EntryReading.{decides_one}
@@ -22,25 +22,24 @@ returns-in-Err c origin before entry has =
     let one = one_owner origin before entry c.args.self.now _ _ has c.in-Some.is in
     refused_entry c.refuse-in-Err.result origin before entry c.args.place c.args.decided.now c.refuse-in-Err.new.decided _ c.in-Err.failing
     (c.in-Err.ensures.fault origin before entry _ one.0)
-    c.refuse-in-Err.ensures.decided
+    (rw c.buffer-buffer.ensures at c.refuse-in-Err.ensures.decided)
 
-pub returns-in_ok-push_back-in-Ok-new : goal.returns-in_ok-push_back-in-Ok-new
-returns-in_ok-push_back-in-Ok-new c origin before entry has =
+pub returns : goal.returns
+returns c origin before entry has =
     let one = one_owner origin before entry c.args.self.now _ _ has c.in-Some.is in
     let reads = c.in-Ok.ensures.found origin before entry _ one.0 in
     let rdata = c.in-Ok.contents.rdata in
     let named : Labels → Record = λ owner. record { owner = owner; class = rdata.class; kind = rdata.kind; ttl = c.in-Ok.contents.ttl; octets = rdata.octets } in
-    decides_one c.in-Ok-new.rr
-    (states_record c.lower_laws.ensures origin before entry c.args.self.now reads.head _ _ _ _ _ reads.read (c.in-Ok-new.ensures.value ∙ ap named (c.copy-owner.ensures ∙ sym reads.named)) c.in-Ok-new.ensures.record)
-    (record_left c.lower_laws.ensures origin before entry c.args.self.now (record { origin = c.args.self.now.origin; owner = c.args.self.now.owner; class = c.class-self.result; default_ttl = c.args.self.now.default_ttl; last_ttl = c.or-self.result; minimum = c.in-Ok.contents.minimum }) reads.head _ _ _ _ c.args.self.now.owner reads.read refl (c.class-self.ensures ∙ reads.read.class) refl c.or-self.ensures refl (subst (IsOneOrNone (IsLastOwner origin (entry ∷ before))) (sym c.in-Some.is) one.1))
-    c.in_ok-push_back-in-Ok-new.ensures.items
+    decides_one (named c.in-Some.owner)
+    (states_record c.lower_laws.ensures origin before entry c.args.self.now reads.head _ _ _ _ _ reads.read (ap named (sym reads.named)) c.in_ok-push.ensures.record)
+    (record_left c.lower_laws.ensures origin before entry c.args.self.now (record { origin = c.args.self.now.origin; owner = c.args.self.now.owner; class = c.class-class.result; default_ttl = c.args.self.now.default_ttl; last_ttl = c.or-self.result; minimum = c.in-Ok.contents.minimum }) reads.head _ _ _ _ c.args.self.now.owner reads.read refl (c.class-class.ensures ∙ reads.read.class) refl c.or-self.ensures refl (subst (IsOneOrNone (IsLastOwner origin (entry ∷ before))) (sym c.in-Some.is) one.1))
+    (rw c.buffer-buffer.ensures at c.in_ok-push.ensures.appended)
     refl
 
-pub returns-in-Err-new : goal.returns-in-Err-new
-returns-in-Err-new c origin before entry has =
+pub returns-then-contents-gt-MAX_TTL : goal.returns-then-contents-gt-MAX_TTL
+returns-then-contents-gt-MAX_TTL c origin before entry has =
     let one = one_owner origin before entry c.args.self.now _ _ has c.in-Some.is in
     let reads = c.in-Ok.ensures.found origin before entry _ one.0 in
-    let over : 2147483647 < c.in-Ok.contents.ttl = elim (cases_lt 2147483647 c.in-Ok.contents.ttl) [ inl more ↦ more | inr few ↦ absurd (let clash : false ≡ true = c.in-Err-new.ensures.ok.1 few in let never : ⊥ = cc in never) ] in
-    refused_entry c.refuse-in-Err-new.result origin before entry c.args.place c.args.decided.now c.refuse-in-Err-new.new.decided _ (failings.Fault c.in-Err-new.fault)
-    (rw c.in-Err-new.ensures.err (long_ttl c.lower_laws.ensures origin before entry c.args.self.now reads.head _ _ _ _ reads.read over))
-    c.refuse-in-Err-new.ensures.decided
+    refused_entry c.refuse-then-contents-gt-MAX_TTL.result origin before entry c.args.place c.args.decided.now c.refuse-then-contents-gt-MAX_TTL.new.decided _ (failings.Fault BadTtl)
+    (long_ttl c.lower_laws.ensures origin before entry c.args.self.now reads.head _ _ _ _ reads.read c.if-contents-gt-MAX_TTL.true)
+    (rw c.buffer-buffer.ensures at c.refuse-then-contents-gt-MAX_TTL.ensures.decided)

@@ -2,7 +2,7 @@ use Rattle.std.proofs.Common.{subst}
 use Rattle.zone_name.specs.Common.{AreOctets}
 use Rattle.zone_rdata.proofs.StatedOctets.{stated_data, states_for, first_for}
 use Rattle.zone_rdata.proofs.Forms.{only_memory}
-use Rattle.zone_rdata.proofs.rdata.Rdata.from_items.Goals as goal
+use Rattle.zone_rdata.proofs.rdata.Rdata.read_items.Goals as goal
 
 pub invariant_of-result : goal.invariant_of-result
 invariant_of-result c = record {
