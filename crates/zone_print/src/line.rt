@@ -3,7 +3,7 @@ ghost use Rattle.zone_print.specs.Canonical.{canon, line};
 ghost use Rattle.zone_print.specs.Machine.Middle.{line_middle};
 ghost use Rattle.zone_rdata.specs.Record.{data_of};
 ghost use Rattle.zone_rdata.specs.Text.{data_text};
-ghost use Rattle.zone_set.specs.View.{record_of};
+ghost use Rattle.zone_rdata.specs.Lent.{record_of};
 
 use itoa::Buffer;
 use zone_name::Sink;

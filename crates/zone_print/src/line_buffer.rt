@@ -2,7 +2,7 @@ ghost use Rattle.std.specs.Prelude.{◌≡◌, [], ◌++◌, length, IfOk, IfSom
 ghost use Rattle.zone_name.specs.Text.{name_text};
 ghost use Rattle.zone_print.specs.Canonical.{line};
 ghost use Rattle.zone_print.specs.Machine.Middle.{line_middle};
-ghost use Rattle.zone_set.specs.View.{record_of};
+ghost use Rattle.zone_rdata.specs.Lent.{record_of};
 
 use crate::line::{push_data, push_middle};
 use std::alloc::{AllocError, Global};
@@ -25,7 +25,7 @@ impl<'z> Model for LineBuffer<'z> {
     ghost use Rattle.std.specs.Prelude.{◌≡◌, List, ℕ, IfSome};
     ghost use Rattle.zone_name.specs.Text.{name_text};
     ghost use Rattle.zone_print.specs.Machine.Middle.{line_middle};
-    ghost use Rattle.zone_set.specs.View.{record_of};
+    ghost use Rattle.zone_rdata.specs.Lent.{record_of};
 
     ghost Value = { List ℕ };
 

@@ -12,6 +12,7 @@ pub mod Table
 pub mod Layout
 pub mod Words
 pub mod Record
+pub mod Lent
 pub mod Minimum
 pub mod Order
 pub mod Spelling

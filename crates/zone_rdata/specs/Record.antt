@@ -28,6 +28,11 @@ pub record Record : Type 0 where
 abbrev pub data_of : Record → Data
 data_of r = record { class = r.class; kind = r.kind; octets = r.octets }
 
+-- the record of an owner, a TTL in seconds and data
+abbrev pub record_with : List (List ℕ) → ℕ → Data → Record
+record_with owner ttl d =
+    record { owner = owner; class = d.class; kind = d.kind; ttl = ttl; octets = d.octets }
+
 -- a record that can stand in a zone (RFC 2181 8: a TTL has 31 bits)
 pub record IsRecord (r : Record) : Type 0 where
   pub owner : IsName r.owner

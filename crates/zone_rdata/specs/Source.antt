@@ -37,3 +37,11 @@ abbrev pub after : Pending → Pending
 after pending =
     elim pending.failed
     [ true ↦ pending | false ↦ record pending { records = others pending.records } ]
+
+-- the first record still to come, where the source hasn't failed
+abbrev pub first_record : List Placed → Option Placed
+first_record [] = None
+first_record (r ∷ records) = Some r
+
+abbrev pub first_of : Pending → Option Placed
+first_of pending = elim pending.failed [ true ↦ None | false ↦ first_record pending.records ]

@@ -67,13 +67,23 @@ impl RdataBuilder {
     pub fn new(alloc: Global, class: Class, kind: Kind) -> RdataBuilder
         ensures { result ≡ record { class = class; kind = kind; parts = [] } }
     {
+        RdataBuilder::in_buffer(Vec::new(alloc), class, kind)
+    }
+
+    /// Data of a class and type, without a part yet, in the memory of a buffer. The octets of the
+    /// buffer go.
+    pub fn in_buffer(buffer: Vec<u8>, class: Class, kind: Kind) -> RdataBuilder
+        ensures { result ≡ record { class = class; kind = kind; parts = [] } }
+    {
         class.known();
         kind.known();
+        let mut octets = buffer;
+        octets.clear();
         RdataBuilder {
             class,
             kind,
             count: 0,
-            octets: Vec::new(alloc),
+            octets,
         }
     }
 

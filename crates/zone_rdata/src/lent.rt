@@ -4,11 +4,12 @@ ghost use Rattle.zone_rdata.specs.Record.{Data, IsRdata};
 ghost use Rattle.zone_rdata.specs.Text.{data_text};
 
 use crate::class::Class;
+use crate::fault::Place;
 use crate::kind::Kind;
 use crate::layout::layout_of;
 use crate::printing::push_data;
 use std::marker::Model;
-use zone_name::Sink;
+use zone_name::{NameRef, Sink};
 
 /// The data of a record in borrowed octets: class, type and canonical octets (RFC 1035 3.2.1).
 /// Contracts see these three.
@@ -61,4 +62,30 @@ impl<'a> RdataRef<'a> {
     {
         push_data(layout_of(self.class, self.kind), self.octets, out)
     }
+}
+
+/// A borrowed record (RFC 1035 3.2.1).
+#[derive(Drop)]
+pub struct RrRef<'a> {
+    /// The name at which the record stands.
+    pub owner: NameRef<'a>,
+    /// The class, which is that of the data.
+    pub class: Class,
+    /// The type, which is that of the data.
+    pub kind: Kind,
+    /// The TTL in seconds, at most 2147483647.
+    pub ttl: u32,
+    /// The data, with its class and type.
+    pub rdata: RdataRef<'a>,
+    pub ghost same_class: { rdata.class ≡ class },
+    pub ghost same_kind: { rdata.kind ≡ kind },
+}
+
+/// A borrowed record and where it was stated.
+#[derive(Drop)]
+pub struct PlacedRef<'a> {
+    /// The record.
+    pub rr: RrRef<'a>,
+    /// Where the input states it.
+    pub place: Place,
 }

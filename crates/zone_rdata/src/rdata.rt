@@ -69,9 +69,10 @@ fn octets_in_form(
     }
 }
 
-/// The canonical octets that items state for a layout, in words or in the generic form.
+/// The canonical octets that items state for a layout, in words or in the generic form. Those that
+/// words state are in the memory of a buffer.
 fn octets_for(
-    alloc: Global,
+    buffer: Vec<u8>,
     layout: Option<Layout>,
     items: &[Item],
     origin: &Name,
@@ -83,10 +84,10 @@ fn octets_for(
         (IsFaultFor origin.now (option_map fields_of layout) (map raw items.now))) }
 {
     if is_generic(items) {
-        return octets_in_form(alloc, layout, items);
+        return octets_in_form(*buffer.allocator(), layout, items);
     }
     match layout {
-        Some(layout) => octets_of_items(alloc, layout, items, origin),
+        Some(layout) => octets_of_items(buffer, layout, items, origin),
         None => Err(NarrowFailing::of(Cause::BadGeneric)),
     }
 }
@@ -115,16 +116,17 @@ impl Rdata {
         ensures fault { IfErr result (IfFault
             (IsDataFault origin.now class kind (map raw items.now))) }
     {
-        Ok(Rdata::read_items(alloc, class, kind, items, origin)?)
+        Ok(Rdata::read_items(Vec::new(alloc), class, kind, items, origin)?)
     }
 
-    /// As `from_items`, with an error of few octets.
+    /// As `from_items`, with an error of few octets, and in the memory of a buffer where the items
+    /// are words. The octets of the buffer go.
     ///
     /// # Errors
     ///
     /// Those of `from_items`.
     pub fn read_items(
-        alloc: Global,
+        buffer: Vec<u8>,
         class: Class,
         kind: Kind,
         items: &[Item],
@@ -141,7 +143,7 @@ impl Rdata {
     {
         data_is_unique();
         faulty_items_state_none();
-        let octets = octets_for(alloc, layout_of(class, kind), items, origin)?;
+        let octets = octets_for(buffer, layout_of(class, kind), items, origin)?;
         are_octets(&octets);
         Ok(Rdata {
             class,
@@ -213,6 +215,13 @@ impl Rdata {
         ensures { result.now ≡ self.now.octets }
     {
         self.octets.as_slice()
+    }
+
+    /// The canonical octets, in their memory.
+    pub(crate) fn into_octets(self) -> Vec<u8>
+        ensures { result.items ≡ self.octets }
+    {
+        self.octets
     }
 
     /// What holds of all data.

@@ -12,7 +12,6 @@ use crate::item::Item;
 use crate::layout::Layout;
 use crate::narrow_failing::NarrowFailing;
 use crate::record::LONGEST_DATA;
-use std::alloc::Global;
 use zone_name::Name;
 
 /// That octets are below 256.
@@ -32,9 +31,9 @@ pub(crate) fn is_generic(items: &[Item]) -> bool
     }
 }
 
-/// The octets of the values that the items spell, field by field.
+/// The octets of the values that the items spell, field by field, in the memory of a buffer.
 pub(crate) fn octets_of_items(
-    alloc: Global,
+    buffer: Vec<u8>,
     layout: Layout,
     items: &[Item],
     origin: &Name,
@@ -45,7 +44,8 @@ pub(crate) fn octets_of_items(
     ensures fault { IfErr result (IfFault
         (IsWordsFault origin.now (fields_of layout) (map raw items.now))) }
 {
-    let mut octets = Vec::new(alloc);
+    let mut octets = buffer;
+    octets.clear();
     let mut place = 0;
     for field in layout.fields() {
         place += field.push_items(&items[place..], origin, &mut octets)?;

@@ -1,12 +1,14 @@
 ghost use Rattle.std.specs.Prelude.{◌≡◌, ◌<◌, ◌≤◌, ◌↔◌, IfOk, IfErr, IsOk, Err};
+ghost use Rattle.zone_rdata.specs.Lent.{placed_of, record_of};
 ghost use Rattle.zone_rdata.specs.Record.{Record, IsRecord, data_of};
 
 use crate::class::Class;
 use crate::fault::{Fault, Place};
 use crate::kind::Kind;
+use crate::lent::{PlacedRef, RdataRef, RrRef};
 use crate::rdata::Rdata;
 use std::marker::Model;
-use zone_name::Name;
+use zone_name::{Name, NameRef};
 
 /// The greatest TTL, in seconds (RFC 2181 8).
 pub const MAX_TTL: u32 = 2147483647;
@@ -130,6 +132,23 @@ impl Rr {
         &self.rdata
     }
 
+    /// The record, borrowed.
+    pub fn lend(&self) -> RrRef<'_>
+        ensures record { record_of result ≡ self.now }
+        ensures whole { IsRecord self.now }
+    {
+        self.owner.known();
+        self.rdata.known();
+        let (class, kind) = (self.class(), self.kind());
+        RrRef {
+            owner: NameRef::of_wire(self.owner.wire()),
+            class,
+            kind,
+            ttl: self.ttl(),
+            rdata: RdataRef::of_octets(class, kind, self.rdata.octets()),
+        }
+    }
+
     /// The owner, the TTL in seconds and the data.
     pub fn into_parts(self) -> (Name, u32, Rdata)
         ensures owner { result.0 ≡ self.owner }
@@ -139,5 +158,17 @@ impl Rr {
     {
         let Rr { owner, ttl, rdata } = self;
         (owner, ttl, rdata)
+    }
+}
+
+impl Placed {
+    /// The record and its place, borrowed.
+    pub fn lend(&self) -> PlacedRef<'_>
+        ensures { placed_of result ≡ self.now }
+    {
+        PlacedRef {
+            rr: self.rr.lend(),
+            place: self.place,
+        }
     }
 }

@@ -1,7 +1,9 @@
-ghost use Rattle.std.specs.Prelude.{◌≡◌, false};
-ghost use Rattle.zone_rdata.specs.Source.{Pending, answer_of, after};
+ghost use Rattle.std.specs.Prelude.{◌≡◌, false, option_map};
+ghost use Rattle.zone_rdata.specs.Lent.{placed_of};
+ghost use Rattle.zone_rdata.specs.Source.{Pending, answer_of, after, first_of};
 
 use crate::fault::{Fault, Place, Stop};
+use crate::lent::PlacedRef;
 use crate::record::Placed;
 use std::collections::VecDeque;
 
@@ -25,6 +27,18 @@ pub trait RrSource {
         ensures answer { result ≡ answer_of (pending self.old) }
         ensures left { pending self.new ≡ after (pending self.old) }
         ensures beside { beside self.new ≡ beside self.old };
+}
+
+/// A source that lends its records, so that they need not be moved.
+pub trait LendingSource: RrSource {
+    /// The first record still to come, borrowed. `None`: there is none, or the source has failed.
+    fn first(&self) -> Option<PlacedRef<'_>>
+        ensures { option_map placed_of result ≡ first_of (Self.pending self.now) };
+
+    /// Drops the first record still to come, if there is one.
+    fn skip(&mut self)
+        ensures left { Self.pending self.new ≡ after (Self.pending self.old) }
+        ensures beside { Self.beside self.new ≡ Self.beside self.old };
 }
 
 /// The records of a whole input up to its first fault, and that fault.
@@ -51,5 +65,15 @@ impl RrSource for Reading {
             None => Ok(None),
             Some((fault, place)) => Err(Stop::Refused(fault.copy(), *place)),
         }
+    }
+}
+
+impl LendingSource for Reading {
+    fn first(&self) -> Option<PlacedRef<'_>> {
+        Some(self.placed.front()?.lend())
+    }
+
+    fn skip(&mut self) {
+        let _ = self.placed.pop_front();
     }
 }

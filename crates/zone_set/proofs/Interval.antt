@@ -14,9 +14,9 @@ use Rattle.zone_set.proofs.Between.{before_last, Has-append}
 use Rattle.zone_set.proofs.HintOrder.{canonical_total}
 use Rattle.zone_set.proofs.Together.{each_Has, each_from_Has, soa_before}
 use Rattle.zone_set.specs.Order.{canonical_cmp, Ascends}
-use Rattle.zone_set.specs.View.{record_of}
+use Rattle.zone_rdata.specs.Lent.{record_of}
 use Rattle.zone_set.specs.Zone.{Has, AreCompatible}
-use Rattle.zone_set.specs.declared.rr.RrRef.{RrRef}
+use Rattle.zone_rdata.specs.declared.lent.RrRef.{RrRef}
 
 -- labels that begin with others
 abbrev Begins : List (List ℕ) → List (List ℕ) → Type 0

@@ -2,6 +2,5 @@ pub mod Order
 pub mod Zone
 pub mod Builder
 pub mod Refusal
-pub mod View
 pub mod Message
 pub mod Machine

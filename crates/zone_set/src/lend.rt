@@ -1,10 +1,9 @@
 ghost use Rattle.std.specs.Prelude.{◌≡◌};
 ghost use Rattle.zone_rdata.specs.Record.{IsRecord};
-ghost use Rattle.zone_set.specs.View.{record_of};
+ghost use Rattle.zone_rdata.specs.Lent.{record_of};
 
-use crate::rr::RrRef;
 use zone_name::NameRef;
-use zone_rdata::{RdataRef, Rr};
+use zone_rdata::{RdataRef, Rr, RrRef};
 
 /// A record, borrowed.
 pub(crate) fn lend(rr: &Rr) -> RrRef<'_>

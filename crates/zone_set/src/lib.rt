@@ -11,7 +11,6 @@ mod order;
 mod put;
 mod records;
 mod refusal;
-mod rr;
 mod same;
 mod sets;
 mod stored;
@@ -19,5 +18,5 @@ mod zone;
 
 pub use builder::ZoneBuilder;
 pub use records::Records;
-pub use rr::RrRef;
 pub use zone::Zone;
+pub use zone_rdata::RrRef;

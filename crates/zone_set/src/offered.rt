@@ -4,15 +4,14 @@ ghost use Rattle.zone_name.specs.Order.{name_cmp};
 ghost use Rattle.zone_rdata.specs.Order.{data_cmp};
 ghost use Rattle.zone_rdata.specs.Record.{data_of};
 ghost use Rattle.zone_set.specs.Order.{canonical_cmp};
-ghost use Rattle.zone_set.specs.View.{record_of};
+ghost use Rattle.zone_rdata.specs.Lent.{record_of};
 
 use crate::entry::Entry;
 use crate::order::octet_order;
-use crate::rr::RrRef;
 use crate::stored::record_at;
 use sorted_chunks::Sought;
 use std::cmp::Ordering;
-use zone_rdata::Kind;
+use zone_rdata::{Kind, RrRef};
 
 /// A record that is offered to the sets, with its hint and the octets of the records held.
 #[derive(Drop)]
@@ -26,7 +25,7 @@ impl<'a, 'z> Sought<Entry> for Offered<'a, 'z> {
     ghost use Rattle.std.specs.Ordering.{is_lt};
     ghost use Rattle.zone_set.specs.Machine.Held.{entry_record, IsComparable};
     ghost use Rattle.zone_set.specs.Order.{canonical_cmp};
-    ghost use Rattle.zone_set.specs.View.{record_of};
+    ghost use Rattle.zone_rdata.specs.Lent.{record_of};
 
     ghost knows = { λ o e. IsComparable o.octets.now o.hint (record_of o.rr.now) e };
 

@@ -5,7 +5,7 @@ ghost use Rattle.zone_rdata.specs.Record.{data_of, IsRecord};
 ghost use Rattle.zone_set.specs.Builder.{OtherTtl};
 ghost use Rattle.zone_set.specs.Machine.Held.{all_records, entry_record, HoldsEntries, HasOtherTtl, IsEntry, IsLinked, IsPut};
 ghost use Rattle.zone_set.specs.Machine.Refusal.{IsSetRefusal};
-ghost use Rattle.zone_set.specs.View.{record_of};
+ghost use Rattle.zone_rdata.specs.Lent.{record_of};
 ghost use Rattle.zone_set.specs.Zone.{covered_octets};
 
 use crate::entry::Entry;
@@ -13,12 +13,11 @@ use crate::hint::hint_of;
 use crate::lend::lend;
 use crate::offered::Offered;
 use crate::refusal::Refusal;
-use crate::rr::RrRef;
 use crate::same::is_same_name;
 use crate::stored::{append, record_at};
 use sorted_chunks::SortedChunks;
 use zone_name::Name;
-use zone_rdata::Rr;
+use zone_rdata::{Rr, RrRef};
 
 /// How many entries a chunk holds at most.
 pub(crate) const LIMIT: usize = 512;

@@ -1,9 +1,8 @@
 use crate::entry::Entry;
-use crate::rr::RrRef;
 use crate::stored::record_at;
 use sorted_chunks::Iter;
 use std::marker::Model;
-use zone_rdata::Class;
+use zone_rdata::{Class, RrRef};
 
 /// The records of a zone that are left, in canonical order.
 #[derive(Drop)]
@@ -31,7 +30,7 @@ impl<'z> Iterator for Records<'z> {
     type Item = RrRef<'z>;
 
     ghost use Rattle.std.specs.Iterator.{YieldsFirstBy, item_count};
-    ghost use Rattle.zone_set.specs.View.{record_of};
+    ghost use Rattle.zone_rdata.specs.Lent.{record_of};
 
     ghost next_gives = { YieldsFirstBy record_of (λ s. s) };
 

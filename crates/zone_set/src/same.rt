@@ -1,21 +1,6 @@
 ghost use Rattle.std.specs.Prelude.{◌≡◌, ◌↔◌, IsTrue};
-ghost use Rattle.zone_set.specs.View.{record_of};
 
-use crate::rr::RrRef;
 use zone_name::NameRef;
-
-impl<'z> RrRef<'z> {
-    /// Whether the other has the same owner, class, type, TTL and data.
-    pub fn is_same(&self, other: &RrRef) -> bool
-        ensures { IsTrue result ↔ (record_of self.now ≡ record_of other.now) }
-    {
-        self.kind == other.kind
-            && self.ttl == other.ttl
-            && self.class == other.class
-            && self.rdata.octets() == other.rdata.octets()
-            && is_same_name(&self.owner, &other.owner)
-    }
-}
 
 /// Whether the labels are equal.
 #[tactic(auto, using(crate::proofs::KeyOrder::decides_owner))]

@@ -7,21 +7,20 @@ ghost use Rattle.zone_set.specs.Builder.{Accepts, Adds, AreTwoSoas, OtherSoa};
 ghost use Rattle.zone_set.specs.Machine.Held.{IsFirstOutside};
 ghost use Rattle.zone_set.specs.Machine.Refusal.{IsOtherClass, IsRefusal};
 ghost use Rattle.zone_set.specs.Message.{message_len, message_octets};
-ghost use Rattle.zone_set.specs.View.{record_of};
+ghost use Rattle.zone_rdata.specs.Lent.{record_of};
 ghost use Rattle.zone_set.specs.Zone.{AreCompatible};
 
 use crate::entry::Entry;
 use crate::put::{LIMIT, put};
 use crate::records::Records;
 use crate::refusal::Refusal;
-use crate::rr::RrRef;
 use crate::same::is_same_name;
 use crate::stored::record_at;
 use sorted_chunks::SortedChunks;
 use std::alloc::Global;
 use std::marker::Model;
 use zone_name::{Name, NameRef};
-use zone_rdata::{Class, Rr};
+use zone_rdata::{Class, Rr, RrRef};
 
 /// Records that can stand together. Contracts see them in canonical order.
 #[derive(Drop)]

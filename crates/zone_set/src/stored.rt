@@ -1,12 +1,11 @@
 ghost use Rattle.std.specs.Prelude.{◌≡◌, ◌++◌, length, IfOk, OnOk, OnErr};
 ghost use Rattle.zone_rdata.specs.Record.{IsRecord};
 ghost use Rattle.zone_set.specs.Machine.Stored.{record_from, stored, IsStored};
-ghost use Rattle.zone_set.specs.View.{record_of};
+ghost use Rattle.zone_rdata.specs.Lent.{record_of};
 
-use crate::rr::RrRef;
 use std::alloc::AllocError;
 use zone_name::NameRef;
-use zone_rdata::{Class, Kind, RdataRef};
+use zone_rdata::{Class, Kind, RdataRef, RrRef};
 
 /// The octets of a record before its owner: TTL, type and the lengths of owner and data.
 const HEAD_LEN: usize = 9;

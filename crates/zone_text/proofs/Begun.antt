@@ -50,7 +50,7 @@ no_tokens = record { whole = refl; each = tt; follow = tt; balanced = refl }
 pub nothing_decided : (origin : Labels) → Decided origin [] [] None
 nothing_decided origin = undecided [] (inl no_tokens) (none_cut [] [] no_tokens) (refl, refl)
 
-pub nothing_follows : (origin : Labels) (ended : EndedEntries) (unfinished : List ℕ) → unfinished ≡ [] → ended.decided.placed.items ≡ [] → ended.decided.ending ≡ None → AreDefaults origin [] ended.defaults → ended.line ≡ 1 → Follow origin ended unfinished [] []
+pub nothing_follows : (origin : Labels) (ended : EndedEntries) (unfinished : List ℕ) → unfinished ≡ [] → ended.decided.placed ≡ [] → ended.decided.ending ≡ None → AreDefaults origin [] ended.defaults → ended.line ≡ 1 → Follow origin ended unfinished [] []
 nothing_follows origin ended unfinished none records ending defaults line = record {
   decided = rw (records, ending) (nothing_decided origin);
   leave = λ _. record {

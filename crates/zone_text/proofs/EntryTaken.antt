@@ -9,7 +9,7 @@ use Rattle.zone_rdata.specs.declared.fault.Failing.TheVariants as failings
 use Rattle.zone_rdata.specs.declared.fault.Place.{Place}
 use Rattle.zone_rdata.specs.declared.fault.Place.TheVariants.{Line}
 use Rattle.zone_rdata.specs.declared.record.Placed.{Placed}
-use Rattle.zone_rdata.specs.declared.source.Reading.{Reading}
+use Rattle.zone_rdata.specs.declared.queue.PendingRecords.{PendingRecords}
 use Rattle.zone_text.specs.declared.defaults.Defaults.{Defaults}
 use Rattle.zone_text.specs.declared.ended.EndedEntries.{EndedEntries}
 use Rattle.zone_text.specs.Entries.{Entry, entry_of}
@@ -23,7 +23,7 @@ use Rattle.zone_text.specs.Tokens.{Token, Cuts, text}
 use Rattle.zone_text.proofs.Left.{line_feeds}
 
 -- what octets decide as the entry after others, whatever these are
-abbrev pub DecidesOctets : List ℕ → Place → Defaults → Reading → Reading → Defaults → Type 0
+abbrev pub DecidesOctets : List ℕ → Place → Defaults → PendingRecords → PendingRecords → Defaults → Type 0
 DecidesOctets octets place d old new next =
     (origin : Labels) (before : List Entry) (line : ℕ) (tokens : List Token) → AreDefaults origin before d → Cuts octets tokens → DecidesEntry origin before (entry_of line tokens) place old new next
 
@@ -46,7 +46,7 @@ entry_read : (origin : Labels) (before : List Entry) (tokens : List Token) (octe
 entry_read origin before tokens octets old new none behind cut (decides_none leaves same) = record {
   others = [];
   read = stated (states_none leaves.0 (refl, ap (λ d. d.ending) same ∙ none));
-  records = ap (λ d. d.placed.items) same ∙ sym (append-nil old.decided.placed.items);
+  records = ap (λ d. d.placed) same ∙ sym (append-nil old.decided.placed);
   defaults = λ _. leaves.1;
   line = λ _. line_of octets old new tokens behind cut;
 }
@@ -62,7 +62,7 @@ entry_read origin before tokens octets old new none behind cut (decides_one r st
 entry_read origin before tokens octets old new none behind cut (decides_fault fault bad same ending) = record {
   others = [];
   read = refused fault bad refl ending;
-  records = same ∙ sym (append-nil old.decided.placed.items);
+  records = same ∙ sym (append-nil old.decided.placed);
   defaults = λ going. absurd (let t : ⊥ = cc in t);
   line = λ going. absurd (let t : ⊥ = cc in t);
 }
@@ -75,7 +75,7 @@ takes_entry octets old new decides none behind = record {
 }
 
 -- what is refused decides its fault
-pub refused_entry : {T E : Type 0} (result : Result T E) (origin : Labels) (before : List Entry) (entry : Entry) (place : Place) (old new : Reading) (next : Defaults) (failing : Failing) → IfFault (EntryFault origin before entry) failing → OnOk result (Refuses failing place old new) → OnOk result (DecidesEntry origin before entry place old new next)
+pub refused_entry : {T E : Type 0} (result : Result T E) (origin : Labels) (before : List Entry) (entry : Entry) (place : Place) (old new : PendingRecords) (next : Defaults) (failing : Failing) → IfFault (EntryFault origin before entry) failing → OnOk result (Refuses failing place old new) → OnOk result (DecidesEntry origin before entry place old new next)
 refused_entry (Ok x) origin before entry place old new next (failings.Fault fault) bad refuses = decides_fault fault bad refuses.0 refuses.1
 refused_entry (Ok x) origin before entry place old new next failings.Memory bad refuses = absurd refuses
 refused_entry (Err e) origin before entry place old new next failing bad refuses = tt

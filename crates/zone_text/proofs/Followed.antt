@@ -35,18 +35,18 @@ pub record IsRead (origin : Labels) (ended : List (List Token)) (entries : Ended
   pub parts : IsSplit fed ended unfinished
   pub defaults : AreDefaults origin (reverse (numbered 1 ended)) entries.defaults
   pub line : entries.line ≡ line_after ended
-  pub read : ReadsEnded origin None ended (given ++ entries.decided.placed.items) None
+  pub read : ReadsEnded origin None ended (given ++ entries.decided.placed) None
 
 pub is_read : (origin : Labels) (entries : EndedEntries) (unfinished fed : List ℕ) (given : List Placed) → entries.decided.ending ≡ None → Follow origin entries unfinished fed given → (ended : List (List Token)) × IsRead origin ended entries unfinished fed given
 is_read origin entries unfinished fed given none follow =
     let leave : Leave origin fed entries.defaults entries.line unfinished = follow.leave none in
-    let found : Decided origin fed (given ++ entries.decided.placed.items) None = subst (λ e. Decided origin fed (given ++ entries.decided.placed.items) e) none follow.decided in (
+    let found : Decided origin fed (given ++ entries.decided.placed) None = subst (λ e. Decided origin fed (given ++ entries.decided.placed) e) none follow.decided in (
       (cut_from zero leave.octets.tokens).ended,
       record {
         parts = split fed leave.octets.tokens unfinished leave.octets.are leave.octets.whole;
         defaults = leave.inherited;
         line = leave.numbered;
-        read = reads_so_far origin fed leave.octets.tokens (given ++ entries.decided.placed.items) found leave.octets.are;
+        read = reads_so_far origin fed leave.octets.tokens (given ++ entries.decided.placed) found leave.octets.are;
       },
     )
 
@@ -66,9 +66,9 @@ follow_on origin entries at unfinished part fed given scanned none follow =
     let is : IsRead origin ended entries unfinished fed given = found.1 in
     let is_open = stays_open (unfinished ++ part) at scanned in
     let same : (cut_from zero (joined ended ++ is_open.0)).ended ≡ ended = ended_as_before ended is_open.0 is.parts.stays is_open.2 in
-    let decided : Decided origin (fed ++ part) (given ++ entries.decided.placed.items) None = still_undecided origin fed part ended unfinished is_open.0 (given ++ entries.decided.placed.items) is.parts is_open.1 is_open.3 is_open.2 is.read in
+    let decided : Decided origin (fed ++ part) (given ++ entries.decided.placed) None = still_undecided origin fed part ended unfinished is_open.0 (given ++ entries.decided.placed) is.parts is_open.1 is_open.3 is_open.2 is.read in
     record {
-      decided = subst (λ e. Decided origin (fed ++ part) (given ++ entries.decided.placed.items) e) (sym none) decided;
+      decided = subst (λ e. Decided origin (fed ++ part) (given ++ entries.decided.placed) e) (sym none) decided;
       leave = λ _. record {
         octets = record {
           tokens = joined ended ++ is_open.0;
@@ -122,9 +122,9 @@ follow_one origin old new unfinished part fed given tokens one none reads follow
     let is : IsRead origin ended old unfinished fed given = found.1 in
     let read : ReadsEntry origin (reverse (numbered 1 ended)) tokens old new = reads.reads origin (reverse (numbered 1 ended)) tokens is.defaults one.cut in
     let next : ReadEach origin None (reverse (numbered 1 ended)) (entry_of (line_after ended) tokens ∷ []) read.others new.decided.ending = subst (λ n. ReadEach origin None (reverse (numbered 1 ended)) (entry_of n tokens ∷ []) read.others new.decided.ending) is.line read.read in
-    let records : (given ++ old.decided.placed.items) ++ read.others ≡ given ++ new.decided.placed.items = append_assoc given old.decided.placed.items read.others ∙ ap (λ t. given ++ t) (sym read.records) in
+    let records : (given ++ old.decided.placed) ++ read.others ≡ given ++ new.decided.placed = append_assoc given old.decided.placed read.others ∙ ap (λ t. given ++ t) (sym read.records) in
     record {
-      decided = subst (λ t. Decided origin (fed ++ part) t new.decided.ending) records (one_entry_more origin fed part ended unfinished tokens (given ++ old.decided.placed.items) read.others new.decided.ending is.parts one.cut one.ended is.read next);
+      decided = subst (λ t. Decided origin (fed ++ part) t new.decided.ending) records (one_entry_more origin fed part ended unfinished tokens (given ++ old.decided.placed) read.others new.decided.ending is.parts one.cut one.ended is.read next);
       leave = left_over origin ended old new unfinished part fed given tokens is one read;
     }
 
@@ -135,24 +135,24 @@ follow_entry origin old new unfinished part fed given scanned none reads follow 
 
 -- ---- the octets break for good
 
-follow_break : (origin : Labels) (old new : EndedEntries) (fault : Fault) (unfinished part fed : List ℕ) (given : List Placed) (tokens : List Token) → BreaksForGood (unfinished ++ part) tokens fault → (cut_from zero tokens).ended ≡ [] → old.decided.ending ≡ None → new.decided.placed.items ≡ old.decided.placed.items → new.decided.ending ≡ Some (fault, Line old.line) → Follow origin old unfinished fed given → Follow origin new [] (fed ++ part) given
+follow_break : (origin : Labels) (old new : EndedEntries) (fault : Fault) (unfinished part fed : List ℕ) (given : List Placed) (tokens : List Token) → BreaksForGood (unfinished ++ part) tokens fault → (cut_from zero tokens).ended ≡ [] → old.decided.ending ≡ None → new.decided.placed ≡ old.decided.placed → new.decided.ending ≡ Some (fault, Line old.line) → Follow origin old unfinished fed given → Follow origin new [] (fed ++ part) given
 follow_break origin old new fault unfinished part fed given tokens good alone none records ending follow =
     let found = is_read origin old unfinished fed given none follow in
     let ended : List (List Token) = found.0 in
     let is : IsRead origin ended old unfinished fed given = found.1 in
-    let decided : Decided origin (fed ++ part) (given ++ old.decided.placed.items) (Some (fault, Line (line_after ended))) = break_decided origin fed part ended unfinished tokens fault (given ++ old.decided.placed.items) is.parts good alone is.read in
+    let decided : Decided origin (fed ++ part) (given ++ old.decided.placed) (Some (fault, Line (line_after ended))) = break_decided origin fed part ended unfinished tokens fault (given ++ old.decided.placed) is.parts good alone is.read in
     let last : Some (fault, Line (line_after ended)) ≡ new.decided.ending = ap (λ n. let e : Ending = Some (fault, Line n) in e) (sym is.line) ∙ sym ending in
     record {
-      decided = subst (λ t. Decided origin (fed ++ part) (given ++ t) new.decided.ending) (sym records) (subst (λ e. Decided origin (fed ++ part) (given ++ old.decided.placed.items) e) last decided);
+      decided = subst (λ t. Decided origin (fed ++ part) (given ++ t) new.decided.ending) (sym records) (subst (λ e. Decided origin (fed ++ part) (given ++ old.decided.placed) e) last decided);
       leave = λ none. absurd (let t : ⊥ = cc in t);
     }
 
-pub follow_lost_escape : (origin : Labels) (old new : EndedEntries) (unfinished part fed : List ℕ) (given : List Placed) → ScansTo beginning (unfinished ++ part) LostEscape → old.decided.ending ≡ None → new.decided.placed.items ≡ old.decided.placed.items → new.decided.ending ≡ Some (BadEscape, Line old.line) → Follow origin old unfinished fed given → Follow origin new [] (fed ++ part) given
+pub follow_lost_escape : (origin : Labels) (old new : EndedEntries) (unfinished part fed : List ℕ) (given : List Placed) → ScansTo beginning (unfinished ++ part) LostEscape → old.decided.ending ≡ None → new.decided.placed ≡ old.decided.placed → new.decided.ending ≡ Some (BadEscape, Line old.line) → Follow origin old unfinished fed given → Follow origin new [] (fed ++ part) given
 follow_lost_escape origin old new unfinished part fed given scanned none records ending follow =
     let found = loses_escape (unfinished ++ part) scanned in
     follow_break origin old new BadEscape unfinished part fed given found.0 found.1 found.2 none records ending follow
 
-pub follow_lost_closing : (origin : Labels) (old new : EndedEntries) (unfinished part fed : List ℕ) (given : List Placed) → ScansTo beginning (unfinished ++ part) ClosesNothing → old.decided.ending ≡ None → new.decided.placed.items ≡ old.decided.placed.items → new.decided.ending ≡ Some (UnbalancedParenthesis, Line old.line) → Follow origin old unfinished fed given → Follow origin new [] (fed ++ part) given
+pub follow_lost_closing : (origin : Labels) (old new : EndedEntries) (unfinished part fed : List ℕ) (given : List Placed) → ScansTo beginning (unfinished ++ part) ClosesNothing → old.decided.ending ≡ None → new.decided.placed ≡ old.decided.placed → new.decided.ending ≡ Some (UnbalancedParenthesis, Line old.line) → Follow origin old unfinished fed given → Follow origin new [] (fed ++ part) given
 follow_lost_closing origin old new unfinished part fed given scanned none records ending follow =
     let found = closes_nothing (unfinished ++ part) scanned in
     follow_break origin old new UnbalancedParenthesis unfinished part fed given found.0 found.1 found.2 none records ending follow
@@ -161,7 +161,7 @@ follow_lost_closing origin old new unfinished part fed given scanned none record
 
 pub follow_fault : (origin : Labels) (entries : EndedEntries) (found : Fault × Place) (unfinished part fed : List ℕ) (given : List Placed) → entries.decided.ending ≡ Some found → Follow origin entries unfinished fed given → Follow origin entries unfinished (fed ++ part) given
 follow_fault origin entries found unfinished part fed given ending follow = record {
-  decided = subst (λ e. Decided origin (fed ++ part) (given ++ entries.decided.placed.items) e) (sym ending) (fault_stays origin fed part (given ++ entries.decided.placed.items) found (subst (λ e. Decided origin fed (given ++ entries.decided.placed.items) e) ending follow.decided));
+  decided = subst (λ e. Decided origin (fed ++ part) (given ++ entries.decided.placed) e) (sym ending) (fault_stays origin fed part (given ++ entries.decided.placed) found (subst (λ e. Decided origin fed (given ++ entries.decided.placed) e) ending follow.decided));
   leave = λ none. absurd (let t : ⊥ = cc in t);
 }
 
@@ -169,11 +169,11 @@ follow_fault origin entries found unfinished part fed given ending follow = reco
 
 -- what is read of the file
 abbrev pub Reads : Labels → List ℕ → List Placed → EndedEntries → Type 0
-Reads origin fed given entries = FileReads origin fed (given ++ entries.decided.placed.items) entries.decided.ending
+Reads origin fed given entries = FileReads origin fed (given ++ entries.decided.placed) entries.decided.ending
 
 pub end_of_fault : (origin : Labels) (entries : EndedEntries) (found : Fault × Place) (unfinished fed : List ℕ) (given : List Placed) → entries.decided.ending ≡ Some found → Follow origin entries unfinished fed given → Reads origin fed given entries
 end_of_fault origin entries found unfinished fed given ending follow =
-    subst (λ e. FileReads origin fed (given ++ entries.decided.placed.items) e) (sym ending) (fault_is_read origin fed (given ++ entries.decided.placed.items) found (subst (λ e. Decided origin fed (given ++ entries.decided.placed.items) e) ending follow.decided))
+    subst (λ e. FileReads origin fed (given ++ entries.decided.placed) e) (sym ending) (fault_is_read origin fed (given ++ entries.decided.placed) found (subst (λ e. Decided origin fed (given ++ entries.decided.placed) e) ending follow.decided))
 
 -- no octets are unfinished
 pub end_of_lines : (origin : Labels) (entries : EndedEntries) (unfinished fed : List ℕ) (given : List Placed) → unfinished ≡ [] → entries.decided.ending ≡ None → Follow origin entries unfinished fed given → Reads origin fed given entries
@@ -181,26 +181,26 @@ end_of_lines origin entries unfinished fed given empty none follow =
     let found = is_read origin entries unfinished fed given none follow in
     let ended : List (List Token) = found.0 in
     let is : IsRead origin ended entries unfinished fed given = found.1 in
-    subst (λ e. FileReads origin fed (given ++ entries.decided.placed.items) e) (sym none) (whole_lines origin fed ended (given ++ entries.decided.placed.items) (subst (λ t. IsSplit fed ended t) empty is.parts) is.read)
+    subst (λ e. FileReads origin fed (given ++ entries.decided.placed) e) (sym none) (whole_lines origin fed ended (given ++ entries.decided.placed) (subst (λ t. IsSplit fed ended t) empty is.parts) is.read)
 
 -- they break
-pub end_of_break : (origin : Labels) (old new : EndedEntries) (at : ScanState) (fault : Fault) (unfinished fed : List ℕ) (given : List Placed) → ScansTo beginning unfinished (On at) → end_fault_of at ≡ Some fault → old.decided.ending ≡ None → new.decided.placed.items ≡ old.decided.placed.items → new.decided.ending ≡ Some (fault, Line old.line) → Follow origin old unfinished fed given → Reads origin fed given new
+pub end_of_break : (origin : Labels) (old new : EndedEntries) (at : ScanState) (fault : Fault) (unfinished fed : List ℕ) (given : List Placed) → ScansTo beginning unfinished (On at) → end_fault_of at ≡ Some fault → old.decided.ending ≡ None → new.decided.placed ≡ old.decided.placed → new.decided.ending ≡ Some (fault, Line old.line) → Follow origin old unfinished fed given → Reads origin fed given new
 end_of_break origin old new at fault unfinished fed given scanned ends none records ending follow =
     let found = is_read origin old unfinished fed given none follow in
     let ended : List (List Token) = found.0 in
     let is : IsRead origin ended old unfinished fed given = found.1 in
     let breaks = rw ends at (at_end unfinished at scanned) in
-    let read : FileReads origin fed (given ++ old.decided.placed.items) (Some (fault, Line (line_after ended))) = last_broken origin fed ended unfinished breaks.0 fault (given ++ old.decided.placed.items) is.parts breaks.1 breaks.2 is.read in
+    let read : FileReads origin fed (given ++ old.decided.placed) (Some (fault, Line (line_after ended))) = last_broken origin fed ended unfinished breaks.0 fault (given ++ old.decided.placed) is.parts breaks.1 breaks.2 is.read in
     let last : Some (fault, Line (line_after ended)) ≡ new.decided.ending = ap (λ n. let e : Ending = Some (fault, Line n) in e) (sym is.line) ∙ sym ending in
-    subst (λ t. FileReads origin fed (given ++ t) new.decided.ending) (sym records) (subst (λ e. FileReads origin fed (given ++ old.decided.placed.items) e) last read)
+    subst (λ t. FileReads origin fed (given ++ t) new.decided.ending) (sym records) (subst (λ e. FileReads origin fed (given ++ old.decided.placed) e) last read)
 
 -- they are the last entry
 last_read : (origin : Labels) (ended : List (List Token)) (old new : EndedEntries) (c : ℕ) (more fed : List ℕ) (given : List Placed) (tokens : List Token) → IsRead origin ended old (c ∷ more) fed given → Cuts (c ∷ more) tokens → (cut_from zero tokens).ended ≡ [] → ReadsEntry origin (reverse (numbered 1 ended)) tokens old new → Reads origin fed given new
 last_read origin ended old new c more fed given [] is cut alone read = absurd (let e : c ∷ more ≡ [] = cut.whole in let t : ⊥ = cc in t)
 last_read origin ended old new c more fed given (p ∷ tokens) is cut alone read =
     let next : ReadEach origin None (reverse (numbered 1 ended)) (entry_of (line_after ended) (p ∷ tokens) ∷ []) read.others new.decided.ending = subst (λ n. ReadEach origin None (reverse (numbered 1 ended)) (entry_of n (p ∷ tokens) ∷ []) read.others new.decided.ending) is.line read.read in
-    let records : (given ++ old.decided.placed.items) ++ read.others ≡ given ++ new.decided.placed.items = append_assoc given old.decided.placed.items read.others ∙ ap (λ t. given ++ t) (sym read.records) in
-    subst (λ t. FileReads origin fed t new.decided.ending) records (last_entry origin fed ended (c ∷ more) p tokens (given ++ old.decided.placed.items) read.others new.decided.ending is.parts cut alone is.read next)
+    let records : (given ++ old.decided.placed) ++ read.others ≡ given ++ new.decided.placed = append_assoc given old.decided.placed read.others ∙ ap (λ t. given ++ t) (sym read.records) in
+    subst (λ t. FileReads origin fed t new.decided.ending) records (last_entry origin fed ended (c ∷ more) p tokens (given ++ old.decided.placed) read.others new.decided.ending is.parts cut alone is.read next)
 
 pub end_of_entry : (origin : Labels) (old new : EndedEntries) (at : ScanState) (c : ℕ) (more fed : List ℕ) (given : List Placed) → ScansTo beginning (c ∷ more) (On at) → end_fault_of at ≡ None → old.decided.ending ≡ None → ReadsOctets (c ∷ more) old new → Follow origin old (c ∷ more) fed given → Reads origin fed given new
 end_of_entry origin old new at c more fed given scanned ends none reads follow =

@@ -10,7 +10,7 @@ use Rattle.zone_rdata.specs.Machine.LeftOut.{AreShortened, IsWritten, LeavesOut}
 use Rattle.zone_rdata.specs.Record.{Record}
 use Rattle.zone_rdata.specs.declared.fault.Fault.{Fault}
 use Rattle.zone_rdata.specs.declared.fault.Place.{Place}
-use Rattle.zone_rdata.specs.declared.source.Reading.{Reading}
+use Rattle.zone_rdata.specs.declared.queue.PendingRecords.{PendingRecords}
 use Rattle.zone_rdata.proofs.LeftOut.{after_item, are_many, at_least, begin_with, fault_of_all, state_none}
 use Rattle.zone_text.specs.Entries.{Entry, entry_of, first_octet, item_of}
 use Rattle.zone_text.specs.EntryFault.{DirectiveFault, EntryFault, KindFault, OwnerFault, WordsFault, of_directive, of_kind, of_owner, of_rdata, of_ttl, of_words}
@@ -266,18 +266,18 @@ record_kept origin before entry kept r long states =
     let found = head_long origin before entry kept (head_of r states.items) long states.head in
     state_none states.rdata.above r.class r.kind found.items states.items r.octets found.long.written found.long.short states.rdata.states
 
-decides_by : (origin : Labels) (before : List Entry) (entry : Entry) (kept : List RawItem) (place : Place) (old new : Reading) (next : Defaults) → Long 65552 entry.items kept → DecidesEntry origin before (with_items entry kept) place old new next → DecidesEntry origin before entry place old new next
+decides_by : (origin : Labels) (before : List Entry) (entry : Entry) (kept : List RawItem) (place : Place) (old new : PendingRecords) (next : Defaults) → Long 65552 entry.items kept → DecidesEntry origin before (with_items entry kept) place old new next → DecidesEntry origin before entry place old new next
 decides_by origin before entry kept place old new next long (decides_none leaves same) = absurd (none_stated origin before (form_of entry) _ (forms_long entry.first entry.items kept long) leaves.0)
 decides_by origin before entry kept place old new next long (decides_one r states are more same) = absurd (record_kept origin before entry kept r long states)
 decides_by origin before entry kept place old new next long (decides_fault fault bad same ending) = decides_fault fault (fault_kept origin before entry kept fault long bad) same ending
 
 -- what is decided by the items that are kept, is decided by the entry
-pub decides_kept : (origin : Labels) (before : List Entry) (entry : Entry) (kept : List RawItem) (place : Place) (old new : Reading) (next : Defaults) → AllByRecursion IsWritten entry.items → AreKept entry.items kept → DecidesEntry origin before (with_items entry kept) place old new next → DecidesEntry origin before entry place old new next
+pub decides_kept : (origin : Labels) (before : List Entry) (entry : Entry) (kept : List RawItem) (place : Place) (old new : PendingRecords) (next : Defaults) → AllByRecursion IsWritten entry.items → AreKept entry.items kept → DecidesEntry origin before (with_items entry kept) place old new next → DecidesEntry origin before entry place old new next
 decides_kept origin before entry kept place old new next written (inl all) h = subst (λ items. DecidesEntry origin before (with_items entry items) place old new next) all h
 decides_kept origin before entry kept place old new next written (inr short) h = decides_by origin before entry kept place old new next (record { short = short; written = written }) h
 
 -- what an entry of these octets and items decides, an entry decides of whose items these are kept
-pub entry_kept : {T E : Type 0} (result : Result T E) (origin : Labels) (before : List Entry) (line : ℕ) (octets : List ℕ) (tokens : List Token) (kept : List RawItem) (place : Place) (old new : Reading) (next : Defaults) → Cuts octets tokens → AreKept (flat_map item_of tokens) kept → OnOk result (DecidesEntry origin before (record { line = line; first = first_octet octets; items = kept }) place old new next) → OnOk result (DecidesEntry origin before (entry_of line tokens) place old new next)
+pub entry_kept : {T E : Type 0} (result : Result T E) (origin : Labels) (before : List Entry) (line : ℕ) (octets : List ℕ) (tokens : List Token) (kept : List RawItem) (place : Place) (old new : PendingRecords) (next : Defaults) → Cuts octets tokens → AreKept (flat_map item_of tokens) kept → OnOk result (DecidesEntry origin before (record { line = line; first = first_octet octets; items = kept }) place old new next) → OnOk result (DecidesEntry origin before (entry_of line tokens) place old new next)
 entry_kept (Ok x) origin before line octets tokens kept place old new next cut are h =
     decides_kept origin before (entry_of line tokens) kept place old new next (items_written tokens cut.each) are
     (subst (λ t. DecidesEntry origin before (record { line = line; first = first_octet t; items = kept }) place old new next) cut.whole h)

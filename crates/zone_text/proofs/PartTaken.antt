@@ -51,7 +51,7 @@ follows_entry old mid new at unfinished part left step is e reads same none orig
 
 -- they break the text for good
 pub record IsRefused (fault : Fault) (old new : EndedEntries) : Type 0 where
-  pub records : new.decided.placed.items ≡ old.decided.placed.items
+  pub records : new.decided.placed ≡ old.decided.placed
   pub ending : new.decided.ending ≡ Some (fault, Line old.line)
   pub line : new.line ≡ old.line
 

@@ -16,7 +16,7 @@ use crate::form::{Directive, EntryForm, form_of};
 use crate::record::refuse;
 use std::alloc::{AllocError, Global};
 use zone_name::{Name, NameFault};
-use zone_rdata::{Cause, Class, Item, NarrowFailing, NarrowFault, Place, Reading};
+use zone_rdata::{Cause, Class, Item, NarrowFailing, NarrowFault, PendingRecords, Place};
 
 /// What the entries of a master file leave to those after them (RFC 1035 5.1, RFC 2308 4).
 #[derive(Debug, Drop)]
@@ -69,7 +69,7 @@ impl Defaults {
         entry: &'t [u8],
         items: &[Item<'t>],
         place: Place,
-        decided: &mut Reading,
+        decided: &mut PendingRecords,
     ) -> Result<(), AllocError>
         ensures { (origin : Labels) (before : List Entry) (line : ℕ) (tokens : List Token)
             → AreDefaults origin before self.old → Cuts entry.now tokens
@@ -86,7 +86,7 @@ impl Defaults {
         alloc: Global,
         form: EntryForm,
         place: Place,
-        decided: &mut Reading,
+        decided: &mut PendingRecords,
     ) -> Result<(), AllocError>
         ensures { (origin : Labels) (before : List Entry) (entry : Entry)
             → AreDefaults origin before self.old → form_of entry ≡ form_in form.entry
@@ -129,7 +129,7 @@ impl Defaults {
         owner: Item,
         items: &[Item],
         place: Place,
-        decided: &mut Reading,
+        decided: &mut PendingRecords,
     ) -> Result<(), AllocError>
         ensures { (origin : Labels) (before : List Entry) (entry : Entry)
             → AreDefaults origin before self.old → form_of entry ≡ owned (raw owner.entry)

@@ -8,15 +8,14 @@ ghost use Rattle.zone_text.specs.Machine.Line.{KeepsItems};
 use crate::defaults::Defaults;
 use crate::items::cut_items;
 use std::alloc::{AllocError, Global};
-use std::collections::VecDeque;
 use zone_name::Name;
-use zone_rdata::{Fault, Item, Place, Reading};
+use zone_rdata::{Fault, Item, PendingRecords, Place};
 
 /// What was read of the entries that were ended.
 #[derive(Drop)]
 pub(crate) struct EndedEntries {
     /// Their records that were not given yet, and the fault.
-    pub(crate) decided: Reading,
+    pub(crate) decided: PendingRecords,
     /// What they leave to the entries after them.
     pub(crate) defaults: Defaults,
     /// The line after them.
@@ -38,16 +37,13 @@ fn line_feeds(octets: &[u8]) -> usize
 impl EndedEntries {
     /// No entry yet, under the origin that is handed in with the file.
     pub(crate) fn new(alloc: Global, origin: &Name) -> EndedEntries
-        ensures records { result.decided.placed.items ≡ [] }
+        ensures records { result.decided.placed ≡ [] }
         ensures ending { result.decided.ending ≡ None }
         ensures defaults { AreDefaults origin.now [] result.defaults }
         ensures line { result.line ≡ 1 }
     {
         EndedEntries {
-            decided: Reading {
-                placed: VecDeque::new(alloc),
-                ending: None,
-            },
+            decided: PendingRecords::new(alloc),
             defaults: Defaults::new(origin),
             line: 1,
         }
@@ -90,7 +86,7 @@ impl EndedEntries {
 
     /// Decides the fault of the entry after them.
     pub(crate) fn refuse(&mut self, fault: Fault)
-        ensures records { self.new.decided.placed.items ≡ self.old.decided.placed.items }
+        ensures records { self.new.decided.placed ≡ self.old.decided.placed }
         ensures ending { self.new.decided.ending
             ≡ Some (record { 0 = fault; 1 = Place.Line self.old.line }) }
         ensures line { self.new.line ≡ self.old.line }

@@ -28,7 +28,7 @@ impl Intake {
     pub(crate) fn new(alloc: Global, origin: &Name) -> Intake
         ensures is { IsIntake result.ended result.at result.unfinished.items }
         ensures none { result.unfinished.items ≡ [] }
-        ensures records { result.ended.decided.placed.items ≡ [] }
+        ensures records { result.ended.decided.placed ≡ [] }
         ensures line { result.ended.line ≡ 1 }
         ensures follow { Follow origin.now result.ended result.unfinished.items [] [] }
     {

@@ -16,8 +16,8 @@ use crate::laws::entry::lower_laws;
 use crate::words::{split_bare, words_of};
 use std::alloc::{AllocError, Global};
 use zone_rdata::{
-    Cause, Class, Failing, Item, Kind, MAX_TTL, NarrowFailing, NarrowFault, Place, Placed, Rdata,
-    Reading, Rr,
+    Cause, Class, Failing, Item, Kind, MAX_TTL, NarrowFailing, NarrowFault, PendingRecords, Place,
+    Rdata,
 };
 
 /// What a record states after its owner: the words before its type, its type, and the items of its
@@ -50,7 +50,7 @@ pub(crate) struct Contents {
 pub(crate) fn refuse(
     failing: NarrowFailing,
     place: Place,
-    decided: &mut Reading,
+    decided: &mut PendingRecords,
 ) -> Result<(), AllocError>
     ensures decided { OnOk result (Refuses failing place decided.old decided.new) }
     ensures memory { OnErr result (failing ≡ Failing.Memory) }
@@ -73,7 +73,7 @@ impl Defaults {
         alloc: Global,
         items: &[Item],
         place: Place,
-        decided: &mut Reading,
+        decided: &mut PendingRecords,
     ) -> Result<(), AllocError>
         ensures { (origin : Labels) (before : List Entry) (entry : Entry)
             → HasOwnerOrNone origin before entry self.old (map raw items.now)
@@ -84,7 +84,8 @@ impl Defaults {
         let Some(owner) = &self.owner else {
             return refuse(NarrowFailing::of(Cause::NoOwner), place, decided);
         };
-        let contents = match self.contents_of(alloc, items) {
+        let buffer = decided.placed.buffer(alloc);
+        let contents = match self.contents_of(buffer, items) {
             Ok(contents) => contents,
             Err(failing) => return refuse(failing, place, decided),
         };
@@ -92,20 +93,21 @@ impl Defaults {
             return refuse(NarrowFailing::of(Cause::BadTtl), place, decided);
         }
         let class = contents.rdata.class();
-        let rr = Rr::of_parts(owner.copy(), contents.ttl, contents.rdata);
-        decided.placed.push_back(Placed { rr, place })?;
+        decided
+            .placed
+            .push(owner, contents.ttl, contents.rdata, place)?;
         self.class = class;
         self.last_ttl = contents.stated_ttl.or(self.last_ttl);
         self.minimum = contents.minimum;
         Ok(())
     }
 
-    /// What the items after the owner state or inherit.
+    /// What the items after the owner state or inherit. The data is in the memory of a buffer.
     ///
     /// # Errors
     ///
     /// The first fault after the owner but `BadTtl` of a TTL that is inherited, and `Memory`.
-    fn contents_of(&self, alloc: Global, items: &[Item]) -> Result<Contents, NarrowFailing>
+    fn contents_of(&self, buffer: Vec<u8>, items: &[Item]) -> Result<Contents, NarrowFailing>
         ensures found { (origin : Labels) (before : List Entry) (entry : Entry) (owner : Labels)
             → IsRecordEntry origin before entry self.now owner (map raw items.now)
             → IfOk result (λ contents. ReadsContents origin before entry self.now owner
@@ -116,7 +118,7 @@ impl Defaults {
     {
         lower_laws();
         let head = self.head_of(items)?;
-        let rdata = Rdata::read_items(alloc, head.class, head.kind, head.rdata, &self.origin)?;
+        let rdata = Rdata::read_items(buffer, head.class, head.kind, head.rdata, &self.origin)?;
         let stated = head.ttl.or(self.default_ttl).or(self.last_ttl);
         let minimum = rdata.soa_minimum().or(self.minimum);
         let Some(ttl) = stated.or(minimum) else {

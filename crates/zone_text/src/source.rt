@@ -7,7 +7,7 @@ use crate::intake::Intake;
 use std::alloc::Global;
 use std::marker::Model;
 use zone_name::Name;
-use zone_rdata::{Placed, Reading, RrSource, Stop};
+use zone_rdata::{LendingSource, Placed, PlacedRef, Reading, RrSource, Stop};
 
 /// The records of a master file (RFC 1035 5.1) that is fed in pieces. It gives a record as soon as
 /// a line feed has ended its entry. Contracts see the records that it has left to give, the fault
@@ -175,7 +175,7 @@ impl TextSource {
         ensures records { result.placed.items ≡ self.pending.records }
         ensures ending { result.ending ≡ self.pending.ending }
     {
-        self.intake.ended.decided
+        self.intake.ended.decided.into_reading()
     }
 }
 
@@ -193,5 +193,21 @@ impl RrSource for TextSource {
             return Err(Stop::Memory);
         }
         self.intake.ended.decided.next()
+    }
+}
+
+impl LendingSource for TextSource {
+    fn first(&self) -> Option<PlacedRef<'_>> {
+        if let Status::OutOfMemory = self.status {
+            return None;
+        }
+        self.intake.ended.decided.first()
+    }
+
+    fn skip(&mut self) {
+        if let Status::OutOfMemory = self.status {
+            return;
+        }
+        self.intake.ended.decided.skip()
     }
 }

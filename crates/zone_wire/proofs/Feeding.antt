@@ -69,7 +69,7 @@ going_on old new unfinished fed front octets given g e short w = record {
   handed = w.handed given g.handed;
 }
 
-stopped : (old new : Transfer) (unfinished fed front octets : List ℕ) (given : List Placed) → (g : Going old unfinished fed given) → unfinished ++ front ≡ frame octets → length octets ≤ 65535 → (f : Fault × Place) (offset : ℕ) → StopsIn octets g.parts old new (f.0, offset) → f.1 ≡ Message (length g.parts + 1) offset → Decided (fed ++ front) (given ++ new.decided.placed.items) (Some f)
+stopped : (old new : Transfer) (unfinished fed front octets : List ℕ) (given : List Placed) → (g : Going old unfinished fed given) → unfinished ++ front ≡ frame octets → length octets ≤ 65535 → (f : Fault × Place) (offset : ℕ) → StopsIn octets g.parts old new (f.0, offset) → f.1 ≡ Message (length g.parts + 1) offset → Decided (fed ++ front) (given ++ new.decided.placed) (Some f)
 stopped old new unfinished fed front octets given g e short f offset s place = record {
   messages = octets_in g.parts ++ octets ∷ [];
   rest = [];
@@ -79,11 +79,11 @@ stopped old new unfinished fed front octets given g e short f offset s place = r
   stated = s.handed given g.handed;
 }
 
-framed_state : (old new : Transfer) (unfinished fed front octets : List ℕ) (given : List Placed) → (g : Going old unfinished fed given) → unfinished ++ front ≡ frame octets → length octets ≤ 65535 → (ending : Option (Fault × Place)) → MatchOption ending (TakesWhole octets g.parts old new) (λ f. (offset : ℕ) × (StopsIn octets g.parts old new (f.0, offset) × (f.1 ≡ Message (length g.parts + 1) offset))) → MatchOption ending (Going new [] (fed ++ front) given) (λ f. Decided (fed ++ front) (given ++ new.decided.placed.items) (Some f))
+framed_state : (old new : Transfer) (unfinished fed front octets : List ℕ) (given : List Placed) → (g : Going old unfinished fed given) → unfinished ++ front ≡ frame octets → length octets ≤ 65535 → (ending : Option (Fault × Place)) → MatchOption ending (TakesWhole octets g.parts old new) (λ f. (offset : ℕ) × (StopsIn octets g.parts old new (f.0, offset) × (f.1 ≡ Message (length g.parts + 1) offset))) → MatchOption ending (Going new [] (fed ++ front) given) (λ f. Decided (fed ++ front) (given ++ new.decided.placed) (Some f))
 framed_state old new unfinished fed front octets given g e short None w = going_on old new unfinished fed front octets given g e short w
 framed_state old new unfinished fed front octets given g e short (Some f) s = stopped old new unfinished fed front octets given g e short f s.0 s.1.0 s.1.1
 
-still_going : (t : Transfer) (unfinished fed : List ℕ) (given : List Placed) (ending : Option (Fault × Place)) → ending ≡ None → MatchOption ending (Going t unfinished fed given) (λ e. Decided fed (given ++ t.decided.placed.items) (Some e)) → Going t unfinished fed given
+still_going : (t : Transfer) (unfinished fed : List ℕ) (given : List Placed) (ending : Option (Fault × Place)) → ending ≡ None → MatchOption ending (Going t unfinished fed given) (λ e. Decided fed (given ++ t.decided.placed) (Some e)) → Going t unfinished fed given
 still_going t unfinished fed given None e state = state
 still_going t unfinished fed given (Some f) e state = cc
 
@@ -92,7 +92,7 @@ one_frame old new unfinished fed front octets given going each e short next foll
     let g = still_going old unfinished fed given old.decided.ending going follow.state in
     record { octets = bytes_append fed front follow.octets each; state = framed_state old new unfinished fed front octets given g e short new.decided.ending (next g.parts g.behind) }
 
-going_state : (t : Transfer) (unfinished fed : List ℕ) (given : List Placed) (ending : Option (Fault × Place)) → ending ≡ None → Going t unfinished fed given → MatchOption ending (Going t unfinished fed given) (λ e. Decided fed (given ++ t.decided.placed.items) (Some e))
+going_state : (t : Transfer) (unfinished fed : List ℕ) (given : List Placed) (ending : Option (Fault × Place)) → ending ≡ None → Going t unfinished fed given → MatchOption ending (Going t unfinished fed given) (λ e. Decided fed (given ++ t.decided.placed) (Some e))
 going_state t unfinished fed given None e g = g
 going_state t unfinished fed given (Some f) e g = cc
 
@@ -110,11 +110,11 @@ inside_frame t unfinished fed more given going each cut follow =
     record { octets = bytes_append fed more follow.octets each; state = going_state t (unfinished ++ more) (fed ++ more) given t.decided.ending going longer }
 
 -- after a fault nothing more is decided
-faulted_state : (t : Transfer) (unfinished other fed more : List ℕ) (given : List Placed) (ending : Option (Fault × Place)) → (ending ≡ None → ⊥) → Bytes (fed ++ more) → MatchOption ending (Going t unfinished fed given) (λ e. Decided fed (given ++ t.decided.placed.items) (Some e)) → MatchOption ending (Going t other (fed ++ more) given) (λ e. Decided (fed ++ more) (given ++ t.decided.placed.items) (Some e))
+faulted_state : (t : Transfer) (unfinished other fed more : List ℕ) (given : List Placed) (ending : Option (Fault × Place)) → (ending ≡ None → ⊥) → Bytes (fed ++ more) → MatchOption ending (Going t unfinished fed given) (λ e. Decided fed (given ++ t.decided.placed) (Some e)) → MatchOption ending (Going t other (fed ++ more) given) (λ e. Decided (fed ++ more) (given ++ t.decided.placed) (Some e))
 faulted_state t unfinished other fed more given None some each state = absurd (some refl)
 faulted_state t unfinished other fed more given (Some f) some each state =
     let later = some_decision (fed ++ more) each in
-    let stays = fault_stays fed more (given ++ t.decided.placed.items) later.0 f later.1 state later.2 in
+    let stays = fault_stays fed more (given ++ t.decided.placed) later.0 f later.1 state later.2 in
     subst (λ ps. Decided (fed ++ more) ps (Some f)) stays.0 (subst (λ o. Decided (fed ++ more) later.0 o) stays.1 later.2)
 
 pub behind_fault : (t : Transfer) (unfinished other fed more : List ℕ) (given : List Placed) → (t.decided.ending ≡ None → ⊥) → Bytes more → Follow t unfinished fed given → Follow t other (fed ++ more) given
@@ -124,7 +124,7 @@ behind_fault t unfinished other fed more given some each follow = record {
 }
 
 -- the end of the stream after frames without a fault
-pub ends_with : (t : Transfer) (unfinished fed : List ℕ) (given : List Placed) (ending : Option (Fault × Place)) → (g : Going t unfinished fed given) → StreamEnd (length g.parts + 1) (placed_in g.parts) unfinished ending → StreamReads fed (given ++ t.decided.placed.items) ending
+pub ends_with : (t : Transfer) (unfinished fed : List ℕ) (given : List Placed) (ending : Option (Fault × Place)) → (g : Going t unfinished fed given) → StreamEnd (length g.parts + 1) (placed_in g.parts) unfinished ending → StreamReads fed (given ++ t.decided.placed) ending
 ends_with t unfinished fed given ending g end = record {
   first = None;
   frames = record {
@@ -139,16 +139,16 @@ ends_with t unfinished fed given ending g end = record {
 }
 
 -- the end of the stream after a fault
-pub ends_behind_fault : (t : Transfer) (unfinished fed : List ℕ) (given : List Placed) → (t.decided.ending ≡ None → ⊥) → Follow t unfinished fed given → StreamReads fed (given ++ t.decided.placed.items) t.decided.ending
+pub ends_behind_fault : (t : Transfer) (unfinished fed : List ℕ) (given : List Placed) → (t.decided.ending ≡ None → ⊥) → Follow t unfinished fed given → StreamReads fed (given ++ t.decided.placed) t.decided.ending
 ends_behind_fault t unfinished fed given some follow = by t.decided.ending some follow.state
   where
-    by : (ending : Option (Fault × Place)) → (ending ≡ None → ⊥) → MatchOption ending (Going t unfinished fed given) (λ e. Decided fed (given ++ t.decided.placed.items) (Some e)) → StreamReads fed (given ++ t.decided.placed.items) ending
+    by : (ending : Option (Fault × Place)) → (ending ≡ None → ⊥) → MatchOption ending (Going t unfinished fed given) (λ e. Decided fed (given ++ t.decided.placed) (Some e)) → StreamReads fed (given ++ t.decided.placed) ending
     by None none state = absurd (none refl)
     by (Some f) none state =
         let whole = append-nil fed in
         let later = some_reading (fed ++ []) (subst Bytes (sym whole) follow.octets) in
-        let stays = fault_is_read fed [] (given ++ t.decided.placed.items) later.0 f later.1 state later.2 in
-        subst (λ xs. StreamReads xs (given ++ t.decided.placed.items) (Some f)) whole (subst (λ ps. StreamReads (fed ++ []) ps (Some f)) stays.0 (subst (λ o. StreamReads (fed ++ []) later.0 o) stays.1 later.2))
+        let stays = fault_is_read fed [] (given ++ t.decided.placed) later.0 f later.1 state later.2 in
+        subst (λ xs. StreamReads xs (given ++ t.decided.placed) (Some f)) whole (subst (λ ps. StreamReads (fed ++ []) ps (Some f)) stays.0 (subst (λ o. StreamReads (fed ++ []) later.0 o) stays.1 later.2))
 
 -- a piece of which a front was taken
 pub record FedSoFar (piece rest : List ℕ) (old new : Intake) : Type 0 where
@@ -160,7 +160,7 @@ pub record FedSoFar (piece rest : List ℕ) (old new : Intake) : Type 0 where
   pub same : IfSome old.transfer.decided.ending (λ _. new ≡ old)
   pub follow : (fed : List ℕ) (given : List Placed) → Follow old.transfer old.unfinished.items fed given → Follow new.transfer new.unfinished.items (fed ++ front) given
 
-pub finishes : (t : Transfer) (unfinished fed : List ℕ) (given : List Placed) (ending : Option (Fault × Place)) → t.decided.ending ≡ None → ((placed : List Placed) → t.closed ≡ is_closed placed → StreamEnd (t.messages + 1) placed unfinished ending) → Follow t unfinished fed given → StreamReads fed (given ++ t.decided.placed.items) ending
+pub finishes : (t : Transfer) (unfinished fed : List ℕ) (given : List Placed) (ending : Option (Fault × Place)) → t.decided.ending ≡ None → ((placed : List Placed) → t.closed ≡ is_closed placed → StreamEnd (t.messages + 1) placed unfinished ending) → Follow t unfinished fed given → StreamReads fed (given ++ t.decided.placed) ending
 finishes t unfinished fed given ending going ends follow =
     let g = still_going t unfinished fed given t.decided.ending going follow.state in
     ends_with t unfinished fed given ending g (subst (λ n. StreamEnd (n + 1) (placed_in g.parts) unfinished ending) g.behind.count (ends (placed_in g.parts) g.behind.among.closed))
@@ -206,7 +206,7 @@ empty_of (x ∷ xs) e = absurd (omega (arith, e))
 -- a source as it holds this
 abbrev pub source_of : Status → ℕ → Transfer → List ℕ → SourceState
 source_of status count t unfinished = record {
-  pending = record { failed = is_failed status; records = t.decided.placed.items; ending = t.decided.ending };
+  pending = record { failed = is_failed status; records = t.decided.placed; ending = t.decided.ending };
   held = record { finished = is_finished status; fed = count; messages = t.messages; id = t.id; zone = zone_held t.zone; opening = t.opening; closed = t.closed; unfinished = unfinished };
 }
 
@@ -224,18 +224,18 @@ decided_by fed unfinished parts framed read = record {
 pub stands_follow : (status : Status) (count : ℕ) (t : Transfer) (unfinished fed : List ℕ) (given : List Placed) → is_finished status ≡ false → Stands (source_of status count t unfinished) fed given → Follow t unfinished fed given
 stands_follow status count t unfinished fed given going stands = record { octets = stands.octets; state = by t.decided.ending refl }
   where
-    by : (ending : Option (Fault × Place)) → t.decided.ending ≡ ending → MatchOption ending (Going t unfinished fed given) (λ e. Decided fed (given ++ t.decided.placed.items) (Some e))
+    by : (ending : Option (Fault × Place)) → t.decided.ending ≡ ending → MatchOption ending (Going t unfinished fed given) (λ e. Decided fed (given ++ t.decided.placed) (Some e))
     by None e =
         let l = stands.leave going e in
-        let decided = subst (λ o. Decided fed (given ++ t.decided.placed.items) o) e (stands.decided going) in
+        let decided = subst (λ o. Decided fed (given ++ t.decided.placed) o) e (stands.decided going) in
         record {
           parts = l.parts;
           framed = l.framed;
           read = l.read;
           behind = record { count = l.number; id = l.id; among = record { zone = l.zone; opening = l.opening; closed = l.closed } };
-          handed = (one_decision fed (given ++ t.decided.placed.items) (handed_on (placed_in l.parts)) None None decided (decided_by fed unfinished l.parts l.framed l.read)).0;
+          handed = (one_decision fed (given ++ t.decided.placed) (handed_on (placed_in l.parts)) None None decided (decided_by fed unfinished l.parts l.framed l.read)).0;
         }
-    by (Some f) e = subst (λ o. Decided fed (given ++ t.decided.placed.items) o) e (stands.decided going)
+    by (Some f) e = subst (λ o. Decided fed (given ++ t.decided.placed) o) e (stands.decided going)
 
 pub follow_stands : (status : Status) (count : ℕ) (t : Transfer) (unfinished fed : List ℕ) (given : List Placed) → is_failed status ≡ false → is_finished status ≡ false → count ≡ length fed → Follow t unfinished fed given → Stands (source_of status count t unfinished) fed given
 follow_stands status count t unfinished fed given works going counted follow = record {
@@ -247,7 +247,7 @@ follow_stands status count t unfinished fed given works going counted follow = r
   read = λ e. let no : ⊥ = cc in absurd no;
 }
   where
-    by : (ending : Option (Fault × Place)) → MatchOption ending (Going t unfinished fed given) (λ e. Decided fed (given ++ t.decided.placed.items) (Some e)) → Decided fed (given ++ t.decided.placed.items) ending
+    by : (ending : Option (Fault × Place)) → MatchOption ending (Going t unfinished fed given) (λ e. Decided fed (given ++ t.decided.placed) (Some e)) → Decided fed (given ++ t.decided.placed) ending
     by None g = subst (λ ps. Decided fed ps None) (sym g.handed) (decided_by fed unfinished g.parts g.framed g.read)
     by (Some f) state = state
 
@@ -263,7 +263,7 @@ follow_stands status count t unfinished fed given works going counted follow = r
       closed = g.behind.among.closed;
     }
 
-pub finished_stands : (count : ℕ) (t : Transfer) (unfinished fed : List ℕ) (given : List Placed) → Bytes fed → count ≡ length fed → StreamReads fed (given ++ t.decided.placed.items) t.decided.ending → Stands (source_of Finished count t unfinished) fed given
+pub finished_stands : (count : ℕ) (t : Transfer) (unfinished fed : List ℕ) (given : List Placed) → Bytes fed → count ≡ length fed → StreamReads fed (given ++ t.decided.placed) t.decided.ending → Stands (source_of Finished count t unfinished) fed given
 finished_stands count t unfinished fed given octets counted reads = record {
   works = refl;
   octets = octets;

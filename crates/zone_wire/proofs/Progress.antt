@@ -48,7 +48,7 @@ zone_kept (q ∷ questions) opening others more = refl
 
 pub gains_opening : (questions : List QuestionAt) (placed : List Placed) (p : Placed) (old new : Transfer) → Among questions placed old → old.opening ≡ None
     → new.opening ≡ Some p.rr → zone_held new.zone ≡ zone_with (zone_held old.zone) p.rr → new.closed ≡ old.closed → new.messages ≡ old.messages → new.id ≡ old.id → new.decided.ending ≡ old.decided.ending
-    → new.decided.placed.items ≡ old.decided.placed.items ++ p ∷ [] → Gains (p ∷ []) questions placed old new
+    → new.decided.placed ≡ old.decided.placed ++ p ∷ [] → Gains (p ∷ []) questions placed old new
 gains_opening questions placed p old new among first opening zone closed messages id ending items =
     let empty : placed ≡ [] = none_placed placed (sym first ∙ among.opening) in
     record {
@@ -57,7 +57,7 @@ gains_opening questions placed p old new among first opening zone closed message
         opening = opening ∙ ap (λ ps. opening_of (ps ++ p ∷ [])) (sym empty);
         closed = closed ∙ among.closed ∙ ap is_closed empty ∙ ap (λ ps. is_closed (ps ++ p ∷ [])) (sym empty);
       };
-      handed = λ given e. ap (λ x. given ++ x) items ∙ sym (append_assoc given old.decided.placed.items (p ∷ [])) ∙ ap (λ x. x ++ p ∷ []) (e ∙ ap handed_on empty) ∙ ap (λ ps. handed_on (ps ++ p ∷ [])) (sym empty);
+      handed = λ given e. ap (λ x. given ++ x) items ∙ sym (append_assoc given old.decided.placed (p ∷ [])) ∙ ap (λ x. x ++ p ∷ []) (e ∙ ap handed_on empty) ∙ ap (λ ps. handed_on (ps ++ p ∷ [])) (sym empty);
       messages = messages;
       id = id;
       ending = ending;
@@ -83,7 +83,7 @@ gains_closing questions placed p opened old new among some soa opening zone clos
         opening = opening ∙ among.opening ∙ ap opening_of has.2 ∙ ap (λ ps. opening_of (ps ++ p ∷ [])) (sym has.2);
         closed = closed ∙ sym closes ∙ ap (λ ps. is_closed (ps ++ p ∷ [])) (sym has.2);
       };
-      handed = λ given e. ap (λ d. given ++ d.placed.items) decided ∙ e ∙ ap handed_on has.2 ∙ sym (append-nil (handed_on (has.0 ∷ has.1))) ∙ ap (λ x. handed_on (has.0 ∷ has.1) ++ x) (sym dropped) ∙ sym (handed_more has.0 has.1 p) ∙ ap (λ ps. handed_on (ps ++ p ∷ [])) (sym has.2);
+      handed = λ given e. ap (λ d. given ++ d.placed) decided ∙ e ∙ ap handed_on has.2 ∙ sym (append-nil (handed_on (has.0 ∷ has.1))) ∙ ap (λ x. handed_on (has.0 ∷ has.1) ++ x) (sym dropped) ∙ sym (handed_more has.0 has.1 p) ∙ ap (λ ps. handed_on (ps ++ p ∷ [])) (sym has.2);
       messages = messages;
       id = id;
       ending = ap (λ d. d.ending) decided;
@@ -96,7 +96,7 @@ gains_closing questions placed p opened old new among some soa opening zone clos
 -- any other record is handed on after the opening SOA
 pub gains_other : (questions : List QuestionAt) (placed : List Placed) (p : Placed) (opened : Record) (old new : Transfer) → Among questions placed old → old.opening ≡ Some opened → (p.rr.kind ≡ 6 → ⊥)
     → new.opening ≡ old.opening → new.zone ≡ old.zone → new.closed ≡ old.closed → new.messages ≡ old.messages → new.id ≡ old.id → new.decided.ending ≡ old.decided.ending
-    → new.decided.placed.items ≡ old.decided.placed.items ++ p ∷ [] → Gains (p ∷ []) questions placed old new
+    → new.decided.placed ≡ old.decided.placed ++ p ∷ [] → Gains (p ∷ []) questions placed old new
 gains_other questions placed p opened old new among some other opening zone closed messages id ending items =
     let has = some_placed placed opened (sym some ∙ among.opening) in
     let is : is_soa p ≡ false = differ p.rr.kind 6 other in
@@ -108,7 +108,7 @@ gains_other questions placed p opened old new among some other opening zone clos
         opening = opening ∙ among.opening ∙ ap opening_of has.2 ∙ ap (λ ps. opening_of (ps ++ p ∷ [])) (sym has.2);
         closed = closed ∙ among.closed ∙ ap is_closed has.2 ∙ sym stays ∙ ap (λ ps. is_closed (ps ++ p ∷ [])) (sym has.2);
       };
-      handed = λ given e. ap (λ x. given ++ x) items ∙ sym (append_assoc given old.decided.placed.items (p ∷ [])) ∙ ap (λ x. x ++ p ∷ []) (e ∙ ap handed_on has.2) ∙ ap (λ x. handed_on (has.0 ∷ has.1) ++ x) (sym kept) ∙ sym (handed_more has.0 has.1 p) ∙ ap (λ ps. handed_on (ps ++ p ∷ [])) (sym has.2);
+      handed = λ given e. ap (λ x. given ++ x) items ∙ sym (append_assoc given old.decided.placed (p ∷ [])) ∙ ap (λ x. x ++ p ∷ []) (e ∙ ap handed_on has.2) ∙ ap (λ x. handed_on (has.0 ∷ has.1) ++ x) (sym kept) ∙ sym (handed_more has.0 has.1 p) ∙ ap (λ ps. handed_on (ps ++ p ∷ [])) (sym has.2);
       messages = messages;
       id = id;
       ending = ending;
@@ -328,7 +328,7 @@ takes_whole octets before s old mid new behind is head decided takes =
         id = takes.gains.id ∙ head.id ∙ first_id_behind before p head.same_id;
         among = among;
       };
-      handed = λ given e. takes.gains.handed given (ap (λ d. given ++ d.placed.items) decided ∙ e) ∙ ap handed_on (sym placed);
+      handed = λ given e. takes.gains.handed given (ap (λ d. given ++ d.placed) decided ∙ e) ∙ ap handed_on (sym placed);
     }
 
 pub stops_in_answers : (octets : List ℕ) (before : List StatedMessage) (s : Sections) (old mid new : Transfer) (e : Fault × ℕ) → Behind before old → IsMessage octets s → TakesHead before s old mid → mid.decided ≡ old.decided → TakesUpTo octets s.answers (asked_in before ++ s.questions) (placed_in before) mid new (Some e) → StopsIn octets before old new e
@@ -337,11 +337,11 @@ stops_in_answers octets before s old mid new e behind is head decided takes =
     record {
       here = takes.here;
       next = of_answers s takes.here e.0 e.1 (record { message = is; same_id = head.same_id; asks = head.asks }) (subst (λ n. FirstAnswerFault n octets (asked_in before ++ s.questions) (placed_in before) s.answers takes.here e.0 e.1) number takes.gives);
-      handed = λ given h. takes.gains.handed given (ap (λ d. given ++ d.placed.items) decided ∙ h);
+      handed = λ given h. takes.gains.handed given (ap (λ d. given ++ d.placed) decided ∙ h);
     }
 
 hands_nothing : (placed : List Placed) (old new : Transfer) → new.decided ≡ old.decided → Hands placed (placed ++ []) old new
-hands_nothing placed old new decided = λ given e. ap (λ d. given ++ d.placed.items) decided ∙ e ∙ ap handed_on (sym (append-nil placed))
+hands_nothing placed old new decided = λ given e. ap (λ d. given ++ d.placed) decided ∙ e ∙ ap handed_on (sym (append-nil placed))
 
 pub stops_in_structure : (octets : List ℕ) (before : List StatedMessage) (t : Transfer) (e : Fault × ℕ) → MessageFault octets e.0 e.1 → StopsIn octets before t t e
 stops_in_structure octets before t e fault = record { here = []; next = of_structure e.0 e.1 fault; handed = hands_nothing (placed_in before) t t refl }
@@ -362,7 +362,7 @@ none_of (Some x) e = cc
 abbrev pub here_at : Record → ℕ → ℕ → Placed
 here_at rr number offset = record { rr = rr; place = Message number offset }
 
-pub opening_gains : (questions : List QuestionAt) (placed : List Placed) (rr : Record) (offset : ℕ) (old mid new : Transfer) → Among questions placed old → is_some old.opening ≡ false → mid.opening ≡ Some rr → zone_held mid.zone ≡ zone_with (zone_held old.zone) rr → mid ≡ record old { zone = mid.zone; opening = mid.opening } → new ≡ record mid { decided = new.decided } → new.decided.ending ≡ mid.decided.ending → new.decided.placed.items ≡ mid.decided.placed.items ++ here_at rr mid.messages offset ∷ [] → Gains (here_at rr old.messages offset ∷ []) questions placed old new
+pub opening_gains : (questions : List QuestionAt) (placed : List Placed) (rr : Record) (offset : ℕ) (old mid new : Transfer) → Among questions placed old → is_some old.opening ≡ false → mid.opening ≡ Some rr → zone_held mid.zone ≡ zone_with (zone_held old.zone) rr → mid ≡ record old { zone = mid.zone; opening = mid.opening } → new ≡ record mid { decided = new.decided } → new.decided.ending ≡ mid.decided.ending → new.decided.placed ≡ mid.decided.placed ++ here_at rr mid.messages offset ∷ [] → Gains (here_at rr old.messages offset ∷ []) questions placed old new
 opening_gains questions placed rr offset old mid new among none opening zone mid_is new_is ending items =
     gains_opening questions placed (here_at rr old.messages offset) old new among (none_of old.opening none)
     (ap (λ (t : Transfer). t.opening) new_is ∙ opening)
@@ -371,9 +371,9 @@ opening_gains questions placed rr offset old mid new among none opening zone mid
     (ap (λ (t : Transfer). t.messages) new_is ∙ ap (λ (t : Transfer). t.messages) mid_is)
     (ap (λ (t : Transfer). t.id) new_is ∙ ap (λ (t : Transfer). t.id) mid_is)
     (ending ∙ ap (λ (t : Transfer). t.decided.ending) mid_is)
-    (items ∙ ap (λ (t : Transfer). t.decided.placed.items ++ here_at rr t.messages offset ∷ []) mid_is)
+    (items ∙ ap (λ (t : Transfer). t.decided.placed ++ here_at rr t.messages offset ∷ []) mid_is)
 
-pub other_gains : (questions : List QuestionAt) (placed : List Placed) (rr : Record) (offset : ℕ) (old mid new : Transfer) → Among questions placed old → is_some old.opening ≡ true → (rr.kind ≡ 6 → ⊥) → mid ≡ old → new ≡ record mid { decided = new.decided } → new.decided.ending ≡ mid.decided.ending → new.decided.placed.items ≡ mid.decided.placed.items ++ here_at rr mid.messages offset ∷ [] → Gains (here_at rr old.messages offset ∷ []) questions placed old new
+pub other_gains : (questions : List QuestionAt) (placed : List Placed) (rr : Record) (offset : ℕ) (old mid new : Transfer) → Among questions placed old → is_some old.opening ≡ true → (rr.kind ≡ 6 → ⊥) → mid ≡ old → new ≡ record mid { decided = new.decided } → new.decided.ending ≡ mid.decided.ending → new.decided.placed ≡ mid.decided.placed ++ here_at rr mid.messages offset ∷ [] → Gains (here_at rr old.messages offset ∷ []) questions placed old new
 other_gains questions placed rr offset old mid new among some other mid_is new_is ending items =
     let has = some_of old.opening some in
     gains_other questions placed (here_at rr old.messages offset) has.0 old new among has.1 other
@@ -383,7 +383,7 @@ other_gains questions placed rr offset old mid new among some other mid_is new_i
     (ap (λ (t : Transfer). t.messages) new_is ∙ ap (λ (t : Transfer). t.messages) mid_is)
     (ap (λ (t : Transfer). t.id) new_is ∙ ap (λ (t : Transfer). t.id) mid_is)
     (ending ∙ ap (λ (t : Transfer). t.decided.ending) mid_is)
-    (items ∙ ap (λ (t : Transfer). t.decided.placed.items ++ here_at rr t.messages offset ∷ []) mid_is)
+    (items ∙ ap (λ (t : Transfer). t.decided.placed ++ here_at rr t.messages offset ∷ []) mid_is)
 
 -- a record that is no SOA stands after the opening one, while the transfer isn't closed
 pub stands_after : (questions : List QuestionAt) (placed : List Placed) (rr : Record) (t : Transfer) → Among questions placed t → is_some t.opening ≡ true → t.closed ≡ false → (rr.kind ≡ 6 → ⊥) → StandsBehind questions placed rr

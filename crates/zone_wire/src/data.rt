@@ -12,7 +12,6 @@ use crate::answers::RawRr;
 use crate::name::read_name;
 use crate::number::{u16_at, u32_at};
 use crate::octets::are_octets;
-use std::alloc::Global;
 use zone_name::NameBuilder;
 use zone_rdata::{
     Cause, Class, Field, Kind, Layout, NarrowFailing, Part, Rdata, RdataBuilder, layout_of,
@@ -245,10 +244,10 @@ impl<'m> RawRr<'m> {
         }
     }
 
-    /// The record's data.
+    /// The record's data, in the memory of a buffer, of which the octets go.
     pub(crate) fn rdata(
         &self,
-        alloc: Global,
+        buffer: Vec<u8>,
         class: Class,
         kind: Kind,
     ) -> Result<Rdata, NarrowFailing>
@@ -260,7 +259,7 @@ impl<'m> RawRr<'m> {
         ensures fault { IfErr result (IfFault (DataFault self.now.octets self.now.at)) }
     {
         are_octets(self.message);
-        let mut builder = RdataBuilder::new(alloc, class, kind);
+        let mut builder = RdataBuilder::in_buffer(buffer, class, kind);
         self.push_data(class, kind, &mut builder)?;
         match builder.whole() {
             Some(rdata) => Ok(rdata),

@@ -29,7 +29,7 @@ impl Intake {
         ensures follow { Follow result.transfer result.unfinished.items [] [] }
         ensures none { result.unfinished.items ≡ [] }
         ensures count { result.transfer.messages ≡ 0 }
-        ensures records { result.transfer.decided.placed.items ≡ [] }
+        ensures records { result.transfer.decided.placed ≡ [] }
         ensures undecided { result.transfer.decided.ending ≡ None }
     {
         Intake {
@@ -112,7 +112,7 @@ impl Intake {
         ensures count { self.new.transfer.messages ≡ self.old.transfer.messages }
         ensures reads { (fed : List ℕ) (given : List Placed)
             → Follow self.old.transfer self.old.unfinished.items fed given
-            → StreamReads fed (given ++ self.new.transfer.decided.placed.items)
+            → StreamReads fed (given ++ self.new.transfer.decided.placed)
             self.new.transfer.decided.ending }
     {
         if self.transfer.decided.ending.is_none() {

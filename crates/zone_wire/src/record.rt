@@ -87,7 +87,7 @@ impl<'m> RawRr<'m> {
     {
         are_octets(self.message);
         let (class, kind) = self.class_and_kind()?;
-        let rdata = self.rdata(alloc, class, kind)?;
+        let rdata = self.rdata(Vec::new(alloc), class, kind)?;
         Ok(Rr::of_parts(self.owner.copy(), counted_ttl(self.ttl), rdata))
     }
 }

@@ -5,7 +5,7 @@ ghost use Rattle.zone_wire.specs.Stream.{StreamReads};
 use crate::intake::{Intake, cut_len};
 use std::alloc::{AllocError, Global};
 use std::marker::Model;
-use zone_rdata::{Placed, Reading, RrSource, Stop};
+use zone_rdata::{LendingSource, Placed, PlacedRef, Reading, RrSource, Stop};
 
 /// The records of a zone transfer (RFC 5936 2.2) that is fed in pieces, as soon as they are
 /// decided: with the octet that ends their message. Contracts see the records that it has left to
@@ -42,7 +42,7 @@ impl Model for TransferSource {
     ghost view = { λ s. record {
       pending = record {
         failed = is_failed s.status;
-        records = s.intake.transfer.decided.placed.items;
+        records = s.intake.transfer.decided.placed;
         ending = s.intake.transfer.decided.ending;
       };
       held = record {
@@ -179,7 +179,7 @@ impl TransferSource {
     {
         let TransferSource { intake, .. } = self;
         let Intake { transfer, .. } = intake;
-        transfer.into_decided()
+        transfer.into_reading()
     }
 }
 
@@ -197,6 +197,22 @@ impl RrSource for TransferSource {
             return Err(Stop::Memory);
         }
         self.intake.transfer.decided.next()
+    }
+}
+
+impl LendingSource for TransferSource {
+    fn first(&self) -> Option<PlacedRef<'_>> {
+        if let Status::OutOfMemory = self.status {
+            return None;
+        }
+        self.intake.transfer.decided.first()
+    }
+
+    fn skip(&mut self) {
+        if let Status::OutOfMemory = self.status {
+            return;
+        }
+        self.intake.transfer.decided.skip()
     }
 }
 

@@ -2,7 +2,7 @@
 ghost use Rattle.std.specs.Prelude.{◌≡◌, ◌+◌, ◌<◌, ◌≤◌, ◌^◌, [], ◌∷◌, ◌++◌, length, ◌↔◌, List, Some, None, IfErr, IsTrue, MatchOption, OnErr, OnOk, ⊤, option_map};
 ghost use Rattle.zone_rdata.specs.Cause.{fault_for};
 ghost use Rattle.zone_rdata.specs.Fault.{IfFault};
-ghost use Rattle.zone_rdata.specs.Record.{Record};
+ghost use Rattle.zone_rdata.specs.Record.{Record, record_with};
 ghost use Rattle.zone_rdata.specs.declared.fault.Fault.{Fault};
 ghost use Rattle.zone_rdata.specs.declared.fault.Place.TheVariants.{Message as in_message};
 ghost use Rattle.zone_rdata.specs.declared.record.Placed.{Placed};
@@ -17,9 +17,10 @@ use crate::message::Message;
 use crate::place::HEADER_LEN;
 use crate::record::counted_ttl;
 use std::alloc::{AllocError, Global};
-use std::collections::VecDeque;
 use zone_name::Name;
-use zone_rdata::{Cause, Failing, NarrowFailing, Place, Placed, Reading, Rr};
+use zone_rdata::{
+    Cause, Failing, MAX_TTL, NarrowFailing, PendingRecords, Place, Rdata, Reading, Rr,
+};
 
 /// The number of the query type AXFR, of a whole zone (RFC 5936 2.1.2).
 const AXFR: u16 = 252;
@@ -43,7 +44,7 @@ pub(crate) struct Transfer {
     pub(crate) opening: Option<Rr>,
     /// Whether the closing SOA came.
     pub(crate) closed: bool,
-    pub(crate) decided: Reading,
+    pub(crate) decided: PendingRecords,
 }
 
 impl Transfer {
@@ -51,7 +52,7 @@ impl Transfer {
     pub(crate) fn new(alloc: Global) -> Transfer
         ensures behind { Behind [] result }
         ensures none { result.decided.ending ≡ None }
-        ensures records { result.decided.placed.items ≡ [] }
+        ensures records { result.decided.placed ≡ [] }
     {
         Transfer {
             alloc,
@@ -60,19 +61,17 @@ impl Transfer {
             zone: None,
             opening: None,
             closed: false,
-            decided: Reading {
-                placed: VecDeque::new(alloc),
-                ending: None,
-            },
+            decided: PendingRecords::new(alloc),
         }
     }
 
     /// What is left to hand on.
-    pub(crate) fn into_decided(self) -> Reading
-        ensures { result ≡ self.decided }
+    pub(crate) fn into_reading(self) -> Reading
+        ensures placed { result.placed.items ≡ self.decided.placed }
+        ensures ending { result.ending ≡ self.decided.ending }
     {
         let Transfer { decided, .. } = self;
-        decided
+        decided.into_reading()
     }
 
     /// Takes the next message. Nothing is taken after a fault in it.
@@ -204,13 +203,15 @@ impl Transfer {
             return self.take_soa(&answer);
         }
         let (class, kind) = answer.class_and_kind()?;
-        let rdata = answer.rdata(self.alloc, class, kind)?;
-        let offset = answer.offset();
-        let rr = Rr::of_parts(answer.owner, counted_ttl(answer.ttl), rdata);
+        let buffer = self.decided.placed.buffer(self.alloc);
+        let rdata = answer.rdata(buffer, class, kind)?;
+        let (ttl, offset) = (counted_ttl(answer.ttl), answer.offset());
+        answer.owner.known();
+        rdata.known();
         if self.closed {
             return Err(NarrowFailing::of(Cause::AfterClosing));
         }
-        self.hand_on(rr, offset)?;
+        self.hand_on(&answer.owner, ttl, rdata, offset)?;
         Ok(())
     }
 
@@ -256,21 +257,31 @@ impl Transfer {
             self.closed = true;
             return Ok(());
         }
-        self.hand_on(rr, answer.offset())?;
+        let (owner, ttl, rdata) = rr.into_parts();
+        self.hand_on(&owner, ttl, rdata, answer.offset())?;
         Ok(())
     }
 
     /// Appends a record to those that are left to hand on.
-    fn hand_on(&mut self, rr: Rr, offset: usize) -> Result<(), AllocError>
-        ensures items { OnOk result (self.new.decided.placed.items
-            ≡ self.old.decided.placed.items
-            ++ record { rr = rr; place = in_message self.old.messages offset } ∷ []) }
+    fn hand_on(
+        &mut self,
+        owner: &Name,
+        ttl: u32,
+        rdata: Rdata,
+        offset: usize,
+    ) -> Result<(), AllocError>
+        requires { ttl ≤ MAX_TTL }
+        ensures items { OnOk result (self.new.decided.placed
+            ≡ self.old.decided.placed
+            ++ record {
+              rr = record_with owner.now ttl rdata;
+              place = in_message self.old.messages offset;
+            } ∷ []) }
         ensures others { self.new ≡ record self.old { decided = self.new.decided } }
         ensures ending { self.new.decided.ending ≡ self.old.decided.ending }
     {
         let place = Place::Message(self.messages, offset);
-        self.decided.placed.push_back(Placed { rr, place })?;
-        Ok(())
+        self.decided.placed.push(owner, ttl, rdata, place)
     }
 
     /// Takes the opening SOA, which fixes the zone if no question does.

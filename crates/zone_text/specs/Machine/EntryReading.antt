@@ -12,7 +12,7 @@ use Rattle.zone_rdata.specs.declared.fault.Failing.TheVariants as failings
 use Rattle.zone_rdata.specs.declared.fault.Fault.{Fault}
 use Rattle.zone_rdata.specs.declared.fault.Fault.TheVariants.{BadDirective, NoOwner}
 use Rattle.zone_rdata.specs.declared.fault.Place.{Place}
-use Rattle.zone_rdata.specs.declared.source.Reading.{Reading}
+use Rattle.zone_rdata.specs.declared.queue.PendingRecords.{PendingRecords}
 use Rattle.zone_text.specs.Defaults.{AreDefaults, IsTtlOrNone}
 use Rattle.zone_text.specs.Entries.{Entry}
 use Rattle.zone_text.specs.EntryFault.{EntryFault}
@@ -29,21 +29,21 @@ LeavesNoRecord origin before entry next =
 -- What an entry at a place decides after what was decided, and what is left to those after it:
 -- nothing; the record that it states; or its fault, after which nothing is said of what is left
 pub data DecidesEntry (origin : Labels) (before : List Entry) (entry : Entry) (place : Place)
-    (old new : Reading) (next : Defaults) : Type 0 where
+    (old new : PendingRecords) (next : Defaults) : Type 0 where
   decides_none : LeavesNoRecord origin before entry next → new ≡ old
       → DecidesEntry origin before entry place old new next
   decides_one : (r : Record) → StatesRecord origin before entry r
       → AreDefaults origin (entry ∷ before) next
-      → new.placed.items ≡ old.placed.items ++ (record { rr = r; place = place }) ∷ []
+      → new.placed ≡ old.placed ++ (record { rr = r; place = place }) ∷ []
       → new.ending ≡ old.ending → DecidesEntry origin before entry place old new next
   decides_fault : (fault : Fault) → EntryFault origin before entry fault
-      → new.placed.items ≡ old.placed.items → new.ending ≡ Some (fault, place)
+      → new.placed ≡ old.placed → new.ending ≡ Some (fault, place)
       → DecidesEntry origin before entry place old new next
 
 -- the fault is decided, and nothing after it
-abbrev pub Refuses : Failing → Place → Reading → Reading → Type 0
+abbrev pub Refuses : Failing → Place → PendingRecords → PendingRecords → Type 0
 Refuses (failings.Fault fault) place old new =
-    (new.placed.items ≡ old.placed.items) × (new.ending ≡ Some (fault, place))
+    (new.placed ≡ old.placed) × (new.ending ≡ Some (fault, place))
 Refuses failings.Memory place old new = ⊥
 
 abbrev pub with_owner : Option Labels → Defaults → Defaults

@@ -25,7 +25,7 @@ pub record ReadsEntry (origin : Labels) (before : List Entry) (tokens : List Tok
     (old new : EndedEntries) : Type 0 where
   pub others : List Placed
   pub read : ReadEach origin None before (entry_of old.line tokens ∷ []) others new.decided.ending
-  pub records : new.decided.placed.items ≡ old.decided.placed.items ++ others
+  pub records : new.decided.placed ≡ old.decided.placed ++ others
   pub defaults : new.decided.ending ≡ None
       → AreDefaults origin (entry_of old.line tokens ∷ before) new.defaults
   pub line : new.decided.ending ≡ None → new.line ≡ old.line + count_by (λ c. c == 10) (text tokens)
@@ -42,7 +42,7 @@ pub record ReadsOctets (octets : List ℕ) (old new : EndedEntries) : Type 0 whe
 -- given
 pub record Follow (origin : Labels) (ended : EndedEntries) (unfinished : List ℕ) (fed : List ℕ)
     (given : List Placed) : Type 0 where
-  pub decided : Decided origin fed (given ++ ended.decided.placed.items) ended.decided.ending
+  pub decided : Decided origin fed (given ++ ended.decided.placed) ended.decided.ending
   pub leave : ended.decided.ending ≡ None → Leave origin fed ended.defaults ended.line unfinished
 
 -- the scan of octets took all of them, and they lead there
@@ -71,7 +71,7 @@ abbrev pub ReadsAll : Intake → Intake → Type 0
 ReadsAll old new =
     (origin : Labels) (fed : List ℕ) (given : List Placed)
     → Follow origin old.ended old.unfinished.items fed given
-    → FileReads origin fed (given ++ new.ended.decided.placed.items) new.ended.decided.ending
+    → FileReads origin fed (given ++ new.ended.decided.placed) new.ended.decided.ending
 
 abbrev pub is_failed : Status → Bool
 is_failed Open = false
@@ -89,7 +89,7 @@ state_of status fed ended unfinished = record {
   pending =
       record {
         failed = is_failed status;
-        records = ended.decided.placed.items;
+        records = ended.decided.placed;
         ending = ended.decided.ending;
       };
   held =

@@ -22,14 +22,14 @@ pub record Going (t : Transfer) (unfinished : List ℕ) (fed : List ℕ)
   pub framed : IsFramed fed (octets_in parts) unfinished
   pub read : AreRead [] parts
   pub behind : Behind parts t
-  pub handed : given ++ t.decided.placed.items ≡ handed_on (placed_in parts)
+  pub handed : given ++ t.decided.placed ≡ handed_on (placed_in parts)
 
 -- what is held follows from the octets fed and the records given
 pub record Follow (t : Transfer) (unfinished : List ℕ) (fed : List ℕ)
     (given : List Placed) : Type 0 where
   pub octets : (i : ℕ) → slice_index fed i < 256
   pub state : MatchOption t.decided.ending (Going t unfinished fed given)
-      (λ e. Decided fed (given ++ t.decided.placed.items) (Some e))
+      (λ e. Decided fed (given ++ t.decided.placed) (Some e))
 
 abbrev pub is_failed : Status → Bool
 is_failed Open = false

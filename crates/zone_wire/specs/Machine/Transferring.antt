@@ -39,8 +39,8 @@ pub record Behind (before : List StatedMessage) (t : Transfer) : Type 0 where
 -- what is left to hand on is the rest of these records, whatever was given
 abbrev pub Hands : List Placed → List Placed → Transfer → Transfer → Type 0
 Hands placed later old new =
-    (given : List Placed) → given ++ old.decided.placed.items ≡ handed_on placed
-    → given ++ new.decided.placed.items ≡ handed_on later
+    (given : List Placed) → given ++ old.decided.placed ≡ handed_on placed
+    → given ++ new.decided.placed ≡ handed_on later
 
 -- records came after others, and those of them that are handed on are held
 pub record Gains (here : List Placed) (questions : List QuestionAt) (placed : List Placed)

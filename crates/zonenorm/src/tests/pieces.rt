@@ -3,11 +3,11 @@ use crate::tests::fault_name;
 use std::alloc::Global;
 use std::test::Fail;
 use zone_name::Name;
-use zone_rdata::{Fault, Place, Placed, Reading, Rr, RrSource, Stop};
+use zone_rdata::{Fault, LendingSource, Place, PlacedRef, Reading, Rr, RrRef, Stop};
 use zone_text::TextSource;
 
 /// A source that is fed.
-pub(super) trait Fed: RrSource + Drop {
+pub(super) trait Fed: LendingSource + Drop {
     /// A source that was fed nothing. Of a transfer the origin says nothing.
     fn begin(alloc: Global, origin: &Name) -> Self;
 
@@ -56,13 +56,13 @@ impl Fed for TextSource {
     }
 }
 
-/// Whether two records are the same.
-fn is_same_record(left: &Rr, right: &Rr) -> bool {
-    left.owner() == right.owner()
-        && left.ttl() == right.ttl()
-        && left.class().number() == right.class().number()
-        && left.kind().number() == right.kind().number()
-        && left.rdata().octets() == right.rdata().octets()
+/// Whether a record and one that is lent are the same.
+fn is_same_record(left: &Rr, right: &RrRef<'_>) -> bool {
+    left.owner().wire() == right.owner.wire()
+        && left.ttl() == right.ttl
+        && left.class().number() == right.class.number()
+        && left.kind().number() == right.kind.number()
+        && left.rdata().octets() == right.rdata.octets()
 }
 
 /// What a source gives, against the records and the fault that it should give.
@@ -75,10 +75,18 @@ struct Taken<'r> {
 
 impl<'r> Taken<'r> {
     /// Whether the next record is this one.
-    fn is_next(&self, placed: &Placed) -> bool {
+    fn is_next(&self, placed: &PlacedRef<'_>) -> bool {
         match self.wanted.placed.get(self.count) {
             Some(next) => next.place == placed.place && is_same_record(&next.rr, &placed.rr),
             None => false,
+        }
+    }
+
+    /// Passes over the record that a source lends, if it is the next.
+    fn pass_over<S: Fed>(&mut self, source: &mut S) {
+        if source.first().is_some_and(|lent| self.is_next(&lent)) {
+            source.skip();
+            self.count = self.count.wrapping_add(1);
         }
     }
 
@@ -94,12 +102,13 @@ impl<'r> Taken<'r> {
         )
     }
 
-    /// Whether what the source has decided is what it should give.
+    /// Whether what the source has decided is what it should give. Every second record is lent.
     fn is_right<S: Fed>(&mut self, alloc: Global, source: &mut S) -> Result<bool, Fail> {
         for _ in self.count..=self.wanted.placed.len() {
+            self.pass_over(source);
             match source.next() {
                 Ok(None) => return Ok(true),
-                Ok(Some(placed)) if self.is_next(&placed) => {
+                Ok(Some(placed)) if self.is_next(&placed.lend()) => {
                     self.count = self.count.wrapping_add(1);
                 }
                 Err(Stop::Refused(fault, place)) => return self.is_ending(alloc, &fault, place),

@@ -5,7 +5,7 @@ use crate::tests::{Case, first_wrong};
 use std::alloc::Global;
 use std::test::Fail;
 use zone_name::Name;
-use zone_rdata::{Fault, Place, Rr, RrSource, Stop};
+use zone_rdata::{Fault, LendingSource, PendingRecords, Place, Rr, RrSource, Stop};
 
 /// A TTL, and whether a record may have it.
 struct Ttl(u32, bool);
@@ -54,5 +54,41 @@ fn a_reading_gives_its_fault_again(rt: HostRuntime) -> Result<(), Fail> {
         let stop = reading.next().err().ok_or("no fault")?;
         assert!(rt; matches!(stop, Stop::Refused(Fault::BadTtl, Place::Line(4))));
     }
+    Ok(())
+}
+
+#[test]
+fn a_reading_lends_its_records(rt: HostRuntime) -> Result<(), Fail> {
+    let mut reading = reading_of(rt.alloc(), b"a. 1 IN NS b.\nc. 2 IN NS d.\n")?;
+    let first = reading.first().ok_or("no record")?;
+    assert!(rt; first.rr.owner.wire() == b"\x01a\x00".as_slice() && first.place == Place::Line(1));
+    reading.skip();
+    let second = reading.first().ok_or("no record")?;
+    assert!(rt; second.rr.ttl == 2 && second.rr.rdata.octets() == b"\x01d\x00".as_slice());
+    reading.skip();
+    assert!(rt; reading.first().is_none() && reading.next()?.is_none());
+    Ok(())
+}
+
+#[test]
+fn a_queue_gives_what_was_put_in(rt: HostRuntime) -> Result<(), Fail> {
+    let owner = Name::from_text(b"example.", None)?;
+    let mut pending = PendingRecords::new(rt.alloc());
+    for ttl in 1..5 {
+        let data = data_of(rt.alloc(), "x.", "IN NS b.")??;
+        pending.placed.push(&owner, ttl, data, Place::Line(4))?;
+    }
+    pending.ending = Some((Fault::BadTtl, Place::Line(5)));
+    let first = pending.placed.first().ok_or("no record")?;
+    assert!(rt; first.rr.ttl == 1 && first.rr.rdata.octets() == SERVER);
+    pending.placed.skip();
+    assert!(rt; pending.placed.buffer(rt.alloc()).as_slice() == SERVER);
+    let second = pending.placed.pop().ok_or("no record")?;
+    assert!(rt; is_server(second.rr, 2) && second.place == Place::Line(4));
+    let third = pending.next()?.ok_or("no record")?;
+    assert!(rt; is_server(third.rr, 3));
+    let mut rest = pending.into_reading();
+    assert!(rt; rest.next()?.is_some());
+    assert!(rt; matches!(rest.next(), Err(Stop::Refused(Fault::BadTtl, Place::Line(5)))));
     Ok(())
 }

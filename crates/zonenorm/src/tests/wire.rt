@@ -108,7 +108,9 @@ fn are_pushed(alloc: Global, builder: &mut RdataBuilder, steps: &[Step]) -> Resu
 impl Case for Built {
     fn is_right(&self, alloc: Global) -> Result<bool, Fail> {
         let (class, kind) = (Class::from_number(1)?, Kind::from_number(self.0)?);
-        let mut builder = RdataBuilder::new(alloc, class, kind);
+        let mut buffer = Vec::new(alloc);
+        buffer.extend_from_slice(b"octets of before")?;
+        let mut builder = RdataBuilder::in_buffer(buffer, class, kind);
         let are_pushed = are_pushed(alloc, &mut builder, self.1)?;
         match (builder.finish(), self.2) {
             (Ok(data), Ok(octets)) => Ok(are_pushed && data.octets() == octets),

@@ -10,7 +10,7 @@ use Rattle.zone_set.specs.Machine.Held.{all_records, entry_record, HoldsEntries,
 use Rattle.zone_set.specs.Machine.Hint.{hint}
 use Rattle.zone_set.specs.Machine.Stored.{stored}
 use Rattle.zone_set.specs.Order.{Ascends}
-use Rattle.zone_set.specs.View.{record_of}
+use Rattle.zone_rdata.specs.Lent.{record_of}
 use Rattle.zone_set.specs.Zone.{Has}
 use Rattle.zone_set.specs.declared.entry.Entry.{Entry}
 use Rattle.zone_set.proofs.put.put.Goals as goal

@@ -5,7 +5,7 @@ use Rattle.zone_rdata.specs.declared.fault.Place.TheVariants.{Whole}
 use Rattle.zone_rdata.specs.declared.fault.Stop.TheVariants.{Refused}
 use Rattle.zone_set.proofs.Finishing.{IsZone-from_parts, stops_without_soa}
 use Rattle.zone_set.specs.Builder.{StopsFinish}
-use Rattle.zone_set.specs.View.{record_of}
+use Rattle.zone_rdata.specs.Lent.{record_of}
 use Rattle.zone_set.proofs.builder.ZoneBuilder.finish.Goals as goal
 
 pub returns-then-not-is_soa-clause-stopped : goal.returns-then-not-is_soa-clause-stopped

@@ -3,7 +3,7 @@ use Rattle.std.specs.List.{AllByRecursion}
 use Rattle.zone_name.specs.Name.{IsWithin}
 use Rattle.zone_rdata.specs.Record.{Record}
 use Rattle.zone_set.proofs.Interval.{ends_tell}
-use Rattle.zone_set.specs.View.{record_of}
+use Rattle.zone_rdata.specs.Lent.{record_of}
 use Rattle.zone_set.specs.Zone.{AreCompatible}
 use Rattle.zone_set.proofs.sets.Sets.lies_within.Goals as goal
 use Rattle.zone_set.proofs.sets.Sets.lies_within.Goals.{then-is_none_outside, else-is_none_outside}

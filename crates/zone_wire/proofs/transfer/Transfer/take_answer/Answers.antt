@@ -1,4 +1,5 @@
 use Rattle.std.proofs.Common.{◌≡◌, ◌∙◌, sym, refl}
+use Rattle.zone_rdata.specs.Record.{IsRecord, record_with}
 use Rattle.zone_rdata.proofs.Failings.{fault_answered, if_fault_passed}
 use Rattle.zone_wire.specs.AnswerFault.{own, of_order, closed}
 use Rattle.zone_wire.proofs.Progress.{other_gains, stands_after}
@@ -16,17 +17,21 @@ returns-in_err-rdata-clause-fault c =
 
 pub returns-then-self-clause-fault : goal.returns-then-self-clause-fault
 returns-then-self-clause-fault c =
-    let states = stated _ c.args.answer c.answer.view_is _ _ _ c.in_ok-rdata.rdata c.of_parts-rr.result c.of_parts-rr.ensures.value c.of_parts-rr.ensures.record c.in_ok-rdata.ensures.class c.in_ok-rdata.ensures.kind c.in_ok-class.ensures.class.0 c.in_ok-class.ensures.kind.0 c.counted_ttl.ensures.value c.in_ok-rdata.ensures.found c.in_ok-class.ensures.readable in
-    rw c.of.ensures (λ questions placed among. of_order c.of_parts-rr.result states (closed (sym among.closed ∙ c.if-self.true)))
+    let rr = record_with c.answer.inside.owner c.counted_ttl-ttl.result c.in_ok-rdata.rdata in
+    let fits : IsRecord rr = record { owner = c.known.ensures.name; ttl = c.counted_ttl-ttl.ensures.short; rdata = c.known-2.ensures } in
+    let states = stated _ c.args.answer c.answer.view_is _ _ _ c.in_ok-rdata.rdata rr refl fits c.in_ok-rdata.ensures.class c.in_ok-rdata.ensures.kind c.in_ok-class.ensures.class.0 c.in_ok-class.ensures.kind.0 c.counted_ttl-ttl.ensures.value c.in_ok-rdata.ensures.found c.in_ok-class.ensures.readable in
+    rw c.of.ensures (λ questions placed among. of_order rr states (closed (sym among.closed ∙ c.if-self.true)))
 
 pub returns-clause-taken : goal.returns-clause-taken
 returns-clause-taken c = λ questions placed among.
-    let states = stated _ c.args.answer c.answer.view_is _ _ _ c.in_ok-rdata.rdata c.of_parts-rr.result c.of_parts-rr.ensures.value c.of_parts-rr.ensures.record c.in_ok-rdata.ensures.class c.in_ok-rdata.ensures.kind c.in_ok-class.ensures.class.0 c.in_ok-class.ensures.kind.0 c.counted_ttl.ensures.value c.in_ok-rdata.ensures.found c.in_ok-class.ensures.readable in
-    let other : c.of_parts-rr.result.kind ≡ 6 → ⊥ = λ soa. (let yes = c.is_soa.ensures.1 (sym states.kind ∙ soa) in let no = c.if-is_soa.false in let none : ⊥ = cc in none) in
-    let items = rw c.offset-offset.ensures at c.in_ok-hand_on.ensures.items in
+    let rr = record_with c.answer.inside.owner c.counted_ttl-ttl.result c.in_ok-rdata.rdata in
+    let fits : IsRecord rr = record { owner = c.known.ensures.name; ttl = c.counted_ttl-ttl.ensures.short; rdata = c.known-2.ensures } in
+    let states = stated _ c.args.answer c.answer.view_is _ _ _ c.in_ok-rdata.rdata rr refl fits c.in_ok-rdata.ensures.class c.in_ok-rdata.ensures.kind c.in_ok-class.ensures.class.0 c.in_ok-class.ensures.kind.0 c.counted_ttl-ttl.ensures.value c.in_ok-rdata.ensures.found c.in_ok-class.ensures.readable in
+    let other : rr.kind ≡ 6 → ⊥ = λ soa. (let yes = c.is_soa.ensures.1 (sym states.kind ∙ soa) in let no = c.if-is_soa.false in let none : ⊥ = cc in none) in
+    let items = rw (c.offset-offset.ensures, c.buffer-buffer.ensures) at c.in_ok-hand_on.ensures.items in
     record {
-      rr = c.of_parts-rr.result;
+      rr = rr;
       states = states;
-      stands = stands_after questions placed c.of_parts-rr.result c.args.self.now among c.if-is_none.ensures c.if-self.false other;
-      gains = other_gains questions placed c.of_parts-rr.result c.args.answer.at.offset c.args.self.now c.args.self.now c.hand_on.new.self among c.if-is_none.ensures other refl c.hand_on.ensures.others c.hand_on.ensures.ending items;
+      stands = stands_after questions placed rr c.args.self.now among c.if-is_none.ensures c.if-self.false other;
+      gains = other_gains questions placed rr c.args.answer.at.offset c.args.self.now c.args.self.now c.hand_on.new.self among c.if-is_none.ensures other refl c.hand_on.ensures.others c.hand_on.ensures.ending items;
     }

@@ -1,4 +1,5 @@
-use Rattle.std.proofs.Common.{◌≡◌, ap, sym, ◌∙◌, refl, Some}
+use Rattle.std.proofs.Common.{◌≡◌, ◌++◌, ◌∷◌, [], ap, sym, ◌∙◌, refl, Some}
+use Rattle.zone_rdata.specs.Record.{record_with}
 use Rattle.zone_wire.specs.Machine.Transferring.{zone_held, zone_with}
 use Rattle.zone_wire.proofs.Progress.{some_of, here_at, gains_closing, opening_gains, other_gains}
 use Rattle.zone_wire.proofs.transfer.Transfer.take_record.Goals as goal
@@ -12,7 +13,12 @@ returns-then-is_soa-clause-gains c = λ questions placed among.
 
 pub returns-clause-gains : goal.returns-clause-gains
 returns-clause-gains c = λ questions placed among.
-    let items = rw c.offset.ensures at c.in_ok-hand_on.ensures.items in
+    let parts = c.into_parts-owner.result in
+    let its_parts = c.into_parts-owner.ensures in
+    let same : record_with parts.0 parts.1 parts.2 ≡ c.args.rr =
+        ap (λ o. record_with o parts.1 parts.2) its_parts.owner ∙ ap (λ t. record_with c.args.rr.owner t parts.2) its_parts.ttl ∙ ap (λ d. record_with c.args.rr.owner c.args.rr.ttl d) its_parts.rdata in
+    let handed = rw c.offset.ensures at c.in_ok-hand_on.ensures.items in
+    let items = handed ∙ ap (λ r. c.if-is_none.self.decided.placed ++ here_at r c.if-is_none.self.messages c.args.answer.now.at.offset ∷ []) same in
     elim c.if-is_none.branch [
       | then-is_none+in-Ok w ↦ opening_gains questions placed c.args.rr c.args.answer.now.at.offset c.args.self.now c.if-is_none.self c.hand_on.new.self among w.if-is_none.ensures
           (ap (λ t. t.opening) w.self-is ∙ w.open.ensures.opening ∙ ap Some (w.in-Ok.ensures.only c.args.rr c.requires).0)

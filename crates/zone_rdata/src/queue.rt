@@ -1,0 +1,176 @@
+//! The records that a source has decided and not given yet.
+ghost use Rattle.std.specs.Prelude.{◌≡◌, ◌≤◌, ◌∷◌, ◌++◌, [], None, OnOk, OnErr, option_map};
+ghost use Rattle.zone_rdata.specs.Lent.{placed_of};
+ghost use Rattle.zone_rdata.specs.Record.{IsRecord, record_with};
+ghost use Rattle.zone_rdata.specs.Source.{first_record, others};
+
+use crate::fault::{Fault, Place, Stop};
+use crate::lent::PlacedRef;
+use crate::rdata::Rdata;
+use crate::record::{MAX_TTL, Placed, Rr};
+use crate::source::{LendingSource, Reading, RrSource};
+use std::alloc::{AllocError, Global};
+use std::collections::VecDeque;
+use std::marker::Model;
+use zone_name::Name;
+
+/// Records in the order in which they came, each with its place. It keeps the memory of data that
+/// was dropped for the data of records to come. Contracts see the list of records.
+#[derive(Drop)]
+pub struct RecordQueue {
+    placed: VecDeque<Placed>,
+    /// The memory of data that was dropped.
+    buffers: Vec<Vec<u8>>,
+}
+
+impl Model for RecordQueue {
+    ghost use Rattle.std.specs.Prelude.{List};
+    ghost use Rattle.zone_rdata.specs.declared.record.Placed.{Placed};
+
+    ghost Value = { List Placed };
+
+    ghost view = { λ q. q.placed.items };
+}
+
+impl RecordQueue {
+    /// No record.
+    pub fn new(alloc: Global) -> RecordQueue
+        ensures { result ≡ [] }
+    {
+        RecordQueue {
+            placed: VecDeque::new(alloc),
+            buffers: Vec::new(alloc),
+        }
+    }
+
+    /// Appends the record of an owner, a TTL in seconds that was judged before, and data, with its
+    /// place.
+    ///
+    /// # Errors
+    ///
+    /// `AllocError` where memory is refused. The queue is unchanged.
+    pub fn push(
+        &mut self,
+        owner: &Name,
+        ttl: u32,
+        rdata: Rdata,
+        place: Place,
+    ) -> Result<(), AllocError>
+        requires { ttl ≤ MAX_TTL }
+        ensures appended { OnOk result (self.new ≡ self.old
+            ++ record { rr = record_with owner.now ttl rdata; place = place } ∷ []) }
+        ensures record { IsRecord (record_with owner.now ttl rdata) }
+        ensures unchanged { OnErr result (self.new ≡ self.old) }
+    {
+        let rr = Rr::of_parts(owner.copy(), ttl, rdata);
+        self.placed.push_back(Placed { rr, place })?;
+        Ok(())
+    }
+
+    /// The first record, borrowed. `None`: there is none.
+    pub fn first(&self) -> Option<PlacedRef<'_>>
+        ensures { option_map placed_of result ≡ first_record self.now }
+    {
+        Some(self.placed.front()?.lend())
+    }
+
+    /// Drops the first record, if there is one, and keeps the memory of its data.
+    pub fn skip(&mut self)
+        ensures { self.new ≡ others self.old }
+    {
+        if let Some(placed) = self.placed.pop_front() {
+            let (_, _, rdata) = placed.rr.into_parts();
+            // Where memory is refused the buffer is dropped.
+            let _ = self.buffers.push(rdata.into_octets());
+        }
+    }
+
+    /// Takes the first record out. `None`: there is none.
+    pub fn pop(&mut self) -> Option<Placed>
+        ensures first { result ≡ first_record self.old }
+        ensures left { self.new ≡ others self.old }
+    {
+        self.placed.pop_front()
+    }
+
+    /// Memory for the data of a record to come, with any octets in it: that of data that was
+    /// dropped, if some is kept.
+    pub fn buffer(&mut self, alloc: Global) -> Vec<u8>
+        ensures { self.new ≡ self.old }
+    {
+        match self.buffers.pop() {
+            Some(buffer) => buffer,
+            None => Vec::new(alloc),
+        }
+    }
+
+    /// The records.
+    pub fn into_placed(self) -> VecDeque<Placed>
+        ensures { result.items ≡ self }
+    {
+        self.placed
+    }
+}
+
+/// The records that a source has still to give, and the fault after them.
+#[derive(Drop)]
+pub struct PendingRecords {
+    /// The records.
+    pub placed: RecordQueue,
+    /// The fault after them and where it stands. `None`: no fault is decided.
+    pub ending: Option<(Fault, Place)>,
+}
+
+impl PendingRecords {
+    /// No record and no fault.
+    pub fn new(alloc: Global) -> PendingRecords
+        ensures records { result.placed ≡ [] }
+        ensures ending { result.ending ≡ None }
+    {
+        PendingRecords {
+            placed: RecordQueue::new(alloc),
+            ending: None,
+        }
+    }
+
+    /// All of them.
+    pub fn into_reading(self) -> Reading
+        ensures records { result.placed.items ≡ self.placed }
+        ensures ending { result.ending ≡ self.ending }
+    {
+        Reading {
+            placed: self.placed.into_placed(),
+            ending: self.ending,
+        }
+    }
+}
+
+impl RrSource for PendingRecords {
+    ghost use Rattle.std.specs.Prelude.{false};
+
+    ghost Beside = { Unit {0} };
+
+    ghost beside = { λ _. tt };
+
+    ghost pending = { λ r. record { failed = false; records = r.placed; ending = r.ending } };
+
+    fn next(&mut self) -> Result<Option<Placed>, Stop> {
+        if let Some(placed) = self.placed.pop() {
+            return Ok(Some(placed));
+        }
+        match &self.ending {
+            None => Ok(None),
+            Some((fault, place)) => Err(Stop::Refused(fault.copy(), *place)),
+        }
+    }
+}
+
+impl LendingSource for PendingRecords {
+    fn first(&self) -> Option<PlacedRef<'_>> {
+        self.placed.first()
+    }
+
+    fn skip(&mut self) {
+        self.placed.skip()
+    }
+}
