@@ -14,6 +14,10 @@ use std::collections::VecDeque;
 use std::marker::Model;
 use zone_name::Name;
 
+/// The greatest number of octets for which the memory of dropped data is kept. Nearly all data is
+/// shorter, and what is kept then goes by the number of records.
+const LONGEST_BUFFER: usize = 512;
+
 /// Records in the order in which they came, each with its place. It keeps the memory of data that
 /// was dropped for the data of records to come. Contracts see the list of records.
 #[derive(Drop)]
@@ -80,8 +84,11 @@ impl RecordQueue {
     {
         if let Some(placed) = self.placed.pop_front() {
             let (_, _, rdata) = placed.rr.into_parts();
-            // Where memory is refused the buffer is dropped.
-            let _ = self.buffers.push(rdata.into_octets());
+            let buffer = rdata.into_octets();
+            if buffer.capacity() <= LONGEST_BUFFER {
+                // Where memory is refused the buffer is dropped.
+                let _ = self.buffers.push(buffer);
+            }
         }
     }
 
