@@ -11,12 +11,12 @@ use Rattle.zone_name.specs.Spelling.{IsLabelFault}
 use Rattle.zone_name.specs.declared.fault.NameFault.{NameFault}
 use Rattle.zone_name.specs.declared.fault.NameFault.TheVariants.{EmptyLabel, LabelTooLong, NameTooLong, BadEscape, RelativeName}
 use Rattle.zone_wire.specs.Name.{label_at}
-use Rattle.zone_wire.specs.Walk.{Spot, Standing, at_root, at_label, at_pointer, at_fault, place_of}
-use Rattle.zone_wire.specs.Machine.Walk.{walk, outset, past_label, past_pointer}
+use Rattle.zone_wire.specs.Walk.{Spot, Standing, at_root, at_label, at_pointer, at_fault, outset, past_label, past_pointer}
+use Rattle.zone_wire.specs.Machine.Walk.{place_of, walk}
 use Rattle.zone_wire.specs.Machine.Finding.{Outcome, named, refused, outcome, behind_label, behind_pointer}
 use Rattle.zone_rdata.specs.declared.fault.Fault.{Fault}
 use Rattle.zone_rdata.specs.declared.fault.Fault.TheVariants.{ShortMessage}
-use Rattle.zone_wire.proofs.Places.{Shows, IsLabelHere, IsPointerHere, place_shows}
+use Rattle.zone_wire.proofs.Places.{Shows, place_shows}
 use Rattle.zone_wire.proofs.Walking.{outcome_by, outcome_at, outcome_step, octets_of, octets_of-label, octets_of-more, wire-octets}
 
 -- what was met so far, and then what the rest leads to
@@ -80,13 +80,13 @@ reaches {message} {offset} {spot} {labels} {end} {steps} standing c e = reaches_
 pub carries_label : {message : List ℕ} {offset : ℕ} {spot : Spot} {labels : List (List ℕ)} {end : Option ℕ} {steps : ℕ} (size : ℕ) → Carries message offset spot labels end steps → place_of message spot ≡ Some (at_label size) → Carries message offset (past_label spot size) (labels ++ label_at message spot.offset size ∷ []) end (steps + 1)
 carries_label {message} {offset} {spot} {labels} {end} {steps} size c e =
     let r = reaches (Some (at_label size)) c e in
-    let shows : IsLabelHere message spot size = subst (Shows message spot) e (place_shows message spot) in
+    let shows : Shows message spot (Some (at_label size)) = subst (Shows message spot) e (place_shows message spot) in
     let l = label_at message spot.offset size in
     record {
-      few = omega (arith, c.few, shows.some);
+      few = omega (arith, c.few, shows.0.some);
       pointers = c.pointers;
-      short = omega (arith, shows.room);
-      octets = omega (arith, c.octets, octets_of-push labels l, octets_of-label message spot.offset size shows.inside);
+      short = omega (arith, shows.1);
+      octets = omega (arith, c.octets, octets_of-push labels l, octets_of-label message spot.offset size shows.0.inside);
       left = r.after;
       enough = omega (arith, r.enough);
       whole = r.whole ∙ carried-label labels end steps spot.pointers l (outcome_by r.after message (past_label spot size));
@@ -96,10 +96,10 @@ carries_label {message} {offset} {spot} {labels} {end} {steps} size c e =
 pub carries_pointer : {message : List ℕ} {offset : ℕ} {spot : Spot} {labels : List (List ℕ)} {end : Option ℕ} {steps : ℕ} (target : ℕ) → Carries message offset spot labels end steps → place_of message spot ≡ Some (at_pointer target) → Carries message offset (past_pointer spot target) labels (Some (unwrap_or end (spot.offset + 2))) (steps + 1)
 carries_pointer {message} {offset} {spot} {labels} {end} {steps} target c e =
     let r = reaches (Some (at_pointer target)) c e in
-    let shows : IsPointerHere message spot target = subst (Shows message spot) e (place_shows message spot) in
+    let shows : Shows message spot (Some (at_pointer target)) = subst (Shows message spot) e (place_shows message spot) in
     record {
       few = omega (arith, c.few);
-      pointers = omega (arith, shows.few);
+      pointers = omega (arith, shows.1);
       short = c.short;
       octets = c.octets;
       left = r.after;
@@ -126,10 +126,10 @@ carries_outside {steps = steps} c e = (reaches None c e).whole ∙ ap (refused S
 pub root_inside : (message : List ℕ) (spot : Spot) → place_of message spot ≡ Some at_root → spot.offset < length message
 root_inside message spot e = (subst (Shows message spot) e (place_shows message spot)).0
 
-pub label_shows : (message : List ℕ) (spot : Spot) (size : ℕ) → place_of message spot ≡ Some (at_label size) → IsLabelHere message spot size
+pub label_shows : (message : List ℕ) (spot : Spot) (size : ℕ) → place_of message spot ≡ Some (at_label size) → Shows message spot (Some (at_label size))
 label_shows message spot size e = subst (Shows message spot) e (place_shows message spot)
 
-pub pointer_shows : (message : List ℕ) (spot : Spot) (target : ℕ) → place_of message spot ≡ Some (at_pointer target) → IsPointerHere message spot target
+pub pointer_shows : (message : List ℕ) (spot : Spot) (target : ℕ) → place_of message spot ≡ Some (at_pointer target) → Shows message spot (Some (at_pointer target))
 pointer_shows message spot target e = subst (Shows message spot) e (place_shows message spot)
 
 -- a label that fits a name is pushed

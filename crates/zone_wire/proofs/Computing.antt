@@ -13,9 +13,9 @@ use Rattle.zone_wire.specs.Stream.{StreamReads}
 use Rattle.zone_wire.specs.Transfer.{frame}
 use Rattle.zone_wire.specs.Name.{Found, IsNameAt}
 use Rattle.zone_wire.specs.Machine.Finding.{named, outcome}
+use Rattle.zone_wire.specs.Walk.{ending}
 use Rattle.zone_wire.specs.Machine.Walk.{walk}
 use Rattle.zone_wire.specs.Examples.{behind_zeros, WalkEnds}
-use Rattle.zone_wire.specs.Walk.{ending}
 use Rattle.zone_wire.proofs.GivenStreams.{stream_shows}
 use Rattle.zone_wire.proofs.Walking.{walk_names}
 use Rattle.zone_wire.proofs.WholeWalks.{walk_is}

@@ -16,11 +16,11 @@ use Rattle.zone_rdata.proofs.Building.{octets_push}
 use Rattle.zone_wire.specs.Machine.Data.{name_before, sized_before, value_at}
 use Rattle.zone_wire.specs.Machine.DataReading.{parts_for, put_behind, Awaits, IsReadyFor, PutsValue}
 use Rattle.zone_wire.specs.Machine.Finding.{outcome}
+use Rattle.zone_wire.specs.Walk.{NameFault}
 use Rattle.zone_wire.specs.Machine.Walk.{walk}
 use Rattle.zone_wire.specs.Message.{u16_at, u32_at}
 use Rattle.zone_wire.specs.Name.{Found, IsNameAt}
 use Rattle.zone_wire.specs.Transfer.{octets_between}
-use Rattle.zone_wire.specs.WholeWalk.{NameFault}
 use Rattle.zone_wire.proofs.Fielding.{name_reads}
 use Rattle.zone_wire.proofs.MessageFaults.{name_refuses}
 use Rattle.zone_wire.proofs.Walking.{name_walks}

@@ -7,12 +7,11 @@ use Rattle.zone_rdata.specs.declared.fault.Fault.{Fault}
 use Rattle.zone_rdata.specs.declared.fault.Fault.TheVariants.{ShortMessage, NotAResponse, Truncated, ErrorCode, BadCounts, TrailingOctets}
 use Rattle.zone_wire.specs.Machine.Finding.{Outcome, named, refused, outcome}
 use Rattle.zone_wire.specs.Machine.Sections.{and_then, header_fault, inside, question_at, record_at, at_offset, each_from, questions_from, records_from, to_the_end, behind_header, sections_of}
+use Rattle.zone_wire.specs.Walk.{ending, NameFault}
 use Rattle.zone_wire.specs.Machine.Walk.{walk}
 use Rattle.zone_wire.specs.Message.{tc_of, rcode_of, qdcount_of, ancount_of, arcount_of, nscount_of, IsResponse, HasCounts, HasHeader, question_by, QuestionAt, IsQuestionAt, record_by, RecordAt, IsRecordAt, AreAt, Sections, IsMessage}
 use Rattle.zone_wire.specs.MessageFault.{HeaderFault, short, no_response, truncated, error, counts, PartFault, of_name, past_end, QuestionFault, RecordFault, Stand, FirstFault, HasQuestions, HasRecords, record_count, FirstQuestionFault, FirstRecordFault, MessageFault, of_header, of_question, of_record, left_over}
 use Rattle.zone_wire.specs.Name.{Found}
-use Rattle.zone_wire.specs.Walk.{ending}
-use Rattle.zone_wire.specs.WholeWalk.{NameFault}
 use Rattle.zone_wire.proofs.ReadSections.{each_shows, header_shows, question_shows, record_shows, response_of, sections_shown}
 use Rattle.zone_wire.proofs.Sectioning.{and_then_ok, each_reads, header_reads, question_reads, record_reads, sections_read, sixteen}
 use Rattle.zone_wire.proofs.Verdicts.{decides}

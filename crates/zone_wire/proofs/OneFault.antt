@@ -20,7 +20,7 @@ use Rattle.zone_wire.specs.Machine.Answers.{is_no_class, order_fault}
 use Rattle.zone_wire.specs.Message.{QuestionAt, RecordAt}
 use Rattle.zone_wire.specs.Name.{Found, IsNameAt}
 use Rattle.zone_wire.specs.Transfer.{octets_between, StandEach, AreFieldsAt, IsDataAt, compressible, IsReadable, StatesRecord}
-use Rattle.zone_wire.specs.WholeWalk.{NameFault}
+use Rattle.zone_wire.specs.Walk.{NameFault}
 use Rattle.zone_wire.proofs.AnswerFaults.{order_refuses, stands_unrefused}
 use Rattle.zone_wire.proofs.Answering.{holds_data, none_of}
 use Rattle.zone_wire.proofs.Fielding.{value_reads}

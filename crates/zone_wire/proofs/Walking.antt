@@ -6,11 +6,11 @@ use Rattle.std.proofs.lemmas.List.{length-map, length-take-le, length-drop}
 use Rattle.std.proofs.lemmas.Bool.Decides.{nat_tests}
 use Rattle.zone_name.specs.Name.{IsLabel, IsFoldedOctet, folded_octet, with_length, wire}
 use Rattle.zone_wire.specs.Name.{At, root, label, pointer, Found, IsNameAt, label_at}
-use Rattle.zone_wire.specs.Walk.{Spot, Standing, at_root, at_label, at_pointer, at_fault, Visit, ending, place_of}
-use Rattle.zone_wire.specs.Machine.Walk.{visit, walk_on, walk_by, walk, outset, past_label, past_pointer}
+use Rattle.zone_wire.specs.Walk.{Spot, Standing, at_root, at_label, at_pointer, at_fault, Visit, ending, visit, outset, past_label, past_pointer}
+use Rattle.zone_wire.specs.Machine.Walk.{place_of, walk_on, walk_by, walk}
 use Rattle.zone_wire.specs.Machine.Finding.{Outcome, named, refused, outcome, behind_label, behind_pointer}
 use Rattle.zone_rdata.specs.declared.fault.Fault.TheVariants.{ShortMessage}
-use Rattle.zone_wire.proofs.Places.{Shows, IsLabelHere, IsPointerHere, place_shows, place_root, place_label, place_pointer}
+use Rattle.zone_wire.proofs.Places.{Shows, place_shows, place_root, place_label, place_pointer, fault_inside}
 
 -- what n places from a spot on lead to
 unfoldable pub outcome_by : ℕ → List ℕ → Spot → Outcome
@@ -51,38 +51,36 @@ octets_of-more l labels = omega (arith, length-append (with_length l) (flat_map 
 pub at_walks : {message : List ℕ} {offset bound : ℕ} {labels : List (List ℕ)} {end steps pointers : ℕ} → At message offset bound labels end steps pointers → (n before octets : ℕ) → steps ≤ n → before + pointers ≤ 128 → octets + octets_of labels + 1 ≤ 255 → outcome_by n message (record { offset = offset; bound = bound; pointers = before; octets = octets }) ≡ named (record { labels = labels; end = end; steps = steps; pointers = pointers })
 at_walks (root offset bound inside first) zero before octets enough few short = absurd (omega arith)
 at_walks {message} (root offset bound inside first) (suc n) before octets enough few short = outcome_step message n (record { offset = offset; bound = bound; pointers = before; octets = octets }) (Some at_root) (place_root message (record { offset = offset; bound = bound; pointers = before; octets = octets }) inside first)
-at_walks (label offset bound size labels end steps pointers first some short_label inside rest) zero before octets enough few short = absurd (omega arith)
-at_walks {message} (label offset bound size labels end steps pointers first some short_label inside rest) (suc n) before octets enough few short =
+at_walks (label offset bound size labels end steps pointers here rest) zero before octets enough few short = absurd (omega arith)
+at_walks {message} (label offset bound size labels end steps pointers here rest) (suc n) before octets enough few short =
     let spot : Spot = record { offset = offset; bound = bound; pointers = before; octets = octets } in
     let this = label_at message offset size in
-    let room : octets + 1 + size + octets_of labels + 1 ≤ 255 = omega (arith, octets_of-more this labels, octets_of-label message offset size inside) in
-    let here : IsLabelHere message spot size = record { first = first; some = some; short = short_label; inside = inside; room = omega arith } in
-    outcome_step message n spot (Some (at_label size)) (place_label message spot size here) ∙ ap (behind_label this) (at_walks rest n before (octets + 1 + size) (omega arith) few room)
-at_walks (pointer offset bound target labels end steps pointers inside first leads past_header below rest) zero before octets enough few short = absurd (omega arith)
-at_walks {message} (pointer offset bound target labels end steps pointers inside first leads past_header below rest) (suc n) before octets enough few short =
+    let room : octets + 1 + size + octets_of labels + 1 ≤ 255 = omega (arith, octets_of-more this labels, octets_of-label message offset size here.inside) in
+    outcome_step message n spot (Some (at_label size)) (place_label message spot size here (omega arith)) ∙ ap (behind_label this) (at_walks rest n before (octets + 1 + size) (omega arith) few room)
+at_walks (pointer offset bound target labels end steps pointers here rest) zero before octets enough few short = absurd (omega arith)
+at_walks {message} (pointer offset bound target labels end steps pointers here rest) (suc n) before octets enough few short =
     let spot : Spot = record { offset = offset; bound = bound; pointers = before; octets = octets } in
-    let here : IsPointerHere message spot target = record { first = first; leads = leads; inside = inside; past_header = past_header; below = below; few = omega arith } in
-    outcome_step message n spot (Some (at_pointer target)) (place_pointer message spot target here) ∙ ap (behind_pointer (offset + 2)) (at_walks rest n (before + 1) octets (omega arith) (omega arith) short)
+    outcome_step message n spot (Some (at_pointer target)) (place_pointer message spot target here (omega arith)) ∙ ap (behind_pointer (offset + 2)) (at_walks rest n (before + 1) octets (omega arith) (omega arith) short)
 
 -- the steps are the labels, the pointers and the root
 pub at_steps : {message : List ℕ} {offset bound : ℕ} {labels : List (List ℕ)} {end steps pointers : ℕ} → At message offset bound labels end steps pointers → steps ≡ length labels + pointers + 1
 at_steps (root offset bound inside first) = omega arith
-at_steps (label offset bound size labels end steps pointers first some short inside rest) = omega (arith, at_steps rest)
-at_steps (pointer offset bound target labels end steps pointers inside first leads past_header below rest) = omega (arith, at_steps rest)
+at_steps (label offset bound size labels end steps pointers here rest) = omega (arith, at_steps rest)
+at_steps (pointer offset bound target labels end steps pointers here rest) = omega (arith, at_steps rest)
 
 -- each label takes two octets or more
 pub at_octets : {message : List ℕ} {offset bound : ℕ} {labels : List (List ℕ)} {end steps pointers : ℕ} → At message offset bound labels end steps pointers → 2 * length labels ≤ octets_of labels
 at_octets (root offset bound inside first) = omega arith
-at_octets {message} (label offset bound size labels end steps pointers first some short inside rest) =
+at_octets {message} (label offset bound size labels end steps pointers here rest) =
     let this = label_at message offset size in
-    omega (arith, at_octets rest, octets_of-more this labels, octets_of-label message offset size inside)
-at_octets (pointer offset bound target labels end steps pointers inside first leads past_header below rest) = at_octets rest
+    omega (arith, at_octets rest, octets_of-more this labels, octets_of-label message offset size here.inside)
+at_octets (pointer offset bound target labels end steps pointers here rest) = at_octets rest
 
 -- a name ends inside its message
 pub at_ends : {message : List ℕ} {offset bound : ℕ} {labels : List (List ℕ)} {end steps pointers : ℕ} → At message offset bound labels end steps pointers → (offset < end) × (end ≤ length message)
 at_ends (root offset bound inside first) = (omega arith, omega arith)
-at_ends (label offset bound size labels end steps pointers first some short inside rest) = (omega (arith, (at_ends rest).0), (at_ends rest).1)
-at_ends (pointer offset bound target labels end steps pointers inside first leads past_header below rest) = (omega arith, omega arith)
+at_ends (label offset bound size labels end steps pointers here rest) = (omega (arith, (at_ends rest).0), (at_ends rest).1)
+at_ends (pointer offset bound target labels end steps pointers here rest) = (omega arith, omega (arith, here.inside))
 
 pub wire-octets : (labels : List (List ℕ)) → length (wire labels) ≡ octets_of labels + 1
 wire-octets labels = length-append (flat_map with_length labels) (0 ∷ [])
@@ -149,17 +147,17 @@ found_at message n spot (Some at_root) found shows short few finds e =
 found_at message n spot (Some (at_label size)) found shows short few finds e =
     let front = label_at message spot.offset size in
     let leads = behind_label_leads front (outcome_by n message (past_label spot size)) found e in
-    let rest = finds (past_label spot size) leads.others (omega (arith, shows.room)) few leads.rest_is in
+    let rest = finds (past_label spot size) leads.others (omega (arith, shows.1)) few leads.rest_is in
     subst (Finds message spot) leads.whole (record {
-      at = label spot.offset spot.bound size leads.others.labels leads.others.end leads.others.steps leads.others.pointers shows.first shows.some shows.short shows.inside rest.at;
+      at = label spot.offset spot.bound size leads.others.labels leads.others.end leads.others.steps leads.others.pointers shows.0 rest.at;
       few = rest.few;
-      short = omega (arith, rest.short, octets_of-more front leads.others.labels, octets_of-label message spot.offset size shows.inside);
+      short = omega (arith, rest.short, octets_of-more front leads.others.labels, octets_of-label message spot.offset size shows.0.inside);
     })
 found_at message n spot (Some (at_pointer target)) found shows short few finds e =
     let leads = behind_pointer_leads (spot.offset + 2) (outcome_by n message (past_pointer spot target)) found e in
-    let rest = finds (past_pointer spot target) leads.others short (omega (arith, shows.few)) leads.rest_is in
+    let rest = finds (past_pointer spot target) leads.others short (omega (arith, shows.1)) leads.rest_is in
     subst (Finds message spot) leads.whole (record {
-      at = pointer spot.offset spot.bound target leads.others.labels leads.others.end leads.others.steps leads.others.pointers shows.inside shows.first shows.leads shows.past_header shows.below rest.at;
+      at = pointer spot.offset spot.bound target leads.others.labels leads.others.end leads.others.steps leads.others.pointers shows.0 rest.at;
       few = omega (arith, rest.few);
       short = rest.short;
     })
@@ -205,8 +203,8 @@ is_label message offset size each some short inside =
 
 at_labels : {message : List ℕ} {offset bound : ℕ} {labels : List (List ℕ)} {end steps pointers : ℕ} → ((k : ℕ) → get_or message k 0 < 256) → At message offset bound labels end steps pointers → AllByRecursion IsLabel labels
 at_labels each (root offset bound inside first) = tt
-at_labels {message} each (label offset bound size labels end steps pointers first some short inside rest) = (is_label message offset size each some short inside, at_labels each rest)
-at_labels each (pointer offset bound target labels end steps pointers inside first leads past_header below rest) = at_labels each rest
+at_labels {message} each (label offset bound size labels end steps pointers here rest) = (is_label message offset size each here.some here.short here.inside, at_labels each rest)
+at_labels each (pointer offset bound target labels end steps pointers here rest) = at_labels each rest
 
 -- what is found is a name
 pub walk_names : (message : List ℕ) (offset : ℕ) (found : Found) → ((k : ℕ) → get_or message k 0 < 256) → outcome message (walk message offset) ≡ named found → IsNameAt message offset found
@@ -253,9 +251,9 @@ walk_on_length n message spot (Some (at_fault fault)) each = omega arith
 walk_on_inside : (n : ℕ) (message : List ℕ) (spot : Spot) (standing : Option Standing) → Shows message spot standing → ((next : Spot) → AllByRecursion (λ v. v.offset < length message) (walk_by n message next)) → AllByRecursion (λ v. v.offset < length message) (walk_on (walk_by n message) spot standing)
 walk_on_inside n message spot None shows each = tt
 walk_on_inside n message spot (Some at_root) shows each = (shows.0, tt)
-walk_on_inside n message spot (Some (at_label size)) shows each = (omega (arith, shows.inside), each (past_label spot size))
-walk_on_inside n message spot (Some (at_pointer target)) shows each = (omega (arith, shows.inside), each (past_pointer spot target))
-walk_on_inside n message spot (Some (at_fault fault)) shows each = (shows, tt)
+walk_on_inside n message spot (Some (at_label size)) shows each = (omega (arith, shows.0.inside), each (past_label spot size))
+walk_on_inside n message spot (Some (at_pointer target)) shows each = (omega (arith, shows.0.inside), each (past_pointer spot target))
+walk_on_inside n message spot (Some (at_fault fault)) shows each = (fault_inside message spot fault shows, tt)
 
 -- n places or fewer
 pub walk_length : (n : ℕ) (message : List ℕ) (spot : Spot) → length (walk_by n message spot) ≤ n

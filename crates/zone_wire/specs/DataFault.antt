@@ -10,7 +10,7 @@ use Rattle.zone_rdata.specs.declared.field.Field.TheVariants.{Name, Strings}
 use Rattle.zone_wire.specs.Message.{RecordAt}
 use Rattle.zone_wire.specs.Name.{Found, IsNameAt}
 use Rattle.zone_wire.specs.Transfer.{StandsAt}
-use Rattle.zone_wire.specs.WholeWalk.{NameFault}
+use Rattle.zone_wire.specs.Walk.{NameFault}
 
 -- a field has a value from one offset to another, in data that ends at a third; strings go on to
 -- that end

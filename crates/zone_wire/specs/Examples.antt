@@ -6,8 +6,7 @@ use Rattle.zone_name.specs.Common.{Labels}
 use Rattle.zone_rdata.specs.Record.{Record}
 use Rattle.zone_rdata.specs.declared.fault.Place.TheVariants.{Message}
 use Rattle.zone_rdata.specs.declared.record.Placed.{Placed}
-use Rattle.zone_wire.specs.Walk.{Visit, ending}
-use Rattle.zone_wire.specs.WholeWalk.{IsWalk}
+use Rattle.zone_wire.specs.Walk.{Visit, ending, IsWalk}
 use Rattle.zone_rdata.specs.declared.fault.Fault.{Fault}
 
 -- octets after a header of twelve zeros

@@ -5,7 +5,7 @@ use Rattle.zone_rdata.specs.declared.fault.Fault.{Fault}
 use Rattle.zone_rdata.specs.declared.fault.Fault.TheVariants.{ShortMessage, NotAResponse, Truncated, ErrorCode, BadCounts, TrailingOctets}
 use Rattle.zone_wire.specs.Message.{tc_of, rcode_of, qdcount_of, ancount_of, arcount_of, IsResponse, HasCounts, HasHeader, question_by, IsQuestionAt, record_by, IsRecordAt, AreAt}
 use Rattle.zone_wire.specs.Name.{Found, IsNameAt}
-use Rattle.zone_wire.specs.WholeWalk.{NameFault}
+use Rattle.zone_wire.specs.Walk.{NameFault}
 
 -- The first fault of a header: it isn't whole, it is of no response to a query, the message is
 -- truncated, it carries an error, or its counts are none of a transfer.

@@ -18,8 +18,7 @@ ghost use Rattle.zone_rdata.specs.declared.fault.Fault.{Fault};
 ghost use Rattle.zone_rdata.specs.declared.fault.Place.{Place};
 ghost use Rattle.zone_rdata.specs.declared.record.Placed.{Placed};
 ghost use Rattle.zone_wire.specs.Visits.{labels_in, pointers_in, LeadToLast};
-ghost use Rattle.zone_wire.specs.Walk.{Visit, ending};
-ghost use Rattle.zone_wire.specs.WholeWalk.{IsWalk};
+ghost use Rattle.zone_wire.specs.Walk.{Visit, ending, IsWalk};
 
 /// At most one name stands at an offset of a message.
 pub fn one_name_at_an_offset()

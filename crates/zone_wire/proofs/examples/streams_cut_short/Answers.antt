@@ -6,8 +6,7 @@ use Rattle.zone_wire.specs.Examples.{answer_header, small_message, first_message
 use Rattle.zone_wire.specs.Machine.Finding.{outcome}
 use Rattle.zone_wire.specs.Machine.Sections.{header_fault, question_at, record_at, sections_of}
 use Rattle.zone_wire.specs.Machine.Stream.{message_of, records_of}
-use Rattle.zone_wire.specs.Walk.{place_of}
-use Rattle.zone_wire.specs.Machine.Walk.{walk_by, walk}
+use Rattle.zone_wire.specs.Machine.Walk.{place_of, walk_by, walk}
 use Rattle.zone_wire.proofs.Computing.{reads}
 use Rattle.zone_wire.proofs.examples.streams_cut_short.Goals as goal
 
