@@ -1,7 +1,7 @@
 ghost use Rattle.std.specs.Prelude.{◌≡◌, ◌≤◌, ◌↔◌, List, [], length, IsTrue, IfOk, IfErr, IfSome, Ok, option_copied};
 ghost use Rattle.zone_name.specs.Common.{Octets};
 ghost use Rattle.zone_name.specs.Name.{wire, labels_of, IsName, HoldsName, IsWithin, BeginsWithName};
-ghost use Rattle.zone_name.specs.Spelling.{Spells, FirstFault};
+ghost use Rattle.zone_name.specs.Spelling.{Spells, SpellingFault};
 
 use crate::fault::NameFault;
 use crate::labels::Labels;
@@ -46,7 +46,7 @@ impl Name {
         ensures found { IfOk result (λ name. Spells (option_copied origin.entry) text.now name) }
         ensures only { (name : List Octets) → Spells (option_copied origin.entry) text.now name
             → result ≡ Ok name }
-        ensures fault { IfErr result (FirstFault (option_copied origin.entry) text.now) }
+        ensures fault { IfErr result (SpellingFault (option_copied origin.entry) text.now) }
     {
         known_origin(origin);
         match form_of(text) {

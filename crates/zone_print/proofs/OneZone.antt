@@ -1,10 +1,9 @@
 -- A zone is fixed by its set of records: a strictly ascending list is the only one of its set.
-use Rattle.std.proofs.Common.{◌≡◌, ℕ, List, [], ◌∷◌, reverse, Ordering, Less, Equal, Greater, refl, sym, ap, ap₂, ◌∙◌, subst, inl, inr, ⊎_elim}
+use Rattle.std.proofs.Common.{◌≡◌, ℕ, List, [], ◌∷◌, reverse, Less, Equal, refl, sym, ap, ap₂, ◌∙◌, subst, inl, inr, ⊎_elim}
 use Rattle.std.proofs.lemmas.Cmp.{on_total, then_total, lists_total, nat_cmp_total, nat_list_cmp_total, tied_itself}
 use Rattle.std.proofs.lemmas.Map.Lookups.{exact_unsigned, exact_bytes}
 use Rattle.std.specs.Cmp.{IsTotalOrder}
-use Rattle.std.specs.List.{AllByRecursion}
-use Rattle.std.specs.Ordering.{ordering_then, ordering_reverse}
+use Rattle.std.specs.Ordering.{ordering_reverse}
 use Rattle.zone_name.specs.Order.{name_cmp}
 use Rattle.zone_rdata.specs.Order.{data_cmp}
 use Rattle.zone_rdata.specs.Record.{Record, data_of}
@@ -14,6 +13,8 @@ use Rattle.zone_set.specs.Order.{soa_rank, canonical_cmp, Ascends}
 use Rattle.zone_set.specs.Refusal.{records_of}
 use Rattle.zone_set.specs.Zone.{Has, SameRecords, Zone, IsZone}
 use Rattle.zone_print.specs.Denotes.{Denotes}
+use Rattle.zone_set.proofs.Together.{each_Has}
+use Rattle.zone_set.proofs.KeyOrder.{both_equal}
 
 names_total : IsTotalOrder name_cmp
 names_total = on_total (reverse {A = List ℕ}) (lists_total nat_list_cmp_total)
@@ -23,11 +24,6 @@ data_total = then_total (on_total (λ d. d.class) nat_cmp_total) (then_total (on
 
 pub canonical_total : IsTotalOrder canonical_cmp
 canonical_total = then_total (on_total soa_rank nat_cmp_total) (then_total (on_total (λ r. r.owner) names_total) (on_total data_of data_total))
-
-both_equal : (o p : Ordering) → ordering_then o p ≡ Equal → (o ≡ Equal) × (p ≡ Equal)
-both_equal Less p h = cc
-both_equal Equal p h = (refl, h)
-both_equal Greater p h = cc
 
 -- records that the order doesn't tell apart have one owner and one data
 pub canonical_exact : ((a b : List (List ℕ)) → name_cmp a b ≡ Equal → a ≡ b) → (r s : Record) → canonical_cmp r s ≡ Equal → (r.owner ≡ s.owner) × (data_of r ≡ data_of s)
@@ -39,10 +35,6 @@ canonical_exact exact r s tied =
     let kind : r.kind ≡ s.kind = exact_unsigned _ _ of_kind.0 in
     let octets : r.octets ≡ s.octets = exact_bytes _ _ of_kind.1 in
     (exact r.owner s.owner others.0, λ i. record { class = class i; kind = kind i; octets = octets i })
-
-each_Has : (P : Record → Type 0) (records : List Record) (r : Record) → AllByRecursion P records → Has records r → P r
-each_Has P [] r each has = absurd has
-each_Has P (s ∷ records) r each has = ⊎_elim (λ same. subst P (sym same) each.0) (λ more. each_Has P records r each.1 more) has
 
 -- no record goes before itself, and no two go each before the other
 not_itself : (r s : Record) → r ≡ s → canonical_cmp r s ≡ Less → ⊥
@@ -64,8 +56,8 @@ same_first r s records others up up_others same =
     ((same r).0 (inl refl))
 
 -- what follows the first of one list follows the first of the other
-behind : (r s : Record) (records others : List Record) → Ascends (r ∷ records) → r ≡ s → ((t : Record) → Has (r ∷ records) t → Has (s ∷ others) t) → (t : Record) → Has records t → Has others t
-behind r s records others up first same t has =
+after : (r s : Record) (records others : List Record) → Ascends (r ∷ records) → r ≡ s → ((t : Record) → Has (r ∷ records) t → Has (s ∷ others) t) → (t : Record) → Has records t → Has others t
+after r s records others up first same t has =
     ⊎_elim (λ is. absurd (not_itself r t (first ∙ sym is) (each_Has (λ u. canonical_cmp r u ≡ Less) records t up.0 has))) (λ later. later) (same t (inr has))
 
 pub one_ascending : (records others : List Record) → Ascends records → Ascends others → SameRecords records others → records ≡ others
@@ -76,8 +68,8 @@ one_ascending (r ∷ records) (s ∷ others) up up_others same =
     let first : r ≡ s = same_first r s records others up up_others same in
     ap₂ (λ (t : Record) (ts : List Record). t ∷ ts) first
     (one_ascending records others up.1 up_others.1 (λ t. (
-      behind r s records others up first (λ u. (same u).0) t,
-      behind s r others records up_others (sym first) (λ u. (same u).1) t,
+      after r s records others up first (λ u. (same u).0) t,
+      after s r others records up_others (sym first) (λ u. (same u).1) t,
     )))
 
 pub one_zone : (z w : Zone) → IsZone z → IsZone w → SameRecords z.records w.records → z ≡ w

@@ -4,7 +4,7 @@ use Rattle.std.specs.List.{AllByRecursion}
 use Rattle.zone_rdata.specs.declared.fault.Fault.{Fault}
 use Rattle.zone_rdata.specs.declared.field.Field.{Field}
 use Rattle.zone_rdata.specs.DataFault.{IsDataFault, IsFaultFor}
-use Rattle.zone_rdata.specs.Field.{FieldValue, HoldEach, items_behind, own_items}
+use Rattle.zone_rdata.specs.Field.{FieldValue, HoldEach, items_after, own_items}
 use Rattle.zone_rdata.specs.Item.{RawItem}
 use Rattle.zone_rdata.specs.Layout.{AreLaidOut, IsData, layout}
 use Rattle.zone_rdata.specs.Spelling.{IsCanonicalOf, SpellEach, States, StatesFor, in_octets, in_words}
@@ -19,7 +19,7 @@ spelt_hold origin [] [] [] h = tt
 spelt_hold origin [] [] (v ∷ values) h = absurd h
 spelt_hold origin [] (i ∷ items) values h = absurd h
 spelt_hold origin (f ∷ row) items [] h = absurd h
-spelt_hold origin (f ∷ row) items (v ∷ values) h = (field_holds origin f (own_items f items) v h.0, spelt_hold origin row (items_behind f items) values h.1)
+spelt_hold origin (f ∷ row) items (v ∷ values) h = (field_holds origin f (own_items f items) v h.0, spelt_hold origin row (items_after f items) values h.1)
 
 -- the octets that items state for a layout of the table are data
 stated_laid : (origin : List (List ℕ)) (class kind : ℕ) (laid : Option (List Field)) (items : List RawItem) (octets : List ℕ) → laid ≡ layout class kind → StatesFor origin laid items octets → AreFor laid octets

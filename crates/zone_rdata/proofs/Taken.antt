@@ -127,9 +127,9 @@ pub uncompressed_length : (fields : List Field) (octets canonical : List ℕ) �
 uncompressed_length fields octets canonical u = ap length u.whole ∙ are_sent_length u.values octets u.sent
 
 -- ---- octets have a canonical form in a layout or none
-low_behind : (front rest : List ℕ) → AreLow (front ++ rest) → AreLow rest
-low_behind [] rest low = low
-low_behind (c ∷ front) rest low = low_behind front rest low.1
+low_later : (front rest : List ℕ) → AreLow (front ++ rest) → AreLow rest
+low_later [] rest low = low
+low_later (c ∷ front) rest low = low_later front rest low.1
 
 after_value : (f : Field) (row : List Field) (octets : List ℕ) (value : FieldValue) (rest : List ℕ) → BeginsWithValue f octets value rest → Choice (Reads row rest) → Choice (Reads (f ∷ row) octets)
 after_value f row octets value rest begins (inl found) = inl (field_octets value ++ found.0, (value, (rest, found.0, begins, refl, found.1)))
@@ -139,7 +139,7 @@ first_value : (f : Field) (row : List Field) (octets : List ℕ) → AreLow octe
 first_value f row octets low (inr none) others = inr (λ canonical h. none h.0 h.1.0 h.1.2)
 first_value f row octets low (inl found) others =
     let begins = found.1.1 in
-    after_value f row octets found.0 found.1.0 begins (others found.1.0 (low_behind begins.front found.1.0 (subst AreLow begins.parts low)))
+    after_value f row octets found.0 found.1.0 begins (others found.1.0 (low_later begins.front found.1.0 (subst AreLow begins.parts low)))
 
 nothing_left : (octets : List ℕ) → Choice (Reads [] octets)
 nothing_left [] = inl ([], (refl, refl))

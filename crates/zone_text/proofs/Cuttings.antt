@@ -76,14 +76,14 @@ comment_passed octets (comment more) rest may = absurd may
 comment_passed octets (bare more) rest may = absurd may
 comment_passed octets (quoted more) rest may = absurd may
 
-behind : (p q : Token) (rest : List ℕ) → IsToken q → MayFollow p q → Stops p (token_text q ++ rest)
-behind (blank c) q rest is may = tt
-behind line_feed q rest is may = tt
-behind opening q rest is may = tt
-behind closing q rest is may = tt
-behind (comment octets) q rest is may = comment_passed octets q rest may
-behind (bare units) q rest is may = after_bare units q rest is may
-behind (quoted units) q rest is may = tt
+next_stops : (p q : Token) (rest : List ℕ) → IsToken q → MayFollow p q → Stops p (token_text q ++ rest)
+next_stops (blank c) q rest is may = tt
+next_stops line_feed q rest is may = tt
+next_stops opening q rest is may = tt
+next_stops closing q rest is may = tt
+next_stops (comment octets) q rest is may = comment_passed octets q rest may
+next_stops (bare units) q rest is may = after_bare units q rest is may
+next_stops (quoted units) q rest is may = tt
 
 -- ---- what may follow the last token
 
@@ -239,7 +239,7 @@ cut_is (suc n) depth octets enough = cut_by_front depth octets (cut_by n) (front
 stop_of : (p : Token) (tokens : List Token) (depth : ℕ) (after : List ℕ) (fault : Option Fault) → AllByRecursion IsToken tokens → AllFollow (p ∷ tokens) → MayEndBefore (p ∷ tokens) after → Ends depth after fault → Stops p (text tokens ++ after)
 stop_of p [] depth after fault each follow last ends = stops_at_end p depth after fault ends last
 stop_of p (q ∷ tokens) depth after fault each follow last ends =
-    subst (Stops p) (sym (append_assoc (token_text q) (text tokens) after)) (behind p q (text tokens ++ after) each.0 follow.0)
+    subst (Stops p) (sym (append_assoc (token_text q) (text tokens) after)) (next_stops p q (text tokens ++ after) each.0 follow.0)
 
 pub follow_after : (p : Token) (tokens : List Token) → AllFollow (p ∷ tokens) → AllFollow tokens
 follow_after p [] follow = tt

@@ -91,7 +91,7 @@ rises_quoted depth c =
 rises_comment : (depth c : ℕ) → Rises depth (comment_step depth c)
 rises_comment depth c = cond_both (c == 10) (fed_line depth) (on Comment depth) (Rises depth) (λ e. rises_fed depth) (λ e. omega arith)
 
-rises_escape : (inside : Escape → Mode) (outside : Mode) (depth : ℕ) (behind : AfterBackslash) → Rises depth (escape_step inside outside depth behind)
+rises_escape : (inside : Escape → Mode) (outside : Mode) (depth : ℕ) (after : AfterBackslash) → Rises depth (escape_step inside outside depth after)
 rises_escape inside outside depth (Inside escape) = omega arith
 rises_escape inside outside depth Whole = omega arith
 rises_escape inside outside depth Lost = tt

@@ -5,7 +5,7 @@ ghost use Rattle.zone_rdata.specs.Item.{raw};
 ghost use Rattle.zone_text.specs.Defaults.{AreDefaults};
 ghost use Rattle.zone_text.specs.Entries.{Entry, entry_of, item_of};
 ghost use Rattle.zone_text.specs.EntryFault.{EntryFault};
-ghost use Rattle.zone_text.specs.Forms.{form_of, owned};
+ghost use Rattle.zone_text.specs.Forms.{statement_of, owned};
 ghost use Rattle.zone_text.specs.Tokens.{Token, Cuts};
 ghost use Rattle.zone_text.specs.Machine.EntryReading.{DecidesEntry, LeavesNoRecord};
 ghost use Rattle.zone_text.specs.Machine.Form.{directive_in, form_in};
@@ -88,7 +88,7 @@ impl Defaults {
         decided: &mut Reading,
     ) -> Result<(), AllocError>
         ensures { (origin : Labels) (before : List Entry) (entry : Entry)
-            → AreDefaults origin before self.old → form_of entry ≡ form_in form.entry
+            → AreDefaults origin before self.old → statement_of entry ≡ form_in form.entry
             → OnOk result
             (DecidesEntry origin before entry place decided.old decided.new self.new) }
     {
@@ -107,10 +107,10 @@ impl Defaults {
     #[inline(never)]
     fn follow(&mut self, directive: Directive) -> Result<(), Fault>
         ensures found { (origin : Labels) (before : List Entry) (entry : Entry)
-            → AreDefaults origin before self.old → form_of entry ≡ directive_in directive.entry
+            → AreDefaults origin before self.old → statement_of entry ≡ directive_in directive.entry
             → OnOk result (LeavesNoRecord origin before entry self.new) }
         ensures fault { (origin : Labels) (before : List Entry) (entry : Entry)
-            → AreDefaults origin before self.old → form_of entry ≡ directive_in directive.entry
+            → AreDefaults origin before self.old → statement_of entry ≡ directive_in directive.entry
             → IfErr result (EntryFault origin before entry) }
     {
         match directive {
@@ -131,7 +131,7 @@ impl Defaults {
         decided: &mut Reading,
     ) -> Result<(), AllocError>
         ensures { (origin : Labels) (before : List Entry) (entry : Entry)
-            → AreDefaults origin before self.old → form_of entry ≡ owned (raw owner.entry)
+            → AreDefaults origin before self.old → statement_of entry ≡ owned (raw owner.entry)
             (map raw items.now)
             → OnOk result
             (DecidesEntry origin before entry place decided.old decided.new self.new) }

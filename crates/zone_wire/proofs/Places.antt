@@ -7,7 +7,7 @@ use Rattle.zone_wire.specs.Name.{target_at, IsLabelAt, IsPointerAt}
 use Rattle.zone_wire.specs.Walk.{Spot, Standing, at_root, at_label, at_pointer, at_fault, FaultHere, cut_label, long_name, reserved, cut_pointer, bad_target, too_many}
 use Rattle.zone_wire.specs.Machine.Walk.{label_of, pointer_of, place_of}
 use Rattle.zone_rdata.specs.declared.fault.Fault.{Fault}
-use Rattle.zone_rdata.specs.declared.fault.Fault.TheVariants.{ShortMessage, NameTooLong, BadPointer, TooManyPointers}
+use Rattle.zone_rdata.specs.declared.fault.Fault.TheVariants.{BadPointer, TooManyPointers}
 
 -- what the octets at a place are, by what stands there
 abbrev pub Shows : List ℕ → Spot → Option Standing → Type 0
@@ -23,8 +23,8 @@ above a b e = grind (arith, nat_tests)
 at_least : (a b : ℕ) → nat_lt a b ≡ false → b ≤ a
 at_least a b e = grind (arith, nat_tests)
 
-other : (a b : ℕ) → nat_eq a b ≡ false → a ≢ b
-other a b e = grind (arith, nat_tests)
+pub unequal : (a b : ℕ) → nat_eq a b ≡ false → a ≢ b
+unequal a b e = grind (arith, nat_tests)
 
 positive : (a : ℕ) → a ≢ 0 → 0 < a
 positive a h = omega arith
@@ -71,7 +71,7 @@ place_shows message spot =
     (λ e. cond_both _ _ _ (λ s. Shows message spot (Some s))
     (λ zero_first. let shows : Shows message spot (Some at_root) = (above _ _ e, eqb-true _ _ zero_first) in shows)
     (λ some. cond_both _ _ _ (λ s. Shows message spot (Some s))
-    (λ short. shows_label message spot (positive _ (other _ _ some)) (leb-true _ _ short))
+    (λ short. shows_label message spot (positive _ (unequal _ _ some)) (leb-true _ _ short))
     (λ long. cond_both _ _ _ (λ s. Shows message spot (Some s))
     (λ below. reserved (above _ _ long) (ltb-true _ _ below))
     (λ high. shows_pointer message spot (at_least _ _ high)))))
