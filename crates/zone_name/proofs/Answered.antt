@@ -6,12 +6,12 @@ use Rattle.std.proofs.lemmas.List.{length-map}
 use Rattle.std.proofs.lemmas.Bool.{false≢true, leb-true, leb-false}
 use Rattle.zone_name.specs.Common.{AreOctets}
 use Rattle.zone_name.specs.Name.{folded_label, folded_octet, wire, IsLabel, IsName}
-use Rattle.zone_name.specs.Spelling.{Written, plain, escaped, decimal, text_of, octet_of, IsUnit, is_dot, IsWrittenLabel, AreWrittenLabels, written_text, written_octets, dotted, parted, named, Writes, root, at_origin, absolute, relative, Spells, FaultAt, empty_label, long_label, bad_escape, IsRelative, FirstFault, within, unfounded, long_name}
+use Rattle.zone_name.specs.Spelling.{Written, plain, escaped, decimal, text_of, octet_of, IsUnit, is_dot, IsWrittenLabel, AreWrittenLabels, written_text, written_octets, dotted, parted, named, Writes, root, at_origin, absolute, relative, Spells, FaultAt, empty_label, long_label, bad_escape, IsRelative, SpellingFault, within, unfounded, long_name}
 use Rattle.zone_name.specs.declared.fault.NameFault.{NameFault}
 use Rattle.zone_name.specs.declared.fault.NameFault.TheVariants.{EmptyLabel, NameTooLong, RelativeName}
 use Rattle.zone_name.specs.declared.reading.NameForm.{NameForm}
 use Rattle.zone_name.specs.declared.reading.NameForm.TheVariants.{Root, Origin, Labels}
-use Rattle.zone_name.specs.Machine.LabelWalk.{reading, sized, under}
+use Rattle.zone_name.specs.Machine.LabelWalk.{reading, sized, under_origin}
 use Rattle.zone_name.specs.Machine.Seen.{HasForm}
 use Rattle.zone_name.proofs.Spelled.{AreShort, Says, reading-says}
 use Rattle.zone_name.proofs.Only.{reading-dotted, reading-parted, reading-fault}
@@ -26,7 +26,7 @@ abbrev pub answered : Option (List (List ℕ)) → List ℕ → NameForm → Res
 answered origin text Root = sized []
 answered None text Origin = Err RelativeName
 answered (Some above) text Origin = sized above
-answered origin text Labels = under origin (reading text)
+answered origin text Labels = under_origin origin (reading text)
 
 -- each text has a form
 pub form_at : (text : List ℕ) → (form : NameForm) × HasForm text form
@@ -99,9 +99,9 @@ writes_answered origin text labels Origin at (absolute written are e l) short =
 writes_answered origin text labels Origin at (relative written above are n e o l) short = absurd (n at)
 writes_answered origin text labels Labels other (root e l) short = absurd (other.0 e)
 writes_answered origin text labels Labels other (at_origin e o) short = absurd (other.1 e)
-writes_answered origin text labels Labels other (absolute written are e l) short = ap (under origin) (absolute_reads text written labels are e l short)
+writes_answered origin text labels Labels other (absolute written are e l) short = ap (under_origin origin) (absolute_reads text written labels are e l short)
 writes_answered origin text labels Labels other (relative written above are n e o l) short =
-    ap (λ t. under t (reading text)) o ∙ ap (under (Some above)) (relative_reads text written above labels are e l short) ∙ ap sized (sym l)
+    ap (λ t. under_origin t (reading text)) o ∙ ap (under_origin (Some above)) (relative_reads text written above labels are e l short) ∙ ap sized (sym l)
 
 -- the name that a text spells is its answer
 pub answered-only : (origin : Option (List (List ℕ))) (text : List ℕ) (form : NameForm) (name : List (List ℕ)) → HasForm text form → Spells origin text name → answered origin text form ≡ Ok name
@@ -122,16 +122,16 @@ faultless_dot text fault dot (bad_escape before open_label rest r bad) e = let d
 within_answered : (origin : Option (List (List ℕ))) (text : List ℕ) (form : NameForm) (fault : NameFault) → HasForm text form → FaultAt text fault → answered origin text form ≡ Err fault
 within_answered origin text Root fault dot at = absurd (faultless_dot text fault dot at (reading-fault text fault at))
 within_answered origin text Origin fault is at = absurd (err_not_ok fault ((64 ∷ []) ∷ [], false) (sym (reading-fault text fault at) ∙ ap reading is ∙ reading_at))
-within_answered origin text Labels fault other at = ap (under origin) (reading-fault text fault at)
+within_answered origin text Labels fault other at = ap (under_origin origin) (reading-fault text fault at)
 
 relative_answered : (text : List ℕ) (form : NameForm) → HasForm text form → IsRelative text → answered None text form ≡ Err RelativeName
 relative_answered text Root dot is =
     absurd (err_not_ok EmptyLabel (named is.0, false) (sym (ap reading dot ∙ reading_dot) ∙ ap reading is.3 ∙ reading-parted is.0 is.1 is.2))
 relative_answered text Origin at is = refl
-relative_answered text Labels other is = ap (under None) (ap reading is.3 ∙ reading-parted is.0 is.1 is.2)
+relative_answered text Labels other is = ap (under_origin None) (ap reading is.3 ∙ reading-parted is.0 is.1 is.2)
 
 -- the first fault of a text is its answer
-pub answered-fault : (origin : Option (List (List ℕ))) (text : List ℕ) (form : NameForm) (fault : NameFault) → HasForm text form → FirstFault origin text fault → answered origin text form ≡ Err fault
+pub answered-fault : (origin : Option (List (List ℕ))) (text : List ℕ) (form : NameForm) (fault : NameFault) → HasForm text form → SpellingFault origin text fault → answered origin text form ≡ Err fault
 answered-fault origin text form fault has (within f at) = within_answered origin text form f has at
 answered-fault origin text form fault has (unfounded none is) = ap (λ t. answered t text form) none ∙ relative_answered text form has is
 answered-fault origin text form fault has (long_name labels writes short long) = writes_answered origin text labels form has writes short ∙ sized-long labels long
@@ -145,7 +145,7 @@ sized_err : (labels : List (List ℕ)) (fault : NameFault) (fits : Bool) → nat
 sized_err labels fault true test e = absurd (cc)
 sized_err labels fault false test e = (cc, leb-false (length (wire labels)) 255 test)
 
-found_by : (origin : Option (List (List ℕ))) (text : List ℕ) (found : Result (List (List ℕ) × Bool) NameFault) (name : List (List ℕ)) → text ≢ codes "@" → Says text found → Ok name ≡ under origin found → IsName name → Writes origin text name
+found_by : (origin : Option (List (List ℕ))) (text : List ℕ) (found : Result (List (List ℕ) × Bool) NameFault) (name : List (List ℕ)) → text ≢ codes "@" → Says text found → Ok name ≡ under_origin origin found → IsName name → Writes origin text name
 found_by origin text (Err fault) name other says e is = absurd (cc)
 found_by origin text (Ok (labels, true)) name other says e is =
     absolute says.written says.are says.text_is (sized_ok labels name (nat_le (length (wire labels)) 255) e ∙ says.labels_are)
@@ -154,27 +154,27 @@ found_by (Some above) text (Ok (labels, false)) name other says e is =
     relative says.written above says.are other says.text_is refl (sized_ok (labels ++ above) name (nat_le (length (wire (labels ++ above))) 255) e ∙ ap (λ t. t ++ above) says.labels_are)
 
 -- an answer that is a name is spelled
-pub decided-found : (origin : Option (List (List ℕ))) (text : List ℕ) (result : Result (List (List ℕ)) NameFault) → text ≢ codes "." → text ≢ codes "@" → result ≡ under origin (reading text) → IfOk result IsName → IfOk result (Spells origin text)
+pub decided-found : (origin : Option (List (List ℕ))) (text : List ℕ) (result : Result (List (List ℕ)) NameFault) → text ≢ codes "." → text ≢ codes "@" → result ≡ under_origin origin (reading text) → IfOk result IsName → IfOk result (Spells origin text)
 decided-found origin text (Ok name) dot other e is = record { written = found_by origin text (reading text) name other (reading-says text dot) e is; name = is }
 decided-found origin text (Err fault) dot other e is = tt
 
-fault_by : (origin : Option (List (List ℕ))) (text : List ℕ) (found : Result (List (List ℕ) × Bool) NameFault) (fault : NameFault) → text ≢ codes "@" → IfSome origin IsName → Says text found → Err fault ≡ under origin found → FirstFault origin text fault
-fault_by origin text (Err first) fault other known says e = let same : first ≡ fault = cc in subst (FirstFault origin text) same (within first says)
+fault_by : (origin : Option (List (List ℕ))) (text : List ℕ) (found : Result (List (List ℕ) × Bool) NameFault) (fault : NameFault) → text ≢ codes "@" → IfSome origin IsName → Says text found → Err fault ≡ under_origin origin found → SpellingFault origin text fault
+fault_by origin text (Err first) fault other known says e = let same : first ≡ fault = cc in subst (SpellingFault origin text) same (within first says)
 fault_by origin text (Ok (labels, true)) fault other known says e =
     let long = sized_err labels fault (nat_le (length (wire labels)) 255) refl e in
-    subst (FirstFault origin text) long.0 (long_name labels (absolute says.written says.are says.text_is says.labels_are)
+    subst (SpellingFault origin text) long.0 (long_name labels (absolute says.written says.are says.text_is says.labels_are)
     (subst ShortLabels (sym says.labels_are) (short_labels says.written says.short)) long.1)
 fault_by None text (Ok (labels, false)) fault other known says e =
     let same : RelativeName ≡ fault = cc in
-    subst (FirstFault None text) same (unfounded refl (says.written, says.are, says.short, says.text_is))
+    subst (SpellingFault None text) same (unfounded refl (says.written, says.are, says.short, says.text_is))
 fault_by (Some above) text (Ok (labels, false)) fault other known says e =
     let long = sized_err (labels ++ above) fault (nat_le (length (wire (labels ++ above))) 255) refl e in
     let each = subst ShortLabels (sym says.labels_are) (short_labels says.written says.short) in
-    subst (FirstFault (Some above) text) long.0 (long_name (labels ++ above) (relative says.written above says.are other says.text_is refl (ap (λ t. t ++ above) says.labels_are))
+    subst (SpellingFault (Some above) text) long.0 (long_name (labels ++ above) (relative says.written above says.are other says.text_is refl (ap (λ t. t ++ above) says.labels_are))
     (AllByRecursion-append (λ label. length label ≤ 63) labels above each (short_name above known.each)) long.1)
 
 -- an answer that is a fault is the first
-pub decided-fault : (origin : Option (List (List ℕ))) (text : List ℕ) (result : Result (List (List ℕ)) NameFault) → text ≢ codes "." → text ≢ codes "@" → IfSome origin IsName → result ≡ under origin (reading text) → IfErr result (FirstFault origin text)
+pub decided-fault : (origin : Option (List (List ℕ))) (text : List ℕ) (result : Result (List (List ℕ)) NameFault) → text ≢ codes "." → text ≢ codes "@" → IfSome origin IsName → result ≡ under_origin origin (reading text) → IfErr result (SpellingFault origin text)
 decided-fault origin text (Ok name) dot other known e = tt
 decided-fault origin text (Err fault) dot other known e = fault_by origin text (reading text) fault other known (reading-says text dot) e
 
@@ -232,7 +232,7 @@ labels-says_ok text labels true octets says =
 labels-says_ok text labels false octets says =
     subst (AllByRecursion IsLabel) (sym says.labels_are) (relative_are says.written says.are.each says.short (subst AreOctets says.text_is octets))
 
-under_is : (origin : Option (List (List ℕ))) (text : List ℕ) (found : Result (List (List ℕ) × Bool) NameFault) → IfSome origin IsName → AreOctets text → Says text found → IfOk (under origin found) IsName
+under_is : (origin : Option (List (List ℕ))) (text : List ℕ) (found : Result (List (List ℕ) × Bool) NameFault) → IfSome origin IsName → AreOctets text → Says text found → IfOk (under_origin origin found) IsName
 under_is origin text (Err fault) known octets says = tt
 under_is origin text (Ok (labels, true)) known octets says =
     sized_is labels (labels-says_ok text labels true octets says)
@@ -243,13 +243,13 @@ under_is (Some above) text (Ok (labels, false)) known octets says =
 
 -- ---- one answer
 abbrev OneOf : Option (List (List ℕ)) → List ℕ → Type 0
-OneOf origin text = ((labels : List (List ℕ)) × Spells origin text labels) ⊎ ((fault : NameFault) × FirstFault origin text fault)
+OneOf origin text = ((labels : List (List ℕ)) × Spells origin text labels) ⊎ ((fault : NameFault) × SpellingFault origin text fault)
 
 one_at_origin : (origin : Option (List (List ℕ))) (text : List ℕ) → text ≡ codes "@" → IfSome origin IsName → OneOf origin text
 one_at_origin None text at known = inr (RelativeName, unfounded refl (at-relative text at))
 one_at_origin (Some above) text at known = inl (above, record { written = at_origin at refl; name = known })
 
-one_by : (origin : Option (List (List ℕ))) (text : List ℕ) (result : Result (List (List ℕ)) NameFault) → IfOk result (Spells origin text) → IfErr result (FirstFault origin text) → OneOf origin text
+one_by : (origin : Option (List (List ℕ))) (text : List ℕ) (result : Result (List (List ℕ)) NameFault) → IfOk result (Spells origin text) → IfErr result (SpellingFault origin text) → OneOf origin text
 one_by origin text (Ok name) found fault = inl (name, found)
 one_by origin text (Err first) found fault = inr (first, fault)
 
@@ -261,7 +261,7 @@ Spells-or-FirstFault origin text known octets = let form = form_at text in by fo
     by Root dot = inl ([], record { written = root dot refl; name = record { each = tt; short = omega arith } })
     by Origin at = one_at_origin origin text at known
     by Labels other =
-        let result = under origin (reading text) in
+        let result = under_origin origin (reading text) in
         one_by origin text result (decided-found origin text result other.0 other.1 refl (under_is origin text (reading text) known octets (reading-says text other.0)))
         (decided-fault origin text result other.0 other.1 known refl)
 
@@ -271,13 +271,13 @@ Spells-once origin text a b one two =
     let e = sym (answered-only origin text form.0 a form.1 one) ∙ answered-only origin text form.0 b form.1 two in
     cc
 
-pub Spells-faultless : (origin : Option (List (List ℕ))) (text : List ℕ) (labels : List (List ℕ)) (fault : NameFault) → Spells origin text labels → FirstFault origin text fault → ⊥
+pub Spells-faultless : (origin : Option (List (List ℕ))) (text : List ℕ) (labels : List (List ℕ)) (fault : NameFault) → Spells origin text labels → SpellingFault origin text fault → ⊥
 Spells-faultless origin text labels fault spells first =
     let form = form_at text in
     let e = sym (answered-fault origin text form.0 fault form.1 first) ∙ answered-only origin text form.0 labels form.1 spells in
     absurd (cc)
 
-pub FirstFault-once : (origin : Option (List (List ℕ))) (text : List ℕ) (f g : NameFault) → FirstFault origin text f → FirstFault origin text g → f ≡ g
+pub FirstFault-once : (origin : Option (List (List ℕ))) (text : List ℕ) (f g : NameFault) → SpellingFault origin text f → SpellingFault origin text g → f ≡ g
 FirstFault-once origin text f g one two =
     let form = form_at text in
     let e = sym (answered-fault origin text form.0 f form.1 one) ∙ answered-fault origin text form.0 g form.1 two in

@@ -58,7 +58,7 @@ octet_of-printed : (c : ℕ) → octet_of (printed_octet c) ≡ c
 unfolding printed_octet
 octet_of-printed c = value_by (is_special c) (is_printed c) c
 
-digit_test : (d : ℕ) → d < 10 → is_digit (48 + d) ≡ true
+pub digit_test : (d : ℕ) → d < 10 → is_digit (48 + d) ≡ true
 digit_test d h = grind (arith, nat_tests)
 
 pub decimal_escapes : (c : ℕ) → c < 256 → IsEscape (decimal (48 + c / 100) (48 + c / 10 % 10) (48 + c % 10))

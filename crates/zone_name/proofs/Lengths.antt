@@ -6,7 +6,7 @@ use Rattle.zone_name.specs.Name.{wire, with_length}
 use Rattle.zone_name.specs.Text.{is_special, is_printed, decimal_escape, octet_text, label_text, name_text}
 
 -- at most a backslash and three digits
-octet_by : (special printed : Bool) (c : ℕ) → length (if special then 92 ∷ c ∷ [] else (if printed then c ∷ [] else decimal_escape c)) ≤ 4
+pub octet_by : (special printed : Bool) (c : ℕ) → length (if special then 92 ∷ c ∷ [] else (if printed then c ∷ [] else decimal_escape c)) ≤ 4
 octet_by true printed c = omega arith
 octet_by false true c = omega arith
 octet_by false false c = omega arith

@@ -10,7 +10,7 @@ use Rattle.zone_name.specs.declared.fault.NameFault.TheVariants.{EmptyLabel, Lab
 use Rattle.zone_name.specs.Machine.LabelWalk.{Ahead, at_dot, at_octet, at_fault, ahead_in, goes, failed, step_at, read, reading}
 use Rattle.zone_name.proofs.Ahead.{ahead-unit, ahead-bad}
 use Rattle.zone_name.proofs.Units.{text_of-some}
-use Rattle.zone_name.proofs.Steps.{after_step, read_step, octet_step, bad_step, reading-nil}
+use Rattle.zone_name.proofs.Steps.{read_step, octet_step, bad_step, reading-nil, fault_by}
 use Rattle.zone_name.proofs.Spelled.{AreShort}
 
 -- one written octet is read
@@ -125,15 +125,11 @@ reached text before open_label rest some r =
     let opened = label_reads open_label rest [] (named before) closed.0 r.octets (omega (arith, r.room)) closed.1 in
     (opened.0, opened.1, reading_is text longer ∙ ap (read (suc (length text)) [] []) shape ∙ closed.2 ∙ opened.2)
 
-fails_by : (n : ℕ) (labels : List (List ℕ)) (open_label rest : List ℕ) (ahead : Ahead) (fault : NameFault) → length rest < n → ahead_in rest ≡ ahead → step_at labels open_label ahead ≡ failed fault → read n labels open_label rest ≡ Err fault
-fails_by zero labels open_label rest ahead fault enough at fails = absurd (omega arith)
-fails_by (suc n) labels open_label rest ahead fault enough at fails = read_step n labels open_label rest ahead at ∙ ap (after_step n) fails
-
 -- a step that fails where a walk has come to is what is read
 reads_fault : (text : List ℕ) (before : List (List Written)) (open_label : List Written) (rest : List ℕ) (ahead : Ahead) (fault : NameFault) → 0 < length rest → Reaches text before open_label rest → ahead_in rest ≡ ahead → step_at (named before) (written_octets open_label) ahead ≡ failed fault → reading text ≡ Err fault
 reads_fault text before open_label rest ahead fault some r at fails =
     let walk = reached text before open_label rest some r in
-    walk.2 ∙ fails_by walk.0 (named before) (written_octets open_label) rest ahead fault walk.1 at fails
+    walk.2 ∙ fault_by walk.0 (named before) (written_octets open_label) rest ahead fault walk.1 at fails
 
 full_step : (labels : List (List ℕ)) (open_label : List ℕ) (c : ℕ) (rest : List ℕ) → 63 ≤ length open_label → step_at labels open_label (at_octet c rest) ≡ failed LabelTooLong
 full_step labels [] c rest full = absurd (omega arith)

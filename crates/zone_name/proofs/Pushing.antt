@@ -9,7 +9,7 @@ use Rattle.std.proofs.lemmas.List.Concat.{flat_map-append}
 use Rattle.std.proofs.lemmas.Bool.{le-leb, lt-leb, false≢true}
 use Rattle.std.proofs.lemmas.Bool.Decides.{nat_tests}
 use Rattle.zone_name.specs.Name.{IsLabel, IsName, IsFoldedOctet, folded_octet, folded_label, with_length, wire, labels_of, HoldsName, HoldsLabels}
-use Rattle.zone_name.specs.Machine.LabelWalk.{Collects, under, sized}
+use Rattle.zone_name.specs.Machine.LabelWalk.{Collects, under_origin, sized}
 use Rattle.zone_name.specs.Machine.Seen.{HoldsUnfolded, unfolded_labels}
 use Rattle.zone_name.specs.declared.reading.Spelled.{Spelled}
 use Rattle.zone_name.specs.declared.fault.NameFault.{NameFault}
@@ -185,15 +185,15 @@ taken (Ok x) is holds = holds
 taken (Err e) is holds = absurd (false≢true is)
 
 -- nothing follows the labels of an absolute text
-under_root : (origin : Option (List (List ℕ))) (spelled : Spelled) (held labels : List (List ℕ)) (result : Result (List (List ℕ)) NameFault) → spelled.is_absolute ≡ true → spelled.is_too_long ≡ false → sized (held ++ labels_of (0 ∷ [])) ≡ result → Collects held spelled.is_too_long labels → under origin (Ok (labels, spelled.is_absolute)) ≡ result
+under_root : (origin : Option (List (List ℕ))) (spelled : Spelled) (held labels : List (List ℕ)) (result : Result (List (List ℕ)) NameFault) → spelled.is_absolute ≡ true → spelled.is_too_long ≡ false → sized (held ++ labels_of (0 ∷ [])) ≡ result → Collects held spelled.is_too_long labels → under_origin origin (Ok (labels, spelled.is_absolute)) ≡ result
 under_root origin spelled held labels result absolute short e collects =
     let same : held ≡ labels = subst (λ b. Collects held b labels) short collects in
-    ap (λ b. under origin (Ok (labels, b))) absolute ∙ ap sized (sym (append-nil labels) ∙ ap (λ t. labels ++ t) (sym (labels_of-root (0 ∷ []) refl)) ∙ ap (λ t. t ++ labels_of (0 ∷ [])) (sym same)) ∙ e
+    ap (λ b. under_origin origin (Ok (labels, b))) absolute ∙ ap sized (sym (append-nil labels) ∙ ap (λ t. labels ++ t) (sym (labels_of-root (0 ∷ []) refl)) ∙ ap (λ t. t ++ labels_of (0 ∷ [])) (sym same)) ∙ e
 
-pub finished : (origin : Option (List (List ℕ))) (spelled : Spelled) (held : List (List ℕ)) (new : List ℕ) (result : Result (Unit {0}) NameFault) → spelled.is_absolute ≡ true → spelled.is_too_long ≡ false → IfOk result (λ _. HoldsName new × (sized (held ++ labels_of (0 ∷ [])) ≡ Ok (labels_of new))) → IfOk result (λ _. HoldsName new × ((labels : List (List ℕ)) → Collects held spelled.is_too_long labels → under origin (Ok (labels, spelled.is_absolute)) ≡ Ok (labels_of new)))
+pub finished : (origin : Option (List (List ℕ))) (spelled : Spelled) (held : List (List ℕ)) (new : List ℕ) (result : Result (Unit {0}) NameFault) → spelled.is_absolute ≡ true → spelled.is_too_long ≡ false → IfOk result (λ _. HoldsName new × (sized (held ++ labels_of (0 ∷ [])) ≡ Ok (labels_of new))) → IfOk result (λ _. HoldsName new × ((labels : List (List ℕ)) → Collects held spelled.is_too_long labels → under_origin origin (Ok (labels, spelled.is_absolute)) ≡ Ok (labels_of new)))
 finished origin spelled held new (Ok x) absolute short is = (is.0, λ labels collects. under_root origin spelled held labels (Ok (labels_of new)) absolute short is.1 collects)
 finished origin spelled held new (Err fault) absolute short is = tt
 
-pub unfinished : (origin : Option (List (List ℕ))) (spelled : Spelled) (held : List (List ℕ)) (result : Result (Unit {0}) NameFault) → spelled.is_absolute ≡ true → spelled.is_too_long ≡ false → IfErr result (λ fault. sized (held ++ labels_of (0 ∷ [])) ≡ Err fault) → IfErr result (λ fault. (labels : List (List ℕ)) → Collects held spelled.is_too_long labels → under origin (Ok (labels, spelled.is_absolute)) ≡ Err fault)
+pub unfinished : (origin : Option (List (List ℕ))) (spelled : Spelled) (held : List (List ℕ)) (result : Result (Unit {0}) NameFault) → spelled.is_absolute ≡ true → spelled.is_too_long ≡ false → IfErr result (λ fault. sized (held ++ labels_of (0 ∷ [])) ≡ Err fault) → IfErr result (λ fault. (labels : List (List ℕ)) → Collects held spelled.is_too_long labels → under_origin origin (Ok (labels, spelled.is_absolute)) ≡ Err fault)
 unfinished origin spelled held (Ok x) absolute short is = tt
 unfinished origin spelled held (Err fault) absolute short is = λ labels collects. under_root origin spelled held labels (Err fault) absolute short is collects

@@ -11,9 +11,9 @@ pub takes_both : {S : Type 0} (takes : S → List ℕ → S → Type 0) → Join
 takes_both takes joins a b c x y z first second is = subst (λ t. takes a t c) is (joins a b c x y first second)
 
 -- a printer that stops after a text that was taken
-pub stops_behind : {S T E : Type 0} (answer : Result T E) (takes : S → List ℕ → S → Type 0) → Joins takes → (a b c : S) (x : List ℕ) → takes a x b → TakesSome takes b c → OnErr answer (TakesSome takes a c)
-stops_behind (Ok r) takes joins a b c x first some = tt
-stops_behind (Err e) takes joins a b c x first some = (x ++ some.0, joins a b c x some.0 first some.1)
+pub stops_after : {S T E : Type 0} (answer : Result T E) (takes : S → List ℕ → S → Type 0) → Joins takes → (a b c : S) (x : List ℕ) → takes a x b → TakesSome takes b c → OnErr answer (TakesSome takes a c)
+stops_after (Ok r) takes joins a b c x first some = tt
+stops_after (Err e) takes joins a b c x first some = (x ++ some.0, joins a b c x some.0 first some.1)
 
 -- a printer whose last call stops
 pub stops_last : {S T E : Type 0} (answer : Result T E) (takes : S → List ℕ → S → Type 0) → Joins takes → (a b c : S) (x y : List ℕ) → takes a x b → OnErr answer (takes b y c) → OnErr answer (TakesSome takes a c)

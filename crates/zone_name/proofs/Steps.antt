@@ -8,7 +8,7 @@ use Rattle.zone_name.specs.Spelling.{IsBadEscape, EndsLabel}
 use Rattle.zone_name.specs.declared.fault.NameFault.{NameFault}
 use Rattle.zone_name.specs.declared.fault.NameFault.TheVariants.{EmptyLabel, LabelTooLong, NameTooLong, BadEscape, RelativeName}
 use Rattle.zone_name.specs.Machine.LabelWalk.{Ahead, at_end, at_dot, at_octet, at_fault, ahead_in, Step, done, failed, goes, step_at, read, reading, Collects}
-use Rattle.zone_name.specs.Machine.Seen.{Closes, Joins, Goes, Refuses, RefusesLabel, empty, long, EndsLabelAt}
+use Rattle.zone_name.specs.Machine.Seen.{Closes, Joins, Goes, EndsInFault, RefusesLabel, empty, long, EndsLabelAt}
 use Rattle.zone_name.proofs.Ahead.{Shrinks, ahead_shrinks, ahead-bad}
 
 -- ---- one step of the reading
@@ -43,7 +43,7 @@ octet_by zero labels open_label rest after c enough e room = absurd (omega arith
 octet_by (suc n) labels open_label rest after c enough e room =
     (n, enough, read_step n labels open_label rest (at_octet c after) e ∙ octet_step n labels open_label after c room)
 
-fault_by : (fuel : ℕ) (labels : List (List ℕ)) (open_label rest : List ℕ) (ahead : Ahead) (fault : NameFault) → length rest < fuel → ahead_in rest ≡ ahead → step_at labels open_label ahead ≡ failed fault → read fuel labels open_label rest ≡ Err fault
+pub fault_by : (fuel : ℕ) (labels : List (List ℕ)) (open_label rest : List ℕ) (ahead : Ahead) (fault : NameFault) → length rest < fuel → ahead_in rest ≡ ahead → step_at labels open_label ahead ≡ failed fault → read fuel labels open_label rest ≡ Err fault
 fault_by zero labels open_label rest ahead fault enough e fails = absurd (omega arith)
 fault_by (suc n) labels open_label rest ahead fault enough e fails = read_step n labels open_label rest ahead e ∙ ap (after_step n) fails
 
@@ -61,30 +61,30 @@ Goes-octet text open_label rest after new c so_far e room grown = λ labels n en
     (next.0, left, reached.2 ∙ next.2 ∙ ap (λ t. read next.0 labels t after) (sym grown))
 
 -- what fails from here on fails from the start
-refuses_by : (text open_label rest : List ℕ) (ahead : Ahead) (fault : NameFault) → Goes text open_label rest → ahead_in rest ≡ ahead → ((labels : List (List ℕ)) → step_at labels open_label ahead ≡ failed fault) → Refuses text fault
+refuses_by : (text open_label rest : List ℕ) (ahead : Ahead) (fault : NameFault) → Goes text open_label rest → ahead_in rest ≡ ahead → ((labels : List (List ℕ)) → step_at labels open_label ahead ≡ failed fault) → EndsInFault text fault
 refuses_by text open_label rest ahead fault so_far e fails = λ labels n enough.
     let reached = so_far labels n enough in
     reached.2 ∙ fault_by reached.0 labels open_label rest ahead fault reached.1 e (fails labels)
 
 -- at a backslash that begins no escape
-pub Refuses-bad : (text open_label rest : List ℕ) → Goes text open_label rest → IsBadEscape rest → Refuses text BadEscape
+pub Refuses-bad : (text open_label rest : List ℕ) → Goes text open_label rest → IsBadEscape rest → EndsInFault text BadEscape
 Refuses-bad text open_label rest so_far bad = refuses_by text open_label rest at_fault BadEscape so_far (ahead-bad rest bad) (λ labels. bad_step labels open_label)
 
 -- at the 64th octet
-pub Refuses-full : (text open_label rest after : List ℕ) (c : ℕ) → Goes text open_label rest → at_octet c after ≡ ahead_in rest → 63 ≤ length open_label → Refuses text LabelTooLong
+pub Refuses-full : (text open_label rest after : List ℕ) (c : ℕ) → Goes text open_label rest → at_octet c after ≡ ahead_in rest → 63 ≤ length open_label → EndsInFault text LabelTooLong
 Refuses-full text open_label rest after c so_far e full = refuses_by text open_label rest (at_octet c after) LabelTooLong so_far (sym e) (λ labels. full_step labels open_label after c full)
 
 -- at a dot with no label before it
-dot_refused : (text label rest : List ℕ) → EndsLabelAt text label rest → length label ≡ 0 → Refuses text EmptyLabel
+dot_refused : (text label rest : List ℕ) → EndsLabelAt text label rest → length label ≡ 0 → EndsInFault text EmptyLabel
 dot_refused text (c ∷ label) rest at none = absurd (omega arith)
 dot_refused text [] rest at none = let some : 0 < length rest = omega (arith, at.some) in by rest at.goes some at.ends
   where
-    by : (rest : List ℕ) → Goes text [] rest → 0 < length rest → EndsLabel rest → Refuses text EmptyLabel
+    by : (rest : List ℕ) → Goes text [] rest → 0 < length rest → EndsLabel rest → EndsInFault text EmptyLabel
     by rest so_far some (inl e) = absurd (omega (arith, ap length e))
     by rest so_far some (inr e) = refuses_by text [] rest (at_dot e.0) EmptyLabel so_far (ap ahead_in e.1) (λ labels. refl)
 
 -- a label that is not closed
-pub Refuses-label : (text label rest : List ℕ) (fault : NameFault) → EndsLabelAt text label rest → length label ≤ 63 → RefusesLabel label fault → Refuses text fault
+pub Refuses-label : (text label rest : List ℕ) (fault : NameFault) → EndsLabelAt text label rest → length label ≤ 63 → RefusesLabel label fault → EndsInFault text fault
 Refuses-label text label rest EmptyLabel at short (empty none) = dot_refused text label rest at none
 Refuses-label text label rest LabelTooLong at short (long more) = absurd (omega arith)
 Refuses-label text label rest NameTooLong at short x = elim x [ ]

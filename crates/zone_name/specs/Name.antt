@@ -1,6 +1,7 @@
 -- Domain names as lists of labels, and their octets in messages (RFC 1035 2.3.4, 3.1; RFC 4343 3).
 use Rattle.std.specs.Prelude.{◌≡◌, ℕ, zero, suc, ◌+◌, ◌<◌, ◌≤◌, List, [], ◌∷◌, ◌++◌, length, map, take, drop, nat_le, ◌&&◌, if◌then◌else◌}
 use Rattle.std.specs.List.{flat_map, AllByRecursion}
+use Rattle.zone_name.specs.Common.{Labels}
 
 -- a letter in lower case: octets 65 to 90 go to 97 to 122, and every other octet stays (RFC 4343 3)
 abbrev pub folded_octet : ℕ → ℕ
@@ -9,7 +10,7 @@ folded_octet c = if nat_le 65 c && nat_le c 90 then c + 32 else c
 abbrev pub folded_label : List ℕ → List ℕ
 folded_label label = map folded_octet label
 
-abbrev pub folded : List (List ℕ) → List (List ℕ)
+abbrev pub folded : Labels → Labels
 folded labels = map folded_label labels
 
 -- an octet of a label that is kept: one octet, in lower case
@@ -28,23 +29,23 @@ abbrev pub with_length : List ℕ → List ℕ
 with_length label = length label ∷ label
 
 -- the uncompressed octets of a name: each label, then the root's empty label (RFC 1035 3.1)
-abbrev pub wire : List (List ℕ) → List ℕ
+abbrev pub wire : Labels → List ℕ
 wire labels = flat_map with_length labels ++ 0 ∷ []
 
 -- a name: labels in lower case that take at most 255 octets in all (RFC 1035 2.3.4)
-pub record IsName (labels : List (List ℕ)) : Type 0 where
+pub record IsName (labels : Labels) : Type 0 where
   pub each : AllByRecursion IsLabel labels
   pub short : length (wire labels) ≤ 255
 
 -- the labels at the beginning of octets, one after another up to the root, at most n of them
-abbrev pub labels_by : ℕ → List ℕ → List (List ℕ)
+abbrev pub labels_by : ℕ → List ℕ → Labels
 labels_by zero octets = []
 labels_by (suc n) [] = []
 labels_by (suc n) (zero ∷ octets) = []
 labels_by (suc n) (suc c ∷ octets) = take (suc c) octets ∷ labels_by n (drop (suc c) octets)
 
 -- the labels that uncompressed octets hold: the inverse of `wire`
-unfoldable pub labels_of : List ℕ → List (List ℕ)
+unfoldable pub labels_of : List ℕ → Labels
 labels_of octets = labels_by (length octets) octets
 
 -- the uncompressed octets of a name, and nothing more
@@ -63,5 +64,5 @@ pub record BeginsWithName (octets : List ℕ) : Type 0 where
   pub front : take (length (wire (labels_of octets))) octets ≡ wire (labels_of octets)
 
 -- a name that lies at or below another: the apex's labels end its labels
-abbrev pub IsWithin : List (List ℕ) → List (List ℕ) → Type 0
-IsWithin labels apex = (below : List (List ℕ)) × (labels ≡ below ++ apex)
+abbrev pub IsWithin : Labels → Labels → Type 0
+IsWithin labels apex = (below : Labels) × (labels ≡ below ++ apex)

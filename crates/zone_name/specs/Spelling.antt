@@ -1,6 +1,7 @@
 -- The texts that spell a name, and the first fault of a text that spells none (RFC 1035 5.1).
 use Rattle.std.specs.Prelude.{◌≡◌, ◌≢◌, ℕ, ◌+◌, ◌-◌, ◌*◌, ◌<◌, ◌≤◌, List, [], ◌∷◌, ◌++◌, length, map, codes, Option, Some, None, nat_le, ◌==◌, ◌&&◌, Bool, true, false, ◌⊎◌}
 use Rattle.std.specs.List.{flat_map, AllByRecursion, join_with_byte}
+use Rattle.zone_name.specs.Common.{Labels}
 use Rattle.zone_name.specs.Name.{folded, wire, IsName}
 use Rattle.zone_name.specs.declared.fault.NameFault.{NameFault}
 use Rattle.zone_name.specs.declared.fault.NameFault.TheVariants.{EmptyLabel, LabelTooLong, NameTooLong, BadEscape, RelativeName}
@@ -76,7 +77,7 @@ abbrev pub parted : List (List Written) → List ℕ
 parted labels = join_with_byte 46 (map written_text labels)
 
 -- the labels that are written, in lower case
-abbrev pub named : List (List Written) → List (List ℕ)
+abbrev pub named : List (List Written) → Labels
 named labels = folded (map written_octets labels)
 
 -- one label or more
@@ -85,19 +86,17 @@ pub record AreWrittenLabels (labels : List (List Written)) : Type 0 where
   pub each : AllByRecursion IsWrittenLabel labels
 
 -- how a text spells labels under an origin, whatever their length
-pub data Writes (origin : Option (List (List ℕ))) (text : List ℕ)
-    (labels : List (List ℕ)) : Type 0 where
+pub data Writes (origin : Option Labels) (text : List ℕ) (labels : Labels) : Type 0 where
   root : text ≡ codes "." → labels ≡ [] → Writes origin text labels
   at_origin : text ≡ codes "@" → origin ≡ Some labels → Writes origin text labels
   absolute : (written : List (List Written)) → AreWrittenLabels written → text ≡ dotted written
       → labels ≡ named written → Writes origin text labels
-  relative : (written : List (List Written)) (above : List (List ℕ)) → AreWrittenLabels written
+  relative : (written : List (List Written)) (above : Labels) → AreWrittenLabels written
       → text ≢ codes "@" → text ≡ parted written → origin ≡ Some above
       → labels ≡ named written ++ above → Writes origin text labels
 
 -- the text spells the name under the origin
-pub record Spells (origin : Option (List (List ℕ))) (text : List ℕ)
-    (labels : List (List ℕ)) : Type 0 where
+pub record Spells (origin : Option Labels) (text : List ℕ) (labels : Labels) : Type 0 where
   pub written : Writes origin text labels
   pub name : IsName labels
 
@@ -155,9 +154,9 @@ IsRelative text =
 
 -- The first fault: one of the text itself, then a relative text without an origin, then a name that
 -- is too long
-pub data FirstFault (origin : Option (List (List ℕ))) (text : List ℕ) : NameFault → Type 0 where
-  within : (fault : NameFault) → FaultAt text fault → FirstFault origin text fault
-  unfounded : origin ≡ None → IsRelative text → FirstFault origin text RelativeName
-  long_name : (labels : List (List ℕ)) → Writes origin text labels
+pub data SpellingFault (origin : Option Labels) (text : List ℕ) : NameFault → Type 0 where
+  within : (fault : NameFault) → FaultAt text fault → SpellingFault origin text fault
+  unfounded : origin ≡ None → IsRelative text → SpellingFault origin text RelativeName
+  long_name : (labels : Labels) → Writes origin text labels
       → AllByRecursion (λ label. length label ≤ 63) labels → 255 < length (wire labels)
-      → FirstFault origin text NameTooLong
+      → SpellingFault origin text NameTooLong

@@ -2,6 +2,7 @@
 -- choice).
 use Rattle.std.specs.Prelude.{ℕ, ◌+◌, ◌/◌, ◌%◌, List, [], ◌∷◌, ◌++◌, nat_le, ◌==◌, ◌&&◌, ◌||◌, Bool, if◌then◌else◌}
 use Rattle.std.specs.List.{flat_map}
+use Rattle.zone_name.specs.Common.{Labels}
 
 -- the octets `"` `$` `(` `)` `.` `;` `@` `\`, which mean something else inside a master file
 abbrev pub is_special : ℕ → Bool
@@ -24,6 +25,6 @@ abbrev pub label_text : List ℕ → List ℕ
 label_text label = flat_map octet_text label ++ 46 ∷ []
 
 -- each label with its dot; the root is a dot alone
-abbrev pub name_text : List (List ℕ) → List ℕ
+abbrev pub name_text : Labels → List ℕ
 name_text [] = 46 ∷ []
 name_text (label ∷ labels) = flat_map label_text (label ∷ labels)

@@ -5,7 +5,7 @@ ghost use Rattle.std.specs.declared.cmp.Ordering.TheVariants.{Equal};
 ghost use Rattle.zone_name.specs.Common.{AreOctets, AtMostOneIs, EitherIs, IsVerdict, Labels, NeverBothAre, Octets};
 ghost use Rattle.zone_name.specs.Name.{BeginsWithName, IsName, labels_of, wire};
 ghost use Rattle.zone_name.specs.Order.{name_cmp};
-ghost use Rattle.zone_name.specs.Spelling.{FirstFault, Spells};
+ghost use Rattle.zone_name.specs.Spelling.{SpellingFault, Spells};
 ghost use Rattle.zone_name.specs.Text.{name_text};
 
 /// Names that compare as equal are equal.
@@ -28,14 +28,14 @@ pub fn spelling_is_unique()
 pub fn texts_have_one_verdict()
     ensures verdict { (origin : Option Labels) (text : Octets) → IfSome origin IsName
         → AreOctets text
-        → IsVerdict (Spells origin text) (FirstFault origin text) }
+        → IsVerdict (Spells origin text) (SpellingFault origin text) }
     ensures one_of { (origin : Option Labels) (text : Octets) → IfSome origin IsName
         → AreOctets text
-        → EitherIs (Spells origin text) (FirstFault origin text) }
+        → EitherIs (Spells origin text) (SpellingFault origin text) }
     ensures never_both { (origin : Option Labels) (text : Octets)
-        → NeverBothAre (Spells origin text) (FirstFault origin text) }
+        → NeverBothAre (Spells origin text) (SpellingFault origin text) }
     ensures one_fault { (origin : Option Labels) (text : Octets)
-        → AtMostOneIs (FirstFault origin text) }
+        → AtMostOneIs (SpellingFault origin text) }
 {}
 
 /// What is printed for a name spells that name under every origin and without one.

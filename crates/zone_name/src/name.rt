@@ -1,7 +1,7 @@
 ghost use Rattle.std.specs.Prelude.{◌≡◌, ◌≤◌, ◌↔◌, List, [], length, IsOk, IsTrue, IfOk, IfErr, IfSome, OnOk, OnErr, Ok, option_copied};
 ghost use Rattle.zone_name.specs.Common.{Octets};
 ghost use Rattle.zone_name.specs.Name.{wire, labels_of, IsName, HoldsName, IsWithin, BeginsWithName};
-ghost use Rattle.zone_name.specs.Spelling.{Spells, FirstFault};
+ghost use Rattle.zone_name.specs.Spelling.{Spells, SpellingFault};
 
 use crate::fault::NameFault;
 use crate::labels::Labels;
@@ -46,7 +46,7 @@ impl Name {
         ensures found { IfOk result (λ name. Spells (option_copied origin.entry) text.now name) }
         ensures only { (name : List Octets) → Spells (option_copied origin.entry) text.now name
             → result ≡ Ok name }
-        ensures fault { IfErr result (FirstFault (option_copied origin.entry) text.now) }
+        ensures fault { IfErr result (SpellingFault (option_copied origin.entry) text.now) }
     {
         let mut name = Name::root();
         name.set_from_text(text, origin)?;
@@ -63,7 +63,7 @@ impl Name {
         ensures found { OnOk result (Spells (option_copied origin.entry) text.now self.new) }
         ensures only { (name : List Octets) → Spells (option_copied origin.entry) text.now name
             → IsOk result × (self.new ≡ name) }
-        ensures fault { IfErr result (FirstFault (option_copied origin.entry) text.now) }
+        ensures fault { IfErr result (SpellingFault (option_copied origin.entry) text.now) }
         ensures err { OnErr result (self.new ≡ []) }
     {
         known_origin(origin);

@@ -3,10 +3,10 @@ ghost use Rattle.std.specs.Prelude.{IsTrue, IfSome, IfOk, IfErr, OnOk, OnErr, Ok
 ghost use Rattle.zone_name.specs.Common.{Labels};
 ghost use Rattle.zone_name.specs.Name.{HoldsName, folded_octet, labels_of};
 ghost use Rattle.zone_name.specs.Spelling.{IsUnit, is_dot, plain};
-ghost use Rattle.zone_name.specs.Machine.LabelWalk.{Collects, reading, under, sized};
+ghost use Rattle.zone_name.specs.Machine.LabelWalk.{Collects, reading, under_origin, sized};
 ghost use Rattle.zone_name.specs.Machine.Plain.{WritesLengths};
 ghost use Rattle.zone_name.specs.Machine.Seen.{Closes, EndsLabelAt, HasForm, HoldsUnfolded, IsClosable};
-ghost use Rattle.zone_name.specs.Machine.Seen.{IsReadInto, Refuses, RefusesLabel, unfolded_labels};
+ghost use Rattle.zone_name.specs.Machine.Seen.{IsReadInto, EndsInFault, RefusesLabel, unfolded_labels};
 
 use crate::builder::check_label;
 use crate::escape::{NextUnit, next_unit};
@@ -151,7 +151,7 @@ fn read_label<'t>(
     ensures ok { IfOk result (λ read. IsClosable text.now read.behind.now (λ label.
         Closes (unfolded_labels octets.old.items) label read.is_left_out
         (unfolded_labels octets.new.items))) }
-    ensures err { IfErr result (Refuses text.now) }
+    ensures err { IfErr result (EndsInFault text.now) }
 {
     let mut label: ArrayVec<u8, MAX_LABEL_LEN> = ArrayVec::new();
     let behind = open_label(&mut label, text)?;
@@ -170,7 +170,7 @@ fn open_label<'t>(
     requires some { 0 < length text.now }
     requires none { label.old.items ≡ [] }
     ensures ok { IfOk result (λ rest. EndsLabelAt text.now label.new.items rest.now) }
-    ensures err { IfErr result (Refuses text.now) }
+    ensures err { IfErr result (EndsInFault text.now) }
 {
     let mut rest = text;
     loop {
@@ -256,11 +256,12 @@ fn finish(
     requires { HoldsUnfolded octets.old.items }
     ensures ok { IfOk result (λ _. HoldsName octets.new.items × ((labels : Labels)
         → Collects (unfolded_labels octets.old.items) spelled.is_too_long labels
-        → under (option_copied origin.entry) (Ok (labels, spelled.is_absolute)) ≡ Ok
+        → under_origin (option_copied origin.entry) (Ok (labels, spelled.is_absolute)) ≡ Ok
         (labels_of octets.new.items))) }
     ensures err { IfErr result (λ fault. (labels : Labels)
         → Collects (unfolded_labels octets.old.items) spelled.is_too_long labels
-        → under (option_copied origin.entry) (Ok (labels, spelled.is_absolute)) ≡ Err fault) }
+        → under_origin (option_copied origin.entry) (Ok (labels, spelled.is_absolute))
+        ≡ Err fault) }
 {
     if spelled.is_absolute {
         if spelled.is_too_long {
@@ -287,10 +288,10 @@ fn read_into(
 ) -> Result<(), NameFault>
     requires { octets.old.items ≡ [] }
     ensures ok { IfOk result (λ _. HoldsName octets.new.items
-        × (under (option_copied origin.entry) (reading text.now) ≡ Ok
+        × (under_origin (option_copied origin.entry) (reading text.now) ≡ Ok
         (labels_of octets.new.items))) }
     ensures err { IfErr result
-        (λ fault. under (option_copied origin.entry) (reading text.now) ≡ Err fault) }
+        (λ fault. under_origin (option_copied origin.entry) (reading text.now) ≡ Err fault) }
 {
     let spelled = match read_plain(octets, text) {
         Some(spelled) => spelled,
@@ -310,10 +311,10 @@ pub(crate) fn replace(
     origin: Option<&Name>,
 ) -> Result<(), NameFault>
     ensures holds { HoldsName octets.new.items }
-    ensures ok { OnOk result (under (option_copied origin.entry) (reading text.now) ≡ Ok
+    ensures ok { OnOk result (under_origin (option_copied origin.entry) (reading text.now) ≡ Ok
         (labels_of octets.new.items)) }
     ensures err { IfErr result
-        (λ fault. under (option_copied origin.entry) (reading text.now) ≡ Err fault) }
+        (λ fault. under_origin (option_copied origin.entry) (reading text.now) ≡ Err fault) }
     ensures root { OnErr result (octets.new.items ≡ 0 ∷ []) }
 {
     octets.clear();

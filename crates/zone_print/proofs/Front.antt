@@ -23,7 +23,7 @@ left_less old mid new text rest part others left e taken = record {
 pub left_after : (old mid new : Option (List ℕ)) (text rest : List ℕ) (n : ℕ) → Left old mid text rest → Appends mid new (take n rest) → Left old new text (drop n rest)
 left_after old mid new text rest n left taken = left_less old mid new text rest (take n rest) (drop n rest) left (sym (take-append-drop n rest)) taken
 
--- octets before or behind others are some
+-- octets before or after others are some
 pub some_more : (rest more : List ℕ) → rest ≢ [] → rest ++ more ≢ []
 some_more [] more some e = some refl
 some_more (c ∷ rest) more some e = cc

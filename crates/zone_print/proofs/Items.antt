@@ -11,7 +11,7 @@ use Rattle.zone_rdata.specs.Spelling as raw
 use Rattle.zone_rdata.specs.Text.{data_items, data_text, written_item}
 use Rattle.zone_rdata.specs.Words.{class_text, kind_text}
 use Rattle.zone_rdata.proofs.PrintedWords.{class_bare, kind_bare}
-use Rattle.zone_rdata.proofs.Standing.{Stands, bare_decimal}
+use Rattle.zone_rdata.proofs.Standing.{IsPrintedItem, bare_decimal}
 use Rattle.zone_rdata.proofs.TextItems.{data_some, data_stands}
 use Rattle.zone_text.specs.Entries.{entry_of, first_octet, item_of}
 use Rattle.zone_text.specs.Line.{IsItem, line_of}
@@ -47,7 +47,7 @@ abbrev record_items : Record → List RawItem
 record_items r = raw.bare (name_text r.owner) ∷ raw.bare (decimal r.ttl) ∷ raw.bare (class_text r.class) ∷ raw.bare (kind_text r.class r.kind) ∷ data_items (data_of r)
 
 -- each stands as it is printed
-items_stand : (r : Record) → IsRecord r → AllByRecursion Stands (record_items r)
+items_stand : (r : Record) → IsRecord r → AllByRecursion IsPrintedItem (record_items r)
 items_stand r is =
     let ttl = bare_decimal r.ttl (let low = is.ttl in omega arith) in
     let class = class_bare r.class is.rdata.class in

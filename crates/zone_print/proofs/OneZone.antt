@@ -1,9 +1,9 @@
 -- A zone is fixed by its set of records: a strictly ascending list is the only one of its set.
-use Rattle.std.proofs.Common.{◌≡◌, ℕ, List, [], ◌∷◌, Ordering, Less, Equal, refl, sym, ap, ap₂, ◌∙◌, subst, inl, inr, ⊎_elim}
+use Rattle.std.proofs.Common.{◌≡◌, ℕ, List, [], ◌∷◌, Less, Equal, refl, sym, ap, ap₂, ◌∙◌, subst, inl, inr, ⊎_elim}
 use Rattle.std.proofs.lemmas.Cmp.{on_total, then_total, nat_cmp_total, nat_list_cmp_total, tied_itself}
 use Rattle.std.proofs.lemmas.Map.Lookups.{exact_unsigned, exact_bytes}
 use Rattle.std.specs.Cmp.{IsTotalOrder}
-use Rattle.std.specs.Ordering.{ordering_then, ordering_reverse}
+use Rattle.std.specs.Ordering.{ordering_reverse}
 use Rattle.zone_name.specs.Order.{name_cmp}
 use Rattle.zone_name.proofs.Lawful.{name_cmp-total}
 use Rattle.zone_rdata.specs.Order.{data_cmp}
@@ -15,16 +15,13 @@ use Rattle.zone_set.specs.Refusal.{records_of}
 use Rattle.zone_set.specs.Zone.{Has, SameRecords, Zone, IsZone}
 use Rattle.zone_set.proofs.Together.{each_Has}
 use Rattle.zone_print.specs.Denotes.{Denotes}
+use Rattle.zone_set.proofs.KeyOrder.{both_equal}
 
 data_total : IsTotalOrder data_cmp
 data_total = then_total (on_total (λ d. d.class) nat_cmp_total) (then_total (on_total (λ d. d.kind) nat_cmp_total) (on_total (λ d. d.octets) nat_list_cmp_total))
 
 pub canonical_total : IsTotalOrder canonical_cmp
 canonical_total = then_total (on_total soa_rank nat_cmp_total) (then_total (on_total (λ r. r.owner) name_cmp-total) (on_total data_of data_total))
-
-both_equal : (o p : Ordering) → ordering_then o p ≡ Equal → (o ≡ Equal) × (p ≡ Equal)
-both_equal Equal p h = (refl, h)
-both_equal o p h = cc
 
 -- records that the order doesn't tell apart have one owner and one data
 pub canonical_exact : ((a b : List (List ℕ)) → name_cmp a b ≡ Equal → a ≡ b) → (r s : Record) → canonical_cmp r s ≡ Equal → (r.owner ≡ s.owner) × (data_of r ≡ data_of s)
@@ -57,8 +54,8 @@ same_first r s records others up up_others same =
     ((same r).0 (inl refl))
 
 -- what follows the first of one list follows the first of the other
-behind : (r s : Record) (records others : List Record) → Ascends (r ∷ records) → r ≡ s → ((t : Record) → Has (r ∷ records) t → Has (s ∷ others) t) → (t : Record) → Has records t → Has others t
-behind r s records others up first same t has =
+after : (r s : Record) (records others : List Record) → Ascends (r ∷ records) → r ≡ s → ((t : Record) → Has (r ∷ records) t → Has (s ∷ others) t) → (t : Record) → Has records t → Has others t
+after r s records others up first same t has =
     ⊎_elim (λ is. absurd (not_itself r t (first ∙ sym is) (each_Has (λ u. canonical_cmp r u ≡ Less) records t up.0 has))) (λ later. later) (same t (inr has))
 
 pub one_ascending : (records others : List Record) → Ascends records → Ascends others → SameRecords records others → records ≡ others
@@ -69,8 +66,8 @@ one_ascending (r ∷ records) (s ∷ others) up up_others same =
     let first : r ≡ s = same_first r s records others up up_others same in
     ap₂ (λ (t : Record) (ts : List Record). t ∷ ts) first
     (one_ascending records others up.1 up_others.1 (λ t. (
-      behind r s records others up first (λ u. (same u).0) t,
-      behind s r others records up_others (sym first) (λ u. (same u).1) t,
+      after r s records others up first (λ u. (same u).0) t,
+      after s r others records up_others (sym first) (λ u. (same u).1) t,
     )))
 
 pub one_zone : (z w : Zone) → IsZone z → IsZone w → SameRecords z.records w.records → z ≡ w

@@ -16,12 +16,12 @@ use Rattle.zone_rdata.specs.Spelling.{States}
 use Rattle.zone_rdata.specs.Text.{data_items}
 use Rattle.zone_rdata.specs.Words.{IsClass, IsClassWord, IsKind, IsKindWord, class_text, kind_text}
 use Rattle.zone_text.specs.Entries.{Cut, Entry, and_last, cut_from, entries_of, entry_of, item_of, numbered}
-use Rattle.zone_text.specs.File.{FileStates, StateEach, states_one}
+use Rattle.zone_text.specs.File.{FileStates, EntriesState, states_one}
 use Rattle.zone_text.specs.Inherited.{IsOrigin}
 use Rattle.zone_text.specs.Lasting.{EndInLineFeed}
 use Rattle.zone_text.specs.Line.{IsItem, line_of, StatesWhole}
 use Rattle.zone_text.specs.Tokens.{Cuts, Token, text}
-use Rattle.zone_text.specs.Records.{StatesRecord}
+use Rattle.zone_text.specs.Records.{EntryStates}
 use Rattle.zone_text.proofs.CutAgain.{AreEnded, cut_ended, joined}
 use Rattle.zone_text.proofs.DecidedOnce.{cut_after_all}
 use Rattle.zone_set.specs.Refusal.{records_of}
@@ -75,8 +75,8 @@ line_is_entry read cut ended of_line r is =
 
 pub equal_lines : ((r : Record) → IsRecord r → IsLineOf r (line r))
     → ((octets : List ℕ) (tokens other : List Token) → Cuts octets tokens → Cuts octets other → tokens ≡ other)
-    → ((origin above : Labels) (before : List Entry) (entry : Entry) (r : Record) → IsOrigin origin before above → StatesWhole entry r → StatesRecord origin before entry r)
-    → ((origin : Labels) (before : List Entry) (entry : Entry) (a b : Record) → StatesRecord origin before entry a → StatesRecord origin before entry b → a ≡ b)
+    → ((origin above : Labels) (before : List Entry) (entry : Entry) (r : Record) → IsOrigin origin before above → StatesWhole entry r → EntryStates origin before entry r)
+    → ((origin : Labels) (before : List Entry) (entry : Entry) (a b : Record) → EntryStates origin before entry a → EntryStates origin before entry b → a ≡ b)
     → (r s : Record) → IsRecord r → IsRecord s → (line r ≡ line s) ↔ (r ≡ s)
 equal_lines lines one_cut stated one r s is_r is_s = (λ same. one_record (lines r is_r) (lines s is_s) same, λ same. ap line same)
   where
@@ -160,17 +160,17 @@ at_line number tokens r s = record {
 
 -- what whole entries state, and that they leave the origin
 pub record WholeEntries : Type 0 where
-  pub stated : (origin above : Labels) (before : List Entry) (entry : Entry) (r : Record) → IsOrigin origin before above → StatesWhole entry r → StatesRecord origin before entry r
+  pub stated : (origin above : Labels) (before : List Entry) (entry : Entry) (r : Record) → IsOrigin origin before above → StatesWhole entry r → EntryStates origin before entry r
   pub leaves : (origin above : Labels) (before : List Entry) (entry : Entry) (r : Record) → IsOrigin origin before above → StatesWhole entry r → IsOrigin origin (entry ∷ before) above
 
-states_each : WholeEntries → (origin : Labels) (before : List Entry) (number : ℕ) (ended : List (List Token)) (records : List Record) → IsOrigin origin before origin → AreLines ended records → StateEach origin before (numbered number ended) (placed_from number records)
+states_each : WholeEntries → (origin : Labels) (before : List Entry) (number : ℕ) (ended : List (List Token)) (records : List Record) → IsOrigin origin before origin → AreLines ended records → EntriesState origin before (numbered number ended) (placed_from number records)
 states_each wholes origin before number [] [] under are = refl
 states_each wholes origin before number (p ∷ ended) (r ∷ records) under are =
     let whole : StatesWhole (entry_of number p) r = at_line number p r are.0 in
-    let next : StateEach origin (entry_of number p ∷ before) (numbered (number + 1) ended) (placed_from (number + 1) records) =
+    let next : EntriesState origin (entry_of number p ∷ before) (numbered (number + 1) ended) (placed_from (number + 1) records) =
     states_each wholes origin (entry_of number p ∷ before) (number + 1) ended records (wholes.leaves origin origin before (entry_of number p) r under whole) are.2 in
     states_one (record { rr = r; place = Line number }) (placed_from (number + 1) records) (wholes.stated origin origin before (entry_of number p) r under whole) refl refl
-    (subst (λ n. StateEach origin (entry_of number p ∷ before) (numbered n ended) (placed_from (number + 1) records)) (ap (λ n. number + n) (sym are.1)) next)
+    (subst (λ n. EntriesState origin (entry_of number p ∷ before) (numbered n ended) (placed_from (number + 1) records)) (ap (λ n. number + n) (sym are.1)) next)
 states_each wholes origin before number ended records under are = absurd are
 
 pub lines_back : ((r : Record) → IsRecord r → IsLineOf r (line r))
@@ -183,7 +183,7 @@ lines_back line_is joins wholes origin records each =
     record {
       tokens = c.tokens;
       cut = c.cut;
-      each = subst (λ es. StateEach origin [] es (placed_from 1 records)) (sym entries) (states_each wholes origin [] 1 c.ended records refl c.are);
+      each = subst (λ es. EntriesState origin [] es (placed_from 1 records)) (sym entries) (states_each wholes origin [] 1 c.ended records refl c.are);
     }
 
 -- ---- the zone

@@ -1,5 +1,6 @@
 -- Which zone an input denotes.
 use Rattle.std.specs.Prelude.{ℕ, ◌≤◌, List, length}
+use Rattle.zone_name.specs.Common.{Labels}
 use Rattle.zone_rdata.specs.declared.record.Placed.{Placed}
 use Rattle.zone_text.specs.File.{FileStates}
 use Rattle.zone_set.specs.Refusal.{records_of}
@@ -20,5 +21,5 @@ pub record DenotesBy (States : List Placed → Type 0) (octets : List ℕ) (z : 
   pub makes : MakesZone placed z
 
 -- a master file with its origin denotes a zone
-abbrev pub Denotes : List (List ℕ) → List ℕ → Zone → Type 0
+abbrev pub Denotes : Labels → List ℕ → Zone → Type 0
 Denotes origin octets z = DenotesBy (FileStates origin octets) octets z

@@ -6,7 +6,7 @@ use Rattle.hex.specs.Hex.{decode_sized}
 use Rattle.hex.specs.declared.error.FromHexError.{FromHexError}
 use Rattle.zone_rdata.specs.Address.{AddressPart, AreAround, AreNumbers, AreParts, ArePartsOf, IsGroup, IsIpv4Address, IsIpv6Address, IsLastPart, IsOctetNumber, eight, parts_octets, parts_text}
 use Rattle.zone_rdata.specs.Fields.Address.{IsAddress, of_ipv4, of_ipv6}
-use Rattle.zone_rdata.specs.Machine.AddressReading.{HasGapAt, IsCut, Lacks}
+use Rattle.zone_rdata.specs.Machine.AddressReading.{HasGapAt, IsCutAtFirst, Lacks}
 use Rattle.zone_rdata.specs.Number.{IsDecimal}
 use Rattle.zone_rdata.proofs.AddressFields.{no_ipv4, no_ipv6}
 use Rattle.zone_rdata.proofs.AddressGaps.{IsFirstGap, found_at_gap, refused_at_gap, refused_without_gap}
@@ -18,24 +18,24 @@ use Rattle.zone_name.proofs.Pushing.{AllByRecursion-append}
 
 -- ---- cutting
 abbrev Cuts : ℕ → List ℕ → Type 0
-Cuts c text = ((front : List ℕ) × ((back : List ℕ) × IsCut c text front back)) ⊎ Lacks c text
+Cuts c text = ((front : List ℕ) × ((back : List ℕ) × IsCutAtFirst c text front back)) ⊎ Lacks c text
 
-cut_behind : (c d : ℕ) (text : List ℕ) → d ≢ c → Cuts c text → Cuts c (d ∷ text)
-cut_behind c d text other (inl found) = inl (d ∷ found.0, (found.1.0, record { parted = ap (λ t. d ∷ t) found.1.1.parted; lacks = (other, found.1.1.lacks) }))
-cut_behind c d text other (inr lacks) = inr (other, lacks)
+cut_after : (c d : ℕ) (text : List ℕ) → d ≢ c → Cuts c text → Cuts c (d ∷ text)
+cut_after c d text other (inl found) = inl (d ∷ found.0, (found.1.0, record { parted = ap (λ t. d ∷ t) found.1.1.parted; lacks = (other, found.1.1.lacks) }))
+cut_after c d text other (inr lacks) = inr (other, lacks)
 
 cut_or_lacks : (c : ℕ) (text : List ℕ) → Cuts c text
 cut_or_lacks c [] = inr tt
 cut_or_lacks c (d ∷ text) = elim (cases_eq d c) [
   | inl same ↦ inl ([], (text, record { parted = ap (λ x. x ∷ text) same; lacks = tt }))
-  | inr other ↦ cut_behind c d text other (cut_or_lacks c text)
+  | inr other ↦ cut_after c d text other (cut_or_lacks c text)
 ]
 
 -- ---- numbers parted by dots
 octet_or_not : (text : List ℕ) → Choice (IsOctetNumber text)
 octet_or_not text = choice_as (λ n. n) (λ n h. record { number = h.0; short = omega (arith, h.1) }) (λ none n h. none n (h.number, omega (arith, h.short))) (below_or_not (IsDecimal text) 256 (λ a b h k. h.value ∙ sym k.value) (decimal_or_not text))
 
-more_by : (count : ℕ) (text front rest : List ℕ) → IsCut 46 text front rest → Choice (IsOctetNumber front) → Choice (AreNumbers (suc count) rest) → Choice (AreNumbers (suc (suc count)) text)
+more_by : (count : ℕ) (text front rest : List ℕ) → IsCutAtFirst 46 text front rest → Choice (IsOctetNumber front) → Choice (AreNumbers (suc count) rest) → Choice (AreNumbers (suc (suc count)) text)
 more_by count text front rest cut (inr none) others = inr (number_refused text front rest cut none count)
 more_by count text front rest cut (inl found) (inr none) = inr (rest_refused count text front rest cut none)
 more_by count text front rest cut (inl found) (inl others) = inl (found.0 ∷ others.0, numbers_more count text front rest others.0 found.0 cut found.1 others.1)
@@ -92,15 +92,15 @@ end_by ends text lacks (inl found) =
 end_by ends text lacks (inr none) = inr (λ octets h. none octets (only_part ends text octets h.are.parts lacks h.some h.are.each h.are.parted h.are.value))
 
 -- a group before the others
-parts_behind : (ends : Bool) (p q : AddressPart) (parts : List AddressPart) → IsGroup p → AreParts ends (q ∷ parts) → AreParts ends (p ∷ q ∷ parts)
-parts_behind ends p q parts is are = (is, are)
+parts_later : (ends : Bool) (p q : AddressPart) (parts : List AddressPart) → IsGroup p → AreParts ends (q ∷ parts) → AreParts ends (p ∷ q ∷ parts)
+parts_later ends p q parts is are = (is, are)
 
 put_by : (ends : Bool) (group rest added octets : List ℕ) (parts : List AddressPart) → IsGroupOf group added → 0 < length parts → AreParts ends parts → rest ≡ parts_text parts → octets ≡ parts_octets parts → AreSomeParts ends (group ++ 58 ∷ rest) (added ++ octets)
 put_by ends group rest added octets [] is some each parted value = absurd (omega arith)
 put_by ends group rest added octets (q ∷ parts) is some each parted value =
     let p : AddressPart = record { text = group; octets = added } in
     record {
-      are = record { parts = p ∷ q ∷ parts; each = parts_behind ends p q parts is each; parted = ap (λ t. group ++ 58 ∷ t) parted; value = ap (λ o. added ++ o) value };
+      are = record { parts = p ∷ q ∷ parts; each = parts_later ends p q parts is each; parted = ap (λ t. group ++ 58 ∷ t) parted; value = ap (λ o. added ++ o) value };
       some = omega arith;
     }
 
@@ -135,15 +135,15 @@ not_at : (c : ℕ) (text : List ℕ) → (HasGapAt (c ∷ text) 0 → ⊥) → (
 not_at c text first none zero gap = first gap
 not_at c text first none (suc k) gap = none k gap
 
-gap_behind : (c : ℕ) (text : List ℕ) → (HasGapAt (c ∷ text) 0 → ⊥) → Gaps text → Gaps (c ∷ text)
-gap_behind c text first (inl found) = inl (suc found.0, (omega (arith, found.1.0), record { here = found.1.1.here; none = not_before c text found.0 first found.1.1 }))
-gap_behind c text first (inr none) = inr (not_at c text first none)
+gap_after : (c : ℕ) (text : List ℕ) → (HasGapAt (c ∷ text) 0 → ⊥) → Gaps text → Gaps (c ∷ text)
+gap_after c text first (inl found) = inl (suc found.0, (omega (arith, found.1.0), record { here = found.1.1.here; none = not_before c text found.0 first found.1.1 }))
+gap_after c text first (inr none) = inr (not_at c text first none)
 
 gap_here : (c : ℕ) (text : List ℕ) → (c ≡ 58) ⊎ (c ≢ 58) → (get_or text 0 0 ≡ 58) ⊎ (get_or text 0 0 ≢ 58) → Gaps text → Gaps (c ∷ text)
 gap_here c [] (inl colon) second gaps = inr (not_at c [] (λ gap. omega (arith, gap.1)) (λ k gap. omega (arith, gap.0)))
 gap_here c (d ∷ text) (inl colon) (inl second) gaps = inl (zero, (omega arith, record { here = (colon, second); none = λ k lt. absurd (omega arith) }))
-gap_here c (d ∷ text) (inl colon) (inr other) gaps = gap_behind c (d ∷ text) (λ gap. other gap.1) gaps
-gap_here c text (inr other) second gaps = gap_behind c text (λ gap. other gap.0) gaps
+gap_here c (d ∷ text) (inl colon) (inr other) gaps = gap_after c (d ∷ text) (λ gap. other gap.1) gaps
+gap_here c text (inr other) second gaps = gap_after c text (λ gap. other gap.0) gaps
 
 gap_or_not : (text : List ℕ) → Gaps text
 gap_or_not [] = inr (λ k gap. omega (arith, gap.0))

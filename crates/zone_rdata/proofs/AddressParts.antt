@@ -5,7 +5,7 @@ use Rattle.std.specs.List.{AllByRecursion, join_with_byte}
 use Rattle.std.proofs.lemmas.List.{append-nil}
 use Rattle.std.proofs.lemmas.List.Concat.{flat_map-append}
 use Rattle.zone_rdata.specs.Address.{IsIpv4Address, AddressPart, IsGroup, IsLastPart, AreParts, parts_text, parts_octets, ArePartsOf}
-use Rattle.zone_rdata.specs.Machine.AddressReading.{Lacks, IsCut}
+use Rattle.zone_rdata.specs.Machine.AddressReading.{Lacks, IsCutAtFirst}
 use Rattle.zone_rdata.proofs.Addresses.{cut_same, not_cut, group_lacks, group_same, last_lacks, last_same}
 use Rattle.zone_name.proofs.Pushing.{AllByRecursion-append}
 
@@ -60,7 +60,7 @@ pub record PartsCut (ends : Bool) (group rest octets : List ℕ) : Type 0 where
   pub are : AreSomeParts ends rest more
   pub value : octets ≡ added ++ more
 
-cut_parts : (ends : Bool) (text group rest octets : List ℕ) (parts : List AddressPart) → IsCut 58 text group rest → 0 < length parts → AreParts ends parts → text ≡ parts_text parts → octets ≡ parts_octets parts → PartsCut ends group rest octets
+cut_parts : (ends : Bool) (text group rest octets : List ℕ) (parts : List AddressPart) → IsCutAtFirst 58 text group rest → 0 < length parts → AreParts ends parts → text ≡ parts_text parts → octets ≡ parts_octets parts → PartsCut ends group rest octets
 cut_parts ends text group rest octets [] cut some each parted value = absurd (omega arith)
 cut_parts ends text group rest octets (p ∷ []) cut some each parted value = absurd (not_cut 58 p.text group rest (last_lacks ends p each) (sym parted ∙ cut.parted))
 cut_parts ends text group rest octets (p ∷ q ∷ parts) cut some each parted value =
@@ -73,7 +73,7 @@ cut_parts ends text group rest octets (p ∷ q ∷ parts) cut some each parted v
       value = value;
     }
 
-pub parts_cut : (ends : Bool) (text group rest octets : List ℕ) → IsCut 58 text group rest → AreSomeParts ends text octets → PartsCut ends group rest octets
+pub parts_cut : (ends : Bool) (text group rest octets : List ℕ) → IsCutAtFirst 58 text group rest → AreSomeParts ends text octets → PartsCut ends group rest octets
 parts_cut ends text group rest octets cut h = cut_parts ends text group rest octets h.are.parts cut h.some h.are.each h.are.parted h.are.value
 
 pub only_part : (ends : Bool) (text octets : List ℕ) (parts : List AddressPart) → Lacks 58 text → 0 < length parts → AreParts ends parts → text ≡ parts_text parts → octets ≡ parts_octets parts → IsLastPart ends (record { text = text; octets = octets })
@@ -88,10 +88,10 @@ pub behind : List AddressPart → List ℕ → List ℕ
 behind [] rest = rest
 behind (p ∷ parts) rest = p.text ++ 58 ∷ behind parts rest
 
-behind_push : (parts : List AddressPart) (p : AddressPart) (rest : List ℕ) → behind (parts ++ p ∷ []) rest ≡ behind parts (p.text ++ 58 ∷ rest)
+after_push : (parts : List AddressPart) (p : AddressPart) (rest : List ℕ) → behind (parts ++ p ∷ []) rest ≡ behind parts (p.text ++ 58 ∷ rest)
 unfolding behind
-behind_push [] p rest = refl
-behind_push (q ∷ parts) p rest = ap (λ t. q.text ++ 58 ∷ t) (behind_push parts p rest)
+after_push [] p rest = refl
+after_push (q ∷ parts) p rest = ap (λ t. q.text ++ 58 ∷ t) (after_push parts p rest)
 
 parts_end : (ends : Bool) (parts : List AddressPart) (p : AddressPart) → AllByRecursion IsGroup parts → IsLastPart ends p → AreParts ends (parts ++ p ∷ [])
 parts_end ends [] p each is = is
@@ -124,13 +124,13 @@ parts_started ends text some = record {
   only = λ others are. (others, (text_some ends text others are.parts some are.each are.parted are.value, refl));
 }
 
-pub parts_more : (ends : Bool) (text rest group after octets added : List ℕ) → IsCut 58 rest group after → IsGroup (record { text = group; octets = added }) → HaveReadParts ends text rest octets → HaveReadParts ends text after (octets ++ added)
+pub parts_more : (ends : Bool) (text rest group after octets added : List ℕ) → IsCutAtFirst 58 rest group after → IsGroup (record { text = group; octets = added }) → HaveReadParts ends text rest octets → HaveReadParts ends text after (octets ++ added)
 parts_more ends text rest group after octets added cut is reads =
     let p : AddressPart = record { text = group; octets = added } in
     record {
       front = reads.front ++ p ∷ [];
       groups = AllByRecursion-append IsGroup reads.front (p ∷ []) reads.groups (is, tt);
-      parted = reads.parted ∙ ap (behind reads.front) cut.parted ∙ sym (behind_push reads.front p after);
+      parted = reads.parted ∙ ap (behind reads.front) cut.parted ∙ sym (after_push reads.front p after);
       value = ap (λ o. o ++ added) reads.value ∙ sym (octets_push reads.front p);
       only = λ others are.
           let was = reads.only others are in
@@ -140,7 +140,7 @@ parts_more ends text rest group after octets added cut is reads =
     }
 
 -- where no group goes on
-pub parts_stop : (ends : Bool) (text rest group after octets : List ℕ) → IsCut 58 rest group after → HaveReadParts ends text rest octets → ((added : List ℕ) → IsGroup (record { text = group; octets = added }) → 16 < length octets + length added) → (others : List ℕ) → ArePartsOf ends text others → length others ≤ 16 → ⊥
+pub parts_stop : (ends : Bool) (text rest group after octets : List ℕ) → IsCutAtFirst 58 rest group after → HaveReadParts ends text rest octets → ((added : List ℕ) → IsGroup (record { text = group; octets = added }) → 16 < length octets + length added) → (others : List ℕ) → ArePartsOf ends text others → length others ≤ 16 → ⊥
 parts_stop ends text rest group after octets cut reads stops others are short =
     let was = reads.only others are in
     let split = parts_cut ends rest group after was.0 cut was.1.0 in

@@ -7,7 +7,7 @@ use Rattle.hex.specs.Hex.{decode_sized, is_hex_digit}
 use Rattle.hex.proofs.HexLemmas.{IsOk-decode_sized}
 use Rattle.zone_name.specs.Spelling.{is_digit}
 use Rattle.zone_rdata.specs.Address.{IsOctetNumber, AreNumbers, IsIpv4Address, AddressPart, IsGroup, IsLastPart}
-use Rattle.zone_rdata.specs.Machine.AddressReading.{Lacks, IsCut}
+use Rattle.zone_rdata.specs.Machine.AddressReading.{Lacks, IsCutAtFirst}
 use Rattle.zone_name.proofs.Pushing.{AllByRecursion-append}
 use Rattle.zone_rdata.proofs.Lists.{each_weaker}
 
@@ -51,7 +51,7 @@ number_same text n m a b = a.number.value ∙ sym b.number.value
 pub numbers_one : (text : List ℕ) (n : ℕ) → IsOctetNumber text n → AreNumbers 1 text (n ∷ [])
 numbers_one text n is = record { numbers = text ∷ []; counted = refl; parted = refl; each = (is, tt) }
 
-pub numbers_more : (count : ℕ) (text front rest octets : List ℕ) (n : ℕ) → IsCut 46 text front rest → IsOctetNumber front n → AreNumbers (suc count) rest octets → AreNumbers (suc (suc count)) text (n ∷ octets)
+pub numbers_more : (count : ℕ) (text front rest octets : List ℕ) (n : ℕ) → IsCutAtFirst 46 text front rest → IsOctetNumber front n → AreNumbers (suc count) rest octets → AreNumbers (suc (suc count)) text (n ∷ octets)
 numbers_more count text front rest octets n cut is are = record {
   numbers = front ∷ are.numbers;
   counted = ap suc are.counted;
@@ -101,7 +101,7 @@ pub record NumbersCut (count : ℕ) (front rest octets : List ℕ) : Type 0 wher
   pub are : AreNumbers (suc count) rest others
   pub value : octets ≡ number ∷ others
 
-pub numbers_cut : (count : ℕ) (text front rest octets : List ℕ) → IsCut 46 text front rest → AreNumbers (suc (suc count)) text octets → NumbersCut count front rest octets
+pub numbers_cut : (count : ℕ) (text front rest octets : List ℕ) → IsCutAtFirst 46 text front rest → AreNumbers (suc (suc count)) text octets → NumbersCut count front rest octets
 numbers_cut count text front rest octets cut are =
     let split = numbers_split count text octets are in
     let same = cut_same 46 split.front split.rest front rest (number_lacks 46 split.front split.number refl split.is) cut.lacks (sym split.parted ∙ cut.parted) in
@@ -123,12 +123,12 @@ pub numbers_last : (text octets : List ℕ) → AreNumbers 1 text octets → (n 
 numbers_last text octets are = last_number text octets are.numbers are.counted are.parted are.each
 
 -- where no number stands, or no numbers after it
-pub number_refused : (text front rest : List ℕ) → IsCut 46 text front rest → ((n : ℕ) → IsOctetNumber front n → ⊥) → (count : ℕ) (octets : List ℕ) → AreNumbers (suc (suc count)) text octets → ⊥
+pub number_refused : (text front rest : List ℕ) → IsCutAtFirst 46 text front rest → ((n : ℕ) → IsOctetNumber front n → ⊥) → (count : ℕ) (octets : List ℕ) → AreNumbers (suc (suc count)) text octets → ⊥
 number_refused text front rest cut none count octets are =
     let split = numbers_cut count text front rest octets cut are in
     none split.number split.is
 
-pub rest_refused : (count : ℕ) (text front rest : List ℕ) → IsCut 46 text front rest → ((octets : List ℕ) → AreNumbers (suc count) rest octets → ⊥) → (octets : List ℕ) → AreNumbers (suc (suc count)) text octets → ⊥
+pub rest_refused : (count : ℕ) (text front rest : List ℕ) → IsCutAtFirst 46 text front rest → ((octets : List ℕ) → AreNumbers (suc count) rest octets → ⊥) → (octets : List ℕ) → AreNumbers (suc (suc count)) text octets → ⊥
 rest_refused count text front rest cut none octets are =
     let split = numbers_cut count text front rest octets cut are in
     none split.others split.are

@@ -8,13 +8,13 @@ use Rattle.zone_rdata.specs.declared.field.Field.{Field}
 use Rattle.zone_rdata.specs.declared.field.Field.TheVariants.{Name, Octets, OneString, Serial, Strings, Time, U16}
 use Rattle.zone_rdata.specs.Builder.{FitsString}
 use Rattle.zone_rdata.specs.Fault.{fault_of}
-use Rattle.zone_rdata.specs.Field.{FieldValue, Holds, IsFieldFault, SpellsField, Suits, field_at, field_items, field_octets, field_text, items_behind, own_items}
+use Rattle.zone_rdata.specs.Field.{FieldValue, Holds, IsFieldFault, SpellsField, Suits, field_at, field_items, field_octets, field_text, items_after, own_items}
 use Rattle.zone_rdata.specs.Item.{IsGeneric, RawItem, bare}
 use Rattle.zone_rdata.specs.Layout.{IsSized}
 use Rattle.zone_rdata.specs.Machine.Appending.{BeginsWithValue}
 use Rattle.zone_rdata.specs.Machine.Building.{IsReal, part_field}
 use Rattle.zone_rdata.proofs.FieldLaws.{AreLow, AreLowItems, FieldChoice, FieldLaws, FrontChoice, NameFaultOnce, NameOrFault, NamesNever, NamesOnce, NamesPrinted, plain_front}
-use Rattle.zone_rdata.proofs.Standing.{Stands}
+use Rattle.zone_rdata.proofs.Standing.{IsPrintedItem}
 use Rattle.zone_rdata.proofs.StringLaws.{fault-once}
 use Rattle.zone_rdata.proofs.Fields.Name.{laws as name_laws, front_once as name_front_once}
 use Rattle.zone_rdata.proofs.Fields.Number.{serial_laws, u16_laws}
@@ -114,13 +114,13 @@ field_fault_once names origin f items a b x y = x ∙ sym y
 
 -- ---- the items that are printed
 
-pub field_printed : NamesPrinted → (origin : List (List ℕ)) (f : Field) (v : FieldValue) (rest : List RawItem) → IsSized f → Holds f v → (f ≡ Strings → rest ≡ []) → SpellsField origin f (own_items f (field_items v ++ rest)) v × (items_behind f (field_items v ++ rest) ≡ rest)
+pub field_printed : NamesPrinted → (origin : List (List ℕ)) (f : Field) (v : FieldValue) (rest : List RawItem) → IsSized f → Holds f v → (f ≡ Strings → rest ≡ []) → SpellsField origin f (own_items f (field_items v ++ rest)) v × (items_after f (field_items v ++ rest) ≡ rest)
 field_printed names origin f v rest sized h last =
     let k = kind_of f in
-    each f k (λ w. SpellsField origin f (own_items f (field_items w ++ rest)) w × (items_behind f (field_items w ++ rest) ≡ rest)) (λ x held. k.laws.printed names origin x rest sized held last) v h
+    each f k (λ w. SpellsField origin f (own_items f (field_items w ++ rest)) w × (items_after f (field_items w ++ rest) ≡ rest)) (λ x held. k.laws.printed names origin x rest sized held last) v h
 
-pub field_stands : (f : Field) (v : FieldValue) → IsSized f → Holds f v → AllByRecursion Stands (field_items v)
-field_stands f v sized h = let k = kind_of f in each f k (λ w. AllByRecursion Stands (field_items w)) (λ x held. k.laws.stands x sized held) v h
+pub field_stands : (f : Field) (v : FieldValue) → IsSized f → Holds f v → AllByRecursion IsPrintedItem (field_items v)
+field_stands f v sized h = let k = kind_of f in each f k (λ w. AllByRecursion IsPrintedItem (field_items w)) (λ x held. k.laws.stands x sized held) v h
 
 pub field_unmarked : (f : Field) (v : FieldValue) (rest : List RawItem) → IsSized f → Holds f v → IsGeneric (field_items v ++ rest) → ⊥
 field_unmarked f v rest sized h = let k = kind_of f in each f k (λ w. IsGeneric (field_items w ++ rest) → ⊥) (λ x held. k.laws.unmarked x rest sized held) v h

@@ -10,7 +10,7 @@ use Rattle.zone_rdata.specs.declared.field.Field.{Field}
 use Rattle.zone_rdata.specs.Builder.{Built, FitsString, IsNext, IsOpaque, IsPushFault, IsWhole, Pushes, ends_with_strings, long_string, misplaced, part_at, too_long}
 use Rattle.zone_rdata.specs.Field.{FieldValue, HoldEach, Holds, Suits, field_octets, fixed, is_strings, octets_of, string, strings, values_of}
 use Rattle.zone_rdata.specs.Layout.{AreLaidOut, StringsLast, layout}
-use Rattle.zone_rdata.specs.Machine.Building.{ArePushedParts, Grows, IsBuilt, IsOver, IsReal, least_of, more_fields, over_data, over_string, part_field, part_fields, parts_of}
+use Rattle.zone_rdata.specs.Machine.Building.{ArePushedParts, Grows, IsBuilt, IsOver, IsReal, least_of, more_fields, over_data, over_string, part_field, part_fields, parts_held}
 use Rattle.zone_rdata.specs.Record.{Data, IsRdata}
 use Rattle.zone_rdata.specs.Strings.{IsString}
 use Rattle.zone_rdata.proofs.AnyField.{field_part}
@@ -34,12 +34,12 @@ length-values_of : (row : List Field) (octets : List ℕ) → length (values_of 
 length-values_of [] octets = refl
 length-values_of (f ∷ row) octets = ap suc (length-values_of row _)
 
-pub parts_length : (laid : Option (List Field)) (count : ℕ) (octets : List ℕ) → ArePushedParts laid count octets → length (parts_of laid count octets) ≡ count
+pub parts_length : (laid : Option (List Field)) (count : ℕ) (octets : List ℕ) → ArePushedParts laid count octets → length (parts_held laid count octets) ≡ count
 parts_length None zero octets held = refl
 parts_length None (suc n) octets held = omega (arith, held)
 parts_length (Some row) n octets held = length-values_of (part_fields row n) octets ∙ held.0
 
-pub parts_octets : (laid : Option (List Field)) (count : ℕ) (octets : List ℕ) → ArePushedParts laid count octets → octets_of (parts_of laid count octets) ≡ octets
+pub parts_octets : (laid : Option (List Field)) (count : ℕ) (octets : List ℕ) → ArePushedParts laid count octets → octets_of (parts_held laid count octets) ≡ octets
 parts_octets None zero octets held = sym held
 parts_octets None (suc n) octets held = append-nil octets
 parts_octets (Some row) n octets held = held.1.whole
@@ -94,7 +94,7 @@ some_field None v s = absurd s
 -- the parts with one more
 pub record Pushed (laid : Option (List Field)) (count : ℕ) (octets : List ℕ) (part : FieldValue) : Type 0 where
   pub held : ArePushedParts laid (suc count) (octets ++ field_octets part)
-  pub made : parts_of laid (suc count) (octets ++ field_octets part) ≡ parts_of laid count octets ++ part ∷ []
+  pub made : parts_held laid (suc count) (octets ++ field_octets part) ≡ parts_held laid count octets ++ part ∷ []
   pub few : count ≤ length octets + 1 → suc count ≤ length (octets ++ field_octets part) + 1
 
 pushed_field : (row : List Field) (f : Field) (count : ℕ) (octets : List ℕ) (part : FieldValue) → ArePushedParts (Some row) count octets → part_at row count ≡ Some f → Holds (part_field f) part → 0 < length (field_octets part) → Pushed (Some row) count octets part
@@ -175,12 +175,12 @@ over_as octets more v fits e _ (over_string none) = absurd (none tt)
 over_as octets more v fits e _ (over_data f h) = over_data fits (subst (λ m. 65535 < length octets + length m) e h)
 
 abbrev pub built : ℕ → ℕ → ℕ → List ℕ → Built
-built class kind count octets = record { class = class; kind = kind; parts = parts_of (layout class kind) count octets }
+built class kind count octets = record { class = class; kind = kind; parts = parts_held (layout class kind) count octets }
 
-grown_octets : (laid : Option (List Field)) (count : ℕ) (octets : List ℕ) (part : FieldValue) → ArePushedParts laid count octets → octets_of (parts_of laid count octets ++ part ∷ []) ≡ octets ++ field_octets part
-grown_octets laid count octets part held = octets_push (parts_of laid count octets) part ∙ ap (λ o. o ++ field_octets part) (parts_octets laid count octets held)
+grown_octets : (laid : Option (List Field)) (count : ℕ) (octets : List ℕ) (part : FieldValue) → ArePushedParts laid count octets → octets_of (parts_held laid count octets ++ part ∷ []) ≡ octets ++ field_octets part
+grown_octets laid count octets part held = octets_push (parts_held laid count octets) part ∙ ap (λ o. o ++ field_octets part) (parts_octets laid count octets held)
 
-next_parts : (class kind count : ℕ) (octets : List ℕ) (part : FieldValue) → IsBuilt class kind count octets → IsNext (layout class kind) count part → IsNext (layout class kind) (length (parts_of (layout class kind) count octets)) part
+next_parts : (class kind count : ℕ) (octets : List ℕ) (part : FieldValue) → IsBuilt class kind count octets → IsNext (layout class kind) count part → IsNext (layout class kind) (length (parts_held (layout class kind) count octets)) part
 next_parts class kind count octets part is next = subst (λ n. IsNext (layout class kind) n part) (sym (parts_length (layout class kind) count octets is.held)) next
 
 pub push_misplaced : (class kind count : ℕ) (octets : List ℕ) (b : Built) (part : FieldValue) (r : Bool) → built class kind count octets ≡ b → IsBuilt class kind count octets → r ≡ false → (IsTrue r ↔ IsNext (layout class kind) count part) → IsPushFault b part BadRdata
@@ -203,7 +203,7 @@ push_built class kind count octets new part is next real g =
 pub push_made : (class kind count : ℕ) (octets new : List ℕ) (b : Built) (part : FieldValue) → built class kind count octets ≡ b → IsBuilt class kind count octets → IsNext (layout class kind) count part → IsReal part → Grows octets part new → Pushes b part (built class kind (count + 1) new)
 push_made class kind count octets new b part e is next real g =
     let more = pushed_part (layout class kind) count octets part is.held next g.string_fits real in
-    let made : parts_of (layout class kind) (count + 1) new ≡ parts_of (layout class kind) count octets ++ part ∷ [] = rw add-one (ap (parts_of (layout class kind) (suc count)) g.written ∙ more.made) in
+    let made : parts_held (layout class kind) (count + 1) new ≡ parts_held (layout class kind) count octets ++ part ∷ [] = rw add-one (ap (parts_held (layout class kind) (suc count)) g.written ∙ more.made) in
     subst (λ v. Pushes v part (built class kind (count + 1) new)) e (record {
       next = next_parts class kind count octets part is next;
       string_fits = g.string_fits;
@@ -212,11 +212,11 @@ push_made class kind count octets new b part e is next real g =
     })
 
 -- ---- the end
-pub whole_parts : (laid : Option (List Field)) (count : ℕ) (octets : List ℕ) → ArePushedParts laid count octets → least_of laid ≤ count → IsWhole laid (parts_of laid count octets)
+pub whole_parts : (laid : Option (List Field)) (count : ℕ) (octets : List ℕ) → ArePushedParts laid count octets → least_of laid ≤ count → IsWhole laid (parts_held laid count octets)
 whole_parts None count octets held past = omega (arith, parts_length None count octets held)
 whole_parts (Some row) count octets held past = omega (arith, parts_length (Some row) count octets held)
 
-pub missing_part : (laid : Option (List Field)) (count : ℕ) (octets : List ℕ) → ArePushedParts laid count octets → count < least_of laid → IsWhole laid (parts_of laid count octets) → ⊥
+pub missing_part : (laid : Option (List Field)) (count : ℕ) (octets : List ℕ) → ArePushedParts laid count octets → count < least_of laid → IsWhole laid (parts_held laid count octets) → ⊥
 missing_part None count octets held few whole = omega (arith, parts_length None count octets held)
 missing_part (Some row) count octets held few whole = omega (arith, parts_length (Some row) count octets held)
 

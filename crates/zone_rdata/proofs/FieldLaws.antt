@@ -5,7 +5,7 @@ use Rattle.std.specs.Prelude.{IfSome}
 use Rattle.std.proofs.lemmas.Bool.{cases_lt, false≢true}
 use Rattle.std.proofs.lemmas.List.{length-take, take-append-drop}
 use Rattle.zone_name.specs.Name.{IsName}
-use Rattle.zone_name.specs.Spelling.{FirstFault, Spells, is_digit}
+use Rattle.zone_name.specs.Spelling.{SpellingFault, Spells, is_digit}
 use Rattle.zone_name.specs.Text.{name_text}
 use Rattle.zone_name.specs.declared.fault.NameFault.{NameFault}
 use Rattle.zone_rdata.specs.declared.fault.Fault.{Fault}
@@ -13,7 +13,7 @@ use Rattle.zone_rdata.specs.declared.fault.Fault.TheVariants.{BadRdata}
 use Rattle.zone_rdata.specs.declared.field.Field.{Field}
 use Rattle.zone_rdata.specs.declared.field.Field.TheVariants.{Name, OneString, Strings}
 use Rattle.zone_rdata.specs.Builder.{FitsString}
-use Rattle.zone_rdata.specs.Field.{FieldValue, Holds, IsFieldFault, IsSent, SpellsField, Suits, field_at, field_items, field_octets, field_text, items_behind, name, own_items}
+use Rattle.zone_rdata.specs.Field.{FieldValue, Holds, IsFieldFault, IsSent, SpellsField, Suits, field_at, field_items, field_octets, field_text, items_after, name, own_items}
 use Rattle.zone_rdata.specs.Item.{IsGeneric, RawItem, bare, quoted}
 use Rattle.zone_rdata.specs.Layout.{IsSized}
 use Rattle.zone_rdata.specs.Machine.Appending.{AppendsPrefix, AppendsValue, BeginsWithNone, BeginsWithValue}
@@ -21,7 +21,7 @@ use Rattle.zone_rdata.specs.Machine.Building.{IsReal, part_field}
 use Rattle.zone_rdata.specs.Strings.{item_text}
 use Rattle.zone_rdata.proofs.Choices.{Choice}
 use Rattle.zone_rdata.proofs.GenericLaws.{decimal-is}
-use Rattle.zone_rdata.proofs.Standing.{Stands}
+use Rattle.zone_rdata.proofs.Standing.{IsPrintedItem}
 
 -- ---- what the crate of names proves of them
 
@@ -31,15 +31,15 @@ NamesOnce = (origin : Option (List (List ℕ))) (text : List ℕ) (a b : List (L
 
 -- a text that has a first fault spells no name
 abbrev pub NamesNever : Type 0
-NamesNever = (origin : Option (List (List ℕ))) (text : List ℕ) (labels : List (List ℕ)) (fault : NameFault) → Spells origin text labels → FirstFault origin text fault → ⊥
+NamesNever = (origin : Option (List (List ℕ))) (text : List ℕ) (labels : List (List ℕ)) (fault : NameFault) → Spells origin text labels → SpellingFault origin text fault → ⊥
 
 -- a text has at most one first fault
 abbrev pub NameFaultOnce : Type 0
-NameFaultOnce = (origin : Option (List (List ℕ))) (text : List ℕ) (f g : NameFault) → FirstFault origin text f → FirstFault origin text g → f ≡ g
+NameFaultOnce = (origin : Option (List (List ℕ))) (text : List ℕ) (f g : NameFault) → SpellingFault origin text f → SpellingFault origin text g → f ≡ g
 
 -- a text of octets spells a name under an origin or has a first fault
 abbrev pub NameOrFault : Type 0
-NameOrFault = (origin : Option (List (List ℕ))) (text : List ℕ) → IfSome origin IsName → AllByRecursion (λ c. c < 256) text → ((labels : List (List ℕ)) × Spells origin text labels) ⊎ ((fault : NameFault) × FirstFault origin text fault)
+NameOrFault = (origin : Option (List (List ℕ))) (text : List ℕ) → IfSome origin IsName → AllByRecursion (λ c. c < 256) text → ((labels : List (List ℕ)) × Spells origin text labels) ⊎ ((fault : NameFault) × SpellingFault origin text fault)
 
 -- a name that is printed is spelled under any origin
 abbrev pub NamesPrinted : Type 0
@@ -96,8 +96,8 @@ pub record FieldLaws {X I : Type 0} (f : Field) (value : X → FieldValue) (item
   pub or_fault : NameOrFault → (origin : List (List ℕ)) → IsName origin → (all : List RawItem) → AreLowItems all → FieldChoice origin f (own_items f all)
   -- the items that are printed spell the value, stand in a file as they are, and are not in the
   -- generic form
-  pub printed : NamesPrinted → (origin : List (List ℕ)) (x : X) (rest : List RawItem) → IsSized f → Holds f (value x) → (f ≡ Strings → rest ≡ []) → SpellsField origin f (own_items f (field_items (value x) ++ rest)) (value x) × (items_behind f (field_items (value x) ++ rest) ≡ rest)
-  pub stands : (x : X) → IsSized f → Holds f (value x) → AllByRecursion Stands (field_items (value x))
+  pub printed : NamesPrinted → (origin : List (List ℕ)) (x : X) (rest : List RawItem) → IsSized f → Holds f (value x) → (f ≡ Strings → rest ≡ []) → SpellsField origin f (own_items f (field_items (value x) ++ rest)) (value x) × (items_after f (field_items (value x) ++ rest) ≡ rest)
+  pub stands : (x : X) → IsSized f → Holds f (value x) → AllByRecursion IsPrintedItem (field_items (value x))
   pub unmarked : (x : X) (rest : List RawItem) → IsSized f → Holds f (value x) → IsGeneric (field_items (value x) ++ rest) → ⊥
   -- its text and a space have at most four octets for each of its own
   pub few : (x : X) → IsSized f → Holds f (value x) → length (field_text (value x)) + 1 ≤ 4 * length (field_octets (value x))

@@ -1,6 +1,5 @@
 -- How many octets a printed number, address or string has, with a space after it.
-use Rattle.std.proofs.Common.{◌≡◌, ℕ, ◌+◌, ◌*◌, ◌/◌, ◌%◌, ◌<◌, ◌≤◌, Bool, true, false, List, [], ◌∷◌, ◌++◌, length, take, drop, map, codes, decimal, refl, inl, inr, arith, ap, length-append, le-ltb, lt-ltb}
-use Rattle.std.specs.Prelude.{if◌then◌else◌}
+use Rattle.std.proofs.Common.{◌≡◌, ℕ, ◌+◌, ◌*◌, ◌/◌, ◌%◌, ◌<◌, ◌≤◌, List, [], ◌∷◌, ◌++◌, length, take, drop, map, codes, decimal, refl, inl, inr, arith, ap, length-append, le-ltb, lt-ltb}
 use Rattle.std.specs.Char.{digit_char}
 use Rattle.std.specs.List.{AllByRecursion, flat_map}
 use Rattle.std.specs.Net.Addr.{segments_of}
@@ -9,12 +8,12 @@ use Rattle.std.proofs.lemmas.Bool.{cases_lt}
 use Rattle.std.proofs.lemmas.Fmt.{length-decimal-le}
 use Rattle.std.proofs.lemmas.List.{length-drop, length-take}
 use Rattle.zone_name.specs.Name.{with_length}
-use Rattle.zone_name.specs.Text.{decimal_escape}
 use Rattle.zone_rdata.specs.Address.{ipv4_text, ipv6_text, parted_groups, shortened_groups}
 use Rattle.zone_rdata.specs.Strings.{inside_text, is_shown, string_text, unit_text}
 use Rattle.zone_rdata.specs.Fields.Strings.{strings_text}
 use Rattle.zone_rdata.proofs.AddressLaws.{segments_count}
 use Rattle.zone_rdata.proofs.Texts.{joined_more}
+use Rattle.zone_name.proofs.Lengths.{octet_by}
 
 -- ---- addresses
 
@@ -65,13 +64,8 @@ ipv6_length octets size =
 
 -- ---- strings
 
-unit_by : (special shown : Bool) (c : ℕ) → length (if special then 92 ∷ c ∷ [] else (if shown then c ∷ [] else decimal_escape c)) ≤ 4
-unit_by true shown c = omega arith
-unit_by false true c = omega arith
-unit_by false false c = omega arith
-
 unit_length : (c : ℕ) → length (unit_text c) ≤ 4
-unit_length c = unit_by _ (is_shown c) c
+unit_length c = octet_by _ (is_shown c) c
 
 inside_length : (octets : List ℕ) → length (inside_text octets) ≤ 4 * length octets
 inside_length [] = omega arith

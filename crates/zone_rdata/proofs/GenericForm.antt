@@ -115,5 +115,5 @@ pub length_beyond : (item : Item) (text : List ℕ) (number most : ℕ) → raw 
 length_beyond item text number most is found over = beyond found.0 (subst (λ r. StatesLength r found.0) (sym is) found.1.0) (let e = found.1.1 in omega arith)
 
 -- the rest of a list after its first two
-pub behind_two : (items : List Item) → take (length items - 2) (drop 2 items) ≡ drop 2 items
-behind_two items = take_all (length items - 2) (drop 2 items) (omega (arith, length-drop 2 items))
+pub later_two : (items : List Item) → take (length items - 2) (drop 2 items) ≡ drop 2 items
+later_two items = take_all (length items - 2) (drop 2 items) (omega (arith, length-drop 2 items))

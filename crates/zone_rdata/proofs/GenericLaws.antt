@@ -3,7 +3,6 @@ use Rattle.std.proofs.Common.{◌≡◌, ℕ, ◌+◌, ◌/◌, ◌%◌, ◌<◌
 use Rattle.std.specs.Prelude.{decimal}
 use Rattle.std.specs.List.{AllByRecursion, join_with_byte}
 use Rattle.std.proofs.lemmas.Bool.{cases_lt, cases_eq}
-use Rattle.std.proofs.lemmas.Bool.Decides.{nat_tests}
 use Rattle.std.proofs.lemmas.Fmt.{decimal_digit, decimal_by_steps}
 use Rattle.std.proofs.lemmas.List.{append-nil}
 use Rattle.hex.specs.Hex.{decode_of}
@@ -23,6 +22,7 @@ use Rattle.zone_rdata.proofs.Decimal.{value_push}
 use Rattle.zone_rdata.proofs.GenericForm.{JoinTo-once, StatesLength-once, form_faults, form_missing, form_states}
 use Rattle.zone_name.proofs.Pushing.{AllByRecursion-append}
 use Rattle.zone_rdata.proofs.Lists.{each_below}
+use Rattle.zone_name.proofs.Lawful.{digit_test}
 
 -- two forms of the same items
 forms_digits : (items : List RawItem) (m n : ℕ) (a b : List RawItem) → IsGenericForm items m a → IsGenericForm items n b → a ≡ b
@@ -100,9 +100,6 @@ pub generic-or_fault : (items : List RawItem) → IsGeneric items → ((octets :
 generic-or_fault items marked = either_by items marked.0 marked.1
 
 -- ---- what is printed
-digit_test : (d : ℕ) → d < 10 → is_digit (48 + d) ≡ true
-digit_test d h = grind (arith, nat_tests)
-
 one_digit : (n : ℕ) → n < 10 → IsDecimal ((48 + n) ∷ []) n
 one_digit n h = record { some = omega arith; digits = (digit_test n h, tt); value = omega arith }
 

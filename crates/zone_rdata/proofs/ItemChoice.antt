@@ -9,7 +9,7 @@ use Rattle.zone_rdata.specs.declared.fault.Fault.TheVariants.{BadGeneric, BadRda
 use Rattle.zone_rdata.specs.declared.field.Field.{Field}
 use Rattle.zone_rdata.specs.declared.field.Field.TheVariants.{Strings}
 use Rattle.zone_rdata.specs.DataFault.{FirstFieldFault, IsDataFault, IsFaultFor, in_form, malformed, no_value, opaque_words, too_long, unspelt}
-use Rattle.zone_rdata.specs.Field.{FieldValue, items_behind, octets_of, own_items}
+use Rattle.zone_rdata.specs.Field.{FieldValue, items_after, octets_of, own_items}
 use Rattle.zone_rdata.specs.Generic.{GenericFault, JoinTo, StatesGeneric}
 use Rattle.zone_rdata.specs.Item.{IsGeneric, RawItem, bare, quoted}
 use Rattle.zone_rdata.specs.Layout.{layout}
@@ -24,16 +24,16 @@ use Rattle.zone_rdata.proofs.Taken.{canonical_or_not}
 use Rattle.zone_rdata.proofs.WordChoice.{same_or_not}
 use Rattle.zone_rdata.specs.DataFault as faults
 
-low_behind : (f : Field) (items : List RawItem) → AreLowItems items → AreLowItems (items_behind f items)
-low_behind Strings items low = tt
-low_behind f [] low = tt
-low_behind f (item ∷ items) low = low.1
+low_later : (f : Field) (items : List RawItem) → AreLowItems items → AreLowItems (items_after f items)
+low_later Strings items low = tt
+low_later f [] low = tt
+low_later f (item ∷ items) low = low.1
 
 -- ---- items in words
 abbrev WordsChoice : List (List ℕ) → List Field → List RawItem → Type 0
 WordsChoice origin row items = ((values : List FieldValue) × SpellEach origin row items values) ⊎ ((fault : Fault) × FirstFieldFault origin row items fault)
 
-next_field : (origin : List (List ℕ)) (f : Field) (row : List Field) (items : List RawItem) → FieldChoice origin f (own_items f items) → WordsChoice origin row (items_behind f items) → WordsChoice origin (f ∷ row) items
+next_field : (origin : List (List ℕ)) (f : Field) (row : List Field) (items : List RawItem) → FieldChoice origin f (own_items f items) → WordsChoice origin row (items_after f items) → WordsChoice origin (f ∷ row) items
 next_field origin f row items (inr bad) rest = inr (bad.0, inl bad.1)
 next_field origin f row items (inl found) (inl more) = inl (found.0 ∷ more.0, (found.1, more.1))
 next_field origin f row items (inl found) (inr bad) = inr (bad.0, inr (found.0, found.1, bad.1))
@@ -41,7 +41,7 @@ next_field origin f row items (inl found) (inr bad) = inr (bad.0, inr (found.0, 
 words_by : NameOrFault → (origin : List (List ℕ)) → IsName origin → (row : List Field) (items : List RawItem) → AreLowItems items → WordsChoice origin row items
 words_by names origin is [] [] low = inl ([], tt)
 words_by names origin is [] (item ∷ items) low = inr (BadRdata, refl)
-words_by names origin is (f ∷ row) items low = next_field origin f row items (field_or_fault names origin is f items low) (words_by names origin is row (items_behind f items) (low_behind f items low))
+words_by names origin is (f ∷ row) items low = next_field origin f row items (field_or_fault names origin is f items low) (words_by names origin is row (items_after f items) (low_later f items low))
 
 -- ---- items of a layout, if there is one
 abbrev Outcome : List (List ℕ) → Option (List Field) → List RawItem → Type 0

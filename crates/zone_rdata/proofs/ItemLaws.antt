@@ -3,7 +3,7 @@ use Rattle.std.proofs.Common.{List, None, Option, Some, [], ap, arith, inl, inr,
 use Rattle.zone_rdata.specs.declared.fault.Fault.{Fault}
 use Rattle.zone_rdata.specs.declared.field.Field.{Field}
 use Rattle.zone_rdata.specs.DataFault.{FirstFieldFault, IsDataFault, IsFaultFor, IsFormFault, IsWordsFault, in_form, malformed, no_value, opaque_words, too_long, unspelt}
-use Rattle.zone_rdata.specs.Field.{FieldValue, items_behind, octets_of, own_items}
+use Rattle.zone_rdata.specs.Field.{FieldValue, items_after, octets_of, own_items}
 use Rattle.zone_rdata.specs.Generic.{StatesGeneric, GenericFault, no_length, long_length, bad_digits}
 use Rattle.zone_rdata.specs.Item.{RawItem, IsGeneric}
 use Rattle.zone_rdata.specs.Layout.{layout}
@@ -22,13 +22,13 @@ each_once names origin [] [] [] [] h k = refl
 each_once names origin [] [] [] (w ∷ ws) h k = absurd k
 each_once names origin (f ∷ row) items (v ∷ vs) [] h k = absurd k
 each_once names origin (f ∷ row) items (v ∷ vs) (w ∷ ws) h k =
-    ap (λ x. x ∷ vs) (field_once names origin f (own_items f items) v w h.0 k.0) ∙ ap (λ xs. w ∷ xs) (each_once names origin row (items_behind f items) vs ws h.1 k.1)
+    ap (λ x. x ∷ vs) (field_once names origin f (own_items f items) v w h.0 k.0) ∙ ap (λ xs. w ∷ xs) (each_once names origin row (items_after f items) vs ws h.1 k.1)
 each_once names origin row items vs ws h k = absurd h
 
 first_never : NamesNever → (origin : List (List ℕ)) (row : List Field) (items : List RawItem) (values : List FieldValue) (fault : Fault) → SpellEach origin row items values → FirstFieldFault origin row items fault → ⊥
 first_never names origin [] [] values fault h bad = bad
 first_never names origin (f ∷ row) items (v ∷ values) fault h (inl bad) = field_never names origin f (own_items f items) v fault h.0 bad
-first_never names origin (f ∷ row) items (v ∷ values) fault h (inr more) = first_never names origin row (items_behind f items) values fault h.1 more.2
+first_never names origin (f ∷ row) items (v ∷ values) fault h (inr more) = first_never names origin row (items_after f items) values fault h.1 more.2
 first_never names origin row items values fault h bad = h
 
 first_once : NamesNever → NameFaultOnce → (origin : List (List ℕ)) (row : List Field) (items : List RawItem) (a b : Fault) → FirstFieldFault origin row items a → FirstFieldFault origin row items b → a ≡ b
@@ -37,7 +37,7 @@ first_once names once origin [] (item ∷ items) a b x y = x ∙ sym y
 first_once names once origin (f ∷ row) items a b (inl x) (inl y) = field_fault_once once origin f (own_items f items) a b x y
 first_once names once origin (f ∷ row) items a b (inl x) (inr y) = absurd (field_never names origin f (own_items f items) y.0 a y.1 x)
 first_once names once origin (f ∷ row) items a b (inr x) (inl y) = absurd (field_never names origin f (own_items f items) x.0 b x.1 y)
-first_once names once origin (f ∷ row) items a b (inr x) (inr y) = first_once names once origin row (items_behind f items) a b x.2 y.2
+first_once names once origin (f ∷ row) items a b (inr x) (inr y) = first_once names once origin row (items_after f items) a b x.2 y.2
 
 words_never : NamesOnce → NamesNever → (origin : List (List ℕ)) (row : List Field) (items : List RawItem) (values : List FieldValue) (fault : Fault) → SpellEach origin row items values → length (octets_of values) ≤ 65535 → IsWordsFault origin row items fault → ⊥
 words_never once names origin row items values _ h short (unspelt fault bad) = first_never names origin row items values fault h bad

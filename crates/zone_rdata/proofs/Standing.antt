@@ -14,9 +14,9 @@ use Rattle.zone_rdata.proofs.Lists.{each_weaker}
 use Rattle.std.proofs.lemmas.List.Elements.{All-from_recursion}
 
 -- an item that stands as it is printed: bare, or between its quotes in one line
-abbrev pub Stands : RawItem → Type 0
-Stands (bare text) = StandsBare text
-Stands (quoted text) = StandsInQuotes text
+abbrev pub IsPrintedItem : RawItem → Type 0
+IsPrintedItem (bare text) = StandsBare text
+IsPrintedItem (quoted text) = StandsInQuotes text
 
 -- octets that stand by themselves outside quotes
 abbrev AreBare : List ℕ → Type 0

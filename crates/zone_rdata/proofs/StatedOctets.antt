@@ -4,7 +4,7 @@ use Rattle.std.specs.List.{AllByRecursion}
 use Rattle.zone_rdata.specs.declared.fault.Fault.{Fault}
 use Rattle.zone_rdata.specs.declared.field.Field.{Field}
 use Rattle.zone_rdata.specs.DataFault.{IsDataFault, IsFaultFor}
-use Rattle.zone_rdata.specs.Field.{FieldValue, HoldEach, items_behind, own_items}
+use Rattle.zone_rdata.specs.Field.{FieldValue, HoldEach, items_after, own_items}
 use Rattle.zone_rdata.specs.Item.{RawItem}
 use Rattle.zone_rdata.specs.Layout.{AreLaidOut, IsData, layout}
 use Rattle.zone_rdata.specs.Spelling.{IsCanonicalOf, SpellEach, States, StatesFor, in_octets, in_words}
@@ -16,7 +16,7 @@ use Rattle.zone_rdata.proofs.Layouts.{AreFor, canonical_laid, canonical_length, 
 
 pub spelt_hold : (origin : List (List ℕ)) (row : List Field) (items : List RawItem) (values : List FieldValue) → SpellEach origin row items values → HoldEach row values
 spelt_hold origin [] [] [] h = tt
-spelt_hold origin (f ∷ row) items (v ∷ values) h = (field_holds origin f (own_items f items) v h.0, spelt_hold origin row (items_behind f items) values h.1)
+spelt_hold origin (f ∷ row) items (v ∷ values) h = (field_holds origin f (own_items f items) v h.0, spelt_hold origin row (items_after f items) values h.1)
 spelt_hold origin row items values h = absurd h
 
 -- the octets that items state for a layout of the table are data

@@ -90,11 +90,11 @@ pub some_strings : (octets : List ℕ) → AreStrings (strings_of octets) → 0 
 some_strings [] are = let h : 0 < length (strings_of []) = are.some in let e : length (strings_of []) ≡ 0 = ap length no_strings in omega (arith, e)
 some_strings (c ∷ octets) are = omega arith
 
-pub nothing_behind : (octets : List ℕ) → drop (length (flat_map with_length (strings_of octets))) octets ≡ []
-nothing_behind octets = drop_all (length (flat_map with_length (strings_of octets))) octets (let len = strings_len octets in omega (arith, len))
+pub nothing_later : (octets : List ℕ) → drop (length (flat_map with_length (strings_of octets))) octets ≡ []
+nothing_later octets = drop_all (length (flat_map with_length (strings_of octets))) octets (let len = strings_len octets in omega (arith, len))
 
 pub nothing_after : (field : Field) (octets rest : List ℕ) → field ≡ fields.Strings → rest ≡ drop (length octets) octets → rest ≡ after_field field octets
-nothing_after field octets rest is e = e ∙ drop_all (length octets) octets (omega arith) ∙ sym (ap (λ f. after_field f octets) is ∙ nothing_behind octets)
+nothing_after field octets rest is e = e ∙ drop_all (length octets) octets (omega arith) ∙ sym (ap (λ f. after_field f octets) is ∙ nothing_later octets)
 
 strings_held : (field : Field) (octets : List ℕ) → field ≡ fields.Strings → BeginsWithField field octets → BeginsWithField fields.Strings octets
 strings_held field octets is begins = subst (λ f. BeginsWithField f octets) is begins

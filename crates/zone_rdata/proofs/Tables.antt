@@ -70,8 +70,8 @@ found_above low (row ∷ rows) q x up e =
 own_here : (row : Named) (rest : Option Named) → cond (row.number == row.number) (Some row) rest ≡ Some row
 own_here row rest = cond-true _ _ _ (eq-eqb row.number row.number refl)
 
-own_behind : (row x : Named) (rest : Option Named) → row.number < x.number → rest ≡ Some x → cond (x.number == row.number) (Some row) rest ≡ Some x
-own_behind row x rest above e = by (x.number == row.number) refl
+own_after : (row x : Named) (rest : Option Named) → row.number < x.number → rest ≡ Some x → cond (x.number == row.number) (Some row) rest ≡ Some x
+own_after row x rest above e = by (x.number == row.number) refl
   where
     by : (t : Bool) → (x.number == row.number) ≡ t → cond t (Some row) rest ≡ Some x
     by true t = absurd (let same : x.number ≡ row.number = eqb-true x.number row.number t in omega arith)
@@ -84,7 +84,7 @@ own_row low (row ∷ rows) q x up e =
     let both = and_parts (nat_lt low row.number) (ascend row.number rows) up in
     found_by row x (find q rows) (λ z. cond (z.number == row.number) (Some row) (find (λ other. z.number == other.number) rows) ≡ Some z) (q row) e
     (λ t. own_here row (find (λ other. row.number == other.number) rows))
-    (λ more. own_behind row x (find (λ other. x.number == other.number) rows) (found_above row.number rows q x both.1 more) (own_row row.number rows q x both.1 more))
+    (λ more. own_after row x (find (λ other. x.number == other.number) rows) (found_above row.number rows q x both.1 more) (own_row row.number rows q x both.1 more))
 
 -- the row of a word has a number of which the word is the mnemonic
 pub row_is : (rows : List Named) → ascend 0 rows ≡ true → (word : List ℕ) (row : Named) → find (λ row. bytes_eq (folded_label word) (folded_label row.mnemonic)) rows ≡ Some row → IsMnemonic rows word row.number

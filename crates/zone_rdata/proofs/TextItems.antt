@@ -22,7 +22,7 @@ use Rattle.zone_rdata.proofs.AnyField.{field_printed, field_stands, field_unmark
 use Rattle.zone_rdata.proofs.FieldLaws.{NamesPrinted}
 use Rattle.zone_rdata.proofs.GenericLaws.{printed-stated, printed-text}
 use Rattle.zone_rdata.proofs.Layouts.{AreFor}
-use Rattle.zone_rdata.proofs.Standing.{Stands, bare_decimal, bare_hex, bare_mark}
+use Rattle.zone_rdata.proofs.Standing.{IsPrintedItem, bare_decimal, bare_hex, bare_mark}
 use Rattle.zone_rdata.proofs.Tables.{each_layout, table_row}
 use Rattle.zone_rdata.proofs.Texts.{joined_more}
 
@@ -76,24 +76,24 @@ data_written d h = written_for (layout d.class d.kind) d.octets h.octets.value
 
 -- ---- the items stand in a file as they are
 
-abbrev StandEach : List RawItem → Type 0
-StandEach items = AllByRecursion Stands items
+abbrev ArePrintedItems : List RawItem → Type 0
+ArePrintedItems items = AllByRecursion IsPrintedItem items
 
-digits_stand : (octets : List ℕ) → AllByRecursion (λ c. c < 256) octets → StandEach (digit_items octets)
+digits_stand : (octets : List ℕ) → AllByRecursion (λ c. c < 256) octets → ArePrintedItems (digit_items octets)
 digits_stand [] low = tt
 digits_stand (c ∷ octets) low = (bare_hex c octets low, tt)
 
-each_stand : (row : List Field) (values : List FieldValue) → AllByRecursion IsSized row → HoldEach row values → StandEach (flat_map field_items values)
+each_stand : (row : List Field) (values : List FieldValue) → AllByRecursion IsSized row → HoldEach row values → ArePrintedItems (flat_map field_items values)
 each_stand [] [] sized h = tt
 each_stand (f ∷ row) (v ∷ values) sized h =
-    AllByRecursion-append Stands (field_items v) (flat_map field_items values) (field_stands f v sized.0 h.0) (each_stand row values sized.1 h.1)
+    AllByRecursion-append IsPrintedItem (field_items v) (flat_map field_items values) (field_stands f v sized.0 h.0) (each_stand row values sized.1 h.1)
 each_stand row values sized h = absurd h
 
-laid_out_stand : (laid : Option (List Field)) (octets : List ℕ) → ((row : List Field) → laid ≡ Some row → IsLayout row) → length octets ≤ 65535 → AllByRecursion (λ c. c < 256) octets → AreFor laid octets → StandEach (laid_out_items laid octets)
+laid_out_stand : (laid : Option (List Field)) (octets : List ℕ) → ((row : List Field) → laid ≡ Some row → IsLayout row) → length octets ≤ 65535 → AllByRecursion (λ c. c < 256) octets → AreFor laid octets → ArePrintedItems (laid_out_items laid octets)
 laid_out_stand None octets table short low value = (bare_mark, (bare_decimal (length octets) (omega arith), digits_stand octets low))
 laid_out_stand (Some row) octets table short low value = each_stand row (values_of row octets) (table row refl).sized value.held
 
-pub data_stands : (d : Data) → IsRdata d → AllByRecursion Stands (data_items d)
+pub data_stands : (d : Data) → IsRdata d → AllByRecursion IsPrintedItem (data_items d)
 data_stands d h = laid_out_stand (layout d.class d.kind) d.octets (table_row d.class d.kind) h.octets.short h.octets.each h.octets.value
 
 -- ---- there is one item at least

@@ -10,7 +10,7 @@ use Rattle.std.proofs.Math.Nat.{le-mul_of_pos_right, min-eq_left, min-eq_right, 
 use Rattle.zone_name.specs.Spelling.{is_digit}
 use Rattle.zone_rdata.specs.declared.time.Progress.{Progress}
 use Rattle.zone_rdata.specs.Number.{Group, IsTimeGroup, group_text, group_seconds, decimal_value, unit_seconds, IsTime, plain, grouped}
-use Rattle.zone_rdata.specs.Machine.TimeProgress.{Reads}
+use Rattle.zone_rdata.specs.Machine.TimeProgress.{ReadsTime}
 use Rattle.zone_name.proofs.Pushing.{AllByRecursion-append}
 
 abbrev pub AreDigits : List ℕ → Type 0
@@ -65,7 +65,7 @@ groups_open (g ∷ groups) (h ∷ other) a x y digits some e =
     groups_open groups other a x.1 y.1 digits some cut.2
 
 -- no time goes on with an octet that is neither a digit nor, after digits, a unit
-pub stops : (text rest : List ℕ) (c n : ℕ) (p : Progress) → is_digit c ≡ false → (0 < length text → IsTrue p.open → (u : ℕ) → unit_seconds c ≡ Some u → ⊥) → Reads text p → IsTime (text ++ c ∷ rest) n → ⊥
+pub stops : (text rest : List ℕ) (c n : ℕ) (p : Progress) → is_digit c ≡ false → (0 < length text → IsTrue p.open → (u : ℕ) → unit_seconds c ≡ Some u → ⊥) → ReadsTime text p → IsTime (text ++ c ∷ rest) n → ⊥
 stops text rest c n p no_digit none reads (plain h) = no_run text c rest (text ++ c ∷ rest) h.digits no_digit refl
 stops text rest c n p no_digit none reads (grouped groups some each parts sums) =
     let cut : flat_map group_text reads.groups ++ (reads.digits ++ c ∷ rest) ≡ flat_map group_text groups = sym (append_assoc (flat_map group_text reads.groups) reads.digits (c ∷ rest)) ∙ ap (λ t. t ++ c ∷ rest) (sym reads.parts) ∙ parts in
@@ -82,7 +82,7 @@ capped_sum C T N u some = elim (cases_lt C N) [
 ]
 
 -- a group closes
-pub more_groups : (text : List ℕ) (c unit : ℕ) (p next : Progress) → unit_seconds c ≡ Some unit → 0 < unit → p.open ≡ true → next.total ≡ min 4294967296 (p.total + p.number * unit) → next.grouped ≡ true → next.number ≡ 0 → next.open ≡ false → Reads text p → Reads (text ++ c ∷ []) next
+pub more_groups : (text : List ℕ) (c unit : ℕ) (p next : Progress) → unit_seconds c ≡ Some unit → 0 < unit → p.open ≡ true → next.total ≡ min 4294967296 (p.total + p.number * unit) → next.grouped ≡ true → next.number ≡ 0 → next.open ≡ false → ReadsTime text p → ReadsTime (text ++ c ∷ []) next
 more_groups text c unit p next lasts some opens total groups number closed reads =
     let g : Group = record { digits = reads.digits; letter = c; unit = unit } in
     let sums = sum_by-append group_seconds reads.groups (g ∷ []) in
@@ -116,28 +116,28 @@ nothing text n e (grouped [] some each parts sums) = omega arith
 nothing text n e (grouped (g ∷ groups) some each parts sums) = run_nil g.digits g.letter (flat_map group_text groups) (sym (append_assoc g.digits (g.letter ∷ []) (flat_map group_text groups)) ∙ sym parts ∙ e)
 
 -- a text is read to its end
-pub ends_grouped : (text : List ℕ) (p : Progress) → p.grouped ≡ true → p.open ≡ false → Reads text p → (m : ℕ) × (IsTime text m × (p.total ≡ min 4294967296 m))
+pub ends_grouped : (text : List ℕ) (p : Progress) → p.grouped ≡ true → p.open ≡ false → ReadsTime text p → (m : ℕ) × (IsTime text m × (p.total ≡ min 4294967296 m))
 ends_grouped text p groups closed reads =
     let none : reads.digits ≡ [] = no_digits reads.digits (λ some. cc (sym closed ∙ reads.opened.1 some)) in
     (sum_by group_seconds reads.groups, (grouped reads.groups (reads.grouped.0 groups) reads.each (reads.parts ∙ ap (λ t. flat_map group_text reads.groups ++ t) none ∙ append-nil (flat_map group_text reads.groups)) refl, reads.total))
 
 -- groups and digits after them are no time
-pub ends_both : (text : List ℕ) (n : ℕ) (p : Progress) → p.grouped ≡ true → p.open ≡ true → Reads text p → IsTime text n → ⊥
+pub ends_both : (text : List ℕ) (n : ℕ) (p : Progress) → p.grouped ≡ true → p.open ≡ true → ReadsTime text p → IsTime text n → ⊥
 ends_both text n p groups opens reads (plain h) = first_unit reads.groups reads.digits text reads.each (reads.grouped.0 groups) h.digits reads.parts
 ends_both text n p groups opens reads (grouped others some each parts sums) = groups_open reads.groups others reads.digits reads.each each reads.last (reads.opened.0 opens) (sym reads.parts ∙ parts)
 
 -- nothing is no time
-pub ends_none : (text : List ℕ) (n : ℕ) (p : Progress) → p.grouped ≡ false → p.open ≡ false → Reads text p → IsTime text n → ⊥
+pub ends_none : (text : List ℕ) (n : ℕ) (p : Progress) → p.grouped ≡ false → p.open ≡ false → ReadsTime text p → IsTime text n → ⊥
 ends_none text n p groups closed reads time =
     let none : reads.groups ≡ [] = no_groups reads.groups (λ some. cc (sym groups ∙ reads.grouped.1 some)) in
     let no_more : reads.digits ≡ [] = no_digits reads.digits (λ some. cc (sym closed ∙ reads.opened.1 some)) in
     nothing text n (reads.parts ∙ ap (λ gs. flat_map group_text gs ++ reads.digits) none ∙ no_more) time
 
 -- an octet at which no time goes on
-pub time_stops : (text : List ℕ) (i d : ℕ) (p : Progress) → i < length text → Reads (take i text) p → ((front rest : List ℕ) (n : ℕ) → Reads front p → IsTime (front ++ get_or text i d ∷ rest) n → ⊥) → (m : ℕ) → IsTime text m → ⊥
+pub time_stops : (text : List ℕ) (i d : ℕ) (p : Progress) → i < length text → ReadsTime (take i text) p → ((front rest : List ℕ) (n : ℕ) → ReadsTime front p → IsTime (front ++ get_or text i d ∷ rest) n → ⊥) → (m : ℕ) → IsTime text m → ⊥
 time_stops text i d p lt reads stopped m time =
     let parts : text ≡ take i text ++ get_or text i d ∷ drop (i + 1) text = sym (take-append-drop i text) ∙ ap (λ t. take i text ++ t) (drop_more text i d lt) in
     stopped (take i text) (drop (i + 1) text) m reads (subst (λ t. IsTime t m) parts time)
 
-pub read_whole : (text : List ℕ) (i : ℕ) (p : Progress) → length text ≤ i → Reads (take i text) p → Reads text p
-read_whole text i p past reads = subst (λ t. Reads t p) (take_all i text past) reads
+pub read_whole : (text : List ℕ) (i : ℕ) (p : Progress) → length text ≤ i → ReadsTime (take i text) p → ReadsTime text p
+read_whole text i p past reads = subst (λ t. ReadsTime t p) (take_all i text past) reads

@@ -7,7 +7,7 @@ use Rattle.zone_name.specs.Name.{with_length}
 use Rattle.zone_rdata.specs.declared.fault.Fault.{Fault}
 use Rattle.zone_rdata.specs.declared.field.Field.{Field}
 use Rattle.zone_rdata.specs.declared.item.Item.{Item}
-use Rattle.zone_rdata.specs.Field.{FieldValue, SpellsField, field_octets, items_behind, own_items, strings}
+use Rattle.zone_rdata.specs.Field.{FieldValue, SpellsField, field_octets, items_after, own_items, strings}
 use Rattle.zone_rdata.specs.Fields.Strings.{FirstStringFault, SpellEachString, SpellsStrings, StringsFault}
 use Rattle.zone_rdata.specs.Item.{RawItem, raw}
 use Rattle.zone_rdata.specs.Machine.Appending.{Appends, AppendsFirst}
@@ -18,7 +18,7 @@ use Rattle.zone_rdata.proofs.Lists.{from_place}
 -- ---- the items of the field at their front
 
 -- what is stated of the first item is spelled by it
-pub first_appended : {X : Type 0} {Stated : X → Type 0} {octets : X → List ℕ} (value : X → FieldValue) (origin : List (List ℕ)) (field f : Field) (first : Item) (items : List Item) (old new : List ℕ) → field ≡ f → Some first ≡ slice_get items 0 → ((rest : List RawItem) → items_behind f (raw first ∷ rest) ≡ rest) → ((x : X) (rest : List RawItem) → Stated x → SpellsField origin f (own_items f (raw first ∷ rest)) (value x)) → ((x : X) → octets x ≡ field_octets (value x)) → Appends Stated octets old new → AppendsFirst origin field (map raw items) (map raw (drop 1 items)) old new
+pub first_appended : {X : Type 0} {Stated : X → Type 0} {octets : X → List ℕ} (value : X → FieldValue) (origin : List (List ℕ)) (field f : Field) (first : Item) (items : List Item) (old new : List ℕ) → field ≡ f → Some first ≡ slice_get items 0 → ((rest : List RawItem) → items_after f (raw first ∷ rest) ≡ rest) → ((x : X) (rest : List RawItem) → Stated x → SpellsField origin f (own_items f (raw first ∷ rest)) (value x)) → ((x : X) → octets x ≡ field_octets (value x)) → Appends Stated octets old new → AppendsFirst origin field (map raw items) (map raw (drop 1 items)) old new
 first_appended value origin field f first [] old new which is behind spells own done = absurd cc
 first_appended value origin field f first (item ∷ items) old new which is behind spells own done =
     let same : first ≡ item = cc in

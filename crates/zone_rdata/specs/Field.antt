@@ -4,6 +4,7 @@
 use Rattle.std.specs.Prelude.{◌≡◌, ℕ, ◌<◌, List, [], ◌∷◌, length, take, drop, map, decimal, Bool, true, false, ⊤, Option, Some}
 use Rattle.std.specs.Int.{w16, w32, to_be_bytes}
 use Rattle.std.specs.List.{flat_map}
+use Rattle.zone_name.specs.Common.{Labels}
 use Rattle.zone_name.specs.Name.{with_length, wire, labels_of, IsName}
 use Rattle.zone_name.specs.Spelling.{Spells}
 use Rattle.zone_name.specs.Text.{name_text}
@@ -24,7 +25,7 @@ use Rattle.zone_rdata.specs.Strings.{IsString, SpellsString, StringFault, string
 -- the value of one field: a name, a number of 32 or of 16 bits, octets of a fixed number, a string,
 -- or strings
 pub data FieldValue : Type 0 where
-  name : List (List ℕ) → FieldValue
+  name : Labels → FieldValue
   u32_value : ℕ → FieldValue
   u16_value : ℕ → FieldValue
   fixed : List ℕ → FieldValue
@@ -85,7 +86,7 @@ IsSent value octets = octets ≡ field_octets value
 
 -- The items spell a value of a field: one bare item a name under the origin, a decimal number, a
 -- time or an address; one item, bare or quoted, a string; one or more items strings, one each
-abbrev pub SpellsField : List (List ℕ) → Field → List RawItem → FieldValue → Type 0
+abbrev pub SpellsField : Labels → Field → List RawItem → FieldValue → Type 0
 SpellsField origin Name (bare text ∷ []) (name labels) = Spells (Some origin) text labels
 SpellsField origin Serial (bare text ∷ []) (u32_value n) = SpellsNumber w32 text n
 SpellsField origin Time (bare text ∷ []) (u32_value n) = SpellsTime text n
@@ -101,13 +102,13 @@ own_items Strings items = items
 own_items field items = take 1 items
 
 -- the items after them
-abbrev pub items_behind : Field → List RawItem → List RawItem
-items_behind Strings items = []
-items_behind field items = drop 1 items
+abbrev pub items_after : Field → List RawItem → List RawItem
+items_after Strings items = []
+items_after field items = drop 1 items
 
 -- why the items of a field spell no value of it: none is there, one is quoted that has to be bare,
 -- or its text
-abbrev pub IsFieldFault : List (List ℕ) → Field → List RawItem → Fault → Type 0
+abbrev pub IsFieldFault : Labels → Field → List RawItem → Fault → Type 0
 IsFieldFault origin Strings items fault = StringsFault items fault
 IsFieldFault origin field [] fault = fault ≡ BadRdata
 IsFieldFault origin OneString (item ∷ items) fault = StringFault item fault

@@ -1,6 +1,7 @@
 -- The layouts of record data by class and type (RFC 1035 3.3), and the data that a record can have.
-use Rattle.std.specs.Prelude.{◌≡◌, ◌≢◌, ℕ, ◌<◌, ◌≤◌, List, [], ◌∷◌, length, ◌==◌, ◌||◌, not, if◌then◌else◌, Option, Some, None, MatchOption, ⊤, ◌⊎◌}
+use Rattle.std.specs.Prelude.{◌≡◌, ◌≢◌, ℕ, ◌≤◌, List, [], ◌∷◌, length, ◌==◌, ◌||◌, not, if◌then◌else◌, Option, Some, None, MatchOption, ⊤, ◌⊎◌}
 use Rattle.std.specs.List.{AllByRecursion, find}
+use Rattle.zone_name.specs.Common.{AreOctets}
 use Rattle.zone_rdata.specs.declared.field.Field.{Field}
 use Rattle.zone_rdata.specs.declared.field.Field.TheVariants.{Octets, Strings}
 use Rattle.zone_rdata.specs.declared.layout.Layout.{Layout}
@@ -46,5 +47,5 @@ pub record AreLaidOut (fields : List Field) (octets : List ℕ) : Type 0 where
 -- none
 pub record IsData (class kind : ℕ) (octets : List ℕ) : Type 0 where
   pub short : length octets ≤ 65535
-  pub each : AllByRecursion (λ c. c < 256) octets
+  pub each : AreOctets octets
   pub value : MatchOption (layout class kind) (Unit {0}) (λ fields. AreLaidOut fields octets)

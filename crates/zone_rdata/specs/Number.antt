@@ -8,8 +8,7 @@ use Rattle.zone_name.specs.Spelling.{is_digit}
 abbrev pub decimal_value : List ℕ → ℕ
 decimal_value digits = fold (λ n c. n * 10 + (c - 48)) 0 digits
 
--- the least of 2 ^ 32 and a number for which `Is` holds: a number over 32 bits is still seen to be
--- one
+-- a number for which `Is` holds, or 2 ^ 32 in its place where it is greater
 abbrev pub IsCapped : (ℕ → Type 0) → ℕ → Type 0
 IsCapped Is n = (m : ℕ) × (Is m × (n ≡ min 4294967296 m))
 

@@ -1,5 +1,6 @@
 -- Resource records (RFC 1035 3.2.1) as contracts see them.
 use Rattle.std.specs.Prelude.{ℕ, ◌≤◌, List}
+use Rattle.zone_name.specs.Common.{Labels}
 use Rattle.zone_name.specs.Name.{IsName}
 use Rattle.zone_rdata.specs.Words.{IsClass, IsKind}
 use Rattle.zone_rdata.specs.Layout.{IsData}
@@ -19,7 +20,7 @@ pub record IsRdata (d : Data) : Type 0 where
 
 -- a record: owner, class, type, TTL in seconds and the canonical octets of its data
 pub record Record : Type 0 where
-  pub owner : List (List ℕ)
+  pub owner : Labels
   pub class : ℕ
   pub kind : ℕ
   pub ttl : ℕ

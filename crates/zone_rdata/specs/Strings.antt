@@ -1,7 +1,8 @@
 -- Character-strings (RFC 1035 3.3): the items that spell one (5.1), the first fault of an item that
 -- spells none, and the text that is printed.
-use Rattle.std.specs.Prelude.{◌≡◌, ◌≢◌, ℕ, ◌<◌, ◌≤◌, List, [], ◌∷◌, ◌++◌, length, nat_le, ◌==◌, ◌&&◌, ◌||◌, Bool, if◌then◌else◌}
+use Rattle.std.specs.Prelude.{◌≡◌, ◌≢◌, ℕ, ◌≤◌, List, [], ◌∷◌, ◌++◌, length, nat_le, ◌==◌, ◌&&◌, ◌||◌, Bool, if◌then◌else◌}
 use Rattle.std.specs.List.{flat_map, AllByRecursion}
+use Rattle.zone_name.specs.Common.{AreOctets}
 use Rattle.zone_name.specs.Spelling.{Written, text_of, IsUnit, no_octet, written_text, written_octets, IsBadEscape}
 use Rattle.zone_name.specs.Text.{decimal_escape}
 use Rattle.zone_rdata.specs.declared.fault.Fault.{Fault}
@@ -11,7 +12,7 @@ use Rattle.zone_rdata.specs.Item.{RawItem, bare, quoted}
 -- a character-string has at most 255 octets (RFC 1035 3.3)
 pub record IsString (octets : List ℕ) : Type 0 where
   pub short : length octets ≤ 255
-  pub each : AllByRecursion (λ c. c < 256) octets
+  pub each : AreOctets octets
 
 -- the text of an item, bare or between its quotes
 abbrev pub item_text : RawItem → List ℕ

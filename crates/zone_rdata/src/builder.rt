@@ -32,7 +32,7 @@ pub struct RdataBuilder {
 
 impl Model for RdataBuilder {
     ghost use Rattle.zone_rdata.specs.Builder.{Built};
-    ghost use Rattle.zone_rdata.specs.Machine.Building.{IsBuilt, parts_of};
+    ghost use Rattle.zone_rdata.specs.Machine.Building.{IsBuilt, parts_held};
     ghost use Rattle.zone_rdata.specs.Layout.{layout};
 
     ghost Value = { Built };
@@ -41,7 +41,7 @@ impl Model for RdataBuilder {
         record {
           class = b.class;
           kind = b.kind;
-          parts = parts_of (layout b.class b.kind) b.count b.octets.items;
+          parts = parts_held (layout b.class b.kind) b.count b.octets.items;
         } };
 
     ghost invariant = { λ b. IsBuilt b.class b.kind b.count b.octets.items };

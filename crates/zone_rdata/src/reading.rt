@@ -1,5 +1,5 @@
 ghost use Rattle.std.specs.Prelude.{◌↔◌, ◌<◌, ◌≤◌, IsTrue, length, map, IfOk, IfErr};
-ghost use Rattle.std.specs.List.{AllByRecursion};
+ghost use Rattle.zone_name.specs.Common.{AreOctets};
 ghost use Rattle.zone_rdata.specs.DataFault.{IsWordsFault};
 ghost use Rattle.zone_rdata.specs.Fault.{IfFault};
 ghost use Rattle.zone_rdata.specs.Item.{raw, IsGeneric};
@@ -16,7 +16,7 @@ use zone_name::Name;
 
 /// That octets are below 256.
 pub(crate) fn are_octets(octets: &[u8])
-    ensures { AllByRecursion (λ c. c < 256) octets.now }
+    ensures { AreOctets octets.now }
 {
     let _ = octets;
 }

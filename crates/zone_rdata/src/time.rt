@@ -29,15 +29,15 @@ pub(crate) struct Progress {
 }
 
 impl Progress {
-    ghost use Rattle.zone_rdata.specs.Machine.TimeProgress.{Reads};
+    ghost use Rattle.zone_rdata.specs.Machine.TimeProgress.{ReadsTime};
 
     /// What is read with one more octet. `None`: no time begins with these octets.
     fn with(self, octet: u8) -> Option<Progress>
         requires { (self.total ≤ CAP) × (self.number ≤ CAP) }
         ensures found { IfSome result (λ next. (text : Octets)
-            → Reads text self → Reads (text ++ octet ∷ []) next) }
+            → ReadsTime text self → ReadsTime (text ++ octet ∷ []) next) }
         ensures none { IfNone result ((text rest : Octets) (n : ℕ)
-            → Reads text self → IsTime (text ++ octet ∷ rest) n → ⊥) }
+            → ReadsTime text self → IsTime (text ++ octet ∷ rest) n → ⊥) }
     {
         if octet.is_ascii_digit() {
             return Some(Progress {
@@ -61,9 +61,9 @@ impl Progress {
     /// The time that was read if no octet follows. `None`: it is none.
     fn seconds(self) -> Option<u64>
         ensures found { IfSome result (λ n.
-            (text : Octets) → Reads text self → IsCapped (IsTime text) n) }
+            (text : Octets) → ReadsTime text self → IsCapped (IsTime text) n) }
         ensures none { IfNone result ((text : Octets) (n : ℕ)
-            → Reads text self → IsTime text n → ⊥) }
+            → ReadsTime text self → IsTime text n → ⊥) }
     {
         match (self.grouped, self.open) {
             (true, false) => Some(self.total),

@@ -3,6 +3,7 @@
 -- list.
 use Rattle.std.specs.Prelude.{◌≡◌, ◌≢◌, ℕ, List, [], ◌∷◌, ◌++◌, Some, None, ◌⊎◌, ◌↔◌, true, false}
 use Rattle.std.specs.declared.cmp.Ordering.TheVariants.{Less}
+use Rattle.zone_name.specs.Common.{Labels}
 use Rattle.zone_name.specs.Name.{IsWithin}
 use Rattle.zone_name.specs.Order.{name_cmp}
 use Rattle.zone_rdata.specs.Record.{Record}
@@ -96,7 +97,7 @@ abbrev pub HasNoSoa : List Record → Type 0
 HasNoSoa held = (r : Record) → Has held r → r.kind ≢ 6
 
 -- the least owner that lies outside the zone
-pub record IsLeastOutside (held : List Record) (owner : List (List ℕ)) : Type 0 where
+pub record IsLeastOutside (held : List Record) (owner : Labels) : Type 0 where
   pub soa : Record
   pub held_soa : Has held soa × (soa.kind ≡ 6)
   pub held_owner : (r : Record) × Has held r × (r.owner ≡ owner)
@@ -107,5 +108,5 @@ pub record IsLeastOutside (held : List Record) (owner : List (List ℕ)) : Type 
 -- why the records held are no zone: no SOA, or an owner outside, of which the least is named
 pub data StopsFinish (held : List Record) : Stop → Type 0 where
   no_soa : HasNoSoa held → StopsFinish held (Refused NoSoa Whole)
-  outside : (owner : List (List ℕ)) → IsLeastOutside held owner
+  outside : (owner : Labels) → IsLeastOutside held owner
       → StopsFinish held (Refused (OutOfZone owner) Whole)

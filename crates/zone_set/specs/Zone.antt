@@ -1,6 +1,7 @@
 -- Zones: an apex, a class and a finite set of records (RFC 1035 5.2; RFC 2181 5.2; RFC 5936 2.2).
 use Rattle.std.specs.Prelude.{◌≡◌, ℕ, List, [], ◌∷◌, take, ◌==◌, if◌then◌else◌, ◌⊎◌, ◌↔◌}
 use Rattle.std.specs.List.{AllByRecursion}
+use Rattle.zone_name.specs.Common.{Labels}
 use Rattle.zone_name.specs.Name.{IsWithin}
 use Rattle.zone_rdata.specs.Record.{Data, Record, IsRecord, data_of}
 use Rattle.zone_set.specs.Order.{Ascends}
@@ -35,7 +36,7 @@ pub record AreCompatible (records : List Record) : Type 0 where
   pub one_soa : (r s : Record) → Has records r → Has records s → r.kind ≡ 6 → s.kind ≡ 6 → r ≡ s
 
 pub record Zone : Type 0 where
-  pub apex : List (List ℕ)
+  pub apex : Labels
   pub class : ℕ
   pub records : List Record
 

@@ -6,7 +6,7 @@ use Rattle.zone_name.specs.Common.{Labels}
 use Rattle.zone_text.specs.declared.ended.EndedEntries.{EndedEntries}
 use Rattle.zone_text.specs.declared.scan.ScanState.{ScanState}
 use Rattle.zone_text.specs.declared.scan.Step.TheVariants.{On}
-use Rattle.zone_text.specs.Decided.{Decided, undecided}
+use Rattle.zone_text.specs.Decided.{FileDecides, undecided}
 use Rattle.zone_text.specs.Defaults.{AreDefaults}
 use Rattle.zone_text.specs.Machine.Feeding.{Follow, IsIntake, ScansTo}
 use Rattle.zone_text.specs.Machine.Scan.{beginning, scan_of}
@@ -47,7 +47,7 @@ pub no_tokens : Cuts [] []
 no_tokens = record { whole = refl; each = tt; follow = tt; balanced = refl }
 
 -- of nothing, nothing is decided
-pub nothing_decided : (origin : Labels) → Decided origin [] [] None
+pub nothing_decided : (origin : Labels) → FileDecides origin [] [] None
 nothing_decided origin = undecided [] (inl no_tokens) (none_cut [] [] no_tokens) (refl, refl)
 
 pub nothing_follows : (origin : Labels) (ended : EndedEntries) (unfinished : List ℕ) → unfinished ≡ [] → ended.decided.placed ≡ [] → ended.decided.ending ≡ None → AreDefaults origin [] ended.defaults → ended.line ≡ 1 → Follow origin ended unfinished [] []

@@ -7,7 +7,7 @@ use Rattle.std.proofs.lemmas.List.Sums.{sum_by-cons}
 use Rattle.zone_name.specs.Common.{Labels}
 use Rattle.zone_text.specs.Defaults.{AreDefaults}
 use Rattle.zone_text.specs.Entries.{Entry, entry_of, item_of}
-use Rattle.zone_text.specs.Forms.{no_items, form_by, form_of}
+use Rattle.zone_text.specs.Forms.{no_items, statement_by, statement_of}
 use Rattle.zone_text.specs.Tokens.{Token, comment, line_feed, Cuts}
 use Rattle.zone_text.specs.Machine.Blank.{AreBlankLines, IsBlankLine, IsComment, line_feed as fed_line, commented, no_lines, one_line_more}
 use Rattle.zone_text.specs.Machine.Cutting.{before_line_feed}
@@ -42,8 +42,8 @@ comment_front (c ∷ octets) =
     (λ e. (refl, (tt, λ d rest same. let first : d ≡ c = cc in first ∙ eqb-true c 10 e)))
     (λ e. (ap (λ t. c ∷ t) more.0, ((eqb-false c 10 e, more.1.0), more.1.1)))
 
-pub comment_ended : (octets behind rest : List ℕ) (n c : ℕ) → n ≡ length (before_line_feed octets) → behind ≡ drop n octets → behind ≡ c ∷ rest → IsComment octets rest
-comment_ended octets behind rest n c len back first =
+pub comment_ended : (octets after rest : List ℕ) (n c : ℕ) → n ≡ length (before_line_feed octets) → after ≡ drop n octets → after ≡ c ∷ rest → IsComment octets rest
+comment_ended octets after rest n c len back first =
     let front = comment_front octets in
     let left : drop (length (before_line_feed octets)) octets ≡ c ∷ rest = ap (λ k. drop k octets) (sym len) ∙ sym back ∙ first in
     let is : c ≡ 10 = front.1.1 c rest left in
@@ -119,7 +119,7 @@ with_line line ended = record { decided = ended.decided; defaults = ended.defaul
 -- an entry without items states nothing and leaves the defaults
 states_nothing : (origin : Labels) (before : List Entry) (entry : Entry) (old : EndedEntries) → entry.items ≡ [] → AreDefaults origin before old.defaults → LeavesNoRecord origin before entry old.defaults
 states_nothing origin before entry old none are =
-    let form : form_of entry ≡ no_items = ap (form_by entry.first) none in (
+    let form : statement_of entry ≡ no_items = ap (statement_by entry.first) none in (
       rw form tt,
       leaves origin before entry no_items old.defaults old.defaults.origin old.defaults.default_ttl form refl refl are (same_origin origin before entry no_items old.defaults.origin form refl are.under) (same_default before entry no_items old.defaults.default_ttl form refl are.default_ttl),
     )
@@ -162,7 +162,7 @@ takes_more octets line rest more n so_far cut is = record {
 
 takes_line : (octets line rest : List ℕ) (n : ℕ) → TakesLines octets line n → IsBlankLine line rest → TakesLines octets rest (n + 1)
 takes_line octets line rest n so_far (fed_line e) = takes_more octets line rest (10 ∷ []) n so_far e fed_alone
-takes_line octets line rest n so_far (commented behind e is) =
+takes_line octets line rest n so_far (commented after e is) =
     takes_more octets line rest (59 ∷ is.comment ++ 10 ∷ []) n so_far (e ∙ ap (λ t. 59 ∷ t) (is.whole ∙ sym (append_assoc is.comment (10 ∷ []) rest))) (comment_alone is.comment is.inside)
 
 pub takes_lines : (octets rest : List ℕ) (n : ℕ) → AreBlankLines octets rest n → TakesLines octets rest n
@@ -172,9 +172,9 @@ takes_lines octets _ _ (one_line_more line rest n before is) = takes_line octets
 -- a line has an octet at least
 pub line_shorter : (line rest : List ℕ) → IsBlankLine line rest → length rest < length line
 line_shorter line rest (fed_line e) = let len = ap length e in omega (arith, len)
-line_shorter line rest (commented behind e is) =
-    let whole : length line ≡ length (59 ∷ behind) = ap length e in
-    let inside : length behind ≡ length is.comment + length (10 ∷ rest) = ap length is.whole ∙ length-append is.comment (10 ∷ rest) in
+line_shorter line rest (commented after e is) =
+    let whole : length line ≡ length (59 ∷ after) = ap length e in
+    let inside : length after ≡ length is.comment + length (10 ∷ rest) = ap length is.whole ∙ length-append is.comment (10 ∷ rest) in
     omega (arith, whole, inside)
 
 -- ---- lines at the front of a piece

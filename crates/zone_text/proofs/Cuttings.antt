@@ -58,10 +58,10 @@ comment_passed : (octets : List ℕ) (q : Token) (rest : List ℕ) → MayFollow
 comment_passed octets line_feed rest may = refl
 comment_passed octets q rest may = absurd may
 
-behind : (p q : Token) (rest : List ℕ) → IsToken q → MayFollow p q → Stops p (token_text q ++ rest)
-behind (comment octets) q rest is may = comment_passed octets q rest may
-behind (bare units) q rest is may = after_bare units q rest is may
-behind p q rest is may = tt
+next_stops : (p q : Token) (rest : List ℕ) → IsToken q → MayFollow p q → Stops p (token_text q ++ rest)
+next_stops (comment octets) q rest is may = comment_passed octets q rest may
+next_stops (bare units) q rest is may = after_bare units q rest is may
+next_stops p q rest is may = tt
 
 -- ---- what may follow the last token
 
@@ -186,7 +186,7 @@ cut_is (suc n) depth octets enough = cut_by_front depth octets (cut_by n) (front
 stop_of : (p : Token) (tokens : List Token) (depth : ℕ) (after : List ℕ) (fault : Option Fault) → AllByRecursion IsToken tokens → AllFollow (p ∷ tokens) → MayEndBefore (p ∷ tokens) after → Ends depth after fault → Stops p (text tokens ++ after)
 stop_of p [] depth after fault each follow last ends = stops_at_end p depth after fault ends last
 stop_of p (q ∷ tokens) depth after fault each follow last ends =
-    subst (Stops p) (sym (append_assoc (token_text q) (text tokens) after)) (behind p q (text tokens ++ after) each.0 follow.0)
+    subst (Stops p) (sym (append_assoc (token_text q) (text tokens) after)) (next_stops p q (text tokens ++ after) each.0 follow.0)
 
 pub follow_after : (p : Token) (tokens : List Token) → AllFollow (p ∷ tokens) → AllFollow tokens
 follow_after p [] follow = tt

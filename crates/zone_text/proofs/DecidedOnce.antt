@@ -3,7 +3,7 @@ use Rattle.std.proofs.Common.{◌≡◌, ◌↔◌, ℕ, zero, List, [], ◌++�
 use Rattle.std.specs.List.{flat_map}
 use Rattle.std.proofs.lemmas.List.{append-nil, append_cancel_left}
 use Rattle.zone_rdata.specs.declared.record.Placed.{Placed}
-use Rattle.zone_text.specs.Decided.{Decided, decided, undecided}
+use Rattle.zone_text.specs.Decided.{FileDecides, decided, undecided}
 use Rattle.zone_text.specs.Entries.{Cut, and_last, cut_from, ended_entries, entries_of, numbered, open_line}
 use Rattle.zone_text.specs.FileReads.{ReadEach, Ending}
 use Rattle.zone_text.specs.Lasting.{BreaksForGood}
@@ -17,7 +17,7 @@ use Rattle.zone_text.proofs.Decides.{tokens_of, broken_once}
 use Rattle.zone_text.proofs.Files.{reads_once}
 use Rattle.zone_text.proofs.Left.{numbered_then}
 
-pub decided_once : Lower → (origin : List (List ℕ)) (octets : List ℕ) (a b : List Placed) (e f : Ending) → Decided origin octets a e → Decided origin octets b f → (a ≡ b) × (e ≡ f)
+pub decided_once : Lower → (origin : List (List ℕ)) (octets : List ℕ) (a b : List Placed) (e f : Ending) → FileDecides origin octets a e → FileDecides origin octets b f → (a ≡ b) × (e ≡ f)
 decided_once lower origin octets a b e f (undecided ps are never xs) (undecided qs others none ys) =
     let same : ps ≡ qs = tokens_of octets ps qs are others in
     reads_once lower origin None [] (ended_entries qs) a b e f (subst (λ p. ReadEach origin None [] (ended_entries p) a e) same xs) ys
@@ -30,13 +30,13 @@ decided_once lower origin octets a b e f (decided ps fault good xs) (undecided q
 decided_once lower origin octets a b e f (decided ps fault good xs) (decided qs other better ys) =
     broken_once lower origin octets ps qs fault other a b e f good.breaks better.breaks xs ys
 
-nothing_only : (origin : List (List ℕ)) (placed : List Placed) (ending : Ending) → Decided origin [] placed ending → (placed ≡ []) × (ending ≡ None)
+nothing_only : (origin : List (List ℕ)) (placed : List Placed) (ending : Ending) → FileDecides origin [] placed ending → (placed ≡ []) × (ending ≡ None)
 nothing_only origin placed ending (undecided ps are never read) =
     let same : ps ≡ [] = tokens_of [] ps [] are (inl no_tokens) in
     subst (λ p. ReadEach origin None [] (ended_entries p) placed ending) same read
 nothing_only origin placed ending (decided ps fault good read) = absurd (cut_not_broken [] [] ps fault no_tokens good.breaks)
 
-pub of_nothing : (origin : List (List ℕ)) (placed : List Placed) (ending : Ending) → Decided origin [] placed ending ↔ ((placed ≡ []) × (ending ≡ None))
+pub of_nothing : (origin : List (List ℕ)) (placed : List Placed) (ending : Ending) → FileDecides origin [] placed ending ↔ ((placed ≡ []) × (ending ≡ None))
 of_nothing origin placed ending = (nothing_only origin placed ending, λ is. rw (is.0, is.1) (nothing_decided origin))
 
 pub unfinished_once : (octets a b : List ℕ) → AreUnfinished octets a → AreUnfinished octets b → a ≡ b

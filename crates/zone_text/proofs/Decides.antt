@@ -10,7 +10,7 @@ use Rattle.zone_text.specs.Lasting.{BreaksForGood}
 use Rattle.zone_text.specs.Entries.{Entry, cut_from, and_last, entries_of, ended_entries, open_line}
 use Rattle.zone_text.specs.FileReads.{ReadEach, FileReads, whole, broken, Ending, stated, refused}
 use Rattle.zone_text.specs.File.{states_none, states_one}
-use Rattle.zone_text.specs.Decided.{AreTokens, Decided, decided, undecided, Stays}
+use Rattle.zone_text.specs.Decided.{AreTokens, FileDecides, decided, undecided, Stays}
 use Rattle.zone_text.specs.Machine.Lower.{Lower}
 use Rattle.zone_text.proofs.Cuttings.{one_cut, one_break, cut_not_broken, cut_or_broken}
 use Rattle.zone_text.proofs.Lasting.{cut_joined, break_joined, cut_parted, break_parted, breaks_for_good}
@@ -35,22 +35,22 @@ stays_on p q a b more others e f rr place x y stays = record {
 same_end : (fault other : Fault) (line : ℕ) (e f : Ending) → fault ≡ other → e ≡ Some (fault, Line line) → f ≡ Some (other, Line line) → f ≡ e
 same_end fault other line e f same x y = y ∙ (ap (λ (z : Fault). let o : Ending = Some (z, Line line) in o) (sym same) ∙ sym x)
 
-pub reads_on : Lower → (origin : List (List ℕ)) (behind : Ending) (before entries others : List Entry) (a b : List Placed) (e f : Ending) → ReadEach origin None before entries a e → ReadEach origin behind before (entries ++ others) b f → Stays a e b f
-reads_on lower origin behind before [] others a b e f x y = record {
+pub reads_on : Lower → (origin : List (List ℕ)) (after : Ending) (before entries others : List Entry) (a b : List Placed) (e f : Ending) → ReadEach origin None before entries a e → ReadEach origin after before (entries ++ others) b f → Stays a e b f
+reads_on lower origin after before [] others a b e f x y = record {
   others = b;
   first = ap (λ t. t ++ b) (sym x.0);
   fault = λ found is. let end = x.1 in absurd (let t : ⊥ = cc in t);
 }
-reads_on lower origin behind before (entry ∷ entries) others a b e f (stated (states_none n xs)) (stated (states_none m ys)) = reads_on lower origin behind (entry ∷ before) entries others a b e f xs ys
-reads_on lower origin behind before (entry ∷ entries) others a b e f (stated (states_none n xs)) (stated (states_one q more r at w ys)) = absurd (nothing_or_record origin before entry q.rr n r)
-reads_on lower origin behind before (entry ∷ entries) others a b e f (stated (states_none n xs)) (refused fault h u v) = absurd (nothing_or_fault lower origin before entry fault n h)
-reads_on lower origin behind before (entry ∷ entries) others a b e f (stated (states_one p more r at w xs)) (stated (states_none m ys)) = absurd (nothing_or_record origin before entry p.rr m r)
-reads_on lower origin behind before (entry ∷ entries) others a b e f (stated (states_one p more r at w xs)) (stated (states_one q left s place v ys)) =
-    stays_on p q a b more left e f (record_once lower origin before entry p.rr q.rr r s) (at ∙ sym place) w v (reads_on lower origin behind (entry ∷ before) entries others more left e f xs ys)
-reads_on lower origin behind before (entry ∷ entries) others a b e f (stated (states_one p more r at w xs)) (refused fault h u v) = absurd (record_or_fault lower origin before entry p.rr fault r h)
-reads_on lower origin behind before (entry ∷ entries) others a b e f (refused fault h u v) (stated (states_none m ys)) = absurd (nothing_or_fault lower origin before entry fault m h)
-reads_on lower origin behind before (entry ∷ entries) others a b e f (refused fault h u v) (stated (states_one q more s place w ys)) = absurd (record_or_fault lower origin before entry q.rr fault s h)
-reads_on lower origin behind before (entry ∷ entries) others a b e f (refused fault h u v) (refused other k s t) = record {
+reads_on lower origin after before (entry ∷ entries) others a b e f (stated (states_none n xs)) (stated (states_none m ys)) = reads_on lower origin after (entry ∷ before) entries others a b e f xs ys
+reads_on lower origin after before (entry ∷ entries) others a b e f (stated (states_none n xs)) (stated (states_one q more r at w ys)) = absurd (nothing_or_record origin before entry q.rr n r)
+reads_on lower origin after before (entry ∷ entries) others a b e f (stated (states_none n xs)) (refused fault h u v) = absurd (nothing_or_fault lower origin before entry fault n h)
+reads_on lower origin after before (entry ∷ entries) others a b e f (stated (states_one p more r at w xs)) (stated (states_none m ys)) = absurd (nothing_or_record origin before entry p.rr m r)
+reads_on lower origin after before (entry ∷ entries) others a b e f (stated (states_one p more r at w xs)) (stated (states_one q left s place v ys)) =
+    stays_on p q a b more left e f (record_once lower origin before entry p.rr q.rr r s) (at ∙ sym place) w v (reads_on lower origin after (entry ∷ before) entries others more left e f xs ys)
+reads_on lower origin after before (entry ∷ entries) others a b e f (stated (states_one p more r at w xs)) (refused fault h u v) = absurd (record_or_fault lower origin before entry p.rr fault r h)
+reads_on lower origin after before (entry ∷ entries) others a b e f (refused fault h u v) (stated (states_none m ys)) = absurd (nothing_or_fault lower origin before entry fault m h)
+reads_on lower origin after before (entry ∷ entries) others a b e f (refused fault h u v) (stated (states_one q more s place w ys)) = absurd (record_or_fault lower origin before entry q.rr fault s h)
+reads_on lower origin after before (entry ∷ entries) others a b e f (refused fault h u v) (refused other k s t) = record {
   others = [];
   first = s ∙ (sym u ∙ sym (append-nil a));
   fault = λ found is. (s ∙ sym u, same_end fault other entry.line e f (fault_once lower origin before entry fault other h k) v t);
@@ -100,9 +100,9 @@ joined_tokens front rest tokens cut =
 pub goes_on : (octets more : List ℕ) (tokens all : List Token) → AreTokens octets tokens → AreTokens (octets ++ more) all → GoesOn tokens all
 goes_on octets more tokens all x y =
     let front = parted octets tokens x in
-    let behind = joined_tokens (text (joined (cut_from zero tokens).ended)) (front.rest ++ more) tokens front.front in
+    let after = joined_tokens (text (joined (cut_from zero tokens).ended)) (front.rest ++ more) tokens front.front in
     let split : octets ++ more ≡ text (joined (cut_from zero tokens).ended) ++ (front.rest ++ more) = ap (λ t. t ++ more) front.parted ∙ append_assoc (text (joined (cut_from zero tokens).ended)) front.rest more in
-    (behind.0, tokens_of (octets ++ more) all (joined (cut_from zero tokens).ended ++ behind.0) y (rw split (behind.1)))
+    (after.0, tokens_of (octets ++ more) all (joined (cut_from zero tokens).ended ++ after.0) y (rw split (after.1)))
 
 -- so its entries are the ended ones of the beginning, and others
 pub ended_on : (tokens all : List Token) → GoesOn tokens all → (others : List Entry) × (ended_entries all ≡ ended_entries tokens ++ others)
@@ -128,7 +128,7 @@ broken_once lower origin octets tokens all fault other a b e f x y xs ys =
     let one : fault ≡ other = same.1 in
     reads_once lower origin (Some (other, Line (open_line all))) [] (ended_entries all) a b e f (rw (← front, ← one) xs) ys
 
-pub decided_stays : Lower → (origin : List (List ℕ)) (octets more : List ℕ) (a b : List Placed) (e f : Ending) → Decided origin octets a e → Decided origin (octets ++ more) b f → Stays a e b f
+pub decided_stays : Lower → (origin : List (List ℕ)) (octets more : List ℕ) (a b : List Placed) (e f : Ending) → FileDecides origin octets a e → FileDecides origin (octets ++ more) b f → Stays a e b f
 decided_stays lower origin octets more a b e f (undecided ps are absent xs) (undecided qs others none ys) =
     let on = ended_on ps qs (goes_on octets more ps qs are others) in
     reads_on lower origin None [] (ended_entries ps) on.0 a b e f xs (subst (λ es. ReadEach origin None [] es b f) on.1 ys)
@@ -143,7 +143,7 @@ decided_stays lower origin octets more a b e f (decided ps fault good xs) (decid
     let still = breaks_for_good octets more ps fault good in
     same_stays a b e f (broken_once lower origin (octets ++ more) ps qs fault other a b e f still.breaks better.breaks xs ys)
 
-pub decided_stays_at_end : Lower → (origin : List (List ℕ)) (octets more : List ℕ) (a b : List Placed) (e f : Ending) → Decided origin octets a e → FileReads origin (octets ++ more) b f → Stays a e b f
+pub decided_stays_at_end : Lower → (origin : List (List ℕ)) (octets more : List ℕ) (a b : List Placed) (e f : Ending) → FileDecides origin octets a e → FileReads origin (octets ++ more) b f → Stays a e b f
 decided_stays_at_end lower origin octets more a b e f (undecided ps are absent xs) (whole qs cut ys) =
     let on = entries_on ps qs (goes_on octets more ps qs are (inl cut)) in
     reads_on lower origin None [] (ended_entries ps) on.0 a b e f xs (subst (λ es. ReadEach origin None [] es b f) on.1 ys)

@@ -14,7 +14,7 @@ use Rattle.zone_text.specs.Lasting.{BreaksForGood}
 use Rattle.zone_text.specs.Entries.{Cut, Entry, cut_from, and_last, entry_of, numbered, entries_of, ended_entries, open_line}
 use Rattle.zone_text.specs.FileReads.{ReadEach, FileReads, whole, broken, Ending, stated, refused}
 use Rattle.zone_text.specs.File.{states_none, states_one}
-use Rattle.zone_text.specs.Decided.{AreTokens, Decided, decided, undecided}
+use Rattle.zone_text.specs.Decided.{AreTokens, FileDecides, decided, undecided}
 use Rattle.zone_text.proofs.Cuttings.{cut_or_broken}
 use Rattle.zone_text.proofs.Lasting.{breaks_for_good}
 use Rattle.zone_text.proofs.CutAgain.{joined, AreEnded, again_zero, cut_whole}
@@ -26,7 +26,7 @@ use Rattle.zone_text.proofs.Left.{line_feeds, reads_then, refused_before, reads_
 
 -- what is read of ended entries, the first of them on line 1
 abbrev pub ReadsEnded : List (List ℕ) → Ending → List (List Token) → List Placed → Ending → Type 0
-ReadsEnded origin behind ended placed ending = ReadEach origin behind [] (numbered 1 ended) placed ending
+ReadsEnded origin after ended placed ending = ReadEach origin after [] (numbered 1 ended) placed ending
 
 -- the line after ended entries
 abbrev pub line_after : List (List Token) → ℕ
@@ -35,14 +35,14 @@ line_after ended = 1 + line_feeds (flat_map text ended)
 -- ---- no fault is decided so far
 
 -- what follows entries without a fault is the end
-no_fault_after : (origin : List (List ℕ)) (behind : Ending) (before entries : List Entry) (placed : List Placed) → ReadEach origin behind before entries placed None → behind ≡ None
-no_fault_after origin behind before [] placed read = sym read.1
-no_fault_after origin behind before (entry ∷ entries) placed (stated (states_none n read)) = no_fault_after origin behind (entry ∷ before) entries placed read
-no_fault_after origin behind before (entry ∷ entries) placed (stated (states_one p rest states place e read)) = no_fault_after origin behind (entry ∷ before) entries rest read
-no_fault_after origin behind before (entry ∷ entries) placed (refused fault h e f) = absurd (let t : ⊥ = cc in t)
+no_fault_after : (origin : List (List ℕ)) (after : Ending) (before entries : List Entry) (placed : List Placed) → ReadEach origin after before entries placed None → after ≡ None
+no_fault_after origin after before [] placed read = sym read.1
+no_fault_after origin after before (entry ∷ entries) placed (stated (states_none n read)) = no_fault_after origin after (entry ∷ before) entries placed read
+no_fault_after origin after before (entry ∷ entries) placed (stated (states_one p rest states place e read)) = no_fault_after origin after (entry ∷ before) entries rest read
+no_fault_after origin after before (entry ∷ entries) placed (refused fault h e f) = absurd (let t : ⊥ = cc in t)
 
 -- then the entries that were ended state the records
-pub reads_so_far : (origin : List (List ℕ)) (fed : List ℕ) (tokens : List Token) (placed : List Placed) → Decided origin fed placed None → AreTokens fed tokens → ReadsEnded origin None (cut_from zero tokens).ended placed None
+pub reads_so_far : (origin : List (List ℕ)) (fed : List ℕ) (tokens : List Token) (placed : List Placed) → FileDecides origin fed placed None → AreTokens fed tokens → ReadsEnded origin None (cut_from zero tokens).ended placed None
 reads_so_far origin fed tokens placed (undecided others are none read) is =
     subst (λ t. ReadsEnded origin None (cut_from zero t).ended placed None) (tokens_of fed others tokens are is) read
 reads_so_far origin fed tokens placed (decided others fault good read) is =
@@ -51,7 +51,7 @@ reads_so_far origin fed tokens placed (decided others fault good read) is =
 -- ---- octets more
 
 -- one entry more is ended
-pub one_entry_more : (origin : List (List ℕ)) (fed more : List ℕ) (ended : List (List Token)) (unfinished : List ℕ) (entry : List Token) (placed others : List Placed) (ending : Ending) → IsSplit fed ended unfinished → Cuts (unfinished ++ more) entry → cut_from zero entry ≡ record { ended = entry ∷ []; open_tokens = [] } → ReadsEnded origin None ended placed None → ReadEach origin None (reverse (numbered 1 ended)) (entry_of (line_after ended) entry ∷ []) others ending → Decided origin (fed ++ more) (placed ++ others) ending
+pub one_entry_more : (origin : List (List ℕ)) (fed more : List ℕ) (ended : List (List Token)) (unfinished : List ℕ) (entry : List Token) (placed others : List Placed) (ending : Ending) → IsSplit fed ended unfinished → Cuts (unfinished ++ more) entry → cut_from zero entry ≡ record { ended = entry ∷ []; open_tokens = [] } → ReadsEnded origin None ended placed None → ReadEach origin None (reverse (numbered 1 ended)) (entry_of (line_after ended) entry ∷ []) others ending → FileDecides origin (fed ++ more) (placed ++ others) ending
 one_entry_more origin fed more ended unfinished entry placed others ending is cut one read next =
     let tokens : List Token = joined ended ++ entry in
     let cuts : Cuts (fed ++ more) tokens = cut_more fed more ended unfinished entry is cut in
@@ -60,16 +60,16 @@ one_entry_more origin fed more ended unfinished entry placed others ending is cu
     undecided tokens (inl cuts) (none_cut (fed ++ more) tokens cuts) (subst (λ t. ReadEach origin None [] t (placed ++ others) ending) entries all)
 
 -- no entry more is ended, and they break for good
-pub break_decided : (origin : List (List ℕ)) (fed more : List ℕ) (ended : List (List Token)) (unfinished : List ℕ) (tokens : List Token) (fault : Fault) (placed : List Placed) → IsSplit fed ended unfinished → BreaksForGood (unfinished ++ more) tokens fault → (cut_from zero tokens).ended ≡ [] → ReadsEnded origin None ended placed None → Decided origin (fed ++ more) placed (Some (fault, Line (line_after ended)))
+pub break_decided : (origin : List (List ℕ)) (fed more : List ℕ) (ended : List (List Token)) (unfinished : List ℕ) (tokens : List Token) (fault : Fault) (placed : List Placed) → IsSplit fed ended unfinished → BreaksForGood (unfinished ++ more) tokens fault → (cut_from zero tokens).ended ≡ [] → ReadsEnded origin None ended placed None → FileDecides origin (fed ++ more) placed (Some (fault, Line (line_after ended)))
 break_decided origin fed more ended unfinished tokens fault placed is good none read =
     let same : ended ≡ (cut_from zero (joined ended ++ tokens)).ended = sym (ended_as_before ended tokens is.stays none) in
-    let found : Decided origin (fed ++ more) placed (Some (fault, Line (open_line (joined ended ++ tokens)))) =
+    let found : FileDecides origin (fed ++ more) placed (Some (fault, Line (open_line (joined ended ++ tokens)))) =
     decided (joined ended ++ tokens) fault (for_good_more fed more ended unfinished tokens fault is good)
     (reads_after origin (Some (fault, Line (open_line (joined ended ++ tokens)))) [] (ended_entries (joined ended ++ tokens)) placed (subst (λ t. ReadsEnded origin None t placed None) same read)) in
-    subst (λ (t : List (List Token)). Decided origin (fed ++ more) placed (Some (fault, Line (line_after t)))) (sym same) found
+    subst (λ (t : List (List Token)). FileDecides origin (fed ++ more) placed (Some (fault, Line (line_after t)))) (sym same) found
 
 -- no entry more is ended, and others may come
-pub still_undecided : (origin : List (List ℕ)) (fed more : List ℕ) (ended : List (List Token)) (unfinished : List ℕ) (tokens : List Token) (placed : List Placed) → IsSplit fed ended unfinished → AreTokens (unfinished ++ more) tokens → ((fault : Fault) → BreaksForGood (unfinished ++ more) tokens fault → ⊥) → (cut_from zero tokens).ended ≡ [] → ReadsEnded origin None ended placed None → Decided origin (fed ++ more) placed None
+pub still_undecided : (origin : List (List ℕ)) (fed more : List ℕ) (ended : List (List Token)) (unfinished : List ℕ) (tokens : List Token) (placed : List Placed) → IsSplit fed ended unfinished → AreTokens (unfinished ++ more) tokens → ((fault : Fault) → BreaksForGood (unfinished ++ more) tokens fault → ⊥) → (cut_from zero tokens).ended ≡ [] → ReadsEnded origin None ended placed None → FileDecides origin (fed ++ more) placed None
 still_undecided origin fed more ended unfinished tokens placed is are never none read =
     let same : ended ≡ (cut_from zero (joined ended ++ tokens)).ended = sym (ended_as_before ended tokens is.stays none) in
     undecided (joined ended ++ tokens) (tokens_more fed more ended unfinished tokens is are) (none_more fed more ended unfinished tokens is are never)
@@ -77,7 +77,7 @@ still_undecided origin fed more ended unfinished tokens placed is are never none
 
 -- ---- a fault that is decided stays
 
-refused_longer : (origin : List (List ℕ)) (octets : List ℕ) (tokens : List Token) (entries others : List Entry) (placed : List Placed) (found : Fault × Place) → AreTokens octets tokens → ended_entries tokens ≡ entries ++ others → ReadEach origin None [] entries placed (Some found) → Decided origin octets placed (Some found)
+refused_longer : (origin : List (List ℕ)) (octets : List ℕ) (tokens : List Token) (entries others : List Entry) (placed : List Placed) (found : Fault × Place) → AreTokens octets tokens → ended_entries tokens ≡ entries ++ others → ReadEach origin None [] entries placed (Some found) → FileDecides origin octets placed (Some found)
 refused_longer origin octets tokens entries others placed found (inl cut) e read =
     undecided tokens (inl cut) (none_cut octets tokens cut) (subst (λ t. ReadEach origin None [] t placed (Some found)) (sym e) (refused_before origin None [] entries others placed found read))
 refused_longer origin octets tokens entries others placed found (inr breaks) e read =
@@ -93,7 +93,7 @@ some_tokens octets =
       | inr found ↦ (found.0, inr (found.1, found.2))
     ]
 
-pub fault_stays : (origin : List (List ℕ)) (fed more : List ℕ) (placed : List Placed) (found : Fault × Place) → Decided origin fed placed (Some found) → Decided origin (fed ++ more) placed (Some found)
+pub fault_stays : (origin : List (List ℕ)) (fed more : List ℕ) (placed : List Placed) (found : Fault × Place) → FileDecides origin fed placed (Some found) → FileDecides origin (fed ++ more) placed (Some found)
 fault_stays origin fed more placed found (undecided tokens are none read) =
     let all = some_tokens (fed ++ more) in
     let on = ended_on tokens all.0 (goes_on fed more tokens all.0 are all.1) in
@@ -103,7 +103,7 @@ fault_stays origin fed more placed found (decided tokens fault good read) = deci
 -- ---- the end of the file
 
 -- the same of a file that ends there
-pub fault_is_read : (origin : List (List ℕ)) (octets : List ℕ) (placed : List Placed) (found : Fault × Place) → Decided origin octets placed (Some found) → FileReads origin octets placed (Some found)
+pub fault_is_read : (origin : List (List ℕ)) (octets : List ℕ) (placed : List Placed) (found : Fault × Place) → FileDecides origin octets placed (Some found) → FileReads origin octets placed (Some found)
 fault_is_read origin octets placed found (decided tokens fault good read) = broken tokens fault good.breaks read
 fault_is_read origin octets placed found (undecided tokens (inr breaks) none read) =
     broken tokens breaks.0 breaks.1 (subst (λ t. ReadEach origin (Some (breaks.0, Line (open_line tokens))) [] t placed (Some found)) (append-nil (ended_entries tokens)) (refused_before origin (Some (breaks.0, Line (open_line tokens))) [] (ended_entries tokens) [] placed found read))

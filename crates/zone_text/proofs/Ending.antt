@@ -55,9 +55,9 @@ ended_cutting_stays octets more =
     (lines.0, ap (numbered 1) stay.1 ∙ lines.1)
 
 pub ended_entries_stay : (octets more : List ℕ) (tokens later : List Token) → AreTokens octets tokens → AreTokens (octets ++ more) later → (others : List Entry) × (ended_entries later ≡ ended_entries tokens ++ others)
-ended_entries_stay octets more tokens later before behind =
+ended_entries_stay octets more tokens later before after =
     let stay = ended_cutting_stays octets more in
-    (stay.0, ap ended_entries (sym (tokens_are (octets ++ more) later behind)) ∙ stay.1 ∙ ap (λ t. ended_entries t ++ stay.0) (tokens_are octets tokens before))
+    (stay.0, ap ended_entries (sym (tokens_are (octets ++ more) later after)) ∙ stay.1 ∙ ap (λ t. ended_entries t ++ stay.0) (tokens_are octets tokens before))
 
 pub ended_entries_first : (tokens : List Token) → (others : List Entry) × (entries_of tokens ≡ ended_entries tokens ++ others)
 ended_entries_first tokens = by (cut_from zero tokens).ended (cut_from zero tokens).open_tokens

@@ -5,7 +5,7 @@ use Rattle.std.proofs.Common.{◌≡◌, ℕ, ◌<◌, Bool, true, false, if◌t
 use Rattle.std.specs.List.{AllByRecursion}
 use Rattle.std.proofs.lemmas.Bool.{cases_lt, cases_eq}
 use Rattle.zone_name.specs.Name.{IsName}
-use Rattle.zone_name.specs.Spelling.{Spells, FirstFault}
+use Rattle.zone_name.specs.Spelling.{Spells, SpellingFault}
 use Rattle.zone_name.specs.declared.fault.NameFault.{NameFault}
 use Rattle.zone_rdata.specs.Fault.{fault_of}
 use Rattle.zone_rdata.specs.Number.{IsTime}
@@ -16,11 +16,11 @@ use Rattle.zone_rdata.specs.declared.fault.Fault.{Fault}
 use Rattle.zone_rdata.specs.declared.fault.Fault.TheVariants.{BadTtl, BadClass}
 use Rattle.zone_text.specs.Entries.{Entry}
 use Rattle.zone_text.specs.EntryFault.{IsNameFaultAfter, WordFault, WordsFault}
-use Rattle.zone_text.specs.Forms.{EntryForm, sets_origin, owned, form_of, Word, ttl, class, Parts, parts_of, parts_in, parts_after, class_among, word_after, begins_with_digit, is_class_word, ttl_among, unless_stated}
+use Rattle.zone_text.specs.Forms.{Statement, sets_origin, owned, statement_of, Word, ttl, class, Parts, parts_of, parts_in, parts_after, class_among, word_after, begins_with_digit, is_class_word, ttl_among, unless_stated}
 use Rattle.zone_text.specs.Inherited.{IsOrigin, SpellsAfter, IsLastOwner, IsOwner, HasClass, IsTtl, or_else, latest, origin_text, owner_text, class_word}
 use Rattle.zone_text.specs.Machine.Lower.{Lower, Choices}
 use Rattle.zone_text.specs.Outcome.{AllState, AreOctetItems}
-use Rattle.zone_text.specs.Records.{HasValue, StatesRecord, StatesNothing}
+use Rattle.zone_text.specs.Records.{HasValue, EntryStates, StatesNothing}
 use Rattle.zone_text.proofs.ClassWords.{class_word_of}
 use Rattle.zone_text.proofs.Entered.{nothing_or_parts}
 
@@ -29,17 +29,17 @@ use Rattle.zone_text.proofs.Entered.{nothing_or_parts}
 abbrev OriginFact : List (List ℕ) → List Entry → Option (List ℕ) → Type 0
 OriginFact origin before o = (name : List (List ℕ)) × (MatchOption o (IsOrigin origin before name) (λ text. SpellsAfter origin before text name) × IsName name)
 
-origin_nothing : (origin : List (List ℕ)) (before : List Entry) (form : EntryForm) → StatesNothing origin before form → ((name : List (List ℕ)) × (IsOrigin origin before name × IsName name)) → OriginFact origin before (origin_text form)
+origin_nothing : (origin : List (List ℕ)) (before : List Entry) (form : Statement) → StatesNothing origin before form → ((name : List (List ℕ)) × (IsOrigin origin before name × IsName name)) → OriginFact origin before (origin_text form)
 origin_nothing origin before (sets_origin (bare text ∷ [])) h above = (h.0, (h.1, h.1.1.1.name))
 origin_nothing origin before form h above = above
 
-origin_record : (origin : List (List ℕ)) (before : List Entry) (form : EntryForm) (parts : Parts) → parts_in form ≡ Some parts → ((name : List (List ℕ)) × (IsOrigin origin before name × IsName name)) → OriginFact origin before (origin_text form)
+origin_record : (origin : List (List ℕ)) (before : List Entry) (form : Statement) (parts : Parts) → parts_in form ≡ Some parts → ((name : List (List ℕ)) × (IsOrigin origin before name × IsName name)) → OriginFact origin before (origin_text form)
 origin_record origin before (sets_origin items) parts e above = absurd cc
 origin_record origin before form parts e above = above
 
-origin_by : (origin : List (List ℕ)) (before : List Entry) (entry : Entry) → StatesNothing origin before (form_of entry) ⊎ ((r : Record) × StatesRecord origin before entry r) → ((name : List (List ℕ)) × (IsOrigin origin before name × IsName name)) → (name : List (List ℕ)) × (IsOrigin origin (entry ∷ before) name × IsName name)
-origin_by origin before entry (inl n) above = origin_nothing origin before (form_of entry) n above
-origin_by origin before entry (inr s) above = origin_record origin before (form_of entry) s.1.head.parts s.1.head.split above
+origin_by : (origin : List (List ℕ)) (before : List Entry) (entry : Entry) → StatesNothing origin before (statement_of entry) ⊎ ((r : Record) × EntryStates origin before entry r) → ((name : List (List ℕ)) × (IsOrigin origin before name × IsName name)) → (name : List (List ℕ)) × (IsOrigin origin (entry ∷ before) name × IsName name)
+origin_by origin before entry (inl n) above = origin_nothing origin before (statement_of entry) n above
+origin_by origin before entry (inr s) above = origin_record origin before (statement_of entry) s.1.head.parts s.1.head.split above
 
 pub origin_is : (origin : List (List ℕ)) (before : List Entry) → IsName origin → AllState origin before → (name : List (List ℕ)) × (IsOrigin origin before name × IsName name)
 origin_is origin [] is states = (origin, (refl, is))
@@ -50,18 +50,18 @@ origin_is origin (entry ∷ before) is states = origin_by origin before entry st
 abbrev pub OwnerChoice : List (List ℕ) → List Entry → Option (List ℕ) → Type 0
 OwnerChoice origin before o = ((name : List (List ℕ)) × (MatchOption o (IsLastOwner origin before name) (λ text. SpellsAfter origin before text name) × IsName name)) ⊎ ((name : List (List ℕ)) → MatchOption o (IsLastOwner origin before name) (λ text. SpellsAfter origin before text name) → ⊥)
 
-owner_nothing : (origin : List (List ℕ)) (before : List Entry) (form : EntryForm) → StatesNothing origin before form → OwnerChoice origin before None → OwnerChoice origin before (owner_text form)
+owner_nothing : (origin : List (List ℕ)) (before : List Entry) (form : Statement) → StatesNothing origin before form → OwnerChoice origin before None → OwnerChoice origin before (owner_text form)
 owner_nothing origin before (owned owner items) h last = absurd h
 owner_nothing origin before form h last = last
 
-owner_record : (origin : List (List ℕ)) (before : List Entry) (form : EntryForm) (name : List (List ℕ)) → IsOwner origin before form name → OwnerChoice origin before None → OwnerChoice origin before (owner_text form)
+owner_record : (origin : List (List ℕ)) (before : List Entry) (form : Statement) (name : List (List ℕ)) → IsOwner origin before form name → OwnerChoice origin before None → OwnerChoice origin before (owner_text form)
 owner_record origin before (owned (bare text) items) name h last = inl (name, (h, h.1.1.name))
 owner_record origin before (owned (quoted text) items) name h last = absurd h
 owner_record origin before form name h last = last
 
-owner_by : (origin : List (List ℕ)) (before : List Entry) (entry : Entry) → StatesNothing origin before (form_of entry) ⊎ ((r : Record) × StatesRecord origin before entry r) → OwnerChoice origin before None → OwnerChoice origin before (owner_text (form_of entry))
-owner_by origin before entry (inl n) last = owner_nothing origin before (form_of entry) n last
-owner_by origin before entry (inr s) last = owner_record origin before (form_of entry) s.0.owner s.1.head.owner last
+owner_by : (origin : List (List ℕ)) (before : List Entry) (entry : Entry) → StatesNothing origin before (statement_of entry) ⊎ ((r : Record) × EntryStates origin before entry r) → OwnerChoice origin before None → OwnerChoice origin before (owner_text (statement_of entry))
+owner_by origin before entry (inl n) last = owner_nothing origin before (statement_of entry) n last
+owner_by origin before entry (inr s) last = owner_record origin before (statement_of entry) s.0.owner s.1.head.owner last
 
 pub last_owner : (origin : List (List ℕ)) (before : List Entry) → AllState origin before → OwnerChoice origin before None
 last_owner origin [] states = inr (λ name h. h)
@@ -70,7 +70,7 @@ last_owner origin (entry ∷ before) states = owner_by origin before entry state
 abbrev pub NameChoice : List (List ℕ) → List Entry → List ℕ → Type 0
 NameChoice origin before text = ((name : List (List ℕ)) × (SpellsAfter origin before text name × IsName name)) ⊎ ((fault : Fault) × IsNameFaultAfter origin before text fault)
 
-name_by : (origin : List (List ℕ)) (before : List Entry) (text : List ℕ) (above : List (List ℕ)) → IsOrigin origin before above → ((name : List (List ℕ)) × Spells (Some above) text name) ⊎ ((fault : NameFault) × FirstFault (Some above) text fault) → NameChoice origin before text
+name_by : (origin : List (List ℕ)) (before : List Entry) (text : List ℕ) (above : List (List ℕ)) → IsOrigin origin before above → ((name : List (List ℕ)) × Spells (Some above) text name) ⊎ ((fault : NameFault) × SpellingFault (Some above) text fault) → NameChoice origin before text
 name_by origin before text above under (inl found) = inl (found.0, ((above, (under, found.1)), found.1.name))
 name_by origin before text above under (inr bad) = inr (fault_of bad.0, (above, (under, (bad.0, bad.1, refl))))
 
@@ -93,8 +93,8 @@ class_in_parts : (o : Option Parts) (later : Option (List ℕ)) → ((parts : Pa
 class_in_parts None later have fact = fact
 class_in_parts (Some parts) later have fact = class_among_words parts.words later (have parts refl) fact
 
-words_have : (origin : List (List ℕ)) (before : List Entry) (entry : Entry) → StatesNothing origin before (form_of entry) ⊎ ((r : Record) × StatesRecord origin before entry r) → (parts : Parts) → parts_of entry ≡ Some parts → AllByRecursion HasValue parts.words
-words_have origin before entry (inl n) parts e = absurd (nothing_or_parts origin before (form_of entry) parts n e)
+words_have : (origin : List (List ℕ)) (before : List Entry) (entry : Entry) → StatesNothing origin before (statement_of entry) ⊎ ((r : Record) × EntryStates origin before entry r) → (parts : Parts) → parts_of entry ≡ Some parts → AllByRecursion HasValue parts.words
+words_have origin before entry (inl n) parts e = absurd (nothing_or_parts origin before (statement_of entry) parts n e)
 words_have origin before entry (inr s) parts e =
     let split : Some s.1.head.parts ≡ Some parts = sym s.1.head.split ∙ e in
     let same : s.1.head.parts ≡ parts = cc in

@@ -13,11 +13,11 @@ use Rattle.zone_rdata.specs.declared.fault.Fault.{Fault}
 use Rattle.zone_rdata.specs.declared.fault.Fault.TheVariants.{IncludeDirective, UnknownDirective, BadDirective, NoOwner, NoTtl, BadTtl, UnknownType}
 use Rattle.zone_text.specs.Entries.{Entry}
 use Rattle.zone_text.specs.EntryFault.{DirectiveFault, OwnerFault, WordsFault, KindFault, none, long, EntryFault, of_directive, of_owner, of_words, of_kind, of_rdata, of_ttl}
-use Rattle.zone_text.specs.Forms.{EntryForm, no_items, sets_origin, sets_ttl, includes, unknown, owned, unowned, form_of, form_by, directive, Parts, parts_of, parts_in, parts_after}
+use Rattle.zone_text.specs.Forms.{Statement, no_items, sets_origin, sets_ttl, includes, unknown, owned, unowned, statement_of, statement_by, directive, Parts, parts_of, parts_in, parts_after}
 use Rattle.zone_text.specs.Inherited.{IsOrigin, IsOwner, stated_ttl, IsTtl}
 use Rattle.zone_text.specs.Machine.Lower.{Lower, Choices}
 use Rattle.zone_text.specs.Outcome.{AllState, AreOctetItems}
-use Rattle.zone_text.specs.Records.{HasValue, Head, HasHead, head_of, StatesData, StatesMinimum, IsLastMinimum, HasTtl, StatesRecord, StatesNothing}
+use Rattle.zone_text.specs.Records.{HasValue, Head, HasHead, head_of, StatesData, StatesMinimum, IsLastMinimum, HasTtl, EntryStates, StatesNothing}
 use Rattle.zone_text.specs.Tokens.{is_blank}
 use Rattle.zone_text.proofs.Entered.{nothing_or_parts}
 use Rattle.zone_text.proofs.EntryChoice.{origin_is, last_owner, name_or_fault, class_is, words_or_fault, parts_good, AreGood, ttl_word_by, OwnerChoice, NameChoice}
@@ -44,8 +44,8 @@ minimum_by lower origin before entry head octets None has rdata e = inr (states_
 minimum_of : Lower → (origin : List (List ℕ)) (before : List Entry) (entry : Entry) (head : Head) (octets : List ℕ) → HasHead origin before entry head → StatesData origin before head octets → Choice (StatesMinimum origin before entry)
 minimum_of lower origin before entry head octets has rdata = minimum_by lower origin before entry head octets (minimum (record { class = head.class; kind = head.kind; octets = octets })) has rdata refl
 
-minimum_in : Lower → (origin : List (List ℕ)) (before : List Entry) (entry : Entry) → StatesNothing origin before (form_of entry) ⊎ ((r : Record) × StatesRecord origin before entry r) → Choice (StatesMinimum origin before entry)
-minimum_in lower origin before entry (inl n) = inr (λ seconds x. nothing_or_parts origin before (form_of entry) x.has.parts n x.has.split)
+minimum_in : Lower → (origin : List (List ℕ)) (before : List Entry) (entry : Entry) → StatesNothing origin before (statement_of entry) ⊎ ((r : Record) × EntryStates origin before entry r) → Choice (StatesMinimum origin before entry)
+minimum_in lower origin before entry (inl n) = inr (λ seconds x. nothing_or_parts origin before (statement_of entry) x.has.parts n x.has.split)
 minimum_in lower origin before entry (inr s) = minimum_of lower origin before entry (head_of s.0 s.1.items) s.0.octets s.1.head s.1.rdata
 
 pub no_minimum : (origin : List (List ℕ)) (before : List Entry) (entry : Entry) → ((n : ℕ) → StatesMinimum origin before entry n → ⊥) → ((n : ℕ) → IsLastMinimum origin before n → ⊥) → (n : ℕ) → IsLastMinimum origin (entry ∷ before) n → ⊥
@@ -72,7 +72,7 @@ ttl_or_not lower choices origin before entry head octets states has rdata =
 -- ---- a record, from its last step to its first
 
 abbrev pub Outcome : List (List ℕ) → List Entry → Entry → Type 0
-Outcome origin before entry = StatesNothing origin before (form_of entry) ⊎ (((r : Record) × StatesRecord origin before entry r) ⊎ ((fault : Fault) × EntryFault origin before entry fault))
+Outcome origin before entry = StatesNothing origin before (statement_of entry) ⊎ (((r : Record) × EntryStates origin before entry r) ⊎ ((fault : Fault) × EntryFault origin before entry fault))
 
 from_ttl : Choices → (origin : List (List ℕ)) (before : List Entry) (entry : Entry) (head : Head) (octets : List ℕ) → IsName head.owner → IsClass head.class → HasHead origin before entry head → StatesData origin before head octets → Choice (HasTtl origin before entry) → Outcome origin before entry
 from_ttl choices origin before entry head octets name class has rdata (inr no_ttl) = inr (inr (NoTtl, of_ttl head octets has rdata (none no_ttl)))
@@ -109,7 +109,7 @@ kind_or_fault : Choices → (rest : List RawItem) → AreOctetItems rest → Kin
 kind_or_fault choices (bare text ∷ items) low = kind_by text items low.1 (choices.kind text)
 kind_or_fault choices rest low = inr (UnknownType, refl)
 
-from_kind : Lower → Choices → (origin : List (List ℕ)) (before : List Entry) (entry : Entry) (parts : Parts) (owner : List (List ℕ)) → IsName origin → AllState origin before → parts_of entry ≡ Some parts → IsOwner origin before (form_of entry) owner → IsName owner → AllByRecursion HasValue parts.words → KindChoice parts.rest → Outcome origin before entry
+from_kind : Lower → Choices → (origin : List (List ℕ)) (before : List Entry) (entry : Entry) (parts : Parts) (owner : List (List ℕ)) → IsName origin → AllState origin before → parts_of entry ≡ Some parts → IsOwner origin before (statement_of entry) owner → IsName owner → AllByRecursion HasValue parts.words → KindChoice parts.rest → Outcome origin before entry
 from_kind lower choices origin before entry parts owner is states split owns name words (inr bad) = inr (inr (bad.0, of_kind owner parts owns split words bad.1))
 from_kind lower choices origin before entry parts owner is states split owns name words (inl found) =
     let word = found.0 in
@@ -122,14 +122,14 @@ from_kind lower choices origin before entry parts owner is states split owns nam
     let has : HasHead origin before entry head = record { parts = parts; word = word; split = split; owner = owns; words = words; class = number.1.0; rest = facts.0; named = facts.1.1.0; kind = facts.1.1.1 } in
     from_rdata lower choices origin before entry head above.0 states name number.1.1 has above.1.0 (choices.rdata above.0 number.0 kind items above.1.1 facts.1.0)
 
-from_words : Lower → Choices → (origin : List (List ℕ)) (before : List Entry) (entry : Entry) (parts : Parts) (owner : List (List ℕ)) → IsName origin → AllState origin before → parts_of entry ≡ Some parts → AreOctetItems parts.rest → IsOwner origin before (form_of entry) owner → IsName owner → AllByRecursion HasValue parts.words ⊎ ((fault : Fault) × WordsFault parts.words fault) → Outcome origin before entry
+from_words : Lower → Choices → (origin : List (List ℕ)) (before : List Entry) (entry : Entry) (parts : Parts) (owner : List (List ℕ)) → IsName origin → AllState origin before → parts_of entry ≡ Some parts → AreOctetItems parts.rest → IsOwner origin before (statement_of entry) owner → IsName owner → AllByRecursion HasValue parts.words ⊎ ((fault : Fault) × WordsFault parts.words fault) → Outcome origin before entry
 from_words lower choices origin before entry parts owner is states split low owns name (inr bad) = inr (inr (bad.0, of_words owner parts owns split bad.1))
 from_words lower choices origin before entry parts owner is states split low owns name (inl words) = from_kind lower choices origin before entry parts owner is states split owns name words (kind_or_fault choices parts.rest low)
 
-abbrev OwnerOutcome : List (List ℕ) → List Entry → EntryForm → Type 0
+abbrev OwnerOutcome : List (List ℕ) → List Entry → Statement → Type 0
 OwnerOutcome origin before form = ((owner : List (List ℕ)) × (IsOwner origin before form owner × IsName owner)) ⊎ ((fault : Fault) × OwnerFault origin before form fault)
 
-from_owner : Lower → Choices → (origin : List (List ℕ)) (before : List Entry) (entry : Entry) (parts : Parts) → IsName origin → AllState origin before → parts_of entry ≡ Some parts → AreGood parts → OwnerOutcome origin before (form_of entry) → Outcome origin before entry
+from_owner : Lower → Choices → (origin : List (List ℕ)) (before : List Entry) (entry : Entry) (parts : Parts) → IsName origin → AllState origin before → parts_of entry ≡ Some parts → AreGood parts → OwnerOutcome origin before (statement_of entry) → Outcome origin before entry
 from_owner lower choices origin before entry parts is states split good (inr bad) = inr (inr (bad.0, of_owner bad.1))
 from_owner lower choices origin before entry parts is states split good (inl found) = from_words lower choices origin before entry parts found.0 is states split good.low found.1.0 found.1.1 (words_or_fault lower choices parts.words good.known)
 
@@ -145,7 +145,7 @@ owned_outcome choices origin before (quoted text) items is states low = inr (NoO
 
 -- ---- directives
 
-abbrev DirectiveChoice : List (List ℕ) → List Entry → EntryForm → Type 0
+abbrev DirectiveChoice : List (List ℕ) → List Entry → Statement → Type 0
 DirectiveChoice origin before form = StatesNothing origin before form ⊎ ((fault : Fault) × DirectiveFault origin before form fault)
 
 origin_text_by : (origin : List (List ℕ)) (before : List Entry) (text : List ℕ) → NameChoice origin before text → DirectiveChoice origin before (sets_origin (bare text ∷ []))
@@ -164,14 +164,14 @@ default_or_fault : Lower → Choices → (origin : List (List ℕ)) (before : Li
 default_or_fault lower choices origin before (bare text ∷ []) = default_by origin before text (ttl_word_by lower text (choices.time text))
 default_or_fault lower choices origin before items = inr (BadDirective, refl)
 
-directive_outcome : (origin : List (List ℕ)) (before : List Entry) (entry : Entry) → DirectiveChoice origin before (form_of entry) → Outcome origin before entry
+directive_outcome : (origin : List (List ℕ)) (before : List Entry) (entry : Entry) → DirectiveChoice origin before (statement_of entry) → Outcome origin before entry
 directive_outcome origin before entry (inl n) = inl n
 directive_outcome origin before entry (inr bad) = inr (inr (bad.0, of_directive bad.1))
 
 -- ---- the form
 
 -- the items of a form
-abbrev LowForm : EntryForm → Type 0
+abbrev LowForm : Statement → Type 0
 LowForm no_items = Unit {0}
 LowForm (sets_origin items) = AreOctetItems items
 LowForm (sets_ttl items) = AreOctetItems items
@@ -180,7 +180,7 @@ LowForm unknown = Unit {0}
 LowForm (owned owner items) = AreOctetItems (owner ∷ items)
 LowForm (unowned items) = AreOctetItems items
 
-outcome_by : Lower → Choices → (origin : List (List ℕ)) (before : List Entry) (entry : Entry) (form : EntryForm) → form_of entry ≡ form → IsName origin → AllState origin before → LowForm form → Outcome origin before entry
+outcome_by : Lower → Choices → (origin : List (List ℕ)) (before : List Entry) (entry : Entry) (form : Statement) → statement_of entry ≡ form → IsName origin → AllState origin before → LowForm form → Outcome origin before entry
 outcome_by lower choices origin before entry no_items e is states low = directive_outcome origin before entry (subst (DirectiveChoice origin before) (sym e) (inl tt))
 outcome_by lower choices origin before entry (sets_origin items) e is states low = directive_outcome origin before entry (subst (DirectiveChoice origin before) (sym e) (origin_or_fault choices origin before items is states low))
 outcome_by lower choices origin before entry (sets_ttl items) e is states low = directive_outcome origin before entry (subst (DirectiveChoice origin before) (sym e) (default_or_fault lower choices origin before items))
@@ -205,10 +205,10 @@ low_first true b item items low = low_directive item items low.1
 low_first false true item items low = low
 low_first false false item items low = low
 
-low_form : (first : Option ℕ) (items : List RawItem) → AreOctetItems items → LowForm (form_by first items)
+low_form : (first : Option ℕ) (items : List RawItem) → AreOctetItems items → LowForm (statement_by first items)
 low_form first [] low = tt
 low_form None (item ∷ items) low = low
 low_form (Some c) (item ∷ items) low = low_first (c == 36) (is_blank c) item items low
 
 pub entry_outcome : Lower → Choices → (origin : List (List ℕ)) (before : List Entry) (entry : Entry) → IsName origin → AllState origin before → AreOctetItems entry.items → Outcome origin before entry
-entry_outcome lower choices origin before entry is states low = outcome_by lower choices origin before entry (form_of entry) refl is states (low_form entry.first entry.items low)
+entry_outcome lower choices origin before entry is states low = outcome_by lower choices origin before entry (statement_of entry) refl is states (low_form entry.first entry.items low)

@@ -17,7 +17,7 @@ use Rattle.zone_text.specs.Defaults.{AreDefaults}
 use Rattle.zone_text.specs.EntryFault.{EntryFault}
 use Rattle.zone_text.specs.File.{states_none, states_one}
 use Rattle.zone_text.specs.FileReads.{stated, refused}
-use Rattle.zone_text.specs.Machine.EntryReading.{DecidesEntry, Refuses, decides_fault, decides_none, decides_one}
+use Rattle.zone_text.specs.Machine.EntryReading.{DecidesEntry, DecidesFault, decides_fault, decides_none, decides_one}
 use Rattle.zone_text.specs.Machine.Feeding.{ReadsEntry, ReadsOctets}
 use Rattle.zone_text.specs.Tokens.{Token, Cuts, text}
 use Rattle.zone_text.proofs.Left.{line_feeds}
@@ -39,27 +39,27 @@ lines_after octets old new n count few line = record {
 }
 
 line_of : (octets : List ℕ) (old new : EndedEntries) (tokens : List Token) → IsLineAfter octets old new → Cuts octets tokens → new.line ≡ old.line + line_feeds (text tokens)
-line_of octets old new tokens behind cut = behind.count ∙ ap (λ t. old.line + line_feeds t) cut.whole
+line_of octets old new tokens after cut = after.count ∙ ap (λ t. old.line + line_feeds t) cut.whole
 
 -- what an entry decides is what is read of it
 entry_read : (origin : Labels) (before : List Entry) (tokens : List Token) (octets : List ℕ) (old new : EndedEntries) → old.decided.ending ≡ None → IsLineAfter octets old new → Cuts octets tokens → DecidesEntry origin before (entry_of old.line tokens) (Line old.line) old.decided new.decided new.defaults → ReadsEntry origin before tokens old new
-entry_read origin before tokens octets old new none behind cut (decides_none leaves same) = record {
+entry_read origin before tokens octets old new none after cut (decides_none leaves same) = record {
   others = [];
   read = stated (states_none leaves.0 (refl, ap (λ d. d.ending) same ∙ none));
   records = ap (λ d. d.placed) same ∙ sym (append-nil old.decided.placed);
   defaults = λ _. leaves.1;
-  line = λ _. line_of octets old new tokens behind cut;
+  line = λ _. line_of octets old new tokens after cut;
 }
-entry_read origin before tokens octets old new none behind cut (decides_one r states are more same) =
+entry_read origin before tokens octets old new none after cut (decides_one r states are more same) =
     let p : Placed = record { rr = r; place = Line old.line } in
     record {
       others = p ∷ [];
       read = stated (states_one p [] states refl refl (refl, same ∙ none));
       records = more;
       defaults = λ _. are;
-      line = λ _. line_of octets old new tokens behind cut;
+      line = λ _. line_of octets old new tokens after cut;
     }
-entry_read origin before tokens octets old new none behind cut (decides_fault fault bad same ending) = record {
+entry_read origin before tokens octets old new none after cut (decides_fault fault bad same ending) = record {
   others = [];
   read = refused fault bad refl ending;
   records = same ∙ sym (append-nil old.decided.placed);
@@ -68,14 +68,14 @@ entry_read origin before tokens octets old new none behind cut (decides_fault fa
 }
 
 pub takes_entry : (octets : List ℕ) (old new : EndedEntries) → DecidesOctets octets (Line old.line) old.defaults old.decided new.decided new.defaults → old.decided.ending ≡ None → IsLineAfter octets old new → ReadsOctets octets old new
-takes_entry octets old new decides none behind = record {
-  reads = λ origin before tokens are cut. entry_read origin before tokens octets old new none behind cut (decides origin before old.line tokens are cut);
-  later = omega (arith, behind.count);
-  near = omega (arith, behind.count, behind.few);
+takes_entry octets old new decides none after = record {
+  reads = λ origin before tokens are cut. entry_read origin before tokens octets old new none after cut (decides origin before old.line tokens are cut);
+  later = omega (arith, after.count);
+  near = omega (arith, after.count, after.few);
 }
 
 -- what is refused decides its fault
-pub refused_entry : {T E : Type 0} (result : Result T E) (origin : Labels) (before : List Entry) (entry : Entry) (place : Place) (old new : PendingRecords) (next : Defaults) (failing : Failing) → IfFault (EntryFault origin before entry) failing → OnOk result (Refuses failing place old new) → OnOk result (DecidesEntry origin before entry place old new next)
+pub refused_entry : {T E : Type 0} (result : Result T E) (origin : Labels) (before : List Entry) (entry : Entry) (place : Place) (old new : PendingRecords) (next : Defaults) (failing : Failing) → IfFault (EntryFault origin before entry) failing → OnOk result (DecidesFault failing place old new) → OnOk result (DecidesEntry origin before entry place old new next)
 refused_entry (Ok x) origin before entry place old new next (failings.Fault fault) bad refuses = decides_fault fault bad refuses.0 refuses.1
 refused_entry (Ok x) origin before entry place old new next failings.Memory bad refuses = absurd refuses
 refused_entry (Err e) origin before entry place old new next failing bad refuses = tt

@@ -47,15 +47,15 @@ after_other x more nx none = elim (cases_eq x 10) as (λ s. Malformed (92 ∷ x 
   ]
 ]
 
-behind : (more : List ℕ) → NoneWritten (92 ∷ more) → Malformed (92 ∷ more)
-behind [] none = inr (after_backslash refl)
-behind (x ∷ more) none = elim (cases_Bool (is_digit x)) as (λ s. Malformed (92 ∷ x ∷ more)) [
+malformed_after : (more : List ℕ) → NoneWritten (92 ∷ more) → Malformed (92 ∷ more)
+malformed_after [] none = inr (after_backslash refl)
+malformed_after (x ∷ more) none = elim (cases_Bool (is_digit x)) as (λ s. Malformed (92 ∷ x ∷ more)) [
   | inl dx ↦ after_one x more dx none
   | inr nx ↦ after_other x more nx none
 ]
 
 pub bad_is_malformed : (rest : List ℕ) → IsBadEscape rest → IsLostEscape rest ⊎ IsCutOff rest
-bad_is_malformed rest bad = subst Malformed (sym bad.1) (behind bad.0 (λ w after written e. bad.2 w after written (bad.1 ∙ e)))
+bad_is_malformed rest bad = subst Malformed (sym bad.1) (malformed_after bad.0 (λ w after written e. bad.2 w after written (bad.1 ∙ e)))
 
 cut_off_is_bad : (rest : List ℕ) → IsCutOff rest → IsBadEscape rest
 cut_off_is_bad rest (after_backslash e) = subst IsBadEscape (sym e) ([], refl, octets.bare_backslash)

@@ -2,7 +2,7 @@
 use Rattle.std.proofs.Common.{false, ◌≡◌, ◌≢◌, ℕ, ◌≤◌, List, [], ◌∷◌, codes, Some, refl, sym, ap, ◌∙◌, arith, subst, true, inr, lit<, lit≤}
 use Rattle.std.specs.List.{AllByRecursion}
 use Rattle.zone_name.specs.Name.{IsName, folded_octet, labels_of, wire}
-use Rattle.zone_name.specs.Spelling.{plain, at_origin, absolute, relative, Spells, FirstFault, within, empty_label, is_dot}
+use Rattle.zone_name.specs.Spelling.{plain, at_origin, absolute, relative, Spells, SpellingFault, within, empty_label, is_dot}
 use Rattle.zone_name.specs.declared.fault.NameFault.TheVariants.{EmptyLabel}
 use Rattle.zone_rdata.specs.declared.field.Field.TheVariants.{Name}
 use Rattle.zone_rdata.specs.Field.{name}
@@ -14,9 +14,9 @@ use Rattle.zone_rdata.specs.Minimum.{minimum}
 use Rattle.zone_rdata.specs.Words.{IsClass, IsClassWord, by_mnemonic, by_number, IsKind, IsKindWord, IsWordFault, beyond, for_queries}
 use Rattle.zone_rdata.specs.declared.fault.Fault.TheVariants.{UnknownType, MetaType}
 use Rattle.zone_text.specs.Entries.{Entry}
-use Rattle.zone_text.specs.Forms.{Parts, parts_of, form_of, Word, begins_with_digit}
+use Rattle.zone_text.specs.Forms.{Parts, parts_of, statement_of, Word, begins_with_digit}
 use Rattle.zone_text.specs.Inherited.{IsOrigin, IsOwner, HasClass, IsTtl}
-use Rattle.zone_text.specs.Records.{HasValue, HasTtl, StatesRecord, StatesMinimum}
+use Rattle.zone_text.specs.Records.{HasValue, HasTtl, EntryStates, StatesMinimum}
 use Rattle.zone_text.specs.ExampleEntries.{x, under, ns}
 use Rattle.zone_text.proofs.ClassWords.{time_first}
 
@@ -99,7 +99,7 @@ ns_fits owner class ttl good is short = record {
 }
 
 -- an entry of `NS` and a text for `n.x.`, after words and an owner
-pub states_server_by : (text : List ℕ) (origin : List (List ℕ)) (before : List Entry) (entry : Entry) (owner above : List (List ℕ)) (class ttl : ℕ) (words : List Word) → text ≢ codes "\\#" → Spells (Some above) text (under 110 x) → parts_of entry ≡ Some (record { words = words; rest = bare (codes "NS") ∷ bare text ∷ [] }) → IsOwner origin before (form_of entry) owner → AllByRecursion HasValue words → HasClass before entry class → IsOrigin origin before above → HasTtl origin before entry ttl → IsName owner → IsClass class → ttl ≤ 2147483647 → StatesRecord origin before entry (ns owner class ttl)
+pub states_server_by : (text : List ℕ) (origin : List (List ℕ)) (before : List Entry) (entry : Entry) (owner above : List (List ℕ)) (class ttl : ℕ) (words : List Word) → text ≢ codes "\\#" → Spells (Some above) text (under 110 x) → parts_of entry ≡ Some (record { words = words; rest = bare (codes "NS") ∷ bare text ∷ [] }) → IsOwner origin before (statement_of entry) owner → AllByRecursion HasValue words → HasClass before entry class → IsOrigin origin before above → HasTtl origin before entry ttl → IsName owner → IsClass class → ttl ≤ 2147483647 → EntryStates origin before entry (ns owner class ttl)
 states_server_by text origin before entry owner above class ttl words not_mark spells split owns values has under_it lasts good is short = record {
   items = bare text ∷ [];
   head = record {
@@ -118,7 +118,7 @@ states_server_by text origin before entry owner above class ttl words not_mark s
   fits = ns_fits owner class ttl good is short;
 }
 
-pub states_ns : (origin : List (List ℕ)) (before : List Entry) (entry : Entry) (owner above : List (List ℕ)) (class ttl : ℕ) (words : List Word) → parts_of entry ≡ Some (record { words = words; rest = bare (codes "NS") ∷ bare (codes "n.x.") ∷ [] }) → IsOwner origin before (form_of entry) owner → AllByRecursion HasValue words → HasClass before entry class → IsOrigin origin before above → HasTtl origin before entry ttl → IsName owner → IsClass class → ttl ≤ 2147483647 → StatesRecord origin before entry (ns owner class ttl)
+pub states_ns : (origin : List (List ℕ)) (before : List Entry) (entry : Entry) (owner above : List (List ℕ)) (class ttl : ℕ) (words : List Word) → parts_of entry ≡ Some (record { words = words; rest = bare (codes "NS") ∷ bare (codes "n.x.") ∷ [] }) → IsOwner origin before (statement_of entry) owner → AllByRecursion HasValue words → HasClass before entry class → IsOrigin origin before above → HasTtl origin before entry ttl → IsName owner → IsClass class → ttl ≤ 2147483647 → EntryStates origin before entry (ns owner class ttl)
 states_ns origin before entry owner above class ttl words = states_server_by (codes "n.x.") origin before entry owner above class ttl words (λ e. absurd (let t : ⊥ = cc in t)) (n_spells above)
 
 pub long_time : IsTime (codes "2147483648") 2147483648
@@ -136,7 +136,7 @@ pub no_digit : (seconds : ℕ) → IsTtl (codes "x") seconds → ⊥
 no_digit seconds is = let first : begins_with_digit (codes "x") ≡ true = time_first (codes "x") seconds is.time in absurd (let t : ⊥ = cc in t)
 
 -- `a..b` has an empty label
-pub empty_label_between : FirstFault (Some x) (codes "a..b") EmptyLabel
+pub empty_label_between : SpellingFault (Some x) (codes "a..b") EmptyLabel
 empty_label_between = within EmptyLabel (empty_label ((plain 97 ∷ []) ∷ []) (codes ".b") (record { labels = (record { some = lit< tt; each = ((refl, omega arith), tt) }, tt); short = (lit≤ tt, tt); octets = tt; room = lit≤ tt; parts = refl }) (inr (codes "b", refl)) (λ e. absurd (let t : ⊥ = cc in t)) (λ e. absurd (let t : ⊥ = cc in t)))
 
 pub class_zero_word : IsClassWord (codes "CLASS0") 0

@@ -13,9 +13,9 @@ use Rattle.zone_rdata.specs.Fields.Address.{of_ipv4}
 use Rattle.zone_rdata.specs.Spelling.{RawItem, bare, States, in_words}
 use Rattle.zone_rdata.specs.Words.{IsKind, IsKindWord, by_mnemonic}
 use Rattle.zone_text.specs.Entries.{Entry}
-use Rattle.zone_text.specs.Forms.{parts_of, form_of, Word}
+use Rattle.zone_text.specs.Forms.{parts_of, statement_of, Word}
 use Rattle.zone_text.specs.Inherited.{IsOrigin, IsOwner, HasClass}
-use Rattle.zone_text.specs.Records.{HasValue, HasHead, HasTtl, StatesRecord, StatesMinimum}
+use Rattle.zone_text.specs.Records.{HasValue, HasHead, HasTtl, EntryStates, StatesMinimum}
 use Rattle.zone_text.specs.ExampleEntries.{x, under, ns, soa, address}
 use Rattle.zone_text.proofs.ExampleFacts.{x_name, n_name, in_class, one_octet, states_server_by}
 
@@ -69,7 +69,7 @@ soa_fits ttl short = record {
 }
 
 -- the entry's head, by its words, its owner and its class
-pub soa_head : (text : List ℕ) (before : List Entry) (entry : Entry) (words : List Word) → parts_of entry ≡ Some (record { words = words; rest = bare (codes "SOA") ∷ soa_items text }) → IsOwner x before (form_of entry) x → AllByRecursion HasValue words → HasClass before entry 1 → HasHead x before entry (record { owner = x; class = 1; kind = 6; items = soa_items text })
+pub soa_head : (text : List ℕ) (before : List Entry) (entry : Entry) (words : List Word) → parts_of entry ≡ Some (record { words = words; rest = bare (codes "SOA") ∷ soa_items text }) → IsOwner x before (statement_of entry) x → AllByRecursion HasValue words → HasClass before entry 1 → HasHead x before entry (record { owner = x; class = 1; kind = 6; items = soa_items text })
 soa_head text before entry words split owns values has = record {
   parts = record { words = words; rest = bare (codes "SOA") ∷ soa_items text };
   word = codes "SOA";
@@ -83,7 +83,7 @@ soa_head text before entry words split owns values has = record {
 }
 
 -- an entry of this SOA with the MINIMUM 5
-pub states_soa : (before : List Entry) (entry : Entry) (ttl : ℕ) (words : List Word) → parts_of entry ≡ Some (record { words = words; rest = bare (codes "SOA") ∷ soa_items (codes "5") }) → IsOwner x before (form_of entry) x → AllByRecursion HasValue words → HasClass before entry 1 → IsOrigin x before x → HasTtl x before entry ttl → ttl ≤ 2147483647 → StatesRecord x before entry (soa ttl)
+pub states_soa : (before : List Entry) (entry : Entry) (ttl : ℕ) (words : List Word) → parts_of entry ≡ Some (record { words = words; rest = bare (codes "SOA") ∷ soa_items (codes "5") }) → IsOwner x before (statement_of entry) x → AllByRecursion HasValue words → HasClass before entry 1 → IsOrigin x before x → HasTtl x before entry ttl → ttl ≤ 2147483647 → EntryStates x before entry (soa ttl)
 states_soa before entry ttl words split owns values has under_it lasts short = record {
   items = soa_items (codes "5");
   head = soa_head (codes "5") before entry words split owns values has;
@@ -93,7 +93,7 @@ states_soa before entry ttl words split owns values has under_it lasts short = r
 }
 
 -- an entry of this SOA has the MINIMUM that its last item spells
-pub states_minimum : (text : List ℕ) (last : ℕ) (before : List Entry) (entry : Entry) (words : List Word) → IsTime text last → last < 2 ^ 32 → minimum (record { class = 1; kind = 6; octets = octets_of (soa_values last) }) ≡ Some last → parts_of entry ≡ Some (record { words = words; rest = bare (codes "SOA") ∷ soa_items text }) → IsOwner x before (form_of entry) x → AllByRecursion HasValue words → HasClass before entry 1 → IsOrigin x before x → StatesMinimum x before entry last
+pub states_minimum : (text : List ℕ) (last : ℕ) (before : List Entry) (entry : Entry) (words : List Word) → IsTime text last → last < 2 ^ 32 → minimum (record { class = 1; kind = 6; octets = octets_of (soa_values last) }) ≡ Some last → parts_of entry ≡ Some (record { words = words; rest = bare (codes "SOA") ∷ soa_items text }) → IsOwner x before (statement_of entry) x → AllByRecursion HasValue words → HasClass before entry 1 → IsOrigin x before x → StatesMinimum x before entry last
 states_minimum text last before entry words time short field split owns values has under_it = record {
   head = record { owner = x; class = 1; kind = 6; items = soa_items text };
   octets = octets_of (soa_values last);
@@ -111,7 +111,7 @@ unfolding labels_of
 minimum_too_long = refl
 
 -- an entry of the items `NS n`
-pub states_ns_below : (before : List Entry) (entry : Entry) (ttl : ℕ) (words : List Word) → parts_of entry ≡ Some (record { words = words; rest = bare (codes "NS") ∷ bare (codes "n") ∷ [] }) → IsOwner x before (form_of entry) x → AllByRecursion HasValue words → HasClass before entry 1 → IsOrigin x before x → HasTtl x before entry ttl → ttl ≤ 2147483647 → StatesRecord x before entry (ns x 1 ttl)
+pub states_ns_below : (before : List Entry) (entry : Entry) (ttl : ℕ) (words : List Word) → parts_of entry ≡ Some (record { words = words; rest = bare (codes "NS") ∷ bare (codes "n") ∷ [] }) → IsOwner x before (statement_of entry) x → AllByRecursion HasValue words → HasClass before entry 1 → IsOrigin x before x → HasTtl x before entry ttl → ttl ≤ 2147483647 → EntryStates x before entry (ns x 1 ttl)
 states_ns_below before entry ttl words split owns values has under_it lasts short = states_server_by (codes "n") x before entry x x 1 ttl words (λ e. absurd (let t : ⊥ = cc in t)) n_spells split owns values has under_it lasts x_name in_class short
 
 pub sixty_one : IsTime (codes "61") 61
@@ -158,7 +158,7 @@ address_fits owner ttl good short = record {
 }
 
 -- an entry of the items `A 10.0.0.1` after words and an owner
-pub states_address : (before : List Entry) (entry : Entry) (owner : List (List ℕ)) (ttl : ℕ) (words : List Word) → parts_of entry ≡ Some (record { words = words; rest = bare (codes "A") ∷ bare (codes "10.0.0.1") ∷ [] }) → IsOwner x before (form_of entry) owner → AllByRecursion HasValue words → HasClass before entry 1 → IsOrigin x before x → HasTtl x before entry ttl → IsName owner → ttl ≤ 2147483647 → StatesRecord x before entry (address owner ttl)
+pub states_address : (before : List Entry) (entry : Entry) (owner : List (List ℕ)) (ttl : ℕ) (words : List Word) → parts_of entry ≡ Some (record { words = words; rest = bare (codes "A") ∷ bare (codes "10.0.0.1") ∷ [] }) → IsOwner x before (statement_of entry) owner → AllByRecursion HasValue words → HasClass before entry 1 → IsOrigin x before x → HasTtl x before entry ttl → IsName owner → ttl ≤ 2147483647 → EntryStates x before entry (address owner ttl)
 states_address before entry owner ttl words split owns values has under_it lasts good short = record {
   items = bare (codes "10.0.0.1") ∷ [];
   head = record {

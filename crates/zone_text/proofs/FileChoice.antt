@@ -10,7 +10,7 @@ use Rattle.zone_rdata.specs.declared.fault.Place.TheVariants.{Line}
 use Rattle.zone_rdata.specs.declared.record.Placed.{Placed}
 use Rattle.zone_name.specs.Spelling.{written_text}
 use Rattle.zone_text.specs.Breaks.{Breaks}
-use Rattle.zone_text.specs.Decided.{Decided, decided, undecided}
+use Rattle.zone_text.specs.Decided.{FileDecides, decided, undecided}
 use Rattle.zone_text.specs.Entries.{Entry, Cut, and_last, cut_from, item_of, numbered, entries_of, ended_entries, open_line}
 use Rattle.zone_text.specs.FileReads.{ReadEach, FileReads, whole, broken, Ending, stated, refused}
 use Rattle.zone_text.specs.File.{states_none, states_one}
@@ -62,30 +62,30 @@ low_ended_of tokens low =
 -- ---- entries are read one after the other
 
 abbrev Readings : List (List ℕ) → Ending → List Entry → List Entry → Type 0
-Readings origin behind before entries = (placed : List Placed) × ((ending : Ending) × ReadEach origin behind before entries placed ending)
+Readings origin after before entries = (placed : List Placed) × ((ending : Ending) × ReadEach origin after before entries placed ending)
 
-next_reading : (origin : List (List ℕ)) (behind : Ending) (before : List Entry) (entry : Entry) (entries : List Entry) → AllState origin before → Outcome origin before entry → (AllState origin (entry ∷ before) → Readings origin behind (entry ∷ before) entries) → Readings origin behind before (entry ∷ entries)
-next_reading origin behind before entry entries states (inl n) goes =
+next_reading : (origin : List (List ℕ)) (after : Ending) (before : List Entry) (entry : Entry) (entries : List Entry) → AllState origin before → Outcome origin before entry → (AllState origin (entry ∷ before) → Readings origin after (entry ∷ before) entries) → Readings origin after before (entry ∷ entries)
+next_reading origin after before entry entries states (inl n) goes =
     let rest = goes (inl n, states) in
     (rest.0, (rest.1.0, stated (states_none n rest.1.1)))
-next_reading origin behind before entry entries states (inr (inl found)) goes =
+next_reading origin after before entry entries states (inr (inl found)) goes =
     let rest = goes (inr found, states) in
     let p : Placed = record { rr = found.0; place = Line entry.line } in
     (p ∷ rest.0, (rest.1.0, stated (states_one p rest.0 found.1 refl refl rest.1.1)))
-next_reading origin behind before entry entries states (inr (inr bad)) goes = ([], (Some (bad.0, Line entry.line), refused bad.0 bad.1 refl refl))
+next_reading origin after before entry entries states (inr (inr bad)) goes = ([], (Some (bad.0, Line entry.line), refused bad.0 bad.1 refl refl))
 
-readings : Lower → Choices → (origin : List (List ℕ)) → IsName origin → (behind : Ending) (entries before : List Entry) → AllState origin before → AreLowEntries entries → Readings origin behind before entries
-readings lower choices origin is behind [] before states low = ([], (behind, (refl, refl)))
-readings lower choices origin is behind (entry ∷ entries) before states low =
-    next_reading origin behind before entry entries states (entry_outcome lower choices origin before entry is states low.0) (λ more. readings lower choices origin is behind entries (entry ∷ before) more low.1)
+readings : Lower → Choices → (origin : List (List ℕ)) → IsName origin → (after : Ending) (entries before : List Entry) → AllState origin before → AreLowEntries entries → Readings origin after before entries
+readings lower choices origin is after [] before states low = ([], (after, (refl, refl)))
+readings lower choices origin is after (entry ∷ entries) before states low =
+    next_reading origin after before entry entries states (entry_outcome lower choices origin before entry is states low.0) (λ more. readings lower choices origin is after entries (entry ∷ before) more low.1)
 
 file_by : Lower → Choices → (origin : List (List ℕ)) (octets : List ℕ) → IsName origin → AreLow octets → ((tokens : List Token) × Cuts octets tokens) ⊎ ((tokens : List Token) × (fault : Fault) × Breaks octets tokens fault) → (placed : List Placed) × ((ending : Ending) × FileReads origin octets placed ending)
 file_by lower choices origin octets is low (inl cut) =
     let found = readings lower choices origin is None (entries_of cut.0) [] tt (low_of cut.0 (subst AreLow cut.1.whole low)) in
     (found.0, (found.1.0, whole cut.0 cut.1 found.1.1))
 file_by lower choices origin octets is low (inr bad) =
-    let behind : Ending = Some (bad.1, Line (open_line bad.0)) in
-    let found = readings lower choices origin is behind (ended_entries bad.0) [] tt (low_ended_of bad.0 (AllByRecursion-front _ (text bad.0) bad.2.rest (subst AreLow bad.2.whole low))) in
+    let after : Ending = Some (bad.1, Line (open_line bad.0)) in
+    let found = readings lower choices origin is after (ended_entries bad.0) [] tt (low_ended_of bad.0 (AllByRecursion-front _ (text bad.0) bad.2.rest (subst AreLow bad.2.whole low))) in
     (found.0, (found.1.0, broken bad.0 bad.1 bad.2 found.1.1))
 
 pub file_reads : Lower → Choices → (origin : List (List ℕ)) (octets : List ℕ) → IsName origin → AllByRecursion (λ c. c < 256) octets → (placed : List Placed) × ((ending : Ending) × FileReads origin octets placed ending)
@@ -93,7 +93,7 @@ file_reads lower choices origin octets is low = file_by lower choices origin oct
 
 -- ---- something is decided of a prefix
 
-broken_by : Lower → Choices → (origin : List (List ℕ)) (octets : List ℕ) → IsName origin → (tokens : List Token) (fault : Fault) (breaks : Breaks octets tokens fault) → AreLowEntries (ended_entries tokens) → StaysBroken breaks.rest ⊎ BreaksAtEnd breaks.rest → (placed : List Placed) × ((ending : Ending) × Decided origin octets placed ending)
+broken_by : Lower → Choices → (origin : List (List ℕ)) (octets : List ℕ) → IsName origin → (tokens : List Token) (fault : Fault) (breaks : Breaks octets tokens fault) → AreLowEntries (ended_entries tokens) → StaysBroken breaks.rest ⊎ BreaksAtEnd breaks.rest → (placed : List Placed) × ((ending : Ending) × FileDecides origin octets placed ending)
 broken_by lower choices origin octets is tokens fault breaks low (inl stays) =
     let found = readings lower choices origin is (Some (fault, Line (open_line tokens))) (ended_entries tokens) [] tt low in
     (found.0, (found.1.0, decided tokens fault (record { breaks = breaks; stays = stays }) found.1.1))
@@ -101,12 +101,12 @@ broken_by lower choices origin octets is tokens fault breaks low (inr ends) =
     let found = readings lower choices origin is None (ended_entries tokens) [] tt low in
     (found.0, (found.1.0, undecided tokens (inr (fault, breaks)) (ends_not_for_good octets tokens breaks.rest breaks.whole ends) found.1.1))
 
-decided_by : Lower → Choices → (origin : List (List ℕ)) (octets : List ℕ) → IsName origin → AreLow octets → ((tokens : List Token) × Cuts octets tokens) ⊎ ((tokens : List Token) × (fault : Fault) × Breaks octets tokens fault) → (placed : List Placed) × ((ending : Ending) × Decided origin octets placed ending)
+decided_by : Lower → Choices → (origin : List (List ℕ)) (octets : List ℕ) → IsName origin → AreLow octets → ((tokens : List Token) × Cuts octets tokens) ⊎ ((tokens : List Token) × (fault : Fault) × Breaks octets tokens fault) → (placed : List Placed) × ((ending : Ending) × FileDecides origin octets placed ending)
 decided_by lower choices origin octets is low (inl cut) =
     let found = readings lower choices origin is None (ended_entries cut.0) [] tt (low_ended_of cut.0 (subst AreLow cut.1.whole low)) in
     (found.0, (found.1.0, undecided cut.0 (inl cut.1) (λ fault good. cut_not_broken octets cut.0 cut.0 fault cut.1 good.breaks) found.1.1))
 decided_by lower choices origin octets is low (inr bad) =
     broken_by lower choices origin octets is bad.0 bad.1 bad.2 (low_ended_of bad.0 (AllByRecursion-front _ (text bad.0) bad.2.rest (subst AreLow bad.2.whole low))) (break_stays_or_ends octets bad.0 bad.1 bad.2)
 
-pub file_is_decided : Lower → Choices → (origin : List (List ℕ)) (octets : List ℕ) → IsName origin → AllByRecursion (λ c. c < 256) octets → (placed : List Placed) × ((ending : Ending) × Decided origin octets placed ending)
+pub file_is_decided : Lower → Choices → (origin : List (List ℕ)) (octets : List ℕ) → IsName origin → AllByRecursion (λ c. c < 256) octets → (placed : List Placed) × ((ending : Ending) × FileDecides origin octets placed ending)
 file_is_decided lower choices origin octets is low = decided_by lower choices origin octets is low (cut_or_broken octets)

@@ -4,7 +4,7 @@ use Rattle.zone_rdata.specs.declared.fault.Fault.{Fault}
 use Rattle.zone_rdata.specs.declared.fault.Place.TheVariants.{Line}
 use Rattle.zone_rdata.specs.declared.record.Placed.{Placed}
 use Rattle.zone_text.specs.Entries.{Entry, entries_of, ended_entries, open_line}
-use Rattle.zone_text.specs.File.{StateEach, FileStates, states_none, states_one}
+use Rattle.zone_text.specs.File.{EntriesState, FileStates, states_none, states_one}
 use Rattle.zone_text.specs.FileReads.{ReadEach, FileReads, whole, broken, Ending, stated, refused}
 use Rattle.zone_text.specs.Machine.Lower.{Lower, Once}
 use Rattle.zone_text.proofs.Cuttings.{one_cut, one_break, cut_not_broken}
@@ -21,19 +21,19 @@ one_more p q a b more others rr place x y rest = let same : p ≡ q = same_place
 abbrev pub Both : List Placed → List Placed → Ending → Ending → Type 0
 Both a b e f = (a ≡ b) × (e ≡ f)
 
-pub reads_once : Lower → (origin : List (List ℕ)) (behind : Ending) (before entries : List Entry) (a b : List Placed) (e f : Ending) → ReadEach origin behind before entries a e → ReadEach origin behind before entries b f → Both a b e f
-reads_once lower origin behind before [] a b e f x y = (x.0 ∙ sym y.0, x.1 ∙ sym y.1)
-reads_once lower origin behind before (entry ∷ entries) a b e f (stated (states_none n xs)) (stated (states_none m ys)) = reads_once lower origin behind (entry ∷ before) entries a b e f xs ys
-reads_once lower origin behind before (entry ∷ entries) a b e f (stated (states_none n xs)) (stated (states_one q others r at w ys)) = absurd (nothing_or_record origin before entry q.rr n r)
-reads_once lower origin behind before (entry ∷ entries) a b e f (stated (states_none n xs)) (refused fault h u v) = absurd (nothing_or_fault lower origin before entry fault n h)
-reads_once lower origin behind before (entry ∷ entries) a b e f (stated (states_one p more r at w xs)) (stated (states_none m ys)) = absurd (nothing_or_record origin before entry p.rr m r)
-reads_once lower origin behind before (entry ∷ entries) a b e f (stated (states_one p more r at w xs)) (stated (states_one q others s place v ys)) =
-    let rest : Both more others e f = reads_once lower origin behind (entry ∷ before) entries more others e f xs ys in
+pub reads_once : Lower → (origin : List (List ℕ)) (after : Ending) (before entries : List Entry) (a b : List Placed) (e f : Ending) → ReadEach origin after before entries a e → ReadEach origin after before entries b f → Both a b e f
+reads_once lower origin after before [] a b e f x y = (x.0 ∙ sym y.0, x.1 ∙ sym y.1)
+reads_once lower origin after before (entry ∷ entries) a b e f (stated (states_none n xs)) (stated (states_none m ys)) = reads_once lower origin after (entry ∷ before) entries a b e f xs ys
+reads_once lower origin after before (entry ∷ entries) a b e f (stated (states_none n xs)) (stated (states_one q others r at w ys)) = absurd (nothing_or_record origin before entry q.rr n r)
+reads_once lower origin after before (entry ∷ entries) a b e f (stated (states_none n xs)) (refused fault h u v) = absurd (nothing_or_fault lower origin before entry fault n h)
+reads_once lower origin after before (entry ∷ entries) a b e f (stated (states_one p more r at w xs)) (stated (states_none m ys)) = absurd (nothing_or_record origin before entry p.rr m r)
+reads_once lower origin after before (entry ∷ entries) a b e f (stated (states_one p more r at w xs)) (stated (states_one q others s place v ys)) =
+    let rest : Both more others e f = reads_once lower origin after (entry ∷ before) entries more others e f xs ys in
     (one_more p q a b more others (record_once lower origin before entry p.rr q.rr r s) (at ∙ sym place) w v rest.0, rest.1)
-reads_once lower origin behind before (entry ∷ entries) a b e f (stated (states_one p more r at w xs)) (refused fault h u v) = absurd (record_or_fault lower origin before entry p.rr fault r h)
-reads_once lower origin behind before (entry ∷ entries) a b e f (refused fault h u v) (stated (states_none m ys)) = absurd (nothing_or_fault lower origin before entry fault m h)
-reads_once lower origin behind before (entry ∷ entries) a b e f (refused fault h u v) (stated (states_one q others s place w ys)) = absurd (record_or_fault lower origin before entry q.rr fault s h)
-reads_once lower origin behind before (entry ∷ entries) a b e f (refused fault h u v) (refused other k s t) =
+reads_once lower origin after before (entry ∷ entries) a b e f (stated (states_one p more r at w xs)) (refused fault h u v) = absurd (record_or_fault lower origin before entry p.rr fault r h)
+reads_once lower origin after before (entry ∷ entries) a b e f (refused fault h u v) (stated (states_none m ys)) = absurd (nothing_or_fault lower origin before entry fault m h)
+reads_once lower origin after before (entry ∷ entries) a b e f (refused fault h u v) (stated (states_one q others s place w ys)) = absurd (record_or_fault lower origin before entry q.rr fault s h)
+reads_once lower origin after before (entry ∷ entries) a b e f (refused fault h u v) (refused other k s t) =
     let same : fault ≡ other = fault_once lower origin before entry fault other h k in
     (u ∙ sym s, v ∙ (ap (λ (x : Fault). let o : Ending = Some (x, Line entry.line) in o) same ∙ sym t))
 
@@ -50,18 +50,18 @@ file_reads_once lower origin octets a b e f (broken ps fault breaks xs) (broken 
 
 -- what is stated is read with no fault, and the other way
 
-pub states_read : (origin : List (List ℕ)) (before entries : List Entry) (placed : List Placed) → StateEach origin before entries placed → ReadEach origin None before entries placed None
+pub states_read : (origin : List (List ℕ)) (before entries : List Entry) (placed : List Placed) → EntriesState origin before entries placed → ReadEach origin None before entries placed None
 states_read origin before [] placed x = (x, refl)
 states_read origin before (entry ∷ entries) placed (states_none n xs) = stated (states_none n (states_read origin (entry ∷ before) entries placed xs))
 states_read origin before (entry ∷ entries) placed (states_one p more r at e xs) = stated (states_one p more r at e (states_read origin (entry ∷ before) entries more xs))
 
-pub read_states : (origin : List (List ℕ)) (behind : Ending) (before entries : List Entry) (placed : List Placed) (ending : Ending) → ending ≡ None → ReadEach origin behind before entries placed ending → StateEach origin before entries placed × (behind ≡ None)
-read_states origin behind before [] placed ending e x = (x.0, sym x.1 ∙ e)
-read_states origin behind before (entry ∷ entries) placed ending e (stated (states_none n xs)) =
-    let rest = read_states origin behind (entry ∷ before) entries placed ending e xs in (states_none n rest.0, rest.1)
-read_states origin behind before (entry ∷ entries) placed ending e (stated (states_one p more r at w xs)) =
-    let rest = read_states origin behind (entry ∷ before) entries more ending e xs in (states_one p more r at w rest.0, rest.1)
-read_states origin behind before (entry ∷ entries) placed ending e (refused fault h u v) = absurd (let t : ⊥ = cc in t)
+pub read_states : (origin : List (List ℕ)) (after : Ending) (before entries : List Entry) (placed : List Placed) (ending : Ending) → ending ≡ None → ReadEach origin after before entries placed ending → EntriesState origin before entries placed × (after ≡ None)
+read_states origin after before [] placed ending e x = (x.0, sym x.1 ∙ e)
+read_states origin after before (entry ∷ entries) placed ending e (stated (states_none n xs)) =
+    let rest = read_states origin after (entry ∷ before) entries placed ending e xs in (states_none n rest.0, rest.1)
+read_states origin after before (entry ∷ entries) placed ending e (stated (states_one p more r at w xs)) =
+    let rest = read_states origin after (entry ∷ before) entries more ending e xs in (states_one p more r at w rest.0, rest.1)
+read_states origin after before (entry ∷ entries) placed ending e (refused fault h u v) = absurd (let t : ⊥ = cc in t)
 
 pub file_states_read : (origin : List (List ℕ)) (octets : List ℕ) (placed : List Placed) → FileStates origin octets placed → FileReads origin octets placed None
 file_states_read origin octets placed x = whole x.tokens x.cut (states_read origin [] (entries_of x.tokens) placed x.each)
@@ -69,8 +69,8 @@ file_states_read origin octets placed x = whole x.tokens x.cut (states_read orig
 pub file_reads_state : (origin : List (List ℕ)) (octets : List ℕ) (placed : List Placed) → FileReads origin octets placed None → FileStates origin octets placed
 file_reads_state origin octets placed (whole ps cut xs) = record { tokens = ps; cut = cut; each = (read_states origin None [] (entries_of ps) placed None refl xs).0 }
 file_reads_state origin octets placed (broken ps fault breaks xs) =
-    let behind : Ending = Some (fault, Line (open_line ps)) in
-    let none : behind ≡ None = (read_states origin behind [] (ended_entries ps) placed None refl xs).1 in
+    let after : Ending = Some (fault, Line (open_line ps)) in
+    let none : after ≡ None = (read_states origin after [] (ended_entries ps) placed None refl xs).1 in
     absurd (let t : ⊥ = cc in t)
 
 -- so a file states one list of records at most

@@ -19,7 +19,7 @@ use Rattle.zone_text.specs.Lasting.{BreaksForGood}
 use Rattle.zone_text.specs.Defaults.{AreDefaults}
 use Rattle.zone_text.specs.Entries.{Entry, cut_from, entry_of, numbered}
 use Rattle.zone_text.specs.FileReads.{ReadEach, FileReads, Ending}
-use Rattle.zone_text.specs.Decided.{Decided}
+use Rattle.zone_text.specs.Decided.{FileDecides}
 use Rattle.zone_text.specs.Machine.Scan.{beginning, further, end_fault_of, IsOneEntry}
 use Rattle.zone_text.specs.Machine.Feeding.{ReadsEntry, ReadsOctets, Follow, ScansTo}
 use Rattle.zone_text.specs.Source.{Leave}
@@ -40,7 +40,7 @@ pub record IsRead (origin : Labels) (ended : List (List Token)) (entries : Ended
 pub is_read : (origin : Labels) (entries : EndedEntries) (unfinished fed : List ℕ) (given : List Placed) → entries.decided.ending ≡ None → Follow origin entries unfinished fed given → (ended : List (List Token)) × IsRead origin ended entries unfinished fed given
 is_read origin entries unfinished fed given none follow =
     let leave : Leave origin fed entries.defaults entries.line unfinished = follow.leave none in
-    let found : Decided origin fed (given ++ entries.decided.placed) None = subst (λ e. Decided origin fed (given ++ entries.decided.placed) e) none follow.decided in (
+    let found : FileDecides origin fed (given ++ entries.decided.placed) None = subst (λ e. FileDecides origin fed (given ++ entries.decided.placed) e) none follow.decided in (
       (cut_from zero leave.octets.tokens).ended,
       record {
         parts = split fed leave.octets.tokens unfinished leave.octets.are leave.octets.whole;
@@ -53,9 +53,9 @@ is_read origin entries unfinished fed given none follow =
 -- ---- the octets of the unfinished entry and others after them
 
 pub scans_on : (at : ScanState) (unfinished part : List ℕ) (step : Step) → ScansTo beginning unfinished (On at) → ScansTo at part step → ScansTo beginning (unfinished ++ part) step
-scans_on at unfinished part step before behind =
+scans_on at unfinished part step before after =
     goes_on beginning at unfinished part before
-    ∙ ap (further (length unfinished)) behind
+    ∙ ap (further (length unfinished)) after
     ∙ ap (λ n. record { taken = n; step = step }) (sym (length-append unfinished part))
 
 -- the octets lead on
@@ -66,9 +66,9 @@ follow_on origin entries at unfinished part fed given scanned none follow =
     let is : IsRead origin ended entries unfinished fed given = found.1 in
     let is_open = stays_open (unfinished ++ part) at scanned in
     let same : (cut_from zero (joined ended ++ is_open.0)).ended ≡ ended = ended_as_before ended is_open.0 is.parts.stays is_open.2 in
-    let decided : Decided origin (fed ++ part) (given ++ entries.decided.placed) None = still_undecided origin fed part ended unfinished is_open.0 (given ++ entries.decided.placed) is.parts is_open.1 is_open.3 is_open.2 is.read in
+    let decided : FileDecides origin (fed ++ part) (given ++ entries.decided.placed) None = still_undecided origin fed part ended unfinished is_open.0 (given ++ entries.decided.placed) is.parts is_open.1 is_open.3 is_open.2 is.read in
     record {
-      decided = subst (λ e. Decided origin (fed ++ part) (given ++ entries.decided.placed) e) (sym none) decided;
+      decided = subst (λ e. FileDecides origin (fed ++ part) (given ++ entries.decided.placed) e) (sym none) decided;
       leave = λ _. record {
         octets = record {
           tokens = joined ended ++ is_open.0;
@@ -124,7 +124,7 @@ follow_one origin old new unfinished part fed given tokens one none reads follow
     let next : ReadEach origin None (reverse (numbered 1 ended)) (entry_of (line_after ended) tokens ∷ []) read.others new.decided.ending = subst (λ n. ReadEach origin None (reverse (numbered 1 ended)) (entry_of n tokens ∷ []) read.others new.decided.ending) is.line read.read in
     let records : (given ++ old.decided.placed) ++ read.others ≡ given ++ new.decided.placed = append_assoc given old.decided.placed read.others ∙ ap (λ t. given ++ t) (sym read.records) in
     record {
-      decided = subst (λ t. Decided origin (fed ++ part) t new.decided.ending) records (one_entry_more origin fed part ended unfinished tokens (given ++ old.decided.placed) read.others new.decided.ending is.parts one.cut one.ended is.read next);
+      decided = subst (λ t. FileDecides origin (fed ++ part) t new.decided.ending) records (one_entry_more origin fed part ended unfinished tokens (given ++ old.decided.placed) read.others new.decided.ending is.parts one.cut one.ended is.read next);
       leave = left_over origin ended old new unfinished part fed given tokens is one read;
     }
 
@@ -140,10 +140,10 @@ follow_break origin old new fault unfinished part fed given tokens good alone no
     let found = is_read origin old unfinished fed given none follow in
     let ended : List (List Token) = found.0 in
     let is : IsRead origin ended old unfinished fed given = found.1 in
-    let decided : Decided origin (fed ++ part) (given ++ old.decided.placed) (Some (fault, Line (line_after ended))) = break_decided origin fed part ended unfinished tokens fault (given ++ old.decided.placed) is.parts good alone is.read in
+    let decided : FileDecides origin (fed ++ part) (given ++ old.decided.placed) (Some (fault, Line (line_after ended))) = break_decided origin fed part ended unfinished tokens fault (given ++ old.decided.placed) is.parts good alone is.read in
     let last : Some (fault, Line (line_after ended)) ≡ new.decided.ending = ap (λ n. let e : Ending = Some (fault, Line n) in e) (sym is.line) ∙ sym ending in
     record {
-      decided = subst (λ t. Decided origin (fed ++ part) (given ++ t) new.decided.ending) (sym records) (subst (λ e. Decided origin (fed ++ part) (given ++ old.decided.placed) e) last decided);
+      decided = subst (λ t. FileDecides origin (fed ++ part) (given ++ t) new.decided.ending) (sym records) (subst (λ e. FileDecides origin (fed ++ part) (given ++ old.decided.placed) e) last decided);
       leave = λ none. absurd (let t : ⊥ = cc in t);
     }
 
@@ -161,7 +161,7 @@ follow_lost_closing origin old new unfinished part fed given scanned none record
 
 pub follow_fault : (origin : Labels) (entries : EndedEntries) (found : Fault × Place) (unfinished part fed : List ℕ) (given : List Placed) → entries.decided.ending ≡ Some found → Follow origin entries unfinished fed given → Follow origin entries unfinished (fed ++ part) given
 follow_fault origin entries found unfinished part fed given ending follow = record {
-  decided = subst (λ e. Decided origin (fed ++ part) (given ++ entries.decided.placed) e) (sym ending) (fault_stays origin fed part (given ++ entries.decided.placed) found (subst (λ e. Decided origin fed (given ++ entries.decided.placed) e) ending follow.decided));
+  decided = subst (λ e. FileDecides origin (fed ++ part) (given ++ entries.decided.placed) e) (sym ending) (fault_stays origin fed part (given ++ entries.decided.placed) found (subst (λ e. FileDecides origin fed (given ++ entries.decided.placed) e) ending follow.decided));
   leave = λ none. absurd (let t : ⊥ = cc in t);
 }
 
@@ -173,7 +173,7 @@ Reads origin fed given entries = FileReads origin fed (given ++ entries.decided.
 
 pub end_of_fault : (origin : Labels) (entries : EndedEntries) (found : Fault × Place) (unfinished fed : List ℕ) (given : List Placed) → entries.decided.ending ≡ Some found → Follow origin entries unfinished fed given → Reads origin fed given entries
 end_of_fault origin entries found unfinished fed given ending follow =
-    subst (λ e. FileReads origin fed (given ++ entries.decided.placed) e) (sym ending) (fault_is_read origin fed (given ++ entries.decided.placed) found (subst (λ e. Decided origin fed (given ++ entries.decided.placed) e) ending follow.decided))
+    subst (λ e. FileReads origin fed (given ++ entries.decided.placed) e) (sym ending) (fault_is_read origin fed (given ++ entries.decided.placed) found (subst (λ e. FileDecides origin fed (given ++ entries.decided.placed) e) ending follow.decided))
 
 -- no octets are unfinished
 pub end_of_lines : (origin : Labels) (entries : EndedEntries) (unfinished fed : List ℕ) (given : List Placed) → unfinished ≡ [] → entries.decided.ending ≡ None → Follow origin entries unfinished fed given → Reads origin fed given entries

@@ -8,7 +8,7 @@ use Rattle.zone_rdata.specs.Minimum.{minimum}
 use Rattle.zone_rdata.specs.Number.{IsTime}
 use Rattle.zone_text.specs.Defaults.{AreDefaults, IsOneOrNone, IsTtlOrNone}
 use Rattle.zone_text.specs.Entries.{Entry}
-use Rattle.zone_text.specs.Forms.{EntryForm, sets_origin, sets_ttl, form_of, Parts, parts_in, parts_of, class_among, ttl_among}
+use Rattle.zone_text.specs.Forms.{Statement, sets_origin, sets_ttl, statement_of, Parts, parts_in, parts_of, class_among, ttl_among}
 use Rattle.zone_text.specs.Inherited.{IsOrigin, IsLastOwner, IsTtl, SpellsAfter, class_word, default_ttl_text, latest, or_else, origin_text, owner_text, stated_ttl, ttl_text}
 use Rattle.zone_text.specs.Machine.EntryReading.{with_owner}
 use Rattle.zone_text.specs.Machine.Lower.{Lower}
@@ -47,15 +47,15 @@ owner_by : (origin : Labels) (before : List Entry) (o : Option (List ℕ)) (owne
 owner_by origin before None owner e so_far = so_far
 owner_by origin before (Some text) owner e so_far = absurd (let clash : ⊥ = cc in clash)
 
-pub same_owner : (origin : Labels) (before : List Entry) (entry : Entry) (form : EntryForm) (owner : Option Labels) → form_of entry ≡ form → owner_text form ≡ None → IsOneOrNone (IsLastOwner origin before) owner → IsOneOrNone (IsLastOwner origin (entry ∷ before)) owner
-same_owner origin before entry form owner is none so_far = owner_by origin before (owner_text (form_of entry)) owner (ap owner_text is ∙ none) so_far
+pub same_owner : (origin : Labels) (before : List Entry) (entry : Entry) (form : Statement) (owner : Option Labels) → statement_of entry ≡ form → owner_text form ≡ None → IsOneOrNone (IsLastOwner origin before) owner → IsOneOrNone (IsLastOwner origin (entry ∷ before)) owner
+same_owner origin before entry form owner is none so_far = owner_by origin before (owner_text (statement_of entry)) owner (ap owner_text is ∙ none) so_far
 
 -- a directive or a blank entry leaves what it does not set
-pub leaves : (origin : Labels) (before : List Entry) (entry : Entry) (form : EntryForm) (d : Defaults) (name : Labels) (seconds : Option ℕ) → form_of entry ≡ form → parts_in form ≡ None → owner_text form ≡ None → AreDefaults origin before d → IsOrigin origin (entry ∷ before) name → IsTtlOrNone (latest default_ttl_text (entry ∷ before)) seconds → AreDefaults origin (entry ∷ before) (record { origin = name; owner = d.owner; class = d.class; default_ttl = seconds; last_ttl = d.last_ttl; minimum = d.minimum })
+pub leaves : (origin : Labels) (before : List Entry) (entry : Entry) (form : Statement) (d : Defaults) (name : Labels) (seconds : Option ℕ) → statement_of entry ≡ form → parts_in form ≡ None → owner_text form ≡ None → AreDefaults origin before d → IsOrigin origin (entry ∷ before) name → IsTtlOrNone (latest default_ttl_text (entry ∷ before)) seconds → AreDefaults origin (entry ∷ before) (record { origin = name; owner = d.owner; class = d.class; default_ttl = seconds; last_ttl = d.last_ttl; minimum = d.minimum })
 leaves origin before entry form d name seconds is no_parts no_owner so_far under default =
     let parts : parts_of entry ≡ None = ap parts_in is ∙ no_parts in
-    let word : class_word (form_of entry) ≡ None = ap (λ (o : Option Parts). option_and_then (λ (parts : Parts). class_among parts.words) o) parts in
-    let ttl : ttl_text (form_of entry) ≡ None = ap (λ (o : Option Parts). option_and_then (λ (parts : Parts). ttl_among parts.words) o) parts in
+    let word : class_word (statement_of entry) ≡ None = ap (λ (o : Option Parts). option_and_then (λ (parts : Parts). class_among parts.words) o) parts in
+    let ttl : ttl_text (statement_of entry) ≡ None = ap (λ (o : Option Parts). option_and_then (λ (parts : Parts). ttl_among parts.words) o) parts in
     record {
       under = under;
       owner = same_owner origin before entry form d.owner is no_owner so_far.owner;
@@ -66,21 +66,21 @@ leaves origin before entry form d name seconds is no_parts no_owner so_far under
     }
 
 -- no `$ORIGIN`
-pub same_origin : (origin : Labels) (before : List Entry) (entry : Entry) (form : EntryForm) (name : Labels) → form_of entry ≡ form → origin_text form ≡ None → IsOrigin origin before name → IsOrigin origin (entry ∷ before) name
+pub same_origin : (origin : Labels) (before : List Entry) (entry : Entry) (form : Statement) (name : Labels) → statement_of entry ≡ form → origin_text form ≡ None → IsOrigin origin before name → IsOrigin origin (entry ∷ before) name
 same_origin origin before entry form name is none so_far =
-    let no_text : origin_text (form_of entry) ≡ None = ap origin_text is ∙ none in
+    let no_text : origin_text (statement_of entry) ≡ None = ap origin_text is ∙ none in
     rw no_text so_far
 
 -- no `$TTL`
-pub same_default : (before : List Entry) (entry : Entry) (form : EntryForm) (seconds : Option ℕ) → form_of entry ≡ form → default_ttl_text form ≡ None → IsTtlOrNone (latest default_ttl_text before) seconds → IsTtlOrNone (latest default_ttl_text (entry ∷ before)) seconds
+pub same_default : (before : List Entry) (entry : Entry) (form : Statement) (seconds : Option ℕ) → statement_of entry ≡ form → default_ttl_text form ≡ None → IsTtlOrNone (latest default_ttl_text before) seconds → IsTtlOrNone (latest default_ttl_text (entry ∷ before)) seconds
 same_default before entry form seconds is none so_far =
-    let no_text : default_ttl_text (form_of entry) ≡ None = ap default_ttl_text is ∙ none in
+    let no_text : default_ttl_text (statement_of entry) ≡ None = ap default_ttl_text is ∙ none in
     rw no_text so_far
 
 -- ---- a record
 
 -- a record sets neither the origin nor `$TTL`
-no_directive : (form : EntryForm) (parts : Parts) → parts_in form ≡ Some parts → (origin_text form ≡ None) × (default_ttl_text form ≡ None)
+no_directive : (form : Statement) (parts : Parts) → parts_in form ≡ Some parts → (origin_text form ≡ None) × (default_ttl_text form ≡ None)
 no_directive (sets_origin items) parts e = absurd (let clash : ⊥ = cc in clash)
 no_directive (sets_ttl items) parts e = absurd (let clash : ⊥ = cc in clash)
 no_directive form parts e = (refl, refl)
@@ -95,15 +95,15 @@ pub next_minimum : Lower → (origin : Labels) (before : List Entry) (entry : En
 next_minimum lower origin before entry head octets own carried has rdata e so_far = minimum_by lower origin before entry head octets own carried has rdata (sym e) so_far
 
 -- what a record leaves, its owner aside
-pub record_leaves : (origin : Labels) (before : List Entry) (entry : Entry) (d next : Defaults) (head : Head) (own : Option ℕ) (owner : Option Labels) → AreDefaults origin before d → HasHead origin before entry head → IsTtlOrNone (ttl_text (form_of entry)) own → next.origin ≡ d.origin → next.class ≡ head.class → next.default_ttl ≡ d.default_ttl → next.last_ttl ≡ option_or own d.last_ttl → IsOneOrNone (IsLastMinimum origin (entry ∷ before)) next.minimum → IsOneOrNone (IsLastOwner origin (entry ∷ before)) owner → AreDefaults origin (entry ∷ before) (with_owner owner next)
+pub record_leaves : (origin : Labels) (before : List Entry) (entry : Entry) (d next : Defaults) (head : Head) (own : Option ℕ) (owner : Option Labels) → AreDefaults origin before d → HasHead origin before entry head → IsTtlOrNone (ttl_text (statement_of entry)) own → next.origin ≡ d.origin → next.class ≡ head.class → next.default_ttl ≡ d.default_ttl → next.last_ttl ≡ option_or own d.last_ttl → IsOneOrNone (IsLastMinimum origin (entry ∷ before)) next.minimum → IsOneOrNone (IsLastOwner origin (entry ∷ before)) owner → AreDefaults origin (entry ∷ before) (with_owner owner next)
 record_leaves origin before entry d next head own owner so_far has own_ttl same_above class_is same_ttl last_is minimum_is owner_is =
-    let none = no_directive (form_of entry) has.parts has.split in
+    let none = no_directive (statement_of entry) has.parts has.split in
     record {
-      under = rw same_above (same_origin origin before entry (form_of entry) d.origin refl none.0 so_far.under);
+      under = rw same_above (same_origin origin before entry (statement_of entry) d.origin refl none.0 so_far.under);
       owner = owner_is;
       class = rw class_is (has.class);
-      default_ttl = rw same_ttl (same_default before entry (form_of entry) d.default_ttl refl none.1 so_far.default_ttl);
-      last_ttl = rw last_is (ttl_or_else (ttl_text (form_of entry)) (latest ttl_text before) own d.last_ttl own_ttl so_far.last_ttl);
+      default_ttl = rw same_ttl (same_default before entry (statement_of entry) d.default_ttl refl none.1 so_far.default_ttl);
+      last_ttl = rw last_is (ttl_or_else (ttl_text (statement_of entry)) (latest ttl_text before) own d.last_ttl own_ttl so_far.last_ttl);
       minimum = minimum_is;
     }
 
@@ -114,11 +114,11 @@ or_else_of_three None b c = refl
 or_else_of_three (Some text) b c = refl
 
 -- the TTL that is stated for a record, by itself or before it
-pub ttl_stated : (origin : Labels) (before : List Entry) (entry : Entry) (d : Defaults) (own : Option ℕ) → AreDefaults origin before d → IsTtlOrNone (ttl_text (form_of entry)) own → IsTtlOrNone (stated_ttl before entry) (option_or (option_or own d.default_ttl) d.last_ttl)
+pub ttl_stated : (origin : Labels) (before : List Entry) (entry : Entry) (d : Defaults) (own : Option ℕ) → AreDefaults origin before d → IsTtlOrNone (ttl_text (statement_of entry)) own → IsTtlOrNone (stated_ttl before entry) (option_or (option_or own d.default_ttl) d.last_ttl)
 ttl_stated origin before entry d own so_far own_ttl =
-    subst (λ o. IsTtlOrNone o (option_or (option_or own d.default_ttl) d.last_ttl)) (or_else_of_three (ttl_text (form_of entry)) (latest default_ttl_text before) (latest ttl_text before))
-    (ttl_or_else (or_else (ttl_text (form_of entry)) (latest default_ttl_text before)) (latest ttl_text before) (option_or own d.default_ttl) d.last_ttl
-    (ttl_or_else (ttl_text (form_of entry)) (latest default_ttl_text before) own d.default_ttl own_ttl so_far.default_ttl)
+    subst (λ o. IsTtlOrNone o (option_or (option_or own d.default_ttl) d.last_ttl)) (or_else_of_three (ttl_text (statement_of entry)) (latest default_ttl_text before) (latest ttl_text before))
+    (ttl_or_else (or_else (ttl_text (statement_of entry)) (latest default_ttl_text before)) (latest ttl_text before) (option_or own d.default_ttl) d.last_ttl
+    (ttl_or_else (ttl_text (statement_of entry)) (latest default_ttl_text before) own d.default_ttl own_ttl so_far.default_ttl)
     so_far.last_ttl)
 
 has_by : (o : Option (List ℕ)) (stated last : Option ℕ) (n : ℕ) (Last : ℕ → Type 0) → IsTtlOrNone o stated → IsOneOrNone Last last → option_or stated last ≡ Some n → MatchOption o (Last n) (λ text. IsTime text n)

@@ -6,7 +6,7 @@ use Rattle.zone_rdata.specs.Number.{IsTime}
 use Rattle.zone_rdata.specs.Spelling.{bare, States}
 use Rattle.zone_rdata.specs.Words.{IsClassWord}
 use Rattle.zone_text.specs.Entries.{Entry}
-use Rattle.zone_text.specs.Forms.{EntryForm, owned, unowned, form_of}
+use Rattle.zone_text.specs.Forms.{Statement, owned, unowned, statement_of}
 use Rattle.zone_text.specs.Inherited.{IsOrigin, SpellsAfter, IsLastOwner, IsOwner, HasClass, stated_ttl, latest, origin_text, owner_text, class_word}
 use Rattle.zone_text.specs.Records.{Head, HasHead, StatesData, StatesMinimum, IsLastMinimum, HasTtl}
 use Rattle.zone_text.proofs.Once.{match_once}
@@ -20,7 +20,7 @@ spells_once lower Above one text a b x y =
 pub origin_once : Lower → (origin : List (List ℕ)) (before : List Entry) → Once (List (List ℕ)) (IsOrigin origin before)
 origin_once lower origin [] a b x y = x ∙ sym y
 origin_once lower origin (entry ∷ before) a b x y =
-    match_once (List ℕ) (List (List ℕ)) (origin_text (form_of entry)) (IsOrigin origin before) (λ text name. (above : List (List ℕ)) × (IsOrigin origin before above × Spells (Some above) text name)) (origin_once lower origin before) (spells_once lower (IsOrigin origin before) (origin_once lower origin before)) a b x y
+    match_once (List ℕ) (List (List ℕ)) (origin_text (statement_of entry)) (IsOrigin origin before) (λ text name. (above : List (List ℕ)) × (IsOrigin origin before above × Spells (Some above) text name)) (origin_once lower origin before) (spells_once lower (IsOrigin origin before) (origin_once lower origin before)) a b x y
 
 pub spells_after_once : Lower → (origin : List (List ℕ)) (before : List Entry) (text : List ℕ) → Once (List (List ℕ)) (SpellsAfter origin before text)
 spells_after_once lower origin before text = spells_once lower (IsOrigin origin before) (origin_once lower origin before) text
@@ -28,9 +28,9 @@ spells_after_once lower origin before text = spells_once lower (IsOrigin origin 
 pub last_owner_once : Lower → (origin : List (List ℕ)) (before : List Entry) → Once (List (List ℕ)) (IsLastOwner origin before)
 last_owner_once lower origin [] a b x y = absurd x
 last_owner_once lower origin (entry ∷ before) a b x y =
-    match_once (List ℕ) (List (List ℕ)) (owner_text (form_of entry)) (IsLastOwner origin before) (SpellsAfter origin before) (last_owner_once lower origin before) (spells_after_once lower origin before) a b x y
+    match_once (List ℕ) (List (List ℕ)) (owner_text (statement_of entry)) (IsLastOwner origin before) (SpellsAfter origin before) (last_owner_once lower origin before) (spells_after_once lower origin before) a b x y
 
-pub owner_once : Lower → (origin : List (List ℕ)) (before : List Entry) (form : EntryForm) → Once (List (List ℕ)) (IsOwner origin before form)
+pub owner_once : Lower → (origin : List (List ℕ)) (before : List Entry) (form : Statement) → Once (List (List ℕ)) (IsOwner origin before form)
 owner_once lower origin before (owned (bare text) items) a b x y = spells_after_once lower origin before text a b x y
 owner_once lower origin before (unowned items) a b x y = last_owner_once lower origin before a b x y
 owner_once lower origin before form a b x y = absurd x
@@ -49,7 +49,7 @@ head_once lower origin before entry h k x y =
     let rest : bare x.word ∷ h.items ≡ bare y.word ∷ k.items = sym x.rest ∙ (ap (λ p. p.rest) parts ∙ y.rest) in
     let word : x.word ≡ y.word = cc in
     let items : h.items ≡ k.items = cc in
-    same_head h k (owner_once lower origin before (form_of entry) h.owner k.owner x.owner y.owner)
+    same_head h k (owner_once lower origin before (statement_of entry) h.owner k.owner x.owner y.owner)
     (class_once lower before entry h.class k.class x.class y.class)
     (lower.kind y.word h.kind k.kind (rw (← word) (x.named)) y.named)
     items

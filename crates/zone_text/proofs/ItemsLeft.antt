@@ -85,19 +85,19 @@ no_blank : (c d : ℕ) → c ≡ d → is_blank d ≡ false → is_blank c ≡ t
 no_blank c d e not_one is = both_ways (is_blank c) (ap is_blank e ∙ not_one) is
 
 pub comment_front : (octets after left : List ℕ) (c n : ℕ) → octets ≡ c ∷ after → c ≡ 59 → n ≡ length (before_line_feed after) → left ≡ drop n after → FrontIs octets [] left
-comment_front octets after left c n whole is_comment len behind p rest is at e = by p is at (sym whole ∙ e) (token_first p c after rest is (sym whole ∙ e))
+comment_front octets after left c n whole is_comment len dropped p rest is at e = by p is at (sym whole ∙ e) (token_first p c after rest is (sym whole ∙ e))
   where
     by : (p : Token) → IsToken p → EndsBefore p rest → c ∷ after ≡ token_text p ++ rest → IsFirstOf p c → Front [] left p rest
     by (blank d) is at e first = absurd (no_blank c 59 is_comment refl first)
     by (comment octets) is at e first =
         let text : after ≡ octets ++ rest = tails _ _ _ _ e in
         let whole_len : n ≡ length octets = len ∙ (ap (λ t. length (before_line_feed t)) text ∙ comment_len_of octets rest is at) in
-        (refl, behind ∙ (rw (whole_len, text) (drop-append_seam octets rest)))
+        (refl, dropped ∙ (rw (whole_len, text) (drop-append_seam octets rest)))
     by (bare units) is at e first = absurd (both_ways (ends_item c) first (ap ends_item is_comment))
     by p is at e first = absurd (omega arith)
 
 pub quoted_front : (octets after inside close left : List ℕ) (c n m : ℕ) → octets ≡ c ∷ after → c ≡ 34 → n ≡ item_len is_quote false after → inside ≡ take n after → close ≡ drop n after → m ≡ min (length close) 1 → left ≡ drop m close → FrontIs octets (raw.quoted inside ∷ []) left
-quoted_front octets after inside close left c n m whole quote len front back one behind p rest is at e = by p is (sym whole ∙ e) (token_first p c after rest is (sym whole ∙ e))
+quoted_front octets after inside close left c n m whole quote len front back one dropped p rest is at e = by p is (sym whole ∙ e) (token_first p c after rest is (sym whole ∙ e))
   where
     by : (p : Token) → IsToken p → c ∷ after ≡ token_text p ++ rest → IsFirstOf p c → Front (raw.quoted inside ∷ []) left p rest
     by (blank d) is e first = absurd (no_blank c 34 quote refl first)
@@ -109,7 +109,7 @@ quoted_front octets after inside close left c n m whole quote len front back one
         let outer : close ≡ 34 ∷ rest = back ∙ rw (whole_len, text) (drop-append_seam (written_text units) (34 ∷ rest)) in
         let outer_len : length close ≡ suc (length rest) = ap length outer in
         let first_one : m ≡ 1 = omega arith in
-        (ap (λ t. raw.quoted t ∷ []) inner, behind ∙ rw (first_one, outer) refl)
+        (ap (λ t. raw.quoted t ∷ []) inner, dropped ∙ rw (first_one, outer) refl)
     by p is e first = absurd (omega arith)
 
 pub bare_front : (octets after item left : List ℕ) (c n : ℕ) → octets ≡ c ∷ after → ends_item c ≡ false → n ≡ item_len ends_item false octets → item ≡ take n octets → left ≡ drop n octets → FrontIs octets (raw.bare item ∷ []) left

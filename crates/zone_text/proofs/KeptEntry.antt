@@ -14,13 +14,13 @@ use Rattle.zone_rdata.specs.declared.queue.PendingRecords.{PendingRecords}
 use Rattle.zone_rdata.proofs.LeftOut.{after_item, are_many, at_least, begin_with, fault_of_all, state_none}
 use Rattle.zone_text.specs.Entries.{Entry, entry_of, first_octet, item_of}
 use Rattle.zone_text.specs.EntryFault.{DirectiveFault, EntryFault, KindFault, OwnerFault, WordsFault, of_directive, of_kind, of_owner, of_rdata, of_ttl, of_words}
-use Rattle.zone_text.specs.Forms.{EntryForm, Parts, Word, begins_with_digit, class, class_among, directive, form_by, form_of, includes, is_class_word, owned, parts_after, parts_in, sets_origin, sets_ttl, ttl, ttl_among, unknown, unless_stated, unowned, word_after}
+use Rattle.zone_text.specs.Forms.{Statement, Parts, Word, begins_with_digit, class, class_among, directive, statement_by, statement_of, includes, is_class_word, owned, parts_after, parts_in, sets_origin, sets_ttl, ttl, ttl_among, unknown, unless_stated, unowned, word_after}
 use Rattle.zone_text.specs.Inherited.{IsOwner, class_word, latest, one_bare, or_else}
 use Rattle.zone_rdata.specs.Words.{IsClassWord}
 use Rattle.zone_text.specs.Machine.EntryReading.{DecidesEntry, decides_fault, decides_none, decides_one}
 use Rattle.zone_text.specs.Machine.Kept.{AreKept}
 use Rattle.zone_text.specs.Tokens.{Cuts, Token, is_blank}
-use Rattle.zone_text.specs.Records.{HasHead, HasValue, Head, StatesNothing, StatesRecord, head_of}
+use Rattle.zone_text.specs.Records.{HasHead, HasValue, Head, StatesNothing, EntryStates, head_of}
 use Rattle.zone_text.specs.declared.defaults.Defaults.{Defaults}
 use Rattle.zone_text.proofs.Kept.{items_written}
 use Rattle.zone_text.proofs.WordsLeft.{class_kept, class_pushed, parts_by, ttl_kept, ttl_pushed}
@@ -33,7 +33,7 @@ pub record Long (n : ℕ) (items kept : List RawItem) : Type 0 where
   pub written : AllByRecursion IsWritten items
 
 -- two forms of many items each, of which some are kept
-abbrev LongForms : EntryForm → EntryForm → Type 0
+abbrev LongForms : Statement → Statement → Type 0
 LongForms (sets_origin items) (sets_origin kept) = (2 ≤ length items) × (2 ≤ length kept)
 LongForms (sets_ttl items) (sets_ttl kept) = (2 ≤ length items) × (2 ≤ length kept)
 LongForms includes includes = ⊤
@@ -58,24 +58,24 @@ octet_long true b item items kept is long = directive_long item items kept long
 octet_long false true item items kept is long = record { short = after_item 65551 item items kept long.short; written = (is, long.written) }
 octet_long false false item items kept is long = (refl, long)
 
-first_long : (first : Option ℕ) (item : RawItem) (items kept : List RawItem) → IsWritten item → Long 65551 items kept → LongForms (form_by first (item ∷ items)) (form_by first (item ∷ kept))
+first_long : (first : Option ℕ) (item : RawItem) (items kept : List RawItem) → IsWritten item → Long 65551 items kept → LongForms (statement_by first (item ∷ items)) (statement_by first (item ∷ kept))
 first_long None item items kept is long = (refl, long)
 first_long (Some c) item items kept is long = octet_long (c == 36) (is_blank c) item items kept is long
 
-forms_long : (first : Option ℕ) (items kept : List RawItem) → Long 65552 items kept → LongForms (form_by first items) (form_by first kept)
+forms_long : (first : Option ℕ) (items kept : List RawItem) → Long 65552 items kept → LongForms (statement_by first items) (statement_by first kept)
 forms_long first items kept long =
     let begin = begin_with 65552 65551 items kept (omega arith) long.short in
     let written : AllByRecursion IsWritten (begin.item ∷ begin.rest) = subst (AllByRecursion IsWritten) begin.whole long.written in
     let found = first_long first begin.item begin.rest begin.others written.0 (record { short = begin.short; written = written.1 }) in
-    let half = subst (λ t. LongForms (form_by first t) (form_by first (begin.item ∷ begin.others))) (sym begin.whole) found in
-    subst (λ t. LongForms (form_by first items) (form_by first t)) (sym begin.are_kept) half
+    let half = subst (λ t. LongForms (statement_by first t) (statement_by first (begin.item ∷ begin.others))) (sym begin.whole) found in
+    subst (λ t. LongForms (statement_by first items) (statement_by first t)) (sym begin.are_kept) half
 
 no_one_bare : (items : List RawItem) → 2 ≤ length items → one_bare items ≡ None
 no_one_bare (quoted text ∷ items) many = refl
 no_one_bare (bare text ∷ item ∷ items) many = refl
 no_one_bare items many = absurd (omega (arith, many))
 
-directive_fault : (origin : Labels) (before : List Entry) (form other : EntryForm) (fault : Fault) → LongForms form other → DirectiveFault origin before other fault → DirectiveFault origin before form fault
+directive_fault : (origin : Labels) (before : List Entry) (form other : Statement) (fault : Fault) → LongForms form other → DirectiveFault origin before other fault → DirectiveFault origin before form fault
 directive_fault origin before (sets_origin items) (sets_origin kept) fault h bad = rw (no_one_bare items h.0) (rw (no_one_bare kept h.1) at bad)
 directive_fault origin before (sets_ttl items) (sets_ttl kept) fault h bad = rw (no_one_bare items h.0) (rw (no_one_bare kept h.1) at bad)
 directive_fault origin before includes includes fault h bad = bad
@@ -84,7 +84,7 @@ directive_fault origin before (owned owner items) (owned other kept) fault h bad
 directive_fault origin before (unowned items) (unowned kept) fault h bad = absurd bad
 directive_fault origin before form other fault h bad = absurd h
 
-owner_fault : (origin : Labels) (before : List Entry) (form other : EntryForm) (fault : Fault) → LongForms form other → OwnerFault origin before other fault → OwnerFault origin before form fault
+owner_fault : (origin : Labels) (before : List Entry) (form other : Statement) (fault : Fault) → LongForms form other → OwnerFault origin before other fault → OwnerFault origin before form fault
 owner_fault origin before (owned (bare text) items) (owned other kept) fault h bad = subst (λ o. OwnerFault origin before (owned o kept) fault) (sym h.0) bad
 owner_fault origin before (owned (quoted text) items) (owned other kept) fault h bad = subst (λ o. OwnerFault origin before (owned o kept) fault) (sym h.0) bad
 owner_fault origin before (unowned items) (unowned kept) fault h bad = bad
@@ -94,7 +94,7 @@ owner_fault origin before includes includes fault h bad = absurd bad
 owner_fault origin before unknown unknown fault h bad = absurd bad
 owner_fault origin before form other fault h bad = absurd h
 
-is_owner : (origin : Labels) (before : List Entry) (form other : EntryForm) (name : Labels) → LongForms form other → IsOwner origin before other name → IsOwner origin before form name
+is_owner : (origin : Labels) (before : List Entry) (form other : Statement) (name : Labels) → LongForms form other → IsOwner origin before other name → IsOwner origin before form name
 is_owner origin before (owned (bare text) items) (owned other kept) name h is = subst (λ o. IsOwner origin before (owned o kept) name) (sym h.0) is
 is_owner origin before (owned (quoted text) items) (owned other kept) name h is = subst (λ o. IsOwner origin before (owned o kept) name) (sym h.0) is
 is_owner origin before (unowned items) (unowned kept) name h is = is
@@ -104,7 +104,7 @@ is_owner origin before includes includes name h is = absurd is
 is_owner origin before unknown unknown name h is = absurd is
 is_owner origin before form other name h is = absurd h
 
-none_stated : (origin : Labels) (before : List Entry) (form other : EntryForm) → LongForms form other → StatesNothing origin before other → ⊥
+none_stated : (origin : Labels) (before : List Entry) (form other : Statement) → LongForms form other → StatesNothing origin before other → ⊥
 none_stated origin before (sets_origin items) (sets_origin []) h n = n
 none_stated origin before (sets_origin items) (sets_origin (quoted text ∷ kept)) h n = n
 none_stated origin before (sets_origin items) (sets_origin (bare text ∷ [])) h n = omega (arith, h.1)
@@ -176,12 +176,12 @@ owned_parts items kept long =
     (parts_long [] long.short.first long.short.more long.short.others (omega (arith, long.short.many)) (subst (AllByRecursion IsWritten) long.short.whole long.written) long.short.out)
 
 -- the parts of all items, and those of the items that are kept
-record FormParts (form : EntryForm) (other : Parts) : Type 0 where
+record FormParts (form : Statement) (other : Parts) : Type 0 where
   parts : Parts
   split : parts_in form ≡ Some parts
   long : LongParts parts other
 
-form_parts : (form other : EntryForm) (parts : Parts) → LongForms form other → parts_in other ≡ Some parts → FormParts form parts
+form_parts : (form other : Statement) (parts : Parts) → LongForms form other → parts_in other ≡ Some parts → FormParts form parts
 form_parts (owned owner items) (owned other kept) parts h e =
     let same : parts_after [] kept ≡ parts = cc in
     record { parts = parts_after [] items; split = refl; long = subst (LongParts (parts_after [] items)) same (owned_parts items kept h.1) }
@@ -220,20 +220,20 @@ record LongHead (origin : Labels) (before : List Entry) (entry : Entry) (head : 
 head_long : (origin : Labels) (before : List Entry) (entry : Entry) (kept : List RawItem) (head : Head) → Long 65552 entry.items kept → HasHead origin before (with_items entry kept) head → LongHead origin before entry head
 head_long origin before entry kept head long has =
     let forms = forms_long entry.first entry.items kept long in
-    let found = form_parts (form_of entry) (form_of (with_items entry kept)) has.parts forms has.split in
+    let found = form_parts (statement_of entry) (statement_of (with_items entry kept)) has.parts forms has.split in
     let begin = begin_with 65548 65547 found.parts.rest has.parts.rest (omega arith) found.long.long.short in
     let firsts : begin.item ∷ begin.others ≡ bare has.word ∷ head.items = sym begin.are_kept ∙ has.rest in
     let same : begin.item ≡ bare has.word = cc in
     let tails : begin.others ≡ head.items = cc in
     let written : AllByRecursion IsWritten (begin.item ∷ begin.rest) = subst (AllByRecursion IsWritten) begin.whole found.long.long.written in
-    let classes : class_word (form_of (with_items entry kept)) ≡ class_word (form_of entry) = rw (has.split, found.split, found.long.words) refl in
+    let classes : class_word (statement_of (with_items entry kept)) ≡ class_word (statement_of entry) = rw (has.split, found.split, found.long.words) refl in
     record {
       items = begin.rest;
       has = record {
         parts = found.parts;
         word = has.word;
         split = found.split;
-        owner = is_owner origin before (form_of entry) (form_of (with_items entry kept)) head.owner forms has.owner;
+        owner = is_owner origin before (statement_of entry) (statement_of (with_items entry kept)) head.owner forms has.owner;
         words = subst (AllByRecursion HasValue) (sym found.long.words) has.words;
         class = subst (λ o. MatchOption (or_else o (latest class_word before)) (head.class ≡ 1) (λ text. IsClassWord text head.class)) classes has.class;
         rest = begin.whole ∙ ap (λ item. item ∷ begin.rest) same;
@@ -244,16 +244,16 @@ head_long origin before entry kept head long has =
     }
 
 fault_kept : (origin : Labels) (before : List Entry) (entry : Entry) (kept : List RawItem) (fault : Fault) → Long 65552 entry.items kept → EntryFault origin before (with_items entry kept) fault → EntryFault origin before entry fault
-fault_kept origin before entry kept fault long (of_directive bad) = of_directive (directive_fault origin before (form_of entry) _ fault (forms_long entry.first entry.items kept long) bad)
-fault_kept origin before entry kept fault long (of_owner bad) = of_owner (owner_fault origin before (form_of entry) _ fault (forms_long entry.first entry.items kept long) bad)
+fault_kept origin before entry kept fault long (of_directive bad) = of_directive (directive_fault origin before (statement_of entry) _ fault (forms_long entry.first entry.items kept long) bad)
+fault_kept origin before entry kept fault long (of_owner bad) = of_owner (owner_fault origin before (statement_of entry) _ fault (forms_long entry.first entry.items kept long) bad)
 fault_kept origin before entry kept fault long (of_words owner parts is split bad) =
     let forms = forms_long entry.first entry.items kept long in
-    let found = form_parts (form_of entry) _ parts forms split in
-    of_words owner found.parts (is_owner origin before (form_of entry) _ owner forms is) found.split (subst (λ words. WordsFault words fault) (sym found.long.words) bad)
+    let found = form_parts (statement_of entry) _ parts forms split in
+    of_words owner found.parts (is_owner origin before (statement_of entry) _ owner forms is) found.split (subst (λ words. WordsFault words fault) (sym found.long.words) bad)
 fault_kept origin before entry kept fault long (of_kind owner parts is split have bad) =
     let forms = forms_long entry.first entry.items kept long in
-    let found = form_parts (form_of entry) _ parts forms split in
-    of_kind owner found.parts (is_owner origin before (form_of entry) _ owner forms is) found.split (subst (AllByRecursion HasValue) (sym found.long.words) have) (kind_fault found.parts.rest parts.rest fault found.long.long bad)
+    let found = form_parts (statement_of entry) _ parts forms split in
+    of_kind owner found.parts (is_owner origin before (statement_of entry) _ owner forms is) found.split (subst (AllByRecursion HasValue) (sym found.long.words) have) (kind_fault found.parts.rest parts.rest fault found.long.long bad)
 fault_kept origin before entry kept fault long (of_rdata head above has under bad) =
     let found = head_long origin before entry kept head long has in
     of_rdata (head_with head found.items) above found.has under (fault_of_all above head.class head.kind found.items head.items fault found.long.written found.long.short bad)
@@ -261,13 +261,13 @@ fault_kept origin before entry kept fault long (of_ttl head octets has states ba
     let found = head_long origin before entry kept head long has in
     absurd (state_none states.above head.class head.kind found.items head.items octets found.long.written found.long.short states.states)
 
-record_kept : (origin : Labels) (before : List Entry) (entry : Entry) (kept : List RawItem) (r : Record) → Long 65552 entry.items kept → StatesRecord origin before (with_items entry kept) r → ⊥
+record_kept : (origin : Labels) (before : List Entry) (entry : Entry) (kept : List RawItem) (r : Record) → Long 65552 entry.items kept → EntryStates origin before (with_items entry kept) r → ⊥
 record_kept origin before entry kept r long states =
     let found = head_long origin before entry kept (head_of r states.items) long states.head in
     state_none states.rdata.above r.class r.kind found.items states.items r.octets found.long.written found.long.short states.rdata.states
 
 decides_by : (origin : Labels) (before : List Entry) (entry : Entry) (kept : List RawItem) (place : Place) (old new : PendingRecords) (next : Defaults) → Long 65552 entry.items kept → DecidesEntry origin before (with_items entry kept) place old new next → DecidesEntry origin before entry place old new next
-decides_by origin before entry kept place old new next long (decides_none leaves same) = absurd (none_stated origin before (form_of entry) _ (forms_long entry.first entry.items kept long) leaves.0)
+decides_by origin before entry kept place old new next long (decides_none leaves same) = absurd (none_stated origin before (statement_of entry) _ (forms_long entry.first entry.items kept long) leaves.0)
 decides_by origin before entry kept place old new next long (decides_one r states are more same) = absurd (record_kept origin before entry kept r long states)
 decides_by origin before entry kept place old new next long (decides_fault fault bad same ending) = decides_fault fault (fault_kept origin before entry kept fault long bad) same ending
 

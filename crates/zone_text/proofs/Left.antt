@@ -41,28 +41,28 @@ turned entry entries before =
     ap (λ t. t ++ before) (reverse-append (entry ∷ []) entries) ∙ append_assoc (reverse entries) (entry ∷ []) before
 
 -- entries of which none is refused, and others after them
-pub reads_then : (origin : List (List ℕ)) (behind : Ending) (before entries more : List Entry) (placed others : List Placed) (ending : Ending) → ReadEach origin None before entries placed None → ReadEach origin behind (reverse entries ++ before) more others ending → ReadEach origin behind before (entries ++ more) (placed ++ others) ending
-reads_then origin behind before [] more placed others ending read next =
-    subst (λ t. ReadEach origin behind before more t ending) (ap (λ t. t ++ others) (sym read.0)) next
-reads_then origin behind before (entry ∷ entries) more placed others ending (stated (states_none n read)) next =
-    stated (states_none n (reads_then origin behind (entry ∷ before) entries more placed others ending read (subst (λ t. ReadEach origin behind t more others ending) (turned entry entries before) next)))
-reads_then origin behind before (entry ∷ entries) more placed others ending (stated (states_one p rest states place e read)) next =
-    stated (states_one p (rest ++ others) states place (more_records p placed rest others e) (reads_then origin behind (entry ∷ before) entries more rest others ending read (subst (λ t. ReadEach origin behind t more others ending) (turned entry entries before) next)))
-reads_then origin behind before (entry ∷ entries) more placed others ending (refused fault h e f) next = absurd (none_is_some (fault, Line entry.line) f)
+pub reads_then : (origin : List (List ℕ)) (after : Ending) (before entries more : List Entry) (placed others : List Placed) (ending : Ending) → ReadEach origin None before entries placed None → ReadEach origin after (reverse entries ++ before) more others ending → ReadEach origin after before (entries ++ more) (placed ++ others) ending
+reads_then origin after before [] more placed others ending read next =
+    subst (λ t. ReadEach origin after before more t ending) (ap (λ t. t ++ others) (sym read.0)) next
+reads_then origin after before (entry ∷ entries) more placed others ending (stated (states_none n read)) next =
+    stated (states_none n (reads_then origin after (entry ∷ before) entries more placed others ending read (subst (λ t. ReadEach origin after t more others ending) (turned entry entries before) next)))
+reads_then origin after before (entry ∷ entries) more placed others ending (stated (states_one p rest states place e read)) next =
+    stated (states_one p (rest ++ others) states place (more_records p placed rest others e) (reads_then origin after (entry ∷ before) entries more rest others ending read (subst (λ t. ReadEach origin after t more others ending) (turned entry entries before) next)))
+reads_then origin after before (entry ∷ entries) more placed others ending (refused fault h e f) next = absurd (none_is_some (fault, Line entry.line) f)
 
 -- entries of which one is refused, whatever follows them
-pub refused_before : (origin : List (List ℕ)) (behind : Ending) (before entries more : List Entry) (placed : List Placed) (found : Fault × Place) → ReadEach origin None before entries placed (Some found) → ReadEach origin behind before (entries ++ more) placed (Some found)
-refused_before origin behind before [] more placed found read = absurd (none_is_some found (sym read.1))
-refused_before origin behind before (entry ∷ entries) more placed found (stated (states_none n read)) = stated (states_none n (refused_before origin behind (entry ∷ before) entries more placed found read))
-refused_before origin behind before (entry ∷ entries) more placed found (stated (states_one p rest states place e read)) = stated (states_one p rest states place e (refused_before origin behind (entry ∷ before) entries more rest found read))
-refused_before origin behind before (entry ∷ entries) more placed found (refused fault h e f) = refused fault h e f
+pub refused_before : (origin : List (List ℕ)) (after : Ending) (before entries more : List Entry) (placed : List Placed) (found : Fault × Place) → ReadEach origin None before entries placed (Some found) → ReadEach origin after before (entries ++ more) placed (Some found)
+refused_before origin after before [] more placed found read = absurd (none_is_some found (sym read.1))
+refused_before origin after before (entry ∷ entries) more placed found (stated (states_none n read)) = stated (states_none n (refused_before origin after (entry ∷ before) entries more placed found read))
+refused_before origin after before (entry ∷ entries) more placed found (stated (states_one p rest states place e read)) = stated (states_one p rest states place e (refused_before origin after (entry ∷ before) entries more rest found read))
+refused_before origin after before (entry ∷ entries) more placed found (refused fault h e f) = refused fault h e f
 
 -- the same entries, and what follows them
-pub reads_after : (origin : List (List ℕ)) (behind : Ending) (before entries : List Entry) (placed : List Placed) → ReadEach origin None before entries placed None → ReadEach origin behind before entries placed behind
-reads_after origin behind before [] placed read = (read.0, refl)
-reads_after origin behind before (entry ∷ entries) placed (stated (states_none n read)) = stated (states_none n (reads_after origin behind (entry ∷ before) entries placed read))
-reads_after origin behind before (entry ∷ entries) placed (stated (states_one p rest states place e read)) = stated (states_one p rest states place e (reads_after origin behind (entry ∷ before) entries rest read))
-reads_after origin behind before (entry ∷ entries) placed (refused fault h e f) = absurd (none_is_some (fault, Line entry.line) f)
+pub reads_after : (origin : List (List ℕ)) (after : Ending) (before entries : List Entry) (placed : List Placed) → ReadEach origin None before entries placed None → ReadEach origin after before entries placed after
+reads_after origin after before [] placed read = (read.0, refl)
+reads_after origin after before (entry ∷ entries) placed (stated (states_none n read)) = stated (states_none n (reads_after origin after (entry ∷ before) entries placed read))
+reads_after origin after before (entry ∷ entries) placed (stated (states_one p rest states place e read)) = stated (states_one p rest states place e (reads_after origin after (entry ∷ before) entries rest read))
+reads_after origin after before (entry ∷ entries) placed (refused fault h e f) = absurd (none_is_some (fault, Line entry.line) f)
 
 -- ---- lines
 

@@ -8,11 +8,11 @@ use Rattle.zone_rdata.specs.Record.{Record}
 use Rattle.zone_rdata.specs.Spelling.{RawItem}
 use Rattle.zone_rdata.specs.Spelling as raw
 use Rattle.zone_text.specs.Entries.{Cut, in_front_of, cut_from, and_last, Entry, entry_of, numbered, entries_of, item_of}
-use Rattle.zone_text.specs.Forms.{form_by, form_of, owned, Word, ttl, class, word_after, Parts, parts_after, parts_of, begins_with_digit, is_class_word}
+use Rattle.zone_text.specs.Forms.{statement_by, statement_of, owned, Word, ttl, class, word_after, Parts, parts_after, parts_of, begins_with_digit, is_class_word}
 use Rattle.zone_text.specs.Inherited.{IsOrigin}
 use Rattle.zone_text.specs.Line.{IsItem, line_of, StatesWhole}
 use Rattle.zone_text.specs.Tokens.{Token, blank, line_feed, bare, quoted, text, is_blank, IsToken, MayFollow, AllFollow, depth_after, Cuts}
-use Rattle.zone_text.specs.Records.{StatesRecord}
+use Rattle.zone_text.specs.Records.{EntryStates}
 use Rattle.zone_text.proofs.Inheriting.{same_origin}
 use Rattle.zone_text.proofs.ClassWords.{time_first, class_word_first, class_word_known}
 use Rattle.zone_text.proofs.WordsLeft.{next_part}
@@ -80,7 +80,7 @@ line_items items = refl
 not_equal : (a b : ℕ) → (a ≢ b) → (a == b) ≡ false
 not_equal a b other = grind (arith, nat_tests)
 
-owned_form : (first : Option ℕ) (item : RawItem) (items : List RawItem) → IfSome first (λ c. (is_blank c ≡ false) × (c ≢ 36)) → form_by first (item ∷ items) ≡ owned item items
+owned_form : (first : Option ℕ) (item : RawItem) (items : List RawItem) → IfSome first (λ c. (is_blank c ≡ false) × (c ≢ 36)) → statement_by first (item ∷ items) ≡ owned item items
 owned_form None item items plain = refl
 owned_form (Some c) item items plain = rw (not_equal c 36 plain.1, plain.0) refl
 
@@ -99,10 +99,10 @@ whole_parts ttl_word class_word kind_word items is_ttl no_ttl is_class =
     ∙ next_part (ttl ttl_word ∷ class class_word ∷ []) (raw.bare kind_word) items None (no_third ttl_word class_word kind_word))
 
 -- the form of the entry is that of a record with its owner
-pub whole_form : (entry : Entry) (r : Record) (s : StatesWhole entry r) → form_of entry ≡ owned (raw.bare s.owner_text) (raw.bare s.ttl_text ∷ raw.bare s.class_word ∷ raw.bare s.kind_word ∷ s.items)
+pub whole_form : (entry : Entry) (r : Record) (s : StatesWhole entry r) → statement_of entry ≡ owned (raw.bare s.owner_text) (raw.bare s.ttl_text ∷ raw.bare s.class_word ∷ raw.bare s.kind_word ∷ s.items)
 whole_form entry r s = rw s.whole (owned_form entry.first (raw.bare s.owner_text) _ s.begins)
 
-pub whole_stated : (origin above : Labels) (before : List Entry) (entry : Entry) (r : Record) → IsOrigin origin before above → StatesWhole entry r → StatesRecord origin before entry r
+pub whole_stated : (origin above : Labels) (before : List Entry) (entry : Entry) (r : Record) → IsOrigin origin before above → StatesWhole entry r → EntryStates origin before entry r
 whole_stated origin above before entry r under s =
     let parts : Parts = record { words = ttl s.ttl_text ∷ class s.class_word ∷ []; rest = raw.bare s.kind_word ∷ s.items } in
     let form = whole_form entry r s in

@@ -2,7 +2,7 @@
 -- outcome at most.
 use Rattle.std.proofs.Common.{◌≡◌, ℕ, ◌≤◌, List, [], ◌∷◌, Some, Result, Ok, Err, inl, inr, refl, sym, ◌∙◌, ap, subst, arith}
 use Rattle.std.specs.List.{AllByRecursion}
-use Rattle.zone_name.specs.Spelling.{FirstFault}
+use Rattle.zone_name.specs.Spelling.{SpellingFault}
 use Rattle.zone_rdata.specs.DataFault.{IsDataFault}
 use Rattle.zone_rdata.specs.Fault.{fault_of}
 use Rattle.zone_rdata.specs.Record.{Record}
@@ -11,7 +11,7 @@ use Rattle.zone_rdata.specs.Words.{IsClass, IsKind, IsKindWord}
 use Rattle.zone_rdata.specs.declared.fault.Fault.{Fault}
 use Rattle.zone_rdata.specs.declared.fault.Fault.TheVariants.{NoTtl, BadTtl}
 use Rattle.zone_text.specs.Entries.{Entry}
-use Rattle.zone_text.specs.Forms.{EntryForm, owned, unowned, form_of, Word, ttl, class, Parts}
+use Rattle.zone_text.specs.Forms.{Statement, owned, unowned, statement_of, Word, ttl, class, Parts}
 use Rattle.zone_text.specs.Inherited.{IsOrigin, SpellsAfter, IsOwner, HasClass}
 use Rattle.zone_text.specs.Records.{HasValue, HasTtl}
 use Rattle.zone_text.specs.EntryFault.{IsNameFaultAfter, OwnerFault, WordFault, WordsFault, KindFault, TtlFault, none, long}
@@ -38,23 +38,23 @@ step_once A Good Bad good bad either (Err f) (Err g) p q = ap Err (bad f g p q)
 pub name_fault_once : Lower → (origin : List (List ℕ)) (before : List Entry) (text : List ℕ) → Once Fault (IsNameFaultAfter origin before text)
 name_fault_once lower origin before text f g x y =
     let above : x.0 ≡ y.0 = origin_once lower origin before x.0 y.0 x.1.0 y.1.0 in
-    let found : x.1.1.0 ≡ y.1.1.0 = lower.name_fault y.0 text x.1.1.0 y.1.1.0 (subst (λ a. FirstFault (Some a) text x.1.1.0) above x.1.1.1) y.1.1.1 in
+    let found : x.1.1.0 ≡ y.1.1.0 = lower.name_fault y.0 text x.1.1.0 y.1.1.0 (subst (λ a. SpellingFault (Some a) text x.1.1.0) above x.1.1.1) y.1.1.1 in
     x.1.1.2 ∙ (ap fault_of found ∙ sym y.1.1.2)
 
 pub name_or_fault : Lower → (origin : List (List ℕ)) (before : List Entry) (text : List ℕ) (name : List (List ℕ)) (fault : Fault) → SpellsAfter origin before text name → IsNameFaultAfter origin before text fault → ⊥
 name_or_fault lower origin before text name fault x y =
     let above : x.0 ≡ y.0 = origin_once lower origin before x.0 y.0 x.1.0 y.1.0 in
-    lower.name_or_fault x.0 text name y.1.1.0 x.1.1 (subst (λ a. FirstFault (Some a) text y.1.1.0) (sym above) y.1.1.1)
+    lower.name_or_fault x.0 text name y.1.1.0 x.1.1 (subst (λ a. SpellingFault (Some a) text y.1.1.0) (sym above) y.1.1.1)
 
 -- the owner
 
-owner_fault_once : Lower → (origin : List (List ℕ)) (before : List Entry) (form : EntryForm) → Once Fault (OwnerFault origin before form)
+owner_fault_once : Lower → (origin : List (List ℕ)) (before : List Entry) (form : Statement) → Once Fault (OwnerFault origin before form)
 owner_fault_once lower origin before (owned (quoted text) items) f g x y = x ∙ sym y
 owner_fault_once lower origin before (owned (bare text) items) f g x y = name_fault_once lower origin before text f g x y
 owner_fault_once lower origin before (unowned items) f g x y = x.0 ∙ sym y.0
 owner_fault_once lower origin before form f g x y = absurd x
 
-owner_or_fault : Lower → (origin : List (List ℕ)) (before : List Entry) (form : EntryForm) (name : List (List ℕ)) (fault : Fault) → IsOwner origin before form name → OwnerFault origin before form fault → ⊥
+owner_or_fault : Lower → (origin : List (List ℕ)) (before : List Entry) (form : Statement) (name : List (List ℕ)) (fault : Fault) → IsOwner origin before form name → OwnerFault origin before form fault → ⊥
 owner_or_fault lower origin before (owned (bare text) items) name f x y = name_or_fault lower origin before text name f x y
 owner_or_fault lower origin before (unowned items) name f x y = y.1 name x
 owner_or_fault lower origin before form name f x y = x
@@ -195,11 +195,11 @@ abbrev pub FromWords : List (List ℕ) → List Entry → Entry → Parts → Li
 FromWords origin before entry parts owner = Then (Unit {0}) Record Fault (Step (Unit {0}) (λ u. AllByRecursion HasValue parts.words) (WordsFault parts.words)) (λ u. FromKind origin before entry owner parts)
 
 abbrev pub FromOwner : List (List ℕ) → List Entry → Entry → Parts → Outcome Record → Type 0
-FromOwner origin before entry parts = Then (List (List ℕ)) Record Fault (Step (List (List ℕ)) (IsOwner origin before (form_of entry)) (OwnerFault origin before (form_of entry))) (FromWords origin before entry parts)
+FromOwner origin before entry parts = Then (List (List ℕ)) Record Fault (Step (List (List ℕ)) (IsOwner origin before (statement_of entry)) (OwnerFault origin before (statement_of entry))) (FromWords origin before entry parts)
 
 pub from_owner_once : Lower → (origin : List (List ℕ)) (before : List Entry) (entry : Entry) (parts : Parts) → Once (Outcome Record) (FromOwner origin before entry parts)
 from_owner_once lower origin before entry parts =
-    then_once (List (List ℕ)) Record Fault _ _ (step_once (List (List ℕ)) _ _ (owner_once lower origin before (form_of entry)) (owner_fault_once lower origin before (form_of entry)) (owner_or_fault lower origin before (form_of entry))) (λ owner.
+    then_once (List (List ℕ)) Record Fault _ _ (step_once (List (List ℕ)) _ _ (owner_once lower origin before (statement_of entry)) (owner_fault_once lower origin before (statement_of entry)) (owner_or_fault lower origin before (statement_of entry))) (λ owner.
     then_once (Unit {0}) Record Fault _ _ (step_once (Unit {0}) _ _ (λ u v p q. refl) (words_fault_once lower parts.words) (λ u. words_or_fault lower parts.words)) (λ u.
     then_once KindAnd Record Fault _ _ (step_once KindAnd _ _ (kind_once lower parts.rest) (kind_fault_once lower parts.rest) (kind_or_fault lower parts.rest)) (λ k.
     then_once (ℕ × List ℕ) Record Fault _ _ (step_once (ℕ × List ℕ) _ _ (found_once lower origin before entry k) (refused_once lower origin before entry k) (found_or_refused lower origin before entry k)) (λ d.

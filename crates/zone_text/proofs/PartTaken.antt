@@ -25,20 +25,20 @@ pub record IsPart (ended : EndedEntries) (at : ScanState) (unfinished part : Lis
   pub undecided : ended.decided.ending ≡ None
   pub scanned : ScansTo at part step
 
-behind : (ended : EndedEntries) (at : ScanState) (unfinished part : List ℕ) (step next : Step) → IsPart ended at unfinished part step → step ≡ next → ScansTo beginning (unfinished ++ part) next
-behind ended at unfinished part step next is e = scans_on at unfinished part next is.is.state (subst (ScansTo at part) e is.scanned)
+after : (ended : EndedEntries) (at : ScanState) (unfinished part : List ℕ) (step next : Step) → IsPart ended at unfinished part step → step ≡ next → ScansTo beginning (unfinished ++ part) next
+after ended at unfinished part step next is e = scans_on at unfinished part next is.is.state (subst (ScansTo at part) e is.scanned)
 
 -- they lead on
 pub is_on : (ended : EndedEntries) (at next : ScanState) (unfinished part left : List ℕ) (step : Step) → IsPart ended at unfinished part step → step ≡ On next → left ≡ unfinished ++ part → IsIntake ended next left
 is_on ended at next unfinished part left step is e more = record {
-  state = subst (λ t. ScansTo beginning t (On next)) (sym more) (behind ended at unfinished part step (On next) is e);
+  state = subst (λ t. ScansTo beginning t (On next)) (sym more) (after ended at unfinished part step (On next) is e);
   dropped = λ found ending. absurd (let none = is.undecided in let t : ⊥ = cc in t);
   line = is.is.line;
 }
 
 pub follows_on : (ended : EndedEntries) (at next : ScanState) (unfinished part left : List ℕ) (step : Step) → IsPart ended at unfinished part step → step ≡ On next → left ≡ unfinished ++ part → FollowsOn ended unfinished ended left part
 follows_on ended at next unfinished part left step is e more origin fed given follow =
-    subst (λ t. Follow origin ended t (fed ++ part) given) (sym more) (follow_on origin ended next unfinished part fed given (behind ended at unfinished part step (On next) is e) is.undecided follow)
+    subst (λ t. Follow origin ended t (fed ++ part) given) (sym more) (follow_on origin ended next unfinished part fed given (after ended at unfinished part step (On next) is e) is.undecided follow)
 
 -- they end an entry
 pub is_ended : (old mid new : EndedEntries) (at next : ScanState) (unfinished part left : List ℕ) (step : Step) → IsPart old at unfinished part step → ReadsOctets (unfinished ++ part) old mid → new ≡ mid → next ≡ beginning → left ≡ [] → IsIntake new next left
@@ -47,7 +47,7 @@ is_ended old mid new at next unfinished part left step is reads same begins none
 
 pub follows_entry : (old mid new : EndedEntries) (at : ScanState) (unfinished part left : List ℕ) (step : Step) → IsPart old at unfinished part step → step ≡ Ends → ReadsOctets (unfinished ++ part) old mid → new ≡ mid → left ≡ [] → FollowsOn old unfinished new left part
 follows_entry old mid new at unfinished part left step is e reads same none origin fed given follow =
-    subst (λ t. Follow origin new t (fed ++ part) given) (sym none) (subst (λ s. Follow origin s [] (fed ++ part) given) (sym same) (follow_entry origin old mid unfinished part fed given (behind old at unfinished part step Ends is e) is.undecided reads follow))
+    subst (λ t. Follow origin new t (fed ++ part) given) (sym none) (subst (λ s. Follow origin s [] (fed ++ part) given) (sym same) (follow_entry origin old mid unfinished part fed given (after old at unfinished part step Ends is e) is.undecided reads follow))
 
 -- they break the text for good
 pub record IsRefused (fault : Fault) (old new : EndedEntries) : Type 0 where
@@ -61,8 +61,8 @@ is_refused fault old mid new at next unfinished part left step is refuse same be
 
 pub follows_lost_escape : (old mid new : EndedEntries) (at : ScanState) (unfinished part left : List ℕ) (step : Step) → IsPart old at unfinished part step → step ≡ LostEscape → IsRefused BadEscape old mid → new ≡ mid → left ≡ [] → FollowsOn old unfinished new left part
 follows_lost_escape old mid new at unfinished part left step is e refuse same none origin fed given follow =
-    subst (λ t. Follow origin new t (fed ++ part) given) (sym none) (subst (λ s. Follow origin s [] (fed ++ part) given) (sym same) (follow_lost_escape origin old mid unfinished part fed given (behind old at unfinished part step LostEscape is e) is.undecided refuse.records refuse.ending follow))
+    subst (λ t. Follow origin new t (fed ++ part) given) (sym none) (subst (λ s. Follow origin s [] (fed ++ part) given) (sym same) (follow_lost_escape origin old mid unfinished part fed given (after old at unfinished part step LostEscape is e) is.undecided refuse.records refuse.ending follow))
 
 pub follows_lost_closing : (old mid new : EndedEntries) (at : ScanState) (unfinished part left : List ℕ) (step : Step) → IsPart old at unfinished part step → step ≡ ClosesNothing → IsRefused UnbalancedParenthesis old mid → new ≡ mid → left ≡ [] → FollowsOn old unfinished new left part
 follows_lost_closing old mid new at unfinished part left step is e refuse same none origin fed given follow =
-    subst (λ t. Follow origin new t (fed ++ part) given) (sym none) (subst (λ s. Follow origin s [] (fed ++ part) given) (sym same) (follow_lost_closing origin old mid unfinished part fed given (behind old at unfinished part step ClosesNothing is e) is.undecided refuse.records refuse.ending follow))
+    subst (λ t. Follow origin new t (fed ++ part) given) (sym none) (subst (λ s. Follow origin s [] (fed ++ part) given) (sym same) (follow_lost_closing origin old mid unfinished part fed given (after old at unfinished part step ClosesNothing is e) is.undecided refuse.records refuse.ending follow))

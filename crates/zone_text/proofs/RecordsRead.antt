@@ -12,17 +12,17 @@ use Rattle.zone_rdata.specs.declared.fault.Fault.TheVariants.{NoOwner, NoTtl, Ba
 use Rattle.zone_text.specs.Defaults.{AreDefaults, IsOneOrNone, IsTtlOrNone}
 use Rattle.zone_text.specs.Entries.{Entry}
 use Rattle.zone_text.specs.EntryFault.{EntryFault, of_rdata, of_ttl, none, long}
-use Rattle.zone_text.specs.Forms.{owned, form_of, parts_in}
+use Rattle.zone_text.specs.Forms.{owned, statement_of, parts_in}
 use Rattle.zone_text.specs.Inherited.{IsLastOwner, IsOwner, owner_text, ttl_text}
 use Rattle.zone_text.specs.Machine.EntryReading.{HasOwnerOrNone, IsReadTo, IsRecordEntry, with_owner}
 use Rattle.zone_text.specs.Machine.Lower.{Lower}
-use Rattle.zone_text.specs.Records.{Head, HasHead, HasTtl, IsLastMinimum, StatesData, StatesRecord}
+use Rattle.zone_text.specs.Records.{Head, HasHead, HasTtl, IsLastMinimum, StatesData, EntryStates}
 use Rattle.zone_text.specs.declared.defaults.Defaults.{Defaults}
 use Rattle.zone_text.proofs.Inheriting.{has_no_ttl, has_ttl, next_minimum, record_leaves, ttl_stated}
 
 -- ---- the owner
 
-owned_entry : (origin : Labels) (before : List Entry) (entry : Entry) (d : Defaults) (held : Option Labels) (name : Labels) (owner : RawItem) (items : List RawItem) → form_of entry ≡ owned owner items → AreDefaults origin before (with_owner held d) → IsOwner origin before (owned owner items) name → IsRecordEntry origin before entry d name items
+owned_entry : (origin : Labels) (before : List Entry) (entry : Entry) (d : Defaults) (held : Option Labels) (name : Labels) (owner : RawItem) (items : List RawItem) → statement_of entry ≡ owned owner items → AreDefaults origin before (with_owner held d) → IsOwner origin before (owned owner items) name → IsRecordEntry origin before entry d name items
 owned_entry origin before entry d held name owner items form so_far owns = record {
   held = held;
   defaults = so_far;
@@ -30,15 +30,15 @@ owned_entry origin before entry d held name owner items form so_far owns = recor
   parts = ap parts_in form;
 }
 
-owner_now : (origin : Labels) (before : List Entry) (entry : Entry) (name : Labels) (owner : RawItem) (items : List RawItem) → owner_text (form_of entry) ≡ owner_text (owned owner items) → IsOwner origin before (owned owner items) name → IsLastOwner origin (entry ∷ before) name
+owner_now : (origin : Labels) (before : List Entry) (entry : Entry) (name : Labels) (owner : RawItem) (items : List RawItem) → owner_text (statement_of entry) ≡ owner_text (owned owner items) → IsOwner origin before (owned owner items) name → IsLastOwner origin (entry ∷ before) name
 owner_now origin before entry name (bare text) items e owns = rw e owns
 owner_now origin before entry name (quoted text) items e owns = absurd owns
 
-owner_stated : (origin : Labels) (before : List Entry) (entry : Entry) (name : Labels) (owner : RawItem) (items : List RawItem) → form_of entry ≡ owned owner items → IsOwner origin before (owned owner items) name → IsLastOwner origin (entry ∷ before) name
+owner_stated : (origin : Labels) (before : List Entry) (entry : Entry) (name : Labels) (owner : RawItem) (items : List RawItem) → statement_of entry ≡ owned owner items → IsOwner origin before (owned owner items) name → IsLastOwner origin (entry ∷ before) name
 owner_stated origin before entry name owner items form owns = owner_now origin before entry name owner items (ap owner_text form) owns
 
 -- an entry states the owner that became the last one
-pub has_stated_owner : (origin : Labels) (before : List Entry) (entry : Entry) (d : Defaults) (name : Labels) (owner : RawItem) (items : List RawItem) → form_of entry ≡ owned owner items → AreDefaults origin before d → IsOwner origin before (owned owner items) name → HasOwnerOrNone origin before entry (with_owner (Some name) d) items
+pub has_stated_owner : (origin : Labels) (before : List Entry) (entry : Entry) (d : Defaults) (name : Labels) (owner : RawItem) (items : List RawItem) → statement_of entry ≡ owned owner items → AreDefaults origin before d → IsOwner origin before (owned owner items) name → HasOwnerOrNone origin before entry (with_owner (Some name) d) items
 has_stated_owner origin before entry d name owner items form so_far owns = (
   owned_entry origin before entry (with_owner (Some name) d) d.owner name owner items form so_far owns,
   owner_stated origin before entry name owner items form owns,
@@ -55,7 +55,7 @@ one_owner origin before entry d items name has e = subst (λ o. MatchOption o (E
 pub rdata_refused : (origin : Labels) (before : List Entry) (entry : Entry) (d : Defaults) (name : Labels) (items : List RawItem) (head : Head) (fault : Fault) → IsRecordEntry origin before entry d name items → HasHead origin before entry head → IsDataFault d.origin head.class head.kind head.items fault → EntryFault origin before entry fault
 rdata_refused origin before entry d name items head fault is has bad = of_rdata head d.origin has is.defaults.under bad
 
-pub read_to : (origin : Labels) (before : List Entry) (entry : Entry) (d : Defaults) (name : Labels) (items : List RawItem) (head : Head) (own : Option ℕ) (rdata : Data) (a stated soa last result found : Option ℕ) → IsRecordEntry origin before entry d name items → HasHead origin before entry head × IsTtlOrNone (ttl_text (form_of entry)) own → rdata.class ≡ head.class → rdata.kind ≡ head.kind → States d.origin head.class head.kind head.items rdata.octets → a ≡ option_or own d.default_ttl → stated ≡ option_or a d.last_ttl → soa ≡ minimum rdata → last ≡ option_or soa d.minimum → result ≡ option_or stated last → result ≡ found → IsReadTo origin before entry d head own rdata last found
+pub read_to : (origin : Labels) (before : List Entry) (entry : Entry) (d : Defaults) (name : Labels) (items : List RawItem) (head : Head) (own : Option ℕ) (rdata : Data) (a stated soa last result found : Option ℕ) → IsRecordEntry origin before entry d name items → HasHead origin before entry head × IsTtlOrNone (ttl_text (statement_of entry)) own → rdata.class ≡ head.class → rdata.kind ≡ head.kind → States d.origin head.class head.kind head.items rdata.octets → a ≡ option_or own d.default_ttl → stated ≡ option_or a d.last_ttl → soa ≡ minimum rdata → last ≡ option_or soa d.minimum → result ≡ option_or stated last → result ≡ found → IsReadTo origin before entry d head own rdata last found
 read_to origin before entry d name items head own rdata a stated soa last result found is has class kind states first second of_soa least third is_found = record {
   held = is.held;
   defaults = is.defaults;
@@ -94,10 +94,10 @@ long_ttl lower origin before entry d head own rdata last n is over =
 
 -- ---- the record
 
-pub states_record : Lower → (origin : Labels) (before : List Entry) (entry : Entry) (d : Defaults) (head : Head) (own : Option ℕ) (rdata : Data) (last : Option ℕ) (n : ℕ) (r : Record) → IsReadTo origin before entry d head own rdata last (Some n) → r ≡ record { owner = head.owner; class = rdata.class; kind = rdata.kind; ttl = n; octets = rdata.octets } → IsRecord r → StatesRecord origin before entry r
+pub states_record : Lower → (origin : Labels) (before : List Entry) (entry : Entry) (d : Defaults) (head : Head) (own : Option ℕ) (rdata : Data) (last : Option ℕ) (n : ℕ) (r : Record) → IsReadTo origin before entry d head own rdata last (Some n) → r ≡ record { owner = head.owner; class = rdata.class; kind = rdata.kind; ttl = n; octets = rdata.octets } → IsRecord r → EntryStates origin before entry r
 states_record lower origin before entry d head own rdata last n r is e fits =
     let same : r ≡ record { owner = head.owner; class = head.class; kind = head.kind; ttl = n; octets = rdata.octets } = e ∙ rw (is.class, is.kind) refl in
-    subst (StatesRecord origin before entry) (sym same) (record {
+    subst (EntryStates origin before entry) (sym same) (record {
       items = head.items;
       head = is.has;
       rdata = states_data origin before entry d head own rdata last (Some n) is;

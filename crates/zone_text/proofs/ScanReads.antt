@@ -338,12 +338,12 @@ one_comment depth c = cond_both (c == 10) (fed_line depth) (on Comment depth) (O
     (λ e. comment_line depth c (eqb-true c 10 e) (fed_line depth) (open_line depth c (eqb-true c 10 e)))
     (λ e. (tt, λ octets step more. push_comment step depth c (eqb-false c 10 e) octets (59 ∷ octets) refl more))
 
-one_escaped : (depth c : ℕ) (escape : Escape) (behind : AfterBackslash) → EscapeBy escape c behind → OneMore (Escaped escape) depth c (escape_step (λ e. Escaped e) Open depth behind)
+one_escaped : (depth c : ℕ) (escape : Escape) (after : AfterBackslash) → EscapeBy escape c after → OneMore (Escaped escape) depth c (escape_step (λ e. Escaped e) Open depth after)
 one_escaped depth c escape (Inside next) by = (by.0, λ octets step more. subst (Reads step depth) (sym (by.1 octets)) more)
 one_escaped depth c escape Whole by = (tt, λ octets step more. subst (Reads step depth) (sym (by.2 octets)) (push_bare step depth by.0 (unit_of_escape ends_item by.0 by.1) octets more))
 one_escaped depth c escape Lost by = in_escape depth (escape_text escape (c ∷ [])) by
 
-one_quoted_escaped : (depth c : ℕ) (escape : Escape) (behind : AfterBackslash) → EscapeBy escape c behind → OneMore (QuotedEscaped escape) depth c (escape_step (λ e. QuotedEscaped e) Quoted depth behind)
+one_quoted_escaped : (depth c : ℕ) (escape : Escape) (after : AfterBackslash) → EscapeBy escape c after → OneMore (QuotedEscaped escape) depth c (escape_step (λ e. QuotedEscaped e) Quoted depth after)
 one_quoted_escaped depth c escape (Inside next) by = (by.0, λ octets step more. subst (λ t. Reads step depth (34 ∷ t)) (sym (by.1 octets)) more)
 one_quoted_escaped depth c escape Whole by = (tt, λ octets step more. subst (λ t. Reads step depth (34 ∷ t)) (sym (by.2 octets)) (push_quoted step depth by.0 (unit_of_escape is_quote by.0 by.1) octets (34 ∷ octets) refl more))
 one_quoted_escaped depth c escape Lost by = in_quoted_escape depth (34 ∷ escape_text escape (c ∷ [])) [] (escape_text escape (c ∷ [])) tt refl by

@@ -90,9 +90,9 @@ rises_quoted depth c =
 rises_comment : (depth c : ℕ) → Rises depth (comment_step depth c)
 rises_comment depth c = cond_both (c == 10) (fed_line depth) (on Comment depth) (Rises depth) (λ e. rises_fed depth) (λ e. omega arith)
 
-rises_escape : (inside : Escape → Mode) (outside : Mode) (depth : ℕ) (behind : AfterBackslash) → Rises depth (escape_step inside outside depth behind)
+rises_escape : (inside : Escape → Mode) (outside : Mode) (depth : ℕ) (after : AfterBackslash) → Rises depth (escape_step inside outside depth after)
 rises_escape inside outside depth Lost = tt
-rises_escape inside outside depth behind = omega arith
+rises_escape inside outside depth after = omega arith
 
 rises_in : (mode : Mode) (depth c : ℕ) → Rises depth (step_in mode depth c)
 rises_in Open depth c = rises_open depth c

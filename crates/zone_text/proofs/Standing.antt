@@ -10,7 +10,7 @@ use Rattle.zone_text.specs.Machine.Feeding.{Follow, is_finished, state_of}
 use Rattle.zone_text.specs.declared.source.Status.{Status}
 use Rattle.zone_text.specs.declared.source.Status.TheVariants.{Open, Finished}
 use Rattle.zone_text.specs.Source.{counted, Gives, Held, Leave, SourceState, Stands}
-use Rattle.zone_text.specs.Decided.{Decided}
+use Rattle.zone_text.specs.Decided.{FileDecides}
 use Rattle.zone_text.specs.FileReads.{FileReads, Ending}
 use Rattle.zone_rdata.specs.Source.{Pending, answer_of, first_answer, after, others}
 use Rattle.zone_rdata.specs.declared.fault.Stop.{Stop}
@@ -72,7 +72,7 @@ stands_given origin old new more fed given gives stands =
     record {
       works = gives.works ∙ stands.works;
       count = ap (λ (h : Held). h.fed) gives.held ∙ stands.count;
-      decided = λ going. subst (λ t. Decided origin fed t new.pending.ending) records (subst (λ e. Decided origin fed (given ++ old.pending.records) e) (sym gives.ending) (stands.decided (sym finished ∙ going)));
+      decided = λ going. subst (λ t. FileDecides origin fed t new.pending.ending) records (subst (λ e. FileDecides origin fed (given ++ old.pending.records) e) (sym gives.ending) (stands.decided (sym finished ∙ going)));
       leave = λ going none. subst (λ (h : Held). Leave origin fed h.defaults h.line h.unfinished) (sym gives.held) (stands.leave (sym finished ∙ going) (sym gives.ending ∙ none));
       read = λ ended. subst (λ t. FileReads origin fed t new.pending.ending) records (subst (λ e. FileReads origin fed (given ++ old.pending.records) e) (sym gives.ending) (stands.read (sym finished ∙ ended)));
     }
@@ -83,9 +83,9 @@ first_others [] = refl
 first_others (r ∷ records) = refl
 
 gives_next : (old new : SourceState) → old.pending.failed ≡ false → new.pending ≡ after old.pending → new.held ≡ old.held → Gives old (take 1 old.pending.records) new
-gives_next old new works behind same =
+gives_next old new works moved same =
     let left : after old.pending ≡ record { failed = old.pending.failed; records = others old.pending.records; ending = old.pending.ending } = rw works refl in
-    let is : new.pending ≡ record { failed = old.pending.failed; records = others old.pending.records; ending = old.pending.ending } = behind ∙ left in
+    let is : new.pending ≡ record { failed = old.pending.failed; records = others old.pending.records; ending = old.pending.ending } = moved ∙ left in
     record {
       first = first_others old.pending.records ∙ ap (λ (p : Pending). take 1 old.pending.records ++ p.records) (sym is);
       works = ap (λ (p : Pending). p.failed) is;
@@ -110,22 +110,22 @@ working : (pending : Pending) (answer : Result (Option Placed) Stop) → pending
 working pending answer works e = rw works at e
 
 pub stands_record : (origin : Labels) (old new : SourceState) (r : Placed) (fed : List ℕ) (given : List Placed) → new.pending ≡ after old.pending → new.held ≡ old.held → answer_of old.pending ≡ Ok (Some r) → Stands origin old fed given → Stands origin new fed (given ++ r ∷ [])
-stands_record origin old new r fed given behind same answer stands =
+stands_record origin old new r fed given moved same answer stands =
     subst (λ t. Stands origin new fed (given ++ t)) (answers_record old.pending.records old.pending.ending r (working old.pending (Ok (Some r)) stands.works answer))
-    (stands_given origin old new (take 1 old.pending.records) fed given (gives_next old new stands.works behind same) stands)
+    (stands_given origin old new (take 1 old.pending.records) fed given (gives_next old new stands.works moved same) stands)
 
 none_given : (origin : Labels) (old new : SourceState) (fed : List ℕ) (given : List Placed) → new.pending ≡ after old.pending → new.held ≡ old.held → take 1 old.pending.records ≡ [] → Stands origin old fed given → Stands origin new fed given
-none_given origin old new fed given behind same none stands =
+none_given origin old new fed given moved same none stands =
     subst (λ t. Stands origin new fed t) (ap (λ t. given ++ t) none ∙ append-nil given)
-    (stands_given origin old new (take 1 old.pending.records) fed given (gives_next old new stands.works behind same) stands)
+    (stands_given origin old new (take 1 old.pending.records) fed given (gives_next old new stands.works moved same) stands)
 
 pub stands_none : (origin : Labels) (old new : SourceState) (fed : List ℕ) (given : List Placed) → new.pending ≡ after old.pending → new.held ≡ old.held → answer_of old.pending ≡ Ok None → Stands origin old fed given → Stands origin new fed given
-stands_none origin old new fed given behind same answer stands =
-    none_given origin old new fed given behind same (answers_none old.pending.records old.pending.ending (working old.pending (Ok None) stands.works answer)) stands
+stands_none origin old new fed given moved same answer stands =
+    none_given origin old new fed given moved same (answers_none old.pending.records old.pending.ending (working old.pending (Ok None) stands.works answer)) stands
 
 pub stands_stop : (origin : Labels) (old new : SourceState) (stop : Stop) (fed : List ℕ) (given : List Placed) → new.pending ≡ after old.pending → new.held ≡ old.held → answer_of old.pending ≡ Err stop → Stands origin old fed given → Stands origin new fed given
-stands_stop origin old new stop fed given behind same answer stands =
-    none_given origin old new fed given behind same (answers_stop old.pending.records old.pending.ending stop (working old.pending (Err stop) stands.works answer)) stands
+stands_stop origin old new stop fed given moved same answer stands =
+    none_given origin old new fed given moved same (answers_stop old.pending.records old.pending.ending stop (working old.pending (Err stop) stands.works answer)) stands
 
 -- ---- the whole file
 

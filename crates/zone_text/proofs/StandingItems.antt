@@ -9,7 +9,7 @@ use Rattle.zone_name.proofs.Bare.{StandsBare, is_bare, not_bare}
 use Rattle.zone_rdata.specs.Spelling.{RawItem}
 use Rattle.zone_rdata.specs.Spelling as raw
 use Rattle.zone_rdata.specs.Text.{written_item}
-use Rattle.zone_rdata.proofs.Standing.{Stands}
+use Rattle.zone_rdata.proofs.Standing.{IsPrintedItem}
 use Rattle.zone_text.specs.Entries.{first_octet, item_of}
 use Rattle.zone_text.specs.Line.{IsItem, line_of}
 use Rattle.zone_text.specs.Tokens.{Token, bare, quoted, text, token_text, is_blank, ends_item}
@@ -34,7 +34,7 @@ record TokenOf (item : RawItem) : Type 0 where
   same : item_of token ≡ item ∷ []
   written : token_text token ≡ written_item item
 
-token_of : (item : RawItem) → Stands item → TokenOf item
+token_of : (item : RawItem) → IsPrintedItem item → TokenOf item
 token_of (raw.bare octets) stands = record {
   token = bare stands.units;
   is = (stands.some, units_go_on stands.units stands.each);
@@ -50,21 +50,21 @@ token_of (raw.quoted octets) stands = record {
 
 -- ---- a line of items
 
-tokens_for : (items : List RawItem) → AllByRecursion Stands items → List Token
+tokens_for : (items : List RawItem) → AllByRecursion IsPrintedItem items → List Token
 tokens_for [] stand = []
 tokens_for (item ∷ items) stand = (token_of item stand.0).token ∷ tokens_for items stand.1
 
-are_for : (items : List RawItem) (stand : AllByRecursion Stands items) → AllByRecursion IsItem (tokens_for items stand)
+are_for : (items : List RawItem) (stand : AllByRecursion IsPrintedItem items) → AllByRecursion IsItem (tokens_for items stand)
 unfolding tokens_for
 are_for [] stand = tt
 are_for (item ∷ items) stand = ((token_of item stand.0).is, are_for items stand.1)
 
-items_for : (items : List RawItem) (stand : AllByRecursion Stands items) → flat_map item_of (tokens_for items stand) ≡ items
+items_for : (items : List RawItem) (stand : AllByRecursion IsPrintedItem items) → flat_map item_of (tokens_for items stand) ≡ items
 unfolding tokens_for
 items_for [] stand = refl
 items_for (item ∷ items) stand = ap₂ (λ (xs ys : List RawItem). xs ++ ys) (token_of item stand.0).same (items_for items stand.1)
 
-line_for : (items : List RawItem) (stand : AllByRecursion Stands items) → text (line_of (tokens_for items stand)) ≡ join_with_byte 32 (map written_item items) ++ 10 ∷ []
+line_for : (items : List RawItem) (stand : AllByRecursion IsPrintedItem items) → text (line_of (tokens_for items stand)) ≡ join_with_byte 32 (map written_item items) ++ 10 ∷ []
 unfolding tokens_for
 line_for [] stand = refl
 line_for (item ∷ []) stand = ap (λ t. t ++ 10 ∷ []) (token_of item stand.0).written
@@ -79,7 +79,7 @@ pub record TokensOf (items : List RawItem) : Type 0 where
   pub same : flat_map item_of tokens ≡ items
   pub written : text (line_of tokens) ≡ join_with_byte 32 (map written_item items) ++ 10 ∷ []
 
-pub tokens_of : (items : List RawItem) → AllByRecursion Stands items → TokensOf items
+pub tokens_of : (items : List RawItem) → AllByRecursion IsPrintedItem items → TokensOf items
 tokens_of items stand = record { tokens = tokens_for items stand; each = are_for items stand; same = items_for items stand; written = line_for items stand }
 
 -- ---- where a line begins

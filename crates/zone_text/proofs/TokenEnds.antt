@@ -7,7 +7,7 @@ use Rattle.std.proofs.lemmas.List.{length-drop, drop-drop}
 use Rattle.zone_name.specs.Spelling.{Written, plain, escaped, decimal, written_text, IsUnit, is_digit}
 use Rattle.zone_rdata.specs.Strings.{is_quote}
 use Rattle.zone_text.specs.Machine.Cutting.{before_line_feed}
-use Rattle.zone_text.specs.Machine.ItemLengths.{item_len, EndsAt, Reaches}
+use Rattle.zone_text.specs.Machine.ItemLengths.{item_len, EndsAt, ItemReaches}
 use Rattle.zone_text.specs.Tokens.{ends_item}
 
 -- ---- items
@@ -57,7 +57,7 @@ neither false false _ = (refl, refl)
 neither a b none = absurd (both_ways true none refl)
 
 -- an octet that neither ends the item nor is a backslash goes on
-pub plain_on : (ends : ℕ → Bool) (text : List ℕ) (i : ℕ) → i < length text → (ends (get_or text i 0) || get_or text i 0 == 92) ≡ false → Reaches ends text i → Reaches ends text (i + 1)
+pub plain_on : (ends : ℕ → Bool) (text : List ℕ) (i : ℕ) → i < length text → (ends (get_or text i 0) || get_or text i 0 == 92) ≡ false → ItemReaches ends text i → ItemReaches ends text (i + 1)
 unfolding item_len
 plain_on ends text i less goes so_far =
     let neither_is = neither (ends (get_or text i 0)) (get_or text i 0 == 92) goes in
@@ -73,11 +73,11 @@ nothing_left text i less = drop_of_length-le text less
 pub end_stops : (stops : ℕ → Bool) (text : List ℕ) (i : ℕ) → length text ≤ i → EndsAt stops (drop i text)
 end_stops stops text i over = rw (nothing_left text i over) tt
 
-pub all_reached : (ends : ℕ → Bool) (text : List ℕ) (i : ℕ) → length text ≤ i → i ≤ length text → Reaches ends text i → Reaches ends text (length text)
-all_reached ends text i over within so_far = let same : i ≡ length text = omega arith in subst (Reaches ends text) same so_far
+pub all_reached : (ends : ℕ → Bool) (text : List ℕ) (i : ℕ) → length text ≤ i → i ≤ length text → ItemReaches ends text i → ItemReaches ends text (length text)
+all_reached ends text i over within so_far = let same : i ≡ length text = omega arith in subst (ItemReaches ends text) same so_far
 
 -- one way after another
-pub reach_on : (ends : ℕ → Bool) (text : List ℕ) (i m : ℕ) → Reaches ends text i → Reaches ends (drop i text) m → Reaches ends text (i + m)
+pub reach_on : (ends : ℕ → Bool) (text : List ℕ) (i m : ℕ) → ItemReaches ends text i → ItemReaches ends (drop i text) m → ItemReaches ends text (i + m)
 reach_on ends text i m so_far next =
     let same : drop m (drop i text) ≡ drop (i + m) text = drop-drop m i text in
     let more : item_len ends false (drop i text) ≡ m + item_len ends false (drop (i + m) text) = rw (sym same) next in
@@ -87,7 +87,7 @@ pub stops_on : (stops : ℕ → Bool) (text : List ℕ) (i m : ℕ) → EndsAt s
 stops_on stops text i m at = subst (EndsAt stops) (drop-drop m i text) at
 
 -- an escape of a backslash and any octet, or of a backslash at the end
-one_escape : (ends : ℕ → Bool) (octets after : List ℕ) (m : ℕ) → octets ≡ 92 ∷ after → m ≡ min (length octets) 2 → Reaches ends octets m
+one_escape : (ends : ℕ → Bool) (octets after : List ℕ) (m : ℕ) → octets ≡ 92 ∷ after → m ≡ min (length octets) 2 → ItemReaches ends octets m
 unfolding item_len
 one_escape ends octets [] m whole taken =
     let len : length octets ≡ 1 = ap length whole in
@@ -100,7 +100,7 @@ one_escape ends octets (x ∷ after) m whole taken =
     let left : item_len ends false (drop m octets) ≡ item_len ends false after = rw (two, whole) refl in
     omega arith
 
-pub escape_on : (ends : ℕ → Bool) (text : List ℕ) (i m : ℕ) → i < length text → get_or text i 0 ≡ 92 → m ≡ min (length text - i) 2 → Reaches ends text i → Reaches ends text (i + m)
+pub escape_on : (ends : ℕ → Bool) (text : List ℕ) (i m : ℕ) → i < length text → get_or text i 0 ≡ 92 → m ≡ min (length text - i) 2 → ItemReaches ends text i → ItemReaches ends text (i + m)
 escape_on ends text i m less is taken so_far =
     let whole : drop i text ≡ 92 ∷ drop (i + 1) text = first_at text i less ∙ ap (λ c. c ∷ drop (i + 1) text) is in
     reach_on ends text i m so_far (one_escape ends (drop i text) _ m whole (taken ∙ ap (λ n. min n 2) (sym (length-drop i text))))
@@ -118,7 +118,7 @@ last_at ends (c ∷ rest) at other =
     by true b differs stopped = refl
     by false b differs stopped = absurd (both_ways b differs stopped)
 
-pub len_reached : (ends : ℕ → Bool) (text : List ℕ) (i : ℕ) → EndsAt (λ c. ends c || c == 92) (drop i text) → (i < length text → get_or text i 0 ≢ 92) → Reaches ends text i → i ≡ item_len ends false text
+pub len_reached : (ends : ℕ → Bool) (text : List ℕ) (i : ℕ) → EndsAt (λ c. ends c || c == 92) (drop i text) → (i < length text → get_or text i 0 ≢ 92) → ItemReaches ends text i → i ≡ item_len ends false text
 len_reached ends text i at other so_far =
     let none : item_len ends false (drop i text) ≡ 0 = last_at ends (drop i text) at (λ some. let less : i < length text = (let len = length-drop i text in omega arith) in λ e. other less (ap (λ t. get_or t 0 0) (sym (first_at text i less)) ∙ e)) in
     omega arith

@@ -12,7 +12,7 @@ use Rattle.zone_rdata.specs.declared.item.Item.{Item}
 use Rattle.zone_text.specs.EntryFault.{WordFault, WordsFault}
 use Rattle.zone_text.specs.Forms.{Word, ttl, class, ttl_among, class_among, Parts, parts_after, word_after, unless_stated, begins_with_digit, is_class_word}
 use Rattle.zone_text.specs.Inherited.{IsTtl}
-use Rattle.zone_text.specs.Machine.WordValues.{HaveValues, ArePartsOf}
+use Rattle.zone_text.specs.Machine.WordValues.{HaveValues, AreWordsOf}
 use Rattle.zone_text.specs.Records.{HasValue}
 use Rattle.zone_text.specs.declared.words.Words.{Words}
 use Rattle.zone_text.proofs.ClassWords.{class_word_of, class_word_known}
@@ -110,11 +110,11 @@ pub record ReadsWords (items : List RawItem) (values : Words) (rest : List RawIt
   pub have : HaveValues words values
   pub parts : parts_after [] items ≡ parts_after words rest
 
-parts_are : (parts : Parts) (words : List Word) (v : Words) (rest : List RawItem) → HaveValues words v → parts ≡ record { words = words; rest = rest } → ArePartsOf parts v rest
+parts_are : (parts : Parts) (words : List Word) (v : Words) (rest : List RawItem) → HaveValues words v → parts ≡ record { words = words; rest = rest } → AreWordsOf parts v rest
 parts_are parts words v rest have e = rw e (record { words = have; rest = refl })
 
 -- the next item is no word
-pub read_to : (items rest more : List RawItem) (v : Words) (item : RawItem) → ReadsWords items v rest → rest ≡ item ∷ more → ((words : List Word) → HaveValues words v → word_after words item ≡ None) → ArePartsOf (parts_after [] items) v rest
+pub read_to : (items rest more : List RawItem) (v : Words) (item : RawItem) → ReadsWords items v rest → rest ≡ item ∷ more → ((words : List Word) → HaveValues words v → word_after words item ≡ None) → AreWordsOf (parts_after [] items) v rest
 read_to items rest more v item reads front none =
     parts_are _ reads.words v rest reads.have (
     reads.parts ∙ (ap (parts_after reads.words) front ∙ (next_part reads.words item more None (none reads.words reads.have) ∙ ap (λ t. record { words = reads.words; rest = t }) (sym front)))

@@ -1,5 +1,6 @@
 -- Files on which the records and faults of entries are computed (RFC 1035 5.1).
 use Rattle.std.specs.Prelude.{ℕ, List, [], ◌∷◌, ◌++◌, codes, Some}
+use Rattle.zone_name.specs.Common.{Labels}
 use Rattle.zone_name.specs.Name.{wire}
 use Rattle.zone_rdata.specs.Record.{Record}
 use Rattle.zone_rdata.specs.declared.fault.Fault.{Fault}
@@ -8,14 +9,14 @@ use Rattle.zone_rdata.specs.declared.record.Placed.{Placed}
 use Rattle.zone_text.specs.FileReads.{FileReads, Ending}
 
 -- the origin `x.`, and the name of one letter under a name
-abbrev pub x : List (List ℕ)
+abbrev pub x : Labels
 x = codes "x" ∷ []
 
-abbrev pub under : ℕ → List (List ℕ) → List (List ℕ)
+abbrev pub under : ℕ → Labels → Labels
 under letter name = (letter ∷ []) ∷ name
 
 -- an NS record of the name server `n.x.`
-abbrev pub ns : List (List ℕ) → ℕ → ℕ → Record
+abbrev pub ns : Labels → ℕ → ℕ → Record
 ns owner class ttl =
     record { owner = owner; class = class; kind = 2; ttl = ttl; octets = wire (under 110 x) }
 
@@ -37,7 +38,7 @@ soa ttl =
     }
 
 -- the address 10.0.0.1 of an owner, in class IN (RFC 1035 3.4.1)
-abbrev pub address : List (List ℕ) → ℕ → Record
+abbrev pub address : Labels → ℕ → Record
 address owner ttl =
     record { owner = owner; class = 1; kind = 1; ttl = ttl; octets = 10 ∷ 0 ∷ 0 ∷ 1 ∷ [] }
 
@@ -48,5 +49,5 @@ abbrev pub fault_at : ℕ → Fault → Ending
 fault_at line fault = Some (fault, Line line)
 
 -- a text under the origin `x.` gives these records and this fault
-abbrev pub Reads : List ℕ → List Placed → Ending → Type 0
-Reads octets placed ending = FileReads x octets placed ending
+abbrev pub TextGives : List ℕ → List Placed → Ending → Type 0
+TextGives octets placed ending = FileReads x octets placed ending

@@ -1,4 +1,4 @@
--- The forms of an entry (RFC 1035 5.1; `$TTL` RFC 2308 4): blank, a directive or a record, and a
+-- What an entry says (RFC 1035 5.1; `$TTL` RFC 2308 4): nothing, a directive or a record, and a
 -- record's parts.
 use Rattle.std.specs.Prelude.{ℕ, List, [], ◌∷◌, ◌++◌, codes, take, drop, ◌==◌, ◌&&◌, ◌||◌, if◌then◌else◌, Bool, false, bytes_eq, Option, Some, None, is_some}
 use Rattle.zone_name.specs.Name.{folded_label}
@@ -10,17 +10,17 @@ use Rattle.zone_text.specs.Entries.{Entry}
 
 -- no items; a directive with what follows its word; or a record with what follows its owner, stated
 -- or omitted
-pub data EntryForm : Type 0 where
-  no_items : EntryForm
-  sets_origin : List RawItem → EntryForm
-  sets_ttl : List RawItem → EntryForm
-  includes : EntryForm
-  unknown : EntryForm
-  owned : RawItem → List RawItem → EntryForm
-  unowned : List RawItem → EntryForm
+pub data Statement : Type 0 where
+  no_items : Statement
+  sets_origin : List RawItem → Statement
+  sets_ttl : List RawItem → Statement
+  includes : Statement
+  unknown : Statement
+  owned : RawItem → List RawItem → Statement
+  unowned : List RawItem → Statement
 
 -- a directive's word, in any letter case
-abbrev pub directive : RawItem → List RawItem → EntryForm
+abbrev pub directive : RawItem → List RawItem → Statement
 directive (quoted text) items = unknown
 directive (bare text) items =
     if bytes_eq (folded_label text) (codes "$origin") then sets_origin items
@@ -29,16 +29,16 @@ directive (bare text) items =
     else unknown
 
 -- `$` as the first octet begins a directive, and a blank omits the owner
-abbrev pub form_by : Option ℕ → List RawItem → EntryForm
-form_by first [] = no_items
-form_by None (item ∷ items) = owned item items
-form_by (Some c) (item ∷ items) =
+abbrev pub statement_by : Option ℕ → List RawItem → Statement
+statement_by first [] = no_items
+statement_by None (item ∷ items) = owned item items
+statement_by (Some c) (item ∷ items) =
     if c == 36 then directive item items
     else if is_blank c then unowned (item ∷ items)
     else owned item items
 
-abbrev pub form_of : Entry → EntryForm
-form_of entry = form_by entry.first entry.items
+abbrev pub statement_of : Entry → Statement
+statement_of entry = statement_by entry.first entry.items
 
 abbrev pub begins_with_digit : List ℕ → Bool
 begins_with_digit [] = false
@@ -99,11 +99,11 @@ parts_after words (item ∷ items) =
       | Some word ↦ parts_after (words ++ word ∷ []) items
     ]
 
-abbrev pub parts_in : EntryForm → Option Parts
+abbrev pub parts_in : Statement → Option Parts
 parts_in (owned owner items) = Some (parts_after [] items)
 parts_in (unowned items) = Some (parts_after [] items)
 parts_in form = None
 
 -- the parts of a record entry
 abbrev pub parts_of : Entry → Option Parts
-parts_of entry = parts_in (form_of entry)
+parts_of entry = parts_in (statement_of entry)

@@ -5,7 +5,7 @@ use Rattle.std.specs.List.{flat_map}
 use Rattle.zone_name.specs.Common.{Labels}
 use Rattle.zone_rdata.specs.Source.{Pending}
 use Rattle.zone_rdata.specs.declared.record.Placed.{Placed}
-use Rattle.zone_text.specs.Decided.{AreTokens, Decided}
+use Rattle.zone_text.specs.Decided.{AreTokens, FileDecides}
 use Rattle.zone_text.specs.Defaults.{AreDefaults}
 use Rattle.zone_text.specs.Entries.{cut_from, ended_entries, open_line}
 use Rattle.zone_text.specs.FileReads.{FileReads}
@@ -56,7 +56,7 @@ pub record Stands (origin : Labels) (source : SourceState) (fed : List ℕ)
   pub works : source.pending.failed ≡ false
   pub count : source.held.fed ≡ length fed
   pub decided : source.held.finished ≡ false
-      → Decided origin fed (given ++ source.pending.records) source.pending.ending
+      → FileDecides origin fed (given ++ source.pending.records) source.pending.ending
   pub leave : source.held.finished ≡ false → source.pending.ending ≡ None
       → Leave origin fed source.held.defaults source.held.line source.held.unfinished
   pub read : source.held.finished ≡ true

@@ -1,12 +1,12 @@
 ghost use Rattle.std.specs.Prelude.{◌≡◌, ℕ, List, [], map, Some, IfErr, OnOk};
 ghost use Rattle.std.specs.List.{flat_map};
 ghost use Rattle.zone_name.specs.Common.{Labels};
-ghost use Rattle.zone_name.specs.Spelling.{FirstFault};
+ghost use Rattle.zone_name.specs.Spelling.{SpellingFault};
 ghost use Rattle.zone_rdata.specs.Item.{raw};
 ghost use Rattle.zone_text.specs.Defaults.{AreDefaults};
 ghost use Rattle.zone_text.specs.Entries.{Entry, entry_of, item_of};
 ghost use Rattle.zone_text.specs.EntryFault.{EntryFault};
-ghost use Rattle.zone_text.specs.Forms.{form_of, owned};
+ghost use Rattle.zone_text.specs.Forms.{statement_of, owned};
 ghost use Rattle.zone_text.specs.Tokens.{Token, Cuts};
 ghost use Rattle.zone_text.specs.Machine.EntryReading.{DecidesEntry, LeavesNoRecord, SetsOwner};
 ghost use Rattle.zone_text.specs.Machine.Form.{directive_in, form_in};
@@ -89,7 +89,7 @@ impl Defaults {
         decided: &mut PendingRecords,
     ) -> Result<(), AllocError>
         ensures { (origin : Labels) (before : List Entry) (entry : Entry)
-            → AreDefaults origin before self.old → form_of entry ≡ form_in form.entry
+            → AreDefaults origin before self.old → statement_of entry ≡ form_in form.entry
             → OnOk result
             (DecidesEntry origin before entry place decided.old decided.new self.new) }
     {
@@ -108,10 +108,10 @@ impl Defaults {
     #[inline(never)]
     fn follow(&mut self, directive: Directive) -> Result<(), NarrowFault>
         ensures found { (origin : Labels) (before : List Entry) (entry : Entry)
-            → AreDefaults origin before self.old → form_of entry ≡ directive_in directive.entry
+            → AreDefaults origin before self.old → statement_of entry ≡ directive_in directive.entry
             → OnOk result (LeavesNoRecord origin before entry self.new) }
         ensures fault { (origin : Labels) (before : List Entry) (entry : Entry)
-            → AreDefaults origin before self.old → form_of entry ≡ directive_in directive.entry
+            → AreDefaults origin before self.old → statement_of entry ≡ directive_in directive.entry
             → IfErr result (EntryFault origin before entry) }
     {
         match directive {
@@ -132,7 +132,7 @@ impl Defaults {
         decided: &mut PendingRecords,
     ) -> Result<(), AllocError>
         ensures { (origin : Labels) (before : List Entry) (entry : Entry)
-            → AreDefaults origin before self.old → form_of entry ≡ owned (raw owner.entry)
+            → AreDefaults origin before self.old → statement_of entry ≡ owned (raw owner.entry)
             (map raw items.now)
             → OnOk result
             (DecidesEntry origin before entry place decided.old decided.new self.new) }
@@ -153,7 +153,7 @@ impl Defaults {
     /// The faults of the name. The owner then says nothing.
     fn set_owner(&mut self, text: &[u8]) -> Result<(), NameFault>
         ensures found { OnOk result (SetsOwner text.now self.old self.new) }
-        ensures fault { IfErr result (FirstFault (Some self.old.origin) text.now) }
+        ensures fault { IfErr result (SpellingFault (Some self.old.origin) text.now) }
     {
         match &mut self.owner {
             Some(owner) => owner.set_from_text(text, Some(&self.origin)),

@@ -2,7 +2,7 @@ ghost use Rattle.std.specs.Prelude.{◌≡◌, bytes_eq, map};
 ghost use Rattle.zone_name.specs.Name.{folded_label};
 ghost use Rattle.zone_rdata.specs.Item.{raw};
 ghost use Rattle.zone_text.specs.Entries.{first_octet};
-ghost use Rattle.zone_text.specs.Forms.{directive, form_by};
+ghost use Rattle.zone_text.specs.Forms.{directive, statement_by};
 ghost use Rattle.zone_text.specs.Machine.Form.{directive_in, form_in};
 
 use crate::items::is_blank;
@@ -61,7 +61,7 @@ fn directive_of<'i, 't>(word: Item<'t>, items: &'i [Item<'t>]) -> Directive<'i, 
 
 /// The form of an entry with these items.
 pub(crate) fn form_of<'i, 't>(entry: &[u8], items: &'i [Item<'t>]) -> EntryForm<'i, 't>
-    ensures { form_in result ≡ form_by (first_octet entry.now) (map raw items.now) }
+    ensures { form_in result ≡ statement_by (first_octet entry.now) (map raw items.now) }
 {
     let [first, rest @ ..] = items else {
         return EntryForm::Blank;

@@ -5,7 +5,7 @@ ghost use Rattle.zone_rdata.specs.Item.{raw};
 ghost use Rattle.zone_text.specs.Entries.{item_of};
 ghost use Rattle.zone_text.specs.Tokens.{Token, IsToken, ends_item, is_blank, token_text};
 ghost use Rattle.zone_text.specs.Machine.Cutting.{before_line_feed};
-ghost use Rattle.zone_text.specs.Machine.ItemLengths.{EndsAt, EndsBefore, Reaches, ends_within, item_len, stops_within};
+ghost use Rattle.zone_text.specs.Machine.ItemLengths.{EndsAt, EndsBefore, ItemReaches, ends_within, item_len, stops_within};
 ghost use Rattle.zone_text.specs.Machine.Kept.{IsShort, Keeps};
 ghost use Rattle.zone_text.specs.Machine.Line.{KeepsItems};
 
@@ -46,7 +46,7 @@ impl Extent {
 pub(crate) fn plain_len(text: &[u8], extent: Extent) -> usize
     ensures within { result ≤ length text.now }
     ensures plain { All (λ c. stops_within extent c ≡ false) (take result text.now) }
-    ensures reaches { Reaches (ends_within extent) text.now result }
+    ensures reaches { ItemReaches (ends_within extent) text.now result }
     ensures stops { EndsAt (stops_within extent) (drop result text.now) }
 {
     for (index, octet) in text.iter().enumerate() {
@@ -62,7 +62,7 @@ pub(crate) fn plain_len(text: &[u8], extent: Extent) -> usize
 #[inline(never)]
 fn escaped_len(text: &[u8], plain: usize, extent: Extent) -> usize
     requires within { plain ≤ length text.now }
-    requires reaches { Reaches (ends_within extent) text.now plain }
+    requires reaches { ItemReaches (ends_within extent) text.now plain }
     requires stops { EndsAt (stops_within extent) (drop plain text.now) }
     ensures len { result ≡ item_len (ends_within extent) false text.now }
     ensures within { result ≤ length text.now }

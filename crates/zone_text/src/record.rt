@@ -1,4 +1,4 @@
-ghost use Rattle.zone_text.specs.Forms.{form_of};
+ghost use Rattle.zone_text.specs.Forms.{statement_of};
 ghost use Rattle.std.specs.Prelude.{◌≡◌, List, map, IfOk, IfErr, OnErr, OnOk};
 ghost use Rattle.zone_name.specs.Common.{Labels};
 ghost use Rattle.zone_rdata.specs.Fault.{IfFault};
@@ -9,7 +9,7 @@ ghost use Rattle.zone_text.specs.EntryFault.{EntryFault};
 ghost use Rattle.zone_text.specs.Inherited.{ttl_text};
 ghost use Rattle.zone_text.specs.Records.{HasHead};
 ghost use Rattle.zone_text.specs.Machine.EntryReading.{DecidesEntry, HasOwnerOrNone, IsRecordEntry};
-ghost use Rattle.zone_text.specs.Machine.EntryReading.{ReadsContents, Refuses};
+ghost use Rattle.zone_text.specs.Machine.EntryReading.{ReadsContents, DecidesFault};
 
 use crate::defaults::Defaults;
 use crate::laws::entry::lower_laws;
@@ -52,7 +52,7 @@ pub(crate) fn refuse(
     place: Place,
     decided: &mut PendingRecords,
 ) -> Result<(), AllocError>
-    ensures decided { OnOk result (Refuses failing place decided.old decided.new) }
+    ensures decided { OnOk result (DecidesFault failing place decided.old decided.new) }
     ensures memory { OnErr result (failing ≡ Failing.Memory) }
 {
     match Failing::from(failing) {
@@ -146,7 +146,7 @@ impl Defaults {
               class = head.class;
               kind = head.kind;
               items = map raw head.rdata.now;
-            }) × IsTtlOrNone (ttl_text (form_of entry)) head.ttl) }
+            }) × IsTtlOrNone (ttl_text (statement_of entry)) head.ttl) }
         ensures fault { (origin : Labels) (before : List Entry) (entry : Entry) (owner : Labels)
             → IsRecordEntry origin before entry self.now owner (map raw items.now)
             → IfErr result (EntryFault origin before entry) }

@@ -5,7 +5,7 @@ ghost use Rattle.zone_rdata.specs.Item.{RawItem, bare, raw};
 ghost use Rattle.zone_text.specs.EntryFault.{WordFault, WordsFault};
 ghost use Rattle.zone_text.specs.Forms.{Word, begins_with_digit, parts_after, word_after};
 ghost use Rattle.zone_text.specs.Inherited.{IsTtl};
-ghost use Rattle.zone_text.specs.Machine.WordValues.{ArePartsOf, HaveValues};
+ghost use Rattle.zone_text.specs.Machine.WordValues.{AreWordsOf, HaveValues};
 
 use zone_rdata::{Cause, Class, Fault, Item, MAX_TTL, NarrowFault, seconds_of};
 
@@ -99,7 +99,7 @@ impl Words {
 /// `BadTtl` and `BadClass` for the leftmost word without a value.
 pub(crate) fn words_of(items: &[Item]) -> Result<(Words, usize), NarrowFault>
     ensures found { IfOk result (λ found.
-        ArePartsOf (parts_after [] (map raw items.now)) found.0
+        AreWordsOf (parts_after [] (map raw items.now)) found.0
         (drop found.1 (map raw items.now))) }
     ensures within { IfOk result (λ found. found.1 ≤ length items.now) }
     ensures fault { IfErr result (WordsFault (parts_after [] (map raw items.now)).words) }

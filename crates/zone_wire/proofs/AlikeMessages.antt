@@ -7,10 +7,10 @@ use Rattle.zone_rdata.specs.Record.{Record}
 use Rattle.zone_rdata.specs.declared.fault.Fault.{Fault}
 use Rattle.zone_rdata.specs.declared.record.Placed.{Placed}
 use Rattle.zone_wire.specs.AnswerFault.{OrderFault, closed, no_soa, other_zone, other_soa, AnswerFault, own, of_order, FirstAnswerFault}
-use Rattle.zone_wire.specs.Answers.{ZoneAsked, zone_of, AgreeWith, is_closed, StandsBehind, opens, follows, StandInOrder}
+use Rattle.zone_wire.specs.Answers.{ZoneAsked, zone_of, AgreeWith, is_closed, ComesAfter, opens, follows, ComeInOrder}
 use Rattle.zone_wire.specs.Message.{QuestionAt, RecordAt, Sections}
-use Rattle.zone_wire.specs.Stream.{asked_in, placed_in, HasFirstId, AsksIn, AskBehind, IsMessageBehind, IsReadBehind, FaultBehind, of_structure, of_id, of_questions, of_answers, first_id, opening_of, AreAlike}
-use Rattle.zone_wire.specs.Transfer.{StatedMessage, StateEach}
+use Rattle.zone_wire.specs.Stream.{asked_in, placed_in, HasFirstId, AsksIn, AskAfter, IsMessageAfter, IsReadAfter, FaultAfter, of_structure, of_id, of_questions, of_answers, first_id, opening_of, AreAlike}
+use Rattle.zone_wire.specs.Transfer.{StatedMessage, AnswersState}
 use Rattle.zone_wire.proofs.Accepting.{any_append}
 use Rattle.zone_wire.proofs.Answering.{is_soa}
 use Rattle.zone_wire.proofs.GivenMessages.{asked_grow, placed_grow, sections_grow}
@@ -37,7 +37,7 @@ begins : (r : Record) (placed : List Placed) → Some r ≡ opening_of placed �
 begins r [] e = cc
 begins r (p ∷ placed) e = record { first = p; rest = placed; is = refl; same = (let h : p.rr ≡ r = cc in h) }
 
-stands_alike : (questions others : List QuestionAt) (before other : List Placed) (r : Record) → Alike questions others before other → StandsBehind questions before r → StandsBehind others other r
+stands_alike : (questions others : List QuestionAt) (before other : List Placed) (r : Record) → Alike questions others before other → ComesAfter questions before r → ComesAfter others other r
 stands_alike questions others before other r is (opens e kind agree) =
     opens (nothing_too before other is.opening e) kind (subst (λ z. AgreeWith z r.owner r.class) (is.zone e) agree)
 stands_alike questions others before other r is (follows opening rest e unclosed same) =
@@ -72,13 +72,13 @@ some_more (x ∷ before) p e = cc
 alike_more : (questions others : List QuestionAt) (before other : List Placed) (p : Placed) → Alike questions others before other → Alike questions others (before ++ p ∷ []) (other ++ p ∷ [])
 alike_more questions others before other p is = record { opening = opening_grows before other p is.opening; closing = closing_grows before other p is.opening is.closing; zone = λ e. absurd (some_more before p e) }
 
-alike_behind : (questions others : List QuestionAt) (before other placed : List Placed) → Alike questions others before other → Alike questions others (before ++ placed) (other ++ placed)
-alike_behind questions others before other [] is = subst (λ x. Alike questions others x (other ++ [])) (sym (append-nil before)) (subst (Alike questions others before) (sym (append-nil other)) is)
-alike_behind questions others before other (p ∷ placed) is =
-    let rest = alike_behind questions others (before ++ p ∷ []) (other ++ p ∷ []) placed (alike_more questions others before other p is) in
+alike_after : (questions others : List QuestionAt) (before other placed : List Placed) → Alike questions others before other → Alike questions others (before ++ placed) (other ++ placed)
+alike_after questions others before other [] is = subst (λ x. Alike questions others x (other ++ [])) (sym (append-nil before)) (subst (Alike questions others before) (sym (append-nil other)) is)
+alike_after questions others before other (p ∷ placed) is =
+    let rest = alike_after questions others (before ++ p ∷ []) (other ++ p ∷ []) placed (alike_more questions others before other p is) in
     subst (λ x. Alike questions others x (other ++ p ∷ placed)) (append_assoc before (p ∷ []) placed) (subst (Alike questions others ((before ++ p ∷ []) ++ placed)) (append_assoc other (p ∷ []) placed) rest)
 
-in_order_alike : (questions others : List QuestionAt) (before other placed : List Placed) → Alike questions others before other → StandInOrder questions before placed → StandInOrder others other placed
+in_order_alike : (questions others : List QuestionAt) (before other placed : List Placed) → Alike questions others before other → ComeInOrder questions before placed → ComeInOrder others other placed
 in_order_alike questions others before other [] is order = tt
 in_order_alike questions others before other (p ∷ placed) is order =
     (stands_alike questions others before other p.rr is order.0, in_order_alike questions others (before ++ p ∷ []) (other ++ p ∷ []) placed (alike_more questions others before other p is) order.1)
@@ -110,16 +110,16 @@ module _ (before other : List StatedMessage) (is : AreAlike before other) where
       by [] (y ∷ ys) e h = cc
       by (x ∷ xs) (y ∷ ys) e h = let same : x.sections.id ≡ y.sections.id = cc in h ∙ same
 
-  asks_alike : (s : Sections) → AskBehind before s → AskBehind other s
+  asks_alike : (s : Sections) → AskAfter before s → AskAfter other s
   asks_alike s asks = subst (λ z. AllByRecursion (AsksIn z) s.questions) is.zone asks
 
-  message_alike : (octets : List ℕ) (s : Sections) → IsMessageBehind before octets s → IsMessageBehind other octets s
+  message_alike : (octets : List ℕ) (s : Sections) → IsMessageAfter before octets s → IsMessageAfter other octets s
   message_alike octets s m = record { message = m.message; same_id = id_alike s m.same_id; asks = asks_alike s m.asks }
 
-  pub read_alike : (p : StatedMessage) → IsReadBehind before p → IsReadBehind other p
+  pub read_alike : (p : StatedMessage) → IsReadAfter before p → IsReadAfter other p
   read_alike p r = record {
     message = message_alike p.octets p.sections r.message;
-    stated = subst (λ n. StateEach (n + 1) p.octets p.sections.answers p.placed) is.count r.stated;
+    stated = subst (λ n. AnswersState (n + 1) p.octets p.sections.answers p.placed) is.count r.stated;
     order = in_order_alike (asked_in before ++ p.sections.questions) (asked_in other ++ p.sections.questions) (placed_in before) (placed_in other) p.placed (alike_answers p.sections.questions) r.order;
   }
 
@@ -131,16 +131,16 @@ module _ (before other : List StatedMessage) (is : AreAlike before other) where
         answer = f.answer;
         rest = f.rest;
         parts = f.parts;
-        stated = subst (λ n. StateEach (n + 1) octets f.front placed) is.count f.stated;
+        stated = subst (λ n. AnswersState (n + 1) octets f.front placed) is.count f.stated;
         order = in_order_alike (asked_in before ++ s.questions) (asked_in other ++ s.questions) (placed_in before) (placed_in other) placed alike f.order;
-        next = answer_alike octets (asked_in before ++ s.questions) (asked_in other ++ s.questions) (placed_in before ++ placed) (placed_in other ++ placed) f.answer fault (alike_behind (asked_in before ++ s.questions) (asked_in other ++ s.questions) (placed_in before) (placed_in other) placed alike) f.next;
+        next = answer_alike octets (asked_in before ++ s.questions) (asked_in other ++ s.questions) (placed_in before ++ placed) (placed_in other ++ placed) f.answer fault (alike_after (asked_in before ++ s.questions) (asked_in other ++ s.questions) (placed_in before) (placed_in other) placed alike) f.next;
         start = f.start;
       }
 
 alike_other : (before other : List StatedMessage) → AreAlike before other → AreAlike other before
 alike_other before other is = record { count = sym is.count; id = sym is.id; zone = sym is.zone; opening = sym is.opening; closing = sym is.closing }
 
-pub fault_alike : (before other : List StatedMessage) (octets : List ℕ) (here : List Placed) (fault : Fault) (offset : ℕ) → AreAlike before other → FaultBehind before octets here fault offset → FaultBehind other octets here fault offset
+pub fault_alike : (before other : List StatedMessage) (octets : List ℕ) (here : List Placed) (fault : Fault) (offset : ℕ) → AreAlike before other → FaultAfter before octets here fault offset → FaultAfter other octets here fault offset
 fault_alike before other octets here fault offset is (of_structure f o has) = of_structure f o has
 fault_alike before other octets here fault offset is (of_id s m none) = of_id s m (λ has. none (id_alike other before (alike_other before other is) s has))
 fault_alike before other octets here fault offset is (of_questions s m id none) = of_questions s m (id_alike before other is s id) (λ asks. none (asks_alike other before (alike_other before other is) s asks))
@@ -178,10 +178,10 @@ asked_more : (before : List StatedMessage) (p : StatedMessage) → asked_in befo
 asked_more before p = sym (asked_grow before p.sections) ∙ ap (flat_map (λ (t : Sections). t.questions)) (sections_grow before p)
 
 -- messages that are alike stay so after one more
-pub alike_grows : (before other : List StatedMessage) (p : StatedMessage) → AreAlike before other → IsReadBehind before p → AreAlike (before ++ p ∷ []) (other ++ p ∷ [])
+pub alike_grows : (before other : List StatedMessage) (p : StatedMessage) → AreAlike before other → IsReadAfter before p → AreAlike (before ++ p ∷ []) (other ++ p ∷ [])
 alike_grows before other p is read =
     let questions = p.sections.questions in
-    let records = alike_behind (asked_in before ++ questions) (asked_in other ++ questions) (placed_in before) (placed_in other) p.placed (alike_answers before other is questions) in
+    let records = alike_after (asked_in before ++ questions) (asked_in other ++ questions) (placed_in before) (placed_in other) p.placed (alike_answers before other is questions) in
     record {
       count = length-append before (p ∷ []) ∙ ap (λ n. n + 1) is.count ∙ sym (length-append other (p ∷ []));
       id = id_grows before other p is.id;

@@ -10,16 +10,17 @@ use Rattle.zone_rdata.specs.declared.fault.Fault.TheVariants.{BadClass, MetaType
 use Rattle.zone_rdata.specs.declared.record.Placed.{Placed}
 use Rattle.zone_rdata.proofs.Layouts.{held_data, stringless_short}
 use Rattle.zone_wire.specs.AnswerFault.{OwnFault, of_class, of_kind, unread, of_data, OrderFault, closed, no_soa, other_zone, other_soa}
-use Rattle.zone_wire.specs.Answers.{ZoneAsked, zone_of, AgreeWith, StandsBehind, opens, follows}
-use Rattle.zone_wire.specs.Machine.Answers.{same_name, same_record, is_no_class, record_of, agrees, order_fault}
+use Rattle.zone_wire.specs.Answers.{ZoneAsked, zone_of, AgreeWith, ComesAfter, opens, follows}
+use Rattle.zone_wire.specs.Machine.Answers.{same_name, same_record, is_no_class, own_record, agrees, order_fault}
 use Rattle.zone_wire.specs.Machine.Data.{data_at}
 use Rattle.zone_wire.specs.Message.{u16_at, QuestionAt, RecordAt, IsRecordAt}
-use Rattle.zone_wire.specs.Transfer.{ttl_of, compressible, IsReadable, StatesRecord}
+use Rattle.zone_wire.specs.Transfer.{ttl_of, compressible, IsReadable, AnswerStates}
 use Rattle.zone_wire.proofs.Answering.{holds_data, none_of, names_same, records_same}
 use Rattle.zone_wire.proofs.DataFaults.{data_faults, data_refuses}
 use Rattle.zone_wire.proofs.MessageFaults.{err_same, some_same, stops, and_then_err, faulted, unequal_by, differs}
-use Rattle.zone_wire.proofs.ReadAnswers.{each_other, record_shown, agree_parts, records_equal}
+use Rattle.zone_wire.proofs.ReadAnswers.{each_other, record_shown, agree_parts, records_equal, agreed}
 use Rattle.zone_wire.proofs.ReadRecords.{no_class_parts, record_fits}
+use Rattle.zone_wire.proofs.ReadSections.{no_fault}
 pub use Rattle.zone_wire.proofs.ReadStreams.{Bytes}
 
 -- a test that refuses, or the rest does
@@ -51,8 +52,8 @@ record_with a canonical = Ok (record { owner = a.owner; class = a.class; kind = 
 -- an answer that stands in octets
 module _ (octets : List ℕ) (each : Bytes octets) (few : length octets ≤ 65535) where
   -- by itself it is refused with its first fault
-  pub own_faults : (offset : ℕ) (a : RecordAt) (fault : Fault) → IsRecordAt octets offset a → record_of octets a ≡ Err fault → OwnFault octets a fault
-  unfolding record_of
+  pub own_faults : (offset : ℕ) (a : RecordAt) (fault : Fault) → IsRecordAt octets offset a → own_record octets a ≡ Err fault → OwnFault octets a fault
+  unfolding own_record
   own_faults offset a fault at e =
       let words = record_words octets offset a each at in
       elim (refused_or (is_no_class a.class) BadClass fault _ e) [
@@ -69,8 +70,8 @@ module _ (octets : List ℕ) (each : Bytes octets) (few : length octets ≤ 6553
         ])
       ]
 
-  pub own_refuses : (offset : ℕ) (a : RecordAt) (fault : Fault) → IsRecordAt octets offset a → OwnFault octets a fault → record_of octets a ≡ Err fault
-  unfolding record_of
+  pub own_refuses : (offset : ℕ) (a : RecordAt) (fault : Fault) → IsRecordAt octets offset a → OwnFault octets a fault → own_record octets a ≡ Err fault
+  unfolding own_record
   own_refuses offset a fault at (of_class none) =
       cond-true _ _ _ (true_from_ne_false (is_no_class a.class) (λ f. none (class_by a.class (record_words octets offset a each at).0 f)))
   own_refuses offset a fault at (of_kind class none) =
@@ -84,7 +85,7 @@ module _ (octets : List ℕ) (each : Bytes octets) (few : length octets ≤ 6553
       ∙ and_then_err (data_at octets a) f (record_with a) (data_refuses octets a f each at.inside is)
 
   -- by itself it states the record as which it is read
-  pub own_states : (offset : ℕ) (a : RecordAt) (r : Record) → IsRecordAt octets offset a → record_of octets a ≡ Ok r → StatesRecord octets a r
+  pub own_states : (offset : ℕ) (a : RecordAt) (r : Record) → IsRecordAt octets offset a → own_record octets a ≡ Ok r → AnswerStates octets a r
   own_states offset a r at e = record_shown octets a r each at.inside e (record_fits held_data stringless_short octets each few offset a r at e)
 
 pub agrees_by : (zone : Option ZoneAsked) (name : List (List ℕ)) (class : ℕ) → agrees zone name class ≡ true → AgreeWith zone name class
@@ -141,14 +142,6 @@ order_refuses questions (opening ∷ others) r fault (other_soa first rest e unc
     let no : same_record r opening.rr ≡ false = false_from_ne_true (same_record r opening.rr) (λ t. other (records_equal r opening.rr t ∙ ap (λ (p : Placed). p.rr) same)) in
     cond-false _ _ _ unclosed ∙ cond-true _ _ _ (and_from (r.kind == 6) (not (same_record r opening.rr)) (eq-eqb r.kind 6 kind) (ap not no))
 
-passed : (test : Bool) (fault : Fault) (rest : Option Fault) → (if test then Some fault else rest) ≡ None → (test ≡ false) × (rest ≡ None)
-passed true fault rest e = cc
-passed false fault rest e = (refl, e)
-
-last_passed : (test : Bool) (fault : Fault) → (if test then None else Some fault) ≡ None → test ≡ true
-last_passed true fault e = refl
-last_passed false fault e = cc
-
 kept_soa : (r : Record) (opening : Placed) → other_soa_test r opening ≡ false → r.kind ≡ 6 → r ≡ opening.rr
 kept_soa r opening e kind = elim (and_cases (r.kind == 6) (not (same_record r opening.rr)) e) [
   | inl none ↦ (let yes = eq-eqb r.kind 6 kind in let t : ⊥ = cc in absurd t)
@@ -156,19 +149,19 @@ kept_soa r opening e kind = elim (and_cases (r.kind == 6) (not (same_record r op
 ]
 
 -- a record that isn't refused stands after others
-pub order_stands : (questions : List QuestionAt) (before : List Placed) (r : Record) → order_fault questions before r ≡ None → StandsBehind questions before r
+pub order_stands : (questions : List QuestionAt) (before : List Placed) (r : Record) → order_fault questions before r ≡ None → ComesAfter questions before r
 order_stands questions [] r e =
-    let h = passed (not (r.kind == 6)) NoOpeningSoa _ e in
-    opens refl (eqb-true _ _ (not-false _ h.0)) (agrees_by (zone_of questions []) r.owner r.class (last_passed _ BadQuestion h.1))
+    let h = no_fault (not (r.kind == 6)) NoOpeningSoa _ e in
+    opens refl (eqb-true _ _ (not-false _ h.0)) (agrees_by (zone_of questions []) r.owner r.class (agreed _ BadQuestion h.1))
 order_stands questions (opening ∷ others) r e =
-    let h = passed (list_any (λ p. p.rr.kind == 6) others) AfterClosing _ e in
-    let k = passed (other_soa_test r opening) SoaMismatch None h.1 in
+    let h = no_fault (list_any (λ p. p.rr.kind == 6) others) AfterClosing _ e in
+    let k = no_fault (other_soa_test r opening) SoaMismatch None h.1 in
     follows opening others refl h.0 (kept_soa r opening k.0)
 
 other_soa_false : (r : Record) (opening : Placed) → (r.kind ≡ 6 → r ≡ opening.rr) → other_soa_test r opening ≡ false
 other_soa_false r opening same = false_from_ne_true (other_soa_test r opening) (λ t. let parts = and_parts (r.kind == 6) (not (same_record r opening.rr)) t in other_records r opening.rr parts.1 (same (eqb-true _ _ parts.0)))
 
-pub stands_unrefused : (questions : List QuestionAt) (before : List Placed) (r : Record) → StandsBehind questions before r → order_fault questions before r ≡ None
+pub stands_unrefused : (questions : List QuestionAt) (before : List Placed) (r : Record) → ComesAfter questions before r → order_fault questions before r ≡ None
 stands_unrefused questions [] r (opens e kind agree) = cond-false _ _ _ (ap not (eq-eqb r.kind 6 kind)) ∙ cond-true _ _ _ (agrees_true (zone_of questions []) r.owner r.class agree)
 stands_unrefused questions (opening ∷ others) r (opens e kind agree) = let t : ⊥ = cc in absurd t
 stands_unrefused questions [] r (follows first rest e unclosed same) = let t : ⊥ = cc in absurd t

@@ -8,11 +8,11 @@ use Rattle.std.proofs.lemmas.Bool.Decides.{nat_tests}
 use Rattle.zone_rdata.specs.Record.{Record}
 use Rattle.zone_rdata.specs.Words.{IsClass, is_meta}
 use Rattle.zone_rdata.specs.declared.record.Placed.{Placed}
-use Rattle.zone_wire.specs.Machine.Answers.{same_name, same_record, is_no_class, record_of, agrees, order_fault}
+use Rattle.zone_wire.specs.Machine.Answers.{same_name, same_record, is_no_class, own_record, agrees, order_fault}
 use Rattle.zone_wire.specs.Answers.{zone_of}
 use Rattle.zone_wire.specs.Machine.Data.{data_at}
 use Rattle.zone_wire.specs.Message.{QuestionAt, RecordAt}
-use Rattle.zone_wire.specs.Transfer.{ttl_of, compressible, StatesRecord, AsksFor}
+use Rattle.zone_wire.specs.Transfer.{ttl_of, compressible, AnswerStates, AsksFor}
 use Rattle.zone_wire.proofs.Fielding.{data_reads}
 use Rattle.zone_wire.proofs.Sectioning.{and_then_ok}
 
@@ -27,8 +27,8 @@ none_of kind [] each = refl
 none_of kind (k ∷ kinds) each = or_from (nat_eq kind k) (list_any (nat_eq kind) kinds) (differ kind k each.0) (none_of kind kinds each.1)
 
 -- the record of an answer by itself
-pub record_is_read : (octets : List ℕ) (a : RecordAt) (r : Record) → a.end ≤ length octets → StatesRecord octets a r → record_of octets a ≡ Ok r
-unfolding record_of
+pub record_is_read : (octets : List ℕ) (a : RecordAt) (r : Record) → a.end ≤ length octets → AnswerStates octets a r → own_record octets a ≡ Ok r
+unfolding own_record
 record_is_read octets a r within s =
     let class : is_no_class a.class ≡ false = ap is_no_class (sym s.class) ∙ holds_data r.class s.fits.rdata.class in
     let kind : is_meta a.kind ≡ false = ap is_meta (sym s.kind) ∙ s.fits.rdata.kind.stored in

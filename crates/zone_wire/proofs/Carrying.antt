@@ -11,13 +11,13 @@ use Rattle.zone_name.specs.Spelling.{IsLabelFault}
 use Rattle.zone_name.specs.declared.fault.NameFault.{NameFault}
 use Rattle.zone_name.specs.declared.fault.NameFault.TheVariants.{EmptyLabel, LabelTooLong, NameTooLong, BadEscape, RelativeName}
 use Rattle.zone_wire.specs.Name.{label_at}
-use Rattle.zone_wire.specs.Walk.{Spot, Standing, at_root, at_label, at_pointer, at_fault, place_of}
-use Rattle.zone_wire.specs.Machine.Walk.{walk, outset, past_label, past_pointer}
-use Rattle.zone_wire.specs.Machine.Finding.{Outcome, named, refused, outcome, behind_label, behind_pointer}
+use Rattle.zone_wire.specs.Walk.{Spot, Standing, at_root, at_label, at_pointer, at_fault, outset, past_label, past_pointer}
+use Rattle.zone_wire.specs.Machine.Walk.{place_of, walk}
+use Rattle.zone_wire.specs.Machine.Finding.{Outcome, named, refused, outcome, after_label, after_pointer}
 use Rattle.zone_rdata.specs.declared.fault.Fault.{Fault}
 use Rattle.zone_rdata.specs.declared.fault.Fault.TheVariants.{ShortMessage}
-use Rattle.zone_wire.proofs.Places.{Shows, IsLabelHere, IsPointerHere, place_shows}
-use Rattle.zone_wire.proofs.Walking.{outcome_by, outcome_at, outcome_step, octets_of, octets_of-label, octets_of-more, wire-octets}
+use Rattle.zone_wire.proofs.Places.{Shows, place_shows}
+use Rattle.zone_wire.proofs.Walking.{outcome_by, outcome_at, outcome_step, label_octets, label_octets-label, label_octets-more, wire-octets}
 
 -- what was met so far, and then what the rest leads to
 abbrev pub carried : List (List ℕ) → Option ℕ → ℕ → ℕ → Outcome → Outcome
@@ -28,7 +28,7 @@ pub record Carries (message : List ℕ) (offset : ℕ) (spot : Spot) (labels : L
   pub few : 2 * steps ≤ spot.octets + 2 * spot.pointers
   pub pointers : spot.pointers ≤ 128
   pub short : spot.octets + 1 ≤ 255
-  pub octets : spot.octets ≡ octets_of labels
+  pub octets : spot.octets ≡ label_octets labels
   pub left : ℕ
   pub enough : steps + left ≡ 256
   pub whole : outcome message (walk message offset) ≡ carried labels end steps spot.pointers (outcome_by left message spot)
@@ -42,10 +42,10 @@ pub carries_start : (message : List ℕ) (offset : ℕ) → Carries message offs
 unfolding walk outcome_by
 carries_start message offset = record { few = omega arith; pointers = omega arith; short = omega arith; octets = refl; left = 256; enough = refl; whole = sym (carried-none (outcome message (walk message offset))) }
 
-octets_of-push : (labels : List (List ℕ)) (l : List ℕ) → octets_of (labels ++ l ∷ []) ≡ octets_of labels + 1 + length l
-octets_of-push labels l = ap length (flat_map-append with_length labels (l ∷ [])) ∙ length-append (flat_map with_length labels) (flat_map with_length (l ∷ [])) ∙ omega (arith, octets_of-more l [])
+octets_of-push : (labels : List (List ℕ)) (l : List ℕ) → label_octets (labels ++ l ∷ []) ≡ label_octets labels + 1 + length l
+octets_of-push labels l = ap length (flat_map-append with_length labels (l ∷ [])) ∙ length-append (flat_map with_length labels) (flat_map with_length (l ∷ [])) ∙ omega (arith, label_octets-more l [])
 
-carried-label : (labels : List (List ℕ)) (end : Option ℕ) (steps pointers : ℕ) (l : List ℕ) (o : Outcome) → carried labels end steps pointers (behind_label l o) ≡ carried (labels ++ l ∷ []) end (steps + 1) pointers o
+carried-label : (labels : List (List ℕ)) (end : Option ℕ) (steps pointers : ℕ) (l : List ℕ) (o : Outcome) → carried labels end steps pointers (after_label l o) ≡ carried (labels ++ l ∷ []) end (steps + 1) pointers o
 carried-label labels end steps pointers l (named found) =
     let front : labels ++ (l ∷ found.labels) ≡ (labels ++ l ∷ []) ++ found.labels = sym (append_assoc labels (l ∷ []) found.labels) in
     let count : steps + suc found.steps ≡ steps + 1 + found.steps = omega arith in
@@ -54,7 +54,7 @@ carried-label labels end steps pointers l (refused fault places) =
     let count : steps + suc places ≡ steps + 1 + places = omega arith in
     cc
 
-carried-pointer : (labels : List (List ℕ)) (end : Option ℕ) (steps pointers here : ℕ) (o : Outcome) → carried labels end steps pointers (behind_pointer here o) ≡ carried labels (Some (unwrap_or end here)) (steps + 1) (pointers + 1) o
+carried-pointer : (labels : List (List ℕ)) (end : Option ℕ) (steps pointers here : ℕ) (o : Outcome) → carried labels end steps pointers (after_pointer here o) ≡ carried labels (Some (unwrap_or end here)) (steps + 1) (pointers + 1) o
 carried-pointer labels end steps pointers here (named found) =
     let count : steps + suc found.steps ≡ steps + 1 + found.steps = omega arith in
     let leads : pointers + suc found.pointers ≡ pointers + 1 + found.pointers = omega arith in
@@ -80,13 +80,13 @@ reaches {message} {offset} {spot} {labels} {end} {steps} standing c e = reaches_
 pub carries_label : {message : List ℕ} {offset : ℕ} {spot : Spot} {labels : List (List ℕ)} {end : Option ℕ} {steps : ℕ} (size : ℕ) → Carries message offset spot labels end steps → place_of message spot ≡ Some (at_label size) → Carries message offset (past_label spot size) (labels ++ label_at message spot.offset size ∷ []) end (steps + 1)
 carries_label {message} {offset} {spot} {labels} {end} {steps} size c e =
     let r = reaches (Some (at_label size)) c e in
-    let shows : IsLabelHere message spot size = subst (Shows message spot) e (place_shows message spot) in
+    let shows : Shows message spot (Some (at_label size)) = subst (Shows message spot) e (place_shows message spot) in
     let l = label_at message spot.offset size in
     record {
-      few = omega (arith, c.few, shows.some);
+      few = omega (arith, c.few, shows.0.some);
       pointers = c.pointers;
-      short = omega (arith, shows.room);
-      octets = omega (arith, c.octets, octets_of-push labels l, octets_of-label message spot.offset size shows.inside);
+      short = omega (arith, shows.1);
+      octets = omega (arith, c.octets, octets_of-push labels l, label_octets-label message spot.offset size shows.0.inside);
       left = r.after;
       enough = omega (arith, r.enough);
       whole = r.whole ∙ carried-label labels end steps spot.pointers l (outcome_by r.after message (past_label spot size));
@@ -96,10 +96,10 @@ carries_label {message} {offset} {spot} {labels} {end} {steps} size c e =
 pub carries_pointer : {message : List ℕ} {offset : ℕ} {spot : Spot} {labels : List (List ℕ)} {end : Option ℕ} {steps : ℕ} (target : ℕ) → Carries message offset spot labels end steps → place_of message spot ≡ Some (at_pointer target) → Carries message offset (past_pointer spot target) labels (Some (unwrap_or end (spot.offset + 2))) (steps + 1)
 carries_pointer {message} {offset} {spot} {labels} {end} {steps} target c e =
     let r = reaches (Some (at_pointer target)) c e in
-    let shows : IsPointerHere message spot target = subst (Shows message spot) e (place_shows message spot) in
+    let shows : Shows message spot (Some (at_pointer target)) = subst (Shows message spot) e (place_shows message spot) in
     record {
       few = omega (arith, c.few);
-      pointers = omega (arith, shows.few);
+      pointers = omega (arith, shows.1);
       short = c.short;
       octets = c.octets;
       left = r.after;
@@ -126,14 +126,14 @@ carries_outside {steps = steps} c e = (reaches None c e).whole ∙ ap (refused S
 pub root_inside : (message : List ℕ) (spot : Spot) → place_of message spot ≡ Some at_root → spot.offset < length message
 root_inside message spot e = (subst (Shows message spot) e (place_shows message spot)).0
 
-pub label_shows : (message : List ℕ) (spot : Spot) (size : ℕ) → place_of message spot ≡ Some (at_label size) → IsLabelHere message spot size
+pub label_shows : (message : List ℕ) (spot : Spot) (size : ℕ) → place_of message spot ≡ Some (at_label size) → Shows message spot (Some (at_label size))
 label_shows message spot size e = subst (Shows message spot) e (place_shows message spot)
 
-pub pointer_shows : (message : List ℕ) (spot : Spot) (target : ℕ) → place_of message spot ≡ Some (at_pointer target) → IsPointerHere message spot target
+pub pointer_shows : (message : List ℕ) (spot : Spot) (target : ℕ) → place_of message spot ≡ Some (at_pointer target) → Shows message spot (Some (at_pointer target))
 pointer_shows message spot target e = subst (Shows message spot) e (place_shows message spot)
 
 -- a label that fits a name is pushed
-pub push_fits : (fault : NameFault) (octets : List ℕ) (labels : List (List ℕ)) → IsLabelFault fault → (fault ≡ EmptyLabel → length octets ≡ 0) → (fault ≡ LabelTooLong → 63 < length octets) → (fault ≡ NameTooLong → 255 < length (wire (labels ++ octets ∷ []))) → 0 < length octets → length octets ≤ 63 → octets_of labels + length octets + 2 ≤ 255 → ⊥
+pub push_fits : (fault : NameFault) (octets : List ℕ) (labels : List (List ℕ)) → IsLabelFault fault → (fault ≡ EmptyLabel → length octets ≡ 0) → (fault ≡ LabelTooLong → 63 < length octets) → (fault ≡ NameTooLong → 255 < length (wire (labels ++ octets ∷ []))) → 0 < length octets → length octets ≤ 63 → label_octets labels + length octets + 2 ≤ 255 → ⊥
 push_fits EmptyLabel octets labels is empty long too_long some short room = omega (arith, empty refl)
 push_fits LabelTooLong octets labels is empty long too_long some short room = omega (arith, long refl)
 push_fits NameTooLong octets labels is empty long too_long some short room = omega (arith, too_long refl, wire-octets (labels ++ octets ∷ []), octets_of-push labels octets)

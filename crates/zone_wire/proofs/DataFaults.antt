@@ -13,7 +13,7 @@ use Rattle.zone_rdata.specs.declared.fault.Fault.{Fault}
 use Rattle.zone_rdata.specs.declared.fault.Fault.TheVariants.{BadRdata}
 use Rattle.zone_rdata.specs.declared.field.Field.{Field}
 use Rattle.zone_rdata.specs.declared.field.Field.TheVariants.{Name, Serial, Time, U16, Octets, OneString, Strings}
-use Rattle.zone_wire.specs.DataFault.{HasValueAt, FieldFault, FieldsFault, DataFault}
+use Rattle.zone_wire.specs.DataFault.{IsFieldAt, FieldFault, FieldsFault, DataFault}
 use Rattle.zone_wire.specs.Machine.Data.{name_before, sized_before, strings_before, value_at, values_at, data_at}
 use Rattle.zone_wire.specs.Machine.Finding.{Outcome, named, refused, outcome}
 use Rattle.zone_wire.specs.Machine.Sections.{and_then}
@@ -37,12 +37,12 @@ module _ (octets : List ℕ) (each : (k : ℕ) → get_or octets k 0 < 256) (end
   unfolding value_at
   strings_at_end start v e = strings_end (octets_between octets start end) v e
 
-  pub value_has : (start : ℕ) (field : Field) (v : FieldValue × ℕ) → value_at octets end start field ≡ Ok v → HasValueAt octets end field start v.1 v.0
+  pub value_has : (start : ℕ) (field : Field) (v : FieldValue × ℕ) → value_at octets end start field ≡ Ok v → IsFieldAt octets end field start v.1 v.0
   value_has start field v e =
       let shown = value_shows octets each end within start field v e in
       record { held = shown.0; stands = shown.2; inside = shown.1; last = λ is. strings_at_end start v (subst (λ f. value_at octets end start f ≡ Ok v) is e) }
 
-  pub value_is : (start past : ℕ) (field : Field) (value : FieldValue) → HasValueAt octets end field start past value → value_at octets end start field ≡ Ok (value, past)
+  pub value_is : (start past : ℕ) (field : Field) (value : FieldValue) → IsFieldAt octets end field start past value → value_at octets end start field ≡ Ok (value, past)
   value_is start past field value h = value_reads octets end start past field value h.last h.held h.inside within h.stands
 
   name_fault : (start : ℕ) (o : Outcome) (fault : Fault) → outcome octets (walk octets start) ≡ o → name_before end o ≡ Err fault → FieldFault octets end Name start fault
@@ -51,7 +51,7 @@ module _ (octets : List ℕ) (each : (k : ℕ) → get_or octets k 0 < 256) (end
       let f = fails (nat_le found.end end) (name found.labels, found.end) BadRdata fault e in
       inr (sym f.1, found, walk_names octets start found each is, leb-false _ _ f.0)
 
-  no_value : (start : ℕ) (field : Field) (fault : Fault) → value_at octets end start field ≡ Err fault → (past : ℕ) (value : FieldValue) → HasValueAt octets end field start past value → ⊥
+  no_value : (start : ℕ) (field : Field) (fault : Fault) → value_at octets end start field ≡ Err fault → (past : ℕ) (value : FieldValue) → IsFieldAt octets end field start past value → ⊥
   no_value start field fault e past value h = let is = value_is start past field value h in cc
 
   sized_fault : (start : ℕ) (field : Field) (size : ℕ) (fault : Fault) → sized_before octets end start field size ≡ Err fault → fault ≡ BadRdata
@@ -71,7 +71,7 @@ module _ (octets : List ℕ) (each : (k : ℕ) → get_or octets k 0 < 256) (end
   field_faults start OneString fault e = (sized_fault start OneString (1 + slice_index octets start) fault e, no_value start OneString fault e)
   field_faults start Strings fault e = (strings_fault (octets_between octets start end) fault e, no_value start Strings fault e)
 
-  other_refuses : (start : ℕ) (field : Field) (fault : Fault) → ((f : Fault) → value_at octets end start field ≡ Err f → f ≡ BadRdata) → (fault ≡ BadRdata) × ((past : ℕ) (value : FieldValue) → HasValueAt octets end field start past value → ⊥) → value_at octets end start field ≡ Err fault
+  other_refuses : (start : ℕ) (field : Field) (fault : Fault) → ((f : Fault) → value_at octets end start field ≡ Err f → f ≡ BadRdata) → (fault ≡ BadRdata) × ((past : ℕ) (value : FieldValue) → IsFieldAt octets end field start past value → ⊥) → value_at octets end start field ≡ Err fault
   other_refuses start field fault only is = by (value_at octets end start field) refl
     where
       by : (r : Result (FieldValue × ℕ) Fault) → value_at octets end start field ≡ r → value_at octets end start field ≡ Err fault

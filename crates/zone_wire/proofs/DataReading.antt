@@ -19,7 +19,7 @@ use Rattle.zone_rdata.proofs.Building.{octets_push}
 use Rattle.zone_rdata.proofs.Tables.{table_row}
 use Rattle.zone_rdata.proofs.AnyField.{field_short}
 use Rattle.zone_wire.specs.Machine.Data.{value_at, values_at, data_at}
-use Rattle.zone_wire.specs.Machine.DataReading.{parts_for, put_behind, Awaits, AwaitsStrings, IsReadyFor, IsRead, PutsValue, PutsValues}
+use Rattle.zone_wire.specs.Machine.DataReading.{parts_for, put_after, Awaits, AwaitsStrings, IsReadyFor, IsRead, PutsValue, PutsValues}
 use Rattle.zone_wire.specs.Machine.Sections.{and_then}
 use Rattle.zone_wire.specs.Message.{u16_at, IsRecordAt, RecordAt}
 use Rattle.zone_wire.specs.Transfer.{octets_between}
@@ -60,7 +60,7 @@ only_strings (suc i) field e = absurd (let t : ⊥ = cc in t)
 pub record HaveValues (octets : List ℕ) (end start : ℕ) (fields : List Field) (old now : Built) (count place : ℕ) : Type 0 where
   pub values : List FieldValue
   pub number : length values ≡ count
-  pub put : now ≡ put_behind old (flat_map parts_for values)
+  pub put : now ≡ put_after old (flat_map parts_for values)
   pub plain : AllByRecursion (λ f. f ≢ Strings) fields → (length (flat_map parts_for values) ≡ count) × (length (octets_of (flat_map parts_for values)) ≤ 256 * count)
   pub leads : (others : List FieldValue) → values_at octets end place (drop count fields) ≡ Ok others → values_at octets end start fields ≡ Ok (values ++ others)
   pub fails : (fault : Fault) → values_at octets end place (drop count fields) ≡ Err fault → values_at octets end start fields ≡ Err fault
@@ -136,7 +136,7 @@ module _ (octets : List ℕ) (each : (k : ℕ) → get_or octets k 0 < 256) (end
       record {
         values = h.values ++ p.value ∷ [];
         number = length-append h.values (p.value ∷ []) ∙ ap (λ n. n + 1) h.number;
-        put = p.put ∙ ap (λ (b : Built). put_behind b (parts_for p.value)) h.put
+        put = p.put ∙ ap (λ (b : Built). put_after b (parts_for p.value)) h.put
             ∙ ap (λ (ps : List FieldValue). let v : Built = record old { parts = ps } in v) (append_assoc old.parts (flat_map parts_for h.values) (parts_for p.value) ∙ ap (λ t. old.parts ++ t) (sym more));
         plain = λ others.
             let before = h.plain others in
@@ -213,10 +213,10 @@ all_octets [] = refl
 all_octets (v ∷ values) = flat_map-append field_octets (parts_for v) (flat_map parts_for values) ∙ ap (λ t. t ++ octets_of (flat_map parts_for values)) (part_octets v) ∙ ap (λ t. field_octets v ++ t) (all_octets values)
 
 module _ (octets : List ℕ) (a : RecordAt) (class kind : ℕ) (same_class : class ≡ a.class) (same_kind : kind ≡ a.kind) (old : Built) (new : old ≡ record { class = class; kind = kind; parts = [] }) where
-  own_class : (now : Built) (parts : List FieldValue) → now ≡ put_behind old parts → (now.class ≡ a.class) × (now.kind ≡ a.kind)
+  own_class : (now : Built) (parts : List FieldValue) → now ≡ put_after old parts → (now.class ≡ a.class) × (now.kind ≡ a.kind)
   own_class now parts e = (ap (λ (b : Built). b.class) e ∙ ap (λ (b : Built). b.class) new ∙ same_class, ap (λ (b : Built). b.kind) e ∙ ap (λ (b : Built). b.kind) new ∙ same_kind)
 
-  no_parts : (now : Built) (parts : List FieldValue) → now ≡ put_behind old parts → now.parts ≡ parts
+  no_parts : (now : Built) (parts : List FieldValue) → now ≡ put_after old parts → now.parts ≡ parts
   no_parts now parts e = ap (λ (b : Built). b.parts) e ∙ ap (λ (b : Built). b.parts ++ parts) new
 
   record_laid : (laid : Option (List Field)) → laid ≡ layout class kind → layout a.class a.kind ≡ laid

@@ -12,10 +12,10 @@ use Rattle.zone_rdata.specs.declared.record.Placed.{Placed}
 use Rattle.zone_wire.specs.Answers.{handed_on, is_closed}
 use Rattle.zone_wire.specs.Frames.{IsFramed}
 use Rattle.zone_wire.specs.Machine.Feeding.{IsCut, Going, Follow, is_failed, is_finished}
-use Rattle.zone_wire.specs.Machine.Transferring.{zone_held, Behind, ReadsNext, TakesWhole, StopsIn}
+use Rattle.zone_wire.specs.Machine.Transferring.{zone_held, IsAfter, ReadsNext, TakesWhole, StopsIn}
 use Rattle.zone_wire.specs.Message.{u16_at}
 use Rattle.zone_wire.specs.Source.{SourceState, Leave, Stands}
-use Rattle.zone_wire.specs.Stream.{octets_in, placed_in, IsReadBehind, AreRead, Decided, StreamReads, StreamEnd}
+use Rattle.zone_wire.specs.Stream.{octets_in, placed_in, IsReadAfter, AreRead, StreamDecides, StreamReads, StreamEnd}
 use Rattle.zone_wire.specs.Transfer.{StatedMessage, frame}
 use Rattle.zone_wire.specs.declared.intake.Intake.{Intake}
 use Rattle.zone_wire.specs.declared.source.Status.{Status}
@@ -51,9 +51,9 @@ framed_more fed front octets unfinished messages is e short = record {
   cut = lit< tt;
 }
 
-read_append : (before parts : List StatedMessage) (p : StatedMessage) → AreRead before parts → IsReadBehind (before ++ parts) p → AreRead before (parts ++ p ∷ [])
-read_append before [] p are is = (subst (λ b. IsReadBehind b p) (append-nil before) is, tt)
-read_append before (q ∷ parts) p are is = (are.0, read_append (before ++ q ∷ []) parts p are.1 (subst (λ b. IsReadBehind b p) (sym (append_assoc before (q ∷ []) parts)) is))
+read_append : (before parts : List StatedMessage) (p : StatedMessage) → AreRead before parts → IsReadAfter (before ++ parts) p → AreRead before (parts ++ p ∷ [])
+read_append before [] p are is = (subst (λ b. IsReadAfter b p) (append-nil before) is, tt)
+read_append before (q ∷ parts) p are is = (are.0, read_append (before ++ q ∷ []) parts p are.1 (subst (λ b. IsReadAfter b p) (sym (append_assoc before (q ∷ []) parts)) is))
 
 octets_append : (parts : List StatedMessage) (p : StatedMessage) → octets_in (parts ++ p ∷ []) ≡ octets_in parts ++ p.octets ∷ []
 octets_append [] p = refl
@@ -65,11 +65,11 @@ going_on old new unfinished fed front octets given g e short w = record {
   parts = g.parts ++ w.part ∷ [];
   framed = subst (λ (ms : List (List ℕ)). IsFramed (fed ++ front) ms []) (ap (λ (m : List ℕ). octets_in g.parts ++ m ∷ []) (sym w.octets_are) ∙ sym (octets_append g.parts w.part)) (framed_more fed front octets unfinished (octets_in g.parts) g.framed e short);
   read = read_append [] g.parts w.part g.read w.read;
-  behind = w.behind;
+  after = w.after;
   handed = w.handed given g.handed;
 }
 
-stopped : (old new : Transfer) (unfinished fed front octets : List ℕ) (given : List Placed) → (g : Going old unfinished fed given) → unfinished ++ front ≡ frame octets → length octets ≤ 65535 → (f : Fault × Place) (offset : ℕ) → StopsIn octets g.parts old new (f.0, offset) → f.1 ≡ Message (length g.parts + 1) offset → Decided (fed ++ front) (given ++ new.decided.placed) (Some f)
+stopped : (old new : Transfer) (unfinished fed front octets : List ℕ) (given : List Placed) → (g : Going old unfinished fed given) → unfinished ++ front ≡ frame octets → length octets ≤ 65535 → (f : Fault × Place) (offset : ℕ) → StopsIn octets g.parts old new (f.0, offset) → f.1 ≡ Message (length g.parts + 1) offset → StreamDecides (fed ++ front) (given ++ new.decided.placed) (Some f)
 stopped old new unfinished fed front octets given g e short f offset s place = record {
   messages = octets_in g.parts ++ octets ∷ [];
   rest = [];
@@ -79,20 +79,20 @@ stopped old new unfinished fed front octets given g e short f offset s place = r
   stated = s.handed given g.handed;
 }
 
-framed_state : (old new : Transfer) (unfinished fed front octets : List ℕ) (given : List Placed) → (g : Going old unfinished fed given) → unfinished ++ front ≡ frame octets → length octets ≤ 65535 → (ending : Option (Fault × Place)) → MatchOption ending (TakesWhole octets g.parts old new) (λ f. (offset : ℕ) × (StopsIn octets g.parts old new (f.0, offset) × (f.1 ≡ Message (length g.parts + 1) offset))) → MatchOption ending (Going new [] (fed ++ front) given) (λ f. Decided (fed ++ front) (given ++ new.decided.placed) (Some f))
+framed_state : (old new : Transfer) (unfinished fed front octets : List ℕ) (given : List Placed) → (g : Going old unfinished fed given) → unfinished ++ front ≡ frame octets → length octets ≤ 65535 → (ending : Option (Fault × Place)) → MatchOption ending (TakesWhole octets g.parts old new) (λ f. (offset : ℕ) × (StopsIn octets g.parts old new (f.0, offset) × (f.1 ≡ Message (length g.parts + 1) offset))) → MatchOption ending (Going new [] (fed ++ front) given) (λ f. StreamDecides (fed ++ front) (given ++ new.decided.placed) (Some f))
 framed_state old new unfinished fed front octets given g e short None w = going_on old new unfinished fed front octets given g e short w
 framed_state old new unfinished fed front octets given g e short (Some f) s = stopped old new unfinished fed front octets given g e short f s.0 s.1.0 s.1.1
 
-still_going : (t : Transfer) (unfinished fed : List ℕ) (given : List Placed) (ending : Option (Fault × Place)) → ending ≡ None → MatchOption ending (Going t unfinished fed given) (λ e. Decided fed (given ++ t.decided.placed) (Some e)) → Going t unfinished fed given
+still_going : (t : Transfer) (unfinished fed : List ℕ) (given : List Placed) (ending : Option (Fault × Place)) → ending ≡ None → MatchOption ending (Going t unfinished fed given) (λ e. StreamDecides fed (given ++ t.decided.placed) (Some e)) → Going t unfinished fed given
 still_going t unfinished fed given None e state = state
 still_going t unfinished fed given (Some f) e state = cc
 
-pub one_frame : (old new : Transfer) (unfinished fed front octets : List ℕ) (given : List Placed) → old.decided.ending ≡ None → Bytes front → unfinished ++ front ≡ frame octets → length octets ≤ 65535 → ((before : List StatedMessage) → Behind before old → ReadsNext octets before old new) → Follow old unfinished fed given → Follow new [] (fed ++ front) given
+pub one_frame : (old new : Transfer) (unfinished fed front octets : List ℕ) (given : List Placed) → old.decided.ending ≡ None → Bytes front → unfinished ++ front ≡ frame octets → length octets ≤ 65535 → ((before : List StatedMessage) → IsAfter before old → ReadsNext octets before old new) → Follow old unfinished fed given → Follow new [] (fed ++ front) given
 one_frame old new unfinished fed front octets given going each e short next follow =
     let g = still_going old unfinished fed given old.decided.ending going follow.state in
-    record { octets = bytes_append fed front follow.octets each; state = framed_state old new unfinished fed front octets given g e short new.decided.ending (next g.parts g.behind) }
+    record { octets = bytes_append fed front follow.octets each; state = framed_state old new unfinished fed front octets given g e short new.decided.ending (next g.parts g.after) }
 
-going_state : (t : Transfer) (unfinished fed : List ℕ) (given : List Placed) (ending : Option (Fault × Place)) → ending ≡ None → Going t unfinished fed given → MatchOption ending (Going t unfinished fed given) (λ e. Decided fed (given ++ t.decided.placed) (Some e))
+going_state : (t : Transfer) (unfinished fed : List ℕ) (given : List Placed) (ending : Option (Fault × Place)) → ending ≡ None → Going t unfinished fed given → MatchOption ending (Going t unfinished fed given) (λ e. StreamDecides fed (given ++ t.decided.placed) (Some e))
 going_state t unfinished fed given None e g = g
 going_state t unfinished fed given (Some f) e g = cc
 
@@ -104,21 +104,21 @@ inside_frame t unfinished fed more given going each cut follow =
       parts = g.parts;
       framed = record { whole = ap (λ x. x ++ more) g.framed.whole ∙ append_assoc (flat_map frame (octets_in g.parts)) unfinished more; short = g.framed.short; cut = cut };
       read = g.read;
-      behind = g.behind;
+      after = g.after;
       handed = g.handed;
     } in
     record { octets = bytes_append fed more follow.octets each; state = going_state t (unfinished ++ more) (fed ++ more) given t.decided.ending going longer }
 
 -- after a fault nothing more is decided
-faulted_state : (t : Transfer) (unfinished other fed more : List ℕ) (given : List Placed) (ending : Option (Fault × Place)) → (ending ≡ None → ⊥) → Bytes (fed ++ more) → MatchOption ending (Going t unfinished fed given) (λ e. Decided fed (given ++ t.decided.placed) (Some e)) → MatchOption ending (Going t other (fed ++ more) given) (λ e. Decided (fed ++ more) (given ++ t.decided.placed) (Some e))
+faulted_state : (t : Transfer) (unfinished other fed more : List ℕ) (given : List Placed) (ending : Option (Fault × Place)) → (ending ≡ None → ⊥) → Bytes (fed ++ more) → MatchOption ending (Going t unfinished fed given) (λ e. StreamDecides fed (given ++ t.decided.placed) (Some e)) → MatchOption ending (Going t other (fed ++ more) given) (λ e. StreamDecides (fed ++ more) (given ++ t.decided.placed) (Some e))
 faulted_state t unfinished other fed more given None some each state = absurd (some refl)
 faulted_state t unfinished other fed more given (Some f) some each state =
     let later = some_decision (fed ++ more) each in
     let stays = fault_stays fed more (given ++ t.decided.placed) later.0 f later.1 state later.2 in
-    subst (λ ps. Decided (fed ++ more) ps (Some f)) stays.0 (subst (λ o. Decided (fed ++ more) later.0 o) stays.1 later.2)
+    subst (λ ps. StreamDecides (fed ++ more) ps (Some f)) stays.0 (subst (λ o. StreamDecides (fed ++ more) later.0 o) stays.1 later.2)
 
-pub behind_fault : (t : Transfer) (unfinished other fed more : List ℕ) (given : List Placed) → (t.decided.ending ≡ None → ⊥) → Bytes more → Follow t unfinished fed given → Follow t other (fed ++ more) given
-behind_fault t unfinished other fed more given some each follow = record {
+pub after_fault : (t : Transfer) (unfinished other fed more : List ℕ) (given : List Placed) → (t.decided.ending ≡ None → ⊥) → Bytes more → Follow t unfinished fed given → Follow t other (fed ++ more) given
+after_fault t unfinished other fed more given some each follow = record {
   octets = bytes_append fed more follow.octets each;
   state = faulted_state t unfinished other fed more given t.decided.ending some (bytes_append fed more follow.octets each) follow.state;
 }
@@ -139,10 +139,10 @@ ends_with t unfinished fed given ending g end = record {
 }
 
 -- the end of the stream after a fault
-pub ends_behind_fault : (t : Transfer) (unfinished fed : List ℕ) (given : List Placed) → (t.decided.ending ≡ None → ⊥) → Follow t unfinished fed given → StreamReads fed (given ++ t.decided.placed) t.decided.ending
-ends_behind_fault t unfinished fed given some follow = by t.decided.ending some follow.state
+pub ends_after_fault : (t : Transfer) (unfinished fed : List ℕ) (given : List Placed) → (t.decided.ending ≡ None → ⊥) → Follow t unfinished fed given → StreamReads fed (given ++ t.decided.placed) t.decided.ending
+ends_after_fault t unfinished fed given some follow = by t.decided.ending some follow.state
   where
-    by : (ending : Option (Fault × Place)) → (ending ≡ None → ⊥) → MatchOption ending (Going t unfinished fed given) (λ e. Decided fed (given ++ t.decided.placed) (Some e)) → StreamReads fed (given ++ t.decided.placed) ending
+    by : (ending : Option (Fault × Place)) → (ending ≡ None → ⊥) → MatchOption ending (Going t unfinished fed given) (λ e. StreamDecides fed (given ++ t.decided.placed) (Some e)) → StreamReads fed (given ++ t.decided.placed) ending
     by None none state = absurd (none refl)
     by (Some f) none state =
         let whole = append-nil fed in
@@ -163,7 +163,7 @@ pub record FedSoFar (piece rest : List ℕ) (old new : Intake) : Type 0 where
 pub finishes : (t : Transfer) (unfinished fed : List ℕ) (given : List Placed) (ending : Option (Fault × Place)) → t.decided.ending ≡ None → ((placed : List Placed) → t.closed ≡ is_closed placed → StreamEnd (t.messages + 1) placed unfinished ending) → Follow t unfinished fed given → StreamReads fed (given ++ t.decided.placed) ending
 finishes t unfinished fed given ending going ends follow =
     let g = still_going t unfinished fed given t.decided.ending going follow.state in
-    ends_with t unfinished fed given ending g (subst (λ n. StreamEnd (n + 1) (placed_in g.parts) unfinished ending) g.behind.count (ends (placed_in g.parts) g.behind.among.closed))
+    ends_with t unfinished fed given ending g (subst (λ n. StreamEnd (n + 1) (placed_in g.parts) unfinished ending) g.after.count (ends (placed_in g.parts) g.after.among.closed))
 
 pub fed_more : (piece rest : List ℕ) (taken : ℕ) (old mid new : Intake) → Bytes piece → (s : FedSoFar piece rest old mid) → mid.transfer.decided.ending ≡ None → 0 < taken → taken ≤ length rest → IsCut new.unfinished.items → IfSome new.transfer.decided.ending (λ _. new.unfinished.items ≡ []) → new.transfer.messages ≤ mid.transfer.messages + 1
     → ((fed : List ℕ) (given : List Placed) → Follow mid.transfer mid.unfinished.items fed given → Follow new.transfer new.unfinished.items (fed ++ take taken rest) given) → FedSoFar piece (drop taken rest) old new
@@ -210,7 +210,7 @@ source_of status count t unfinished = record {
   held = record { finished = is_finished status; fed = count; messages = t.messages; id = t.id; zone = zone_held t.zone; opening = t.opening; closed = t.closed; unfinished = unfinished };
 }
 
-decided_by : (fed unfinished : List ℕ) (parts : List StatedMessage) → IsFramed fed (octets_in parts) unfinished → AreRead [] parts → Decided fed (handed_on (placed_in parts)) None
+decided_by : (fed unfinished : List ℕ) (parts : List StatedMessage) → IsFramed fed (octets_in parts) unfinished → AreRead [] parts → StreamDecides fed (handed_on (placed_in parts)) None
 decided_by fed unfinished parts framed read = record {
   messages = octets_in parts;
   rest = unfinished;
@@ -224,18 +224,18 @@ decided_by fed unfinished parts framed read = record {
 pub stands_follow : (status : Status) (count : ℕ) (t : Transfer) (unfinished fed : List ℕ) (given : List Placed) → is_finished status ≡ false → Stands (source_of status count t unfinished) fed given → Follow t unfinished fed given
 stands_follow status count t unfinished fed given going stands = record { octets = stands.octets; state = by t.decided.ending refl }
   where
-    by : (ending : Option (Fault × Place)) → t.decided.ending ≡ ending → MatchOption ending (Going t unfinished fed given) (λ e. Decided fed (given ++ t.decided.placed) (Some e))
+    by : (ending : Option (Fault × Place)) → t.decided.ending ≡ ending → MatchOption ending (Going t unfinished fed given) (λ e. StreamDecides fed (given ++ t.decided.placed) (Some e))
     by None e =
         let l = stands.leave going e in
-        let decided = subst (λ o. Decided fed (given ++ t.decided.placed) o) e (stands.decided going) in
+        let decided = subst (λ o. StreamDecides fed (given ++ t.decided.placed) o) e (stands.decided going) in
         record {
           parts = l.parts;
           framed = l.framed;
           read = l.read;
-          behind = record { count = l.number; id = l.id; among = record { zone = l.zone; opening = l.opening; closed = l.closed } };
+          after = record { count = l.number; id = l.id; among = record { zone = l.zone; opening = l.opening; closed = l.closed } };
           handed = (one_decision fed (given ++ t.decided.placed) (handed_on (placed_in l.parts)) None None decided (decided_by fed unfinished l.parts l.framed l.read)).0;
         }
-    by (Some f) e = subst (λ o. Decided fed (given ++ t.decided.placed) o) e (stands.decided going)
+    by (Some f) e = subst (λ o. StreamDecides fed (given ++ t.decided.placed) o) e (stands.decided going)
 
 pub follow_stands : (status : Status) (count : ℕ) (t : Transfer) (unfinished fed : List ℕ) (given : List Placed) → is_failed status ≡ false → is_finished status ≡ false → count ≡ length fed → Follow t unfinished fed given → Stands (source_of status count t unfinished) fed given
 follow_stands status count t unfinished fed given works going counted follow = record {
@@ -247,8 +247,8 @@ follow_stands status count t unfinished fed given works going counted follow = r
   read = λ e. let no : ⊥ = cc in absurd no;
 }
   where
-    by : (ending : Option (Fault × Place)) → MatchOption ending (Going t unfinished fed given) (λ e. Decided fed (given ++ t.decided.placed) (Some e)) → Decided fed (given ++ t.decided.placed) ending
-    by None g = subst (λ ps. Decided fed ps None) (sym g.handed) (decided_by fed unfinished g.parts g.framed g.read)
+    by : (ending : Option (Fault × Place)) → MatchOption ending (Going t unfinished fed given) (λ e. StreamDecides fed (given ++ t.decided.placed) (Some e)) → StreamDecides fed (given ++ t.decided.placed) ending
+    by None g = subst (λ ps. StreamDecides fed ps None) (sym g.handed) (decided_by fed unfinished g.parts g.framed g.read)
     by (Some f) state = state
 
     leaves : Going t unfinished fed given → Leave fed (source_of status count t unfinished).held
@@ -256,11 +256,11 @@ follow_stands status count t unfinished fed given works going counted follow = r
       parts = g.parts;
       framed = g.framed;
       read = g.read;
-      number = g.behind.count;
-      id = g.behind.id;
-      zone = g.behind.among.zone;
-      opening = g.behind.among.opening;
-      closed = g.behind.among.closed;
+      number = g.after.count;
+      id = g.after.id;
+      zone = g.after.among.zone;
+      opening = g.after.among.opening;
+      closed = g.after.among.closed;
     }
 
 pub finished_stands : (count : ℕ) (t : Transfer) (unfinished fed : List ℕ) (given : List Placed) → Bytes fed → count ≡ length fed → StreamReads fed (given ++ t.decided.placed) t.decided.ending → Stands (source_of Finished count t unfinished) fed given

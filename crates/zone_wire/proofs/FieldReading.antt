@@ -14,13 +14,13 @@ use Rattle.zone_rdata.specs.Fields.OneString.{string_at}
 use Rattle.zone_rdata.specs.Layout.{IsSized}
 use Rattle.zone_rdata.proofs.Building.{octets_push}
 use Rattle.zone_wire.specs.Machine.Data.{name_before, sized_before, value_at}
-use Rattle.zone_wire.specs.Machine.DataReading.{parts_for, put_behind, Awaits, IsReadyFor, PutsValue}
+use Rattle.zone_wire.specs.Machine.DataReading.{parts_for, put_after, Awaits, IsReadyFor, PutsValue}
 use Rattle.zone_wire.specs.Machine.Finding.{outcome}
+use Rattle.zone_wire.specs.Walk.{NameFault}
 use Rattle.zone_wire.specs.Machine.Walk.{walk}
 use Rattle.zone_wire.specs.Message.{u16_at, u32_at}
 use Rattle.zone_wire.specs.Name.{Found, IsNameAt}
 use Rattle.zone_wire.specs.Transfer.{octets_between}
-use Rattle.zone_wire.specs.WholeWalk.{NameFault}
 use Rattle.zone_wire.proofs.Fielding.{name_reads}
 use Rattle.zone_wire.proofs.MessageFaults.{name_refuses}
 use Rattle.zone_wire.proofs.Walking.{name_walks}
@@ -99,7 +99,7 @@ pub puts_sized : (octets : List ℕ) (end start size past : ℕ) (field : Field)
 puts_sized octets end start size past field value old new is at inside same one pushed = record {
   value = value;
   read = sized_ok octets end start size past field value is at inside same;
-  put = pushed.made ∙ ap (put_behind old) (sym one);
+  put = pushed.made ∙ ap (put_after old) (sym one);
   past = omega arith;
   inside = inside;
 }

@@ -22,7 +22,7 @@ use Rattle.zone_wire.specs.Message.{RecordAt}
 use Rattle.zone_wire.specs.Name.{Found}
 use Rattle.zone_wire.specs.Machine.Finding.{Outcome, named, outcome}
 use Rattle.zone_wire.specs.Machine.Sections.{and_then}
-use Rattle.zone_wire.specs.Transfer.{octets_between, StandsAt, StandEach, AreFieldsAt, IsDataAt}
+use Rattle.zone_wire.specs.Transfer.{octets_between, IsValueAt, AreValuesAt, AreFieldsAt, IsDataAt}
 use Rattle.zone_wire.specs.Machine.Walk.{walk}
 use Rattle.zone_wire.proofs.Sectioning.{and_then_ok}
 use Rattle.zone_wire.proofs.Walking.{name_walks}
@@ -76,7 +76,7 @@ string_size octets start next text within stands =
     omega (arith, same)
 
 -- the value of a field, where strings go on to the end
-pub value_reads : (octets : List ℕ) (end start next : ℕ) (field : Field) (v : FieldValue) → (field ≡ Strings → next ≡ end) → Holds field v → next ≤ end → end ≤ length octets → StandsAt octets start next v → value_at octets end start field ≡ Ok (v, next)
+pub value_reads : (octets : List ℕ) (end start next : ℕ) (field : Field) (v : FieldValue) → (field ≡ Strings → next ≡ end) → Holds field v → next ≤ end → end ≤ length octets → IsValueAt octets start next v → value_at octets end start field ≡ Ok (v, next)
 unfolding value_at
 value_reads octets end start next Name (name labels) last h before within s =
     name_reads end s.0 (outcome octets (walk octets start)) (name_walks octets start s.0 s.1) (omega (arith, s.3))
@@ -89,7 +89,7 @@ value_reads octets end start next OneString (string text) last h before within s
 value_reads octets end start next Strings (strings many) last h before within s = let e : next ≡ end = last refl in strings_read (octets_between octets start end) end many h (ap (octets_between octets start) (sym e) ∙ s.1) ∙ ap (λ n. Ok (strings many, n)) (sym e)
 value_reads octets end start next field v last h before within s = absurd h
 
-values_read : (octets : List ℕ) (end : ℕ) → end ≤ length octets → (fields : List Field) (values : List FieldValue) (start : ℕ) → StringsLast fields → HoldEach fields values → StandEach octets start end values → values_at octets end start fields ≡ Ok values
+values_read : (octets : List ℕ) (end : ℕ) → end ≤ length octets → (fields : List Field) (values : List FieldValue) (start : ℕ) → StringsLast fields → HoldEach fields values → AreValuesAt octets start end values → values_at octets end start fields ≡ Ok values
 values_read octets end within [] [] start last h s = cond-true _ _ _ (eq-eqb start end s)
 values_read octets end within [] (v ∷ values) start last h s = absurd h
 values_read octets end within (f ∷ fields) [] start last h s = absurd h

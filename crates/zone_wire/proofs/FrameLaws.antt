@@ -11,7 +11,7 @@ use Rattle.zone_rdata.specs.declared.fault.Place.TheVariants.{Message}
 use Rattle.zone_rdata.specs.declared.record.Placed.{Placed}
 use Rattle.zone_wire.specs.Answers.{handed_on}
 use Rattle.zone_wire.specs.Frames.{IsFramed}
-use Rattle.zone_wire.specs.Stream.{octets_in, placed_in, IsReadBehind, AreRead, FaultBehind, Decided}
+use Rattle.zone_wire.specs.Stream.{octets_in, placed_in, IsReadAfter, AreRead, FaultAfter, StreamDecides}
 use Rattle.zone_wire.specs.Transfer.{StatedMessage, frame}
 use Rattle.zone_wire.proofs.Accepting.{all_append}
 use Rattle.zone_wire.proofs.ReadStreams.{Bytes}
@@ -29,33 +29,33 @@ frames_join stream more messages others rest last is next = record {
 pub frame_is : (octets : List ℕ) → length octets ≤ 65535 → IsFramed (frame octets) (octets ∷ []) []
 frame_is octets few = record { whole = sym (append-nil (frame octets ++ []) ∙ append-nil (frame octets)); short = (few, tt); cut = lit< tt }
 
-frame_behind : (stream octets : List ℕ) (messages : List (List ℕ)) → length octets ≤ 65535 → IsFramed stream messages [] → IsFramed (stream ++ frame octets) (messages ++ octets ∷ []) []
-frame_behind stream octets messages few is = frames_join stream (frame octets) messages (octets ∷ []) [] [] is (frame_is octets few)
+frame_after : (stream octets : List ℕ) (messages : List (List ℕ)) → length octets ≤ 65535 → IsFramed stream messages [] → IsFramed (stream ++ frame octets) (messages ++ octets ∷ []) []
+frame_after stream octets messages few is = frames_join stream (frame octets) messages (octets ∷ []) [] [] is (frame_is octets few)
 
 -- messages that are read, and one more
-are_read_more : (front before : List StatedMessage) (p : StatedMessage) → AreRead front before → IsReadBehind (front ++ before) p → AreRead front (before ++ p ∷ [])
-are_read_more front [] p are is = (subst (λ b. IsReadBehind b p) (append-nil front) is, tt)
-are_read_more front (q ∷ before) p are is = (are.0, are_read_more (front ++ q ∷ []) before p are.1 (subst (λ b. IsReadBehind b p) (sym (append_assoc front (q ∷ []) before)) is))
+are_read_more : (front before : List StatedMessage) (p : StatedMessage) → AreRead front before → IsReadAfter (front ++ before) p → AreRead front (before ++ p ∷ [])
+are_read_more front [] p are is = (subst (λ b. IsReadAfter b p) (append-nil front) is, tt)
+are_read_more front (q ∷ before) p are is = (are.0, are_read_more (front ++ q ∷ []) before p are.1 (subst (λ b. IsReadAfter b p) (sym (append_assoc front (q ∷ []) before)) is))
 
 octets_more : (before : List StatedMessage) (p : StatedMessage) → octets_in before ++ p.octets ∷ [] ≡ octets_in (before ++ p ∷ [])
 octets_more [] p = refl
 octets_more (q ∷ before) p = ap (λ x. q.octets ∷ x) (octets_more before p)
 
-pub frame_read : (stream : List ℕ) (before : List StatedMessage) (p : StatedMessage) → IsFramed stream (octets_in before) [] → AreRead [] before → length p.octets ≤ 65535 → IsReadBehind before p → Decided (stream ++ frame p.octets) (handed_on (placed_in before ++ p.placed)) None
+pub frame_read : (stream : List ℕ) (before : List StatedMessage) (p : StatedMessage) → IsFramed stream (octets_in before) [] → AreRead [] before → length p.octets ≤ 65535 → IsReadAfter before p → StreamDecides (stream ++ frame p.octets) (handed_on (placed_in before ++ p.placed)) None
 frame_read stream before p framed are few is = record {
   messages = octets_in before ++ p.octets ∷ [];
   rest = [];
-  framed = frame_behind stream p.octets (octets_in before) few framed;
+  framed = frame_after stream p.octets (octets_in before) few framed;
   all = placed_in before ++ p.placed;
   read = record { parts = before ++ p ∷ []; read = are_read_more [] before p are is; whole = octets_more before p; stated = placed_grow before p };
   stated = refl;
 }
 
-pub frame_refused : (stream octets : List ℕ) (before : List StatedMessage) (here : List Placed) (fault : Fault) (offset : ℕ) → IsFramed stream (octets_in before) [] → AreRead [] before → length octets ≤ 65535 → FaultBehind before octets here fault offset → Decided (stream ++ frame octets) (handed_on (placed_in before ++ here)) (Some (fault, Message (length before + 1) offset))
+pub frame_refused : (stream octets : List ℕ) (before : List StatedMessage) (here : List Placed) (fault : Fault) (offset : ℕ) → IsFramed stream (octets_in before) [] → AreRead [] before → length octets ≤ 65535 → FaultAfter before octets here fault offset → StreamDecides (stream ++ frame octets) (handed_on (placed_in before ++ here)) (Some (fault, Message (length before + 1) offset))
 frame_refused stream octets before here fault offset framed are few is = record {
   messages = octets_in before ++ octets ∷ [];
   rest = [];
-  framed = frame_behind stream octets (octets_in before) few framed;
+  framed = frame_after stream octets (octets_in before) few framed;
   all = placed_in before ++ here;
   read = record { parts = before; octets = octets; rest = []; here = here; fault = fault; offset = offset; read = are; next = is; whole = refl; stated = refl; place = refl };
   stated = refl;
@@ -63,10 +63,10 @@ frame_refused stream octets before here fault offset framed are few is = record 
 
 -- a message after others is read, or refused for one fault
 abbrev pub IsOne : List StatedMessage → List ℕ → StatedMessage → Type 0
-IsOne before octets p = (p.octets ≡ octets) × IsReadBehind before p
+IsOne before octets p = (p.octets ≡ octets) × IsReadAfter before p
 
 abbrev pub IsRefused : List StatedMessage → List ℕ → List Placed × Fault × ℕ → Type 0
-IsRefused before octets e = FaultBehind before octets e.0 e.1 e.2
+IsRefused before octets e = FaultAfter before octets e.0 e.1 e.2
 
 module _ (before : List StatedMessage) (octets : List ℕ) where
   one_of : Bytes octets → length octets ≤ 65535 → ((p : StatedMessage) × IsOne before octets p) ⊎ ((e : List Placed × Fault × ℕ) × IsRefused before octets e)
@@ -79,7 +79,7 @@ module _ (before : List StatedMessage) (octets : List ℕ) where
   never_both : (p : StatedMessage) (e : List Placed × Fault × ℕ) → IsOne before octets p → IsRefused before octets e → ⊥
   never_both p e is fault =
       let q : StatedMessage = record p { octets = octets } in
-      let read : IsReadBehind before q = subst (λ (x : List ℕ). IsReadBehind before (record p { octets = x })) is.0 is.1 in
+      let read : IsReadAfter before q = subst (λ (x : List ℕ). IsReadAfter before (record p { octets = x })) is.0 is.1 in
       read_not_refused before octets p.sections p.placed e.0 e.1 e.2 read.message (read.stated, read.order) fault
 
   pub message_verdict : Bytes octets → length octets ≤ 65535 → IsVerdict (IsOne before octets) (IsRefused before octets)

@@ -47,8 +47,8 @@ pub record Framing (stream : List ℕ) : Type 0 where
   pub framed : IsFramed stream messages rest
 
 -- a length and so many octets are a frame
-framed_behind : (high low : ℕ) (more : List ℕ) → high < 256 → low < 256 → high * 256 + low ≤ length more → Framing (drop (high * 256 + low) more) → Framing (high ∷ low ∷ more)
-framed_behind high low more h l fits next =
+framed_after : (high low : ℕ) (more : List ℕ) → high < 256 → low < 256 → high * 256 + low ≤ length more → Framing (drop (high * 256 + low) more) → Framing (high ∷ low ∷ more)
+framed_after high low more h l fits next =
     let size : ℕ = high * 256 + low in
     let octets : List ℕ = take size more in
     let len : length octets ≡ size = length-take-le size more fits in
@@ -76,7 +76,7 @@ frames_by zero (high ∷ low ∷ more) few each = absurd (omega (arith, few))
 frames_by (suc n) (high ∷ low ∷ more) few each =
     below_or_not (length more) (high * 256 + low) (nat_lt (length more) (high * 256 + low)) refl
     (λ short. cut_off (high ∷ low ∷ more) (omega (arith, short)))
-    (λ fits. framed_behind high low more (each 0) (each 1) fits (frames_by n (drop (high * 256 + low) more) (omega (arith, few, length-drop (high * 256 + low) more)) (λ i. rw get_or-drop (each (suc (suc (high * 256 + low + i)))))))
+    (λ fits. framed_after high low more (each 0) (each 1) fits (frames_by n (drop (high * 256 + low) more) (omega (arith, few, length-drop (high * 256 + low) more)) (λ i. rw get_or-drop (each (suc (suc (high * 256 + low + i)))))))
 
 pub framing : (stream : List ℕ) → ((i : ℕ) → get_or stream i 0 < 256) → Framing stream
 framing stream each = frames_by (length stream) stream (omega arith) each

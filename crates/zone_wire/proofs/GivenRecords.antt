@@ -7,7 +7,7 @@ use Rattle.zone_rdata.specs.declared.fault.Place.{Place}
 use Rattle.zone_rdata.specs.declared.fault.Stop.{Stop}
 use Rattle.zone_rdata.specs.declared.record.Placed.{Placed}
 use Rattle.zone_wire.specs.Source.{Gives, Held, Leave, SourceState, Stands}
-use Rattle.zone_wire.specs.Stream.{Decided, StreamReads}
+use Rattle.zone_wire.specs.Stream.{StreamDecides, StreamReads}
 
 pub stands_given : (old new : SourceState) (more : List Placed) (fed : List ℕ) (given : List Placed) → Gives old more new → Stands old fed given → Stands new fed (given ++ more)
 stands_given old new more fed given gives stands =
@@ -17,7 +17,7 @@ stands_given old new more fed given gives stands =
       works = gives.works ∙ stands.works;
       octets = stands.octets;
       count = ap (λ (h : Held). h.fed) gives.held ∙ stands.count;
-      decided = λ going. subst (λ t. Decided fed t new.pending.ending) records (subst (λ e. Decided fed (given ++ old.pending.records) e) (sym gives.ending) (stands.decided (sym finished ∙ going)));
+      decided = λ going. subst (λ t. StreamDecides fed t new.pending.ending) records (subst (λ e. StreamDecides fed (given ++ old.pending.records) e) (sym gives.ending) (stands.decided (sym finished ∙ going)));
       leave = λ going none. subst (λ (h : Held). Leave fed h) (sym gives.held) (stands.leave (sym finished ∙ going) (sym gives.ending ∙ none));
       read = λ ended. subst (λ t. StreamReads fed t new.pending.ending) records (subst (λ e. StreamReads fed (given ++ old.pending.records) e) (sym gives.ending) (stands.read (sym finished ∙ ended)));
     }
@@ -34,13 +34,13 @@ first_given [] (Some e) = refl
 first_given (r ∷ records) ending = refl
 
 stands_next : (old new : SourceState) (answer : Result (Option Placed) Stop) (fed : List ℕ) (given : List Placed) → new.pending ≡ after old.pending → new.held ≡ old.held → answer_of old.pending ≡ answer → Stands old fed given → Stands new fed (given ++ given_by answer)
-stands_next old new answer fed given behind same is stands =
+stands_next old new answer fed given moved same is stands =
     let left : after old.pending ≡ record old.pending { records = others old.pending.records } = rw stands.works refl in
     let first : first_answer old.pending.records old.pending.ending ≡ answer = rw stands.works at is in
     let gives : Gives old (given_by answer) new = record {
-      first = first_given old.pending.records old.pending.ending ∙ ap (λ a. given_by a ++ others old.pending.records) first ∙ ap (λ (p : Pending). given_by answer ++ p.records) (sym (behind ∙ left));
-      works = ap (λ (p : Pending). p.failed) (behind ∙ left);
-      ending = ap (λ (p : Pending). p.ending) (behind ∙ left);
+      first = first_given old.pending.records old.pending.ending ∙ ap (λ a. given_by a ++ others old.pending.records) first ∙ ap (λ (p : Pending). given_by answer ++ p.records) (sym (moved ∙ left));
+      works = ap (λ (p : Pending). p.failed) (moved ∙ left);
+      ending = ap (λ (p : Pending). p.ending) (moved ∙ left);
       held = same;
     } in
     stands_given old new (given_by answer) fed given gives stands
@@ -49,7 +49,7 @@ pub stands_record : (old new : SourceState) (r : Placed) (fed : List ℕ) (given
 stands_record old new r = stands_next old new (Ok (Some r))
 
 pub stands_none : (old new : SourceState) (fed : List ℕ) (given : List Placed) → new.pending ≡ after old.pending → new.held ≡ old.held → answer_of old.pending ≡ Ok None → Stands old fed given → Stands new fed given
-stands_none old new fed given behind same is stands = subst (Stands new fed) (append-nil given) (stands_next old new (Ok None) fed given behind same is stands)
+stands_none old new fed given moved same is stands = subst (Stands new fed) (append-nil given) (stands_next old new (Ok None) fed given moved same is stands)
 
 pub stands_stop : (old new : SourceState) (stop : Stop) (fed : List ℕ) (given : List Placed) → new.pending ≡ after old.pending → new.held ≡ old.held → answer_of old.pending ≡ Err stop → Stands old fed given → Stands new fed given
-stands_stop old new stop fed given behind same is stands = subst (Stands new fed) (append-nil given) (stands_next old new (Err stop) fed given behind same is stands)
+stands_stop old new stop fed given moved same is stands = subst (Stands new fed) (append-nil given) (stands_next old new (Err stop) fed given moved same is stands)

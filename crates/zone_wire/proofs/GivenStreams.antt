@@ -10,10 +10,10 @@ use Rattle.zone_rdata.specs.declared.fault.Place.{Place}
 use Rattle.zone_rdata.specs.declared.fault.Place.TheVariants.{Message}
 use Rattle.zone_rdata.specs.declared.record.Placed.{Placed}
 use Rattle.zone_wire.specs.Answers.{is_closed, handed_on}
-use Rattle.zone_wire.specs.Machine.Stream.{records_of, end_fault, ending_of, FindsReading, FindsDecision}
+use Rattle.zone_wire.specs.Machine.Stream.{stream_records, end_fault, ending_of, FindsReading, FindsDecision}
 use Rattle.zone_wire.specs.Message.{RecordAt}
-use Rattle.zone_wire.specs.Stream.{octets_in, placed_in, AreRead, FaultBehind, of_structure, of_id, of_questions, of_answers, ReadBehind, StreamEnd, in_frame, unclosed, closed, StreamReads, Decided}
-use Rattle.zone_wire.specs.Transfer.{StatedMessage, StateEach, frame}
+use Rattle.zone_wire.specs.Stream.{octets_in, placed_in, AreRead, FaultAfter, of_structure, of_id, of_questions, of_answers, ReadAfter, StreamEnd, in_frame, unclosed, closed, StreamReads, StreamDecides}
+use Rattle.zone_wire.specs.Transfer.{StatedMessage, AnswersState, frame}
 use Rattle.zone_wire.proofs.Accepting.{all_append}
 use Rattle.zone_wire.proofs.GivenMessages.{Finds, finds, parts_read, fault_read, records_show}
 use Rattle.zone_wire.proofs.ReadRecords.{handed_fit}
@@ -48,17 +48,17 @@ ends_are number placed None rest ending is = end_is number placed rest ending is
 ends_are number placed (Some e) rest ending is = is
 
 -- what is read is found
-pub reading_is : (messages : List (List ℕ)) (placed : List Placed) (ending : Option (Fault × Place)) → AllByRecursion Bytes messages → AllByRecursion (λ octets. length octets ≤ 65535) messages → ReadBehind [] messages placed ending → records_of [] [] messages ≡ finds placed ending
-unfolding records_of
+pub reading_is : (messages : List (List ℕ)) (placed : List Placed) (ending : Option (Fault × Place)) → AllByRecursion Bytes messages → AllByRecursion (λ octets. length octets ≤ 65535) messages → ReadAfter [] messages placed ending → stream_records [] [] messages ≡ finds placed ending
+unfolding stream_records
 reading_is messages placed None each few is =
-    let e : records_of [] [] (octets_in is.parts ++ []) ≡ finds (placed_in is.parts ++ []) None = parts_read [] is.parts [] [] None is.read refl in
-    ap (records_of [] []) (is.whole ∙ sym (append-nil (octets_in is.parts))) ∙ e ∙ ap (λ x. finds x None) (append-nil (placed_in is.parts) ∙ sym is.stated)
+    let e : stream_records [] [] (octets_in is.parts ++ []) ≡ finds (placed_in is.parts ++ []) None = parts_read [] is.parts [] [] None is.read refl in
+    ap (stream_records [] []) (is.whole ∙ sym (append-nil (octets_in is.parts))) ∙ e ∙ ap (λ x. finds x None) (append-nil (placed_in is.parts) ∙ sym is.stated)
 reading_is messages placed (Some e) each few is =
     let bytes = all_front Bytes (octets_in is.parts) (is.octets ∷ is.rest) (subst (AllByRecursion Bytes) is.whole each) in
     let short = all_front (λ octets. length octets ≤ 65535) (octets_in is.parts) (is.octets ∷ is.rest) (subst (AllByRecursion (λ octets. length octets ≤ 65535)) is.whole few) in
     let last = fault_read is.parts is.octets is.rest is.here is.fault is.offset bytes.1.0 short.1.0 is.next in
     let first : Option (Fault × Place) = Some (is.fault, Message (length is.parts + 1) is.offset) in
-    ap (records_of [] []) is.whole
+    ap (stream_records [] []) is.whole
     ∙ parts_read [] is.parts (is.octets ∷ is.rest) is.here first is.read last
     ∙ ap (λ x. finds x first) (sym is.stated) ∙ ap (λ x. finds placed (Some x)) (sym is.place)
 
@@ -68,7 +68,7 @@ module _ (stream : List ℕ) (each : Bytes stream) where
 
   pub stream_shows : (placed : List Placed) (ending : Option (Fault × Place)) → FindsReading stream placed ending → StreamReads stream placed ending
   stream_shows placed ending r =
-      let x = records_of [] [] r.messages in
+      let x = stream_records [] [] r.messages in
       let number = length r.messages + 1 in
       record {
         first = x.fault;
@@ -96,15 +96,15 @@ module _ (stream : List ℕ) (each : Bytes stream) where
         ends = ends_are number d.all r.first d.rest ending r.ends ∙ ap (λ x. ending_of number x d.rest) (sym is);
       }
 
-  pub decision_shows : (placed : List Placed) (ending : Option (Fault × Place)) → FindsDecision stream placed ending → Decided stream placed ending
+  pub decision_shows : (placed : List Placed) (ending : Option (Fault × Place)) → FindsDecision stream placed ending → StreamDecides stream placed ending
   decision_shows placed ending r =
-      let x = records_of [] [] r.messages in
+      let x = stream_records [] [] r.messages in
       record {
         messages = r.messages;
         rest = r.rest;
         framed = r.framed;
         all = x.placed;
-        read = subst (ReadBehind [] r.messages x.placed) (sym r.ends) (records_show r.messages [] (bytes_in r.messages r.rest r.framed.whole) r.framed.short);
+        read = subst (ReadAfter [] r.messages x.placed) (sym r.ends) (records_show r.messages [] (bytes_in r.messages r.rest r.framed.whole) r.framed.short);
         stated = r.stated;
       }
 
@@ -112,7 +112,7 @@ module _ (stream : List ℕ) (each : Bytes stream) where
 abbrev Fit : List Placed → Type 0
 Fit placed = AllByRecursion (λ (p : Placed). IsRecord p.rr) placed
 
-states_fit : (number : ℕ) (octets : List ℕ) (answers : List RecordAt) (placed : List Placed) → StateEach number octets answers placed → Fit placed
+states_fit : (number : ℕ) (octets : List ℕ) (answers : List RecordAt) (placed : List Placed) → AnswersState number octets answers placed → Fit placed
 states_fit number octets [] [] states = tt
 states_fit number octets [] (p ∷ placed) states = absurd states
 states_fit number octets (a ∷ answers) [] states = absurd states
@@ -122,13 +122,13 @@ parts_fit : (before parts : List StatedMessage) → AreRead before parts → Fit
 parts_fit before [] are = tt
 parts_fit before (p ∷ parts) are = all_append (λ (x : Placed). IsRecord x.rr) p.placed (placed_in parts) (states_fit (length before + 1) p.octets p.sections.answers p.placed are.0.stated) (parts_fit (before ++ p ∷ []) parts are.1)
 
-here_fit : (before : List StatedMessage) (octets : List ℕ) (here : List Placed) (fault : Fault) (offset : ℕ) → FaultBehind before octets here fault offset → Fit here
+here_fit : (before : List StatedMessage) (octets : List ℕ) (here : List Placed) (fault : Fault) (offset : ℕ) → FaultAfter before octets here fault offset → Fit here
 here_fit before octets here fault offset (of_structure f o is) = tt
 here_fit before octets here fault offset (of_id s is none) = tt
 here_fit before octets here fault offset (of_questions s is id none) = tt
 here_fit before octets here fault offset (of_answers s placed f o is next) = states_fit (length before + 1) octets next.front placed next.stated
 
-all_fit : (before : List StatedMessage) (messages : List (List ℕ)) (placed : List Placed) (ending : Option (Fault × Place)) → ReadBehind before messages placed ending → Fit placed
+all_fit : (before : List StatedMessage) (messages : List (List ℕ)) (placed : List Placed) (ending : Option (Fault × Place)) → ReadAfter before messages placed ending → Fit placed
 all_fit before messages placed None r = subst Fit (sym r.stated) (parts_fit before r.parts r.read)
 all_fit before messages placed (Some e) r = subst Fit (sym r.stated) (all_append (λ (x : Placed). IsRecord x.rr) (placed_in r.parts) r.here (parts_fit before r.parts r.read) (here_fit (before ++ r.parts) r.octets r.here r.fault r.offset r.next))
 

@@ -6,17 +6,17 @@ use Rattle.std.proofs.lemmas.Bool.{eq-eqb, or_left, or_right}
 use Rattle.std.proofs.lemmas.List.{append-nil}
 use Rattle.zone_rdata.specs.Record.{Record}
 use Rattle.zone_rdata.specs.declared.record.Placed.{Placed}
-use Rattle.zone_wire.specs.Answers.{zone_of, is_closed, handed_on, StandInOrder}
+use Rattle.zone_wire.specs.Answers.{zone_of, is_closed, handed_on, ComeInOrder}
 use Rattle.zone_wire.specs.Message.{QuestionAt, Sections}
-use Rattle.zone_wire.specs.Stream.{octets_in, asked_in, placed_in, HasFirstId, AsksIn, IsReadBehind, AreRead, closed, StreamReads}
-use Rattle.zone_wire.specs.Transfer.{StatedMessage, IsStatedMessage, AreStatedMessages, AsksFor, StateEach, frame, StreamStates}
+use Rattle.zone_wire.specs.Stream.{octets_in, asked_in, placed_in, HasFirstId, AsksIn, IsReadAfter, AreRead, closed, StreamReads}
+use Rattle.zone_wire.specs.Transfer.{StatedMessage, IsStatedMessage, AreStatedMessages, AsksFor, AnswersState, frame, StreamStates}
 use Rattle.zone_wire.proofs.Accepting.{all_append, in_order_parts, opens_more, any_append, rest_in_order, framed_parts, short_parts, handed_transfer}
 use Rattle.zone_wire.proofs.AnswerFaults.{agrees_by, order_stands}
 use Rattle.zone_wire.proofs.Answering.{OpensWith, zone_agrees, is_soa, InOrder, order_is_kept}
 use Rattle.zone_wire.proofs.GivenMessages.{placed_grow, sections_grow, asked_grow}
 
 -- records in the order of a transfer
-stand_in_order : (zone : Record) (questions : List QuestionAt) (before placed : List Placed) → AllByRecursion (AsksFor zone) questions → InOrder zone before placed → StandInOrder questions before placed
+stand_in_order : (zone : Record) (questions : List QuestionAt) (before placed : List Placed) → AllByRecursion (AsksFor zone) questions → InOrder zone before placed → ComeInOrder questions before placed
 stand_in_order zone questions before [] ask order = tt
 stand_in_order zone questions before (p ∷ placed) ask order =
     (order_stands questions before p.rr (order_is_kept zone questions before p ask order.0), stand_in_order zone questions (before ++ p ∷ []) placed ask order.1)
@@ -31,10 +31,10 @@ asks_in zone before placed (q ∷ questions) asked opens ask =
     (record { kind = ask.0.kind; agrees = agrees_by (zone_of before placed) q.name q.class (zone_agrees zone before placed q.name q.class asked opens ask.0.name ask.0.class) }, asks_in zone before placed questions asked opens ask.1)
 
 -- a message of a transfer after others
-stated_is_read : (id : ℕ) (zone : Record) (number : ℕ) (before : List StatedMessage) (p : StatedMessage) → number ≡ length before + 1 → IsStatedMessage id zone number p → AllByRecursion (λ (q : StatedMessage). q.sections.id ≡ id) before → AllByRecursion (AsksFor zone) (asked_in before) → OpensWith zone (placed_in before) → InOrder zone (placed_in before) p.placed → IsReadBehind before p
+stated_is_read : (id : ℕ) (zone : Record) (number : ℕ) (before : List StatedMessage) (p : StatedMessage) → number ≡ length before + 1 → IsStatedMessage id zone number p → AllByRecursion (λ (q : StatedMessage). q.sections.id ≡ id) before → AllByRecursion (AsksFor zone) (asked_in before) → OpensWith zone (placed_in before) → InOrder zone (placed_in before) p.placed → IsReadAfter before p
 stated_is_read id zone number before p count is ids asked opens order = record {
   message = record { message = is.message; same_id = first_id id before p.sections ids is.same_id; asks = asks_in zone (asked_in before) (placed_in before) p.sections.questions asked opens is.questions };
-  stated = subst (λ n. StateEach n p.octets p.sections.answers p.placed) count is.answers;
+  stated = subst (λ n. AnswersState n p.octets p.sections.answers p.placed) count is.answers;
   order = stand_in_order zone (asked_in before ++ p.sections.questions) (placed_in before) p.placed (all_append (AsksFor zone) (asked_in before) p.sections.questions asked is.questions) order;
 }
 

@@ -6,15 +6,14 @@ use Rattle.zone_name.specs.Common.{IsVerdict}
 use Rattle.zone_rdata.specs.declared.fault.Fault.{Fault}
 use Rattle.zone_rdata.specs.declared.fault.Fault.TheVariants.{ShortMessage, NotAResponse, Truncated, ErrorCode, BadCounts, TrailingOctets}
 use Rattle.zone_wire.specs.Machine.Finding.{Outcome, named, refused, outcome}
-use Rattle.zone_wire.specs.Machine.Sections.{and_then, header_fault, inside, question_at, record_at, at_offset, each_from, questions_from, records_from, to_the_end, behind_header, sections_of}
+use Rattle.zone_wire.specs.Machine.Sections.{and_then, header_fault, inside, question_at, record_at, at_offset, each_from, questions_from, records_from, to_the_end, after_header, sections_of}
+use Rattle.zone_wire.specs.Walk.{ending, NameFault}
 use Rattle.zone_wire.specs.Machine.Walk.{walk}
 use Rattle.zone_wire.specs.Message.{tc_of, rcode_of, qdcount_of, ancount_of, arcount_of, nscount_of, IsResponse, HasCounts, HasHeader, question_by, QuestionAt, IsQuestionAt, record_by, RecordAt, IsRecordAt, AreAt, Sections, IsMessage}
-use Rattle.zone_wire.specs.MessageFault.{HeaderFault, short, no_response, truncated, error, counts, PartFault, of_name, past_end, QuestionFault, RecordFault, Stand, FirstFault, HasQuestions, HasRecords, record_count, FirstQuestionFault, FirstRecordFault, MessageFault, of_header, of_question, of_record, left_over}
+use Rattle.zone_wire.specs.MessageFault.{HeaderFault, short, no_response, truncated, error, counts, PartFault, of_name, past_end, QuestionFault, RecordFault, HasParts, FirstFault, HasQuestions, HasRecords, record_count, FirstQuestionFault, FirstRecordFault, MessageFault, of_header, of_question, of_record, left_over}
 use Rattle.zone_wire.specs.Name.{Found}
-use Rattle.zone_wire.specs.Walk.{ending}
-use Rattle.zone_wire.specs.WholeWalk.{NameFault}
-use Rattle.zone_wire.proofs.ReadSections.{each_shows, header_shows, question_shows, record_shows, response_of, sections_shown}
-use Rattle.zone_wire.proofs.Sectioning.{and_then_ok, each_reads, header_reads, question_reads, record_reads, sections_read, sixteen}
+use Rattle.zone_wire.proofs.ReadSections.{each_shows, header_shows, question_shows, record_shows, response_of, sections_shown, at_offset_shows}
+use Rattle.zone_wire.proofs.Sectioning.{and_then_ok, each_reads, header_reads, question_reads, record_reads, sections_read, sixteen, not_other, opens}
 use Rattle.zone_wire.proofs.Verdicts.{decides}
 use Rattle.zone_wire.proofs.Walking.{Measures, name_walks, walk_names, walk_measures}
 use Rattle.zone_wire.proofs.WholeWalks.{is_walk, walk_is}
@@ -89,10 +88,6 @@ at_offset_stops : {X : Type 0} (offset : ℕ) (r : Result X Fault) (fault : Faul
 at_offset_stops offset (Ok x) fault start e = cc
 at_offset_stops offset (Err f) fault start e = let same = err_same (f, offset) (fault, start) e in (ap (λ (x : Fault × ℕ). Err x.0) same, ap (λ (x : Fault × ℕ). x.1) same)
 
-at_offset_leads : {X : Type 0} (offset : ℕ) (r : Result X Fault) (x : X) → at_offset offset r ≡ Ok x → r ≡ Ok x
-at_offset_leads offset (Ok y) x e = cc
-at_offset_leads offset (Err f) x e = cc
-
 module _ {X : Type 0} (read : ℕ → Result X Fault) (end_of : X → ℕ) (Is : ℕ → X → Type 0) (Has : ℕ → Fault → Type 0) where
   first_faults : ((offset : ℕ) (x : X) → read offset ≡ Ok x → Is offset x) → ((offset : ℕ) (fault : Fault) → read offset ≡ Err fault → Has offset fault) → (count offset : ℕ) (fault : Fault) (start : ℕ) → each_from read end_of count offset ≡ Err (fault, start) → FirstFault Is end_of Has count offset fault start
   first_faults shows faults zero offset fault start e = cc
@@ -100,7 +95,7 @@ module _ {X : Type 0} (read : ℕ → Result X Fault) (end_of : X → ℕ) (Is :
       elim (stops (at_offset offset (read offset)) _ (fault, start) e) [
         | inl h ↦ (let s = at_offset_stops offset (read offset) fault start h in record { before = []; few = omega arith; stand = s.1; next = subst (λ n. Has n fault) s.1 (faults offset fault s.0) })
         | inr h ↦ elim (stops (each_from read end_of count (end_of h.0)) _ (fault, start) h.1.1) [
-          | inl more ↦ (let rest = first_faults shows faults count (end_of h.0) fault start more in record { before = h.0 ∷ rest.before; few = omega (arith, rest.few); stand = (shows offset h.0 (at_offset_leads offset (read offset) h.0 h.1.0), rest.stand); next = rest.next })
+          | inl more ↦ (let rest = first_faults shows faults count (end_of h.0) fault start more in record { before = h.0 ∷ rest.before; few = omega (arith, rest.few); stand = (shows offset h.0 (at_offset_shows offset (read offset) h.0 h.1.0), rest.stand); next = rest.next })
           | inr last ↦ (let t : ⊥ = cc in absurd t)
         ]
       ]
@@ -164,9 +159,6 @@ module _ (octets : List ℕ) (fault : Fault) where
     ])
   ]
 
-same_part : (a b : ℕ) → a ≡ b → not (a == b) ≡ false
-same_part a b e = ap not (eq-eqb a b e)
-
 -- a header that has a fault is refused with it
 pub header_refuses : (octets : List ℕ) (fault : Fault) → HeaderFault octets fault → header_fault octets ≡ Some fault
 unfolding header_fault
@@ -174,20 +166,20 @@ header_refuses octets fault (short few) = cond-true _ _ _ (lt-ltb _ _ few)
 header_refuses octets fault (no_response twelve none) =
     cond-false _ _ _ (le-ltb _ _ twelve) ∙ cond-true _ _ _ (differs _ _ (λ e. none (response_of octets e)))
 header_refuses octets fault (truncated twelve response cut) =
-    cond-false _ _ _ (le-ltb _ _ twelve) ∙ cond-false _ _ _ (same_part _ _ (sixteen octets response)) ∙ cond-true _ _ _ (differs _ _ cut)
+    cond-false _ _ _ (le-ltb _ _ twelve) ∙ cond-false _ _ _ (not_other _ _ (sixteen octets response)) ∙ cond-true _ _ _ (differs _ _ cut)
 header_refuses octets fault (error twelve response whole code) =
-    cond-false _ _ _ (le-ltb _ _ twelve) ∙ cond-false _ _ _ (same_part _ _ (sixteen octets response)) ∙ cond-false _ _ _ (same_part _ _ whole)
+    cond-false _ _ _ (le-ltb _ _ twelve) ∙ cond-false _ _ _ (not_other _ _ (sixteen octets response)) ∙ cond-false _ _ _ (not_other _ _ whole)
     ∙ cond-true _ _ _ (differs _ _ code)
 header_refuses octets fault (counts twelve response whole no_error none) =
-    cond-false _ _ _ (le-ltb _ _ twelve) ∙ cond-false _ _ _ (same_part _ _ (sixteen octets response)) ∙ cond-false _ _ _ (same_part _ _ whole)
-    ∙ cond-false _ _ _ (same_part _ _ no_error) ∙ cond-true _ _ _ (ap not (false_from_ne_true (counted octets) (λ t. none (counts_by octets t))))
+    cond-false _ _ _ (le-ltb _ _ twelve) ∙ cond-false _ _ _ (not_other _ _ (sixteen octets response)) ∙ cond-false _ _ _ (not_other _ _ whole)
+    ∙ cond-false _ _ _ (not_other _ _ no_error) ∙ cond-true _ _ _ (ap not (false_from_ne_true (counted octets) (λ t. none (counts_by octets t))))
 
 -- parts that stand end in the message
 stand_inside : {X : Type 0} (Is : ℕ → X → Type 0) (end_of : X → ℕ) (size : ℕ) → ((offset : ℕ) (x : X) → Is offset x → end_of x ≤ size) → (parts : List X) (offset past : ℕ) → offset ≤ size → AreAt Is end_of offset parts past → past ≤ size
 stand_inside Is end_of size inside_each [] offset past begins are = omega (arith, are, begins)
 stand_inside Is end_of size inside_each (x ∷ parts) offset past begins are = stand_inside Is end_of size inside_each parts (end_of x) past (inside_each offset x are.0) are.1
 
-records_inside : (octets : List ℕ) (count offset past : ℕ) → offset ≤ length octets → Stand (IsRecordAt octets) (λ r. r.end) count offset past → past ≤ length octets
+records_inside : (octets : List ℕ) (count offset past : ℕ) → offset ≤ length octets → HasParts (IsRecordAt octets) (λ r. r.end) count offset past → past ≤ length octets
 records_inside octets count offset past begins s = stand_inside (IsRecordAt octets) (λ r. r.end) (length octets) (λ o r is. is.inside) s.0 offset past begins s.1.1
 
 message_inside : (octets : List ℕ) (past : ℕ) → HasHeader octets → HasRecords octets past → past ≤ length octets
@@ -222,7 +214,7 @@ divided Is end_of (suc n) (x ∷ parts) offset end enough are =
 sooner_fault : (octets : List ℕ) (count more offset : ℕ) (fault : Fault) (start : ℕ) → FirstRecordFault octets count offset fault start → FirstRecordFault octets (count + more) offset fault start
 sooner_fault octets count more offset fault start is = record { before = is.before; few = omega (arith, is.few); stand = is.stand; next = is.next }
 
-later_fault : (octets : List ℕ) (count more offset mid : ℕ) (fault : Fault) (start : ℕ) → Stand (IsRecordAt octets) (λ r. r.end) count offset mid → FirstRecordFault octets more mid fault start → FirstRecordFault octets (count + more) offset fault start
+later_fault : (octets : List ℕ) (count more offset mid : ℕ) (fault : Fault) (start : ℕ) → HasParts (IsRecordAt octets) (λ r. r.end) count offset mid → FirstRecordFault octets more mid fault start → FirstRecordFault octets (count + more) offset fault start
 later_fault octets count more offset mid fault start s is = record {
   before = s.0 ++ is.before;
   few = omega (arith, is.few, s.1.0, length-append s.0 is.before);
@@ -230,7 +222,7 @@ later_fault octets count more offset mid fault start s is = record {
   next = is.next;
 }
 
-both_stand : (octets : List ℕ) (count more offset mid past : ℕ) → Stand (IsRecordAt octets) (λ r. r.end) count offset mid → Stand (IsRecordAt octets) (λ r. r.end) more mid past → Stand (IsRecordAt octets) (λ r. r.end) (count + more) offset past
+both_stand : (octets : List ℕ) (count more offset mid past : ℕ) → HasParts (IsRecordAt octets) (λ r. r.end) count offset mid → HasParts (IsRecordAt octets) (λ r. r.end) more mid past → HasParts (IsRecordAt octets) (λ r. r.end) (count + more) offset past
 both_stand octets count more offset mid past s t = (s.0 ++ t.0, (omega (arith, s.1.0, t.1.0, length-append s.0 t.0), at_append (IsRecordAt octets) (λ r. r.end) s.0 t.0 offset mid past s.1.1 t.1.1))
 
 module _ (octets : List ℕ) (each : (k : ℕ) → get_or octets k 0 < 256) where
@@ -240,10 +232,10 @@ module _ (octets : List ℕ) (each : (k : ℕ) → get_or octets k 0 < 256) wher
   records_fault : (count offset : ℕ) (fault : Fault) (start : ℕ) → records_from octets count offset ≡ Err (fault, start) → FirstRecordFault octets count offset fault start
   records_fault = first_faults (record_at octets) (λ r. r.end) (IsRecordAt octets) (RecordFault octets) (record_shows octets each) (record_faults octets each)
 
-  questions_stand : (count offset : ℕ) (run : List QuestionAt × ℕ) → questions_from octets count offset ≡ Ok run → Stand (IsQuestionAt octets) (λ q. q.end) count offset run.1
+  questions_stand : (count offset : ℕ) (run : List QuestionAt × ℕ) → questions_from octets count offset ≡ Ok run → HasParts (IsQuestionAt octets) (λ q. q.end) count offset run.1
   questions_stand count offset run e = (run.0, each_shows (question_at octets) (λ q. q.end) (IsQuestionAt octets) (question_shows octets each) count offset run e)
 
-  records_stand : (count offset : ℕ) (run : List RecordAt × ℕ) → records_from octets count offset ≡ Ok run → Stand (IsRecordAt octets) (λ r. r.end) count offset run.1
+  records_stand : (count offset : ℕ) (run : List RecordAt × ℕ) → records_from octets count offset ≡ Ok run → HasParts (IsRecordAt octets) (λ r. r.end) count offset run.1
   records_stand count offset run e = (run.0, each_shows (record_at octets) (λ r. r.end) (IsRecordAt octets) (record_shows octets each) count offset run e)
 
   end_fault : (past : ℕ) (s : Sections) (fault : Fault) (start : ℕ) → HasHeader octets → HasRecords octets past → to_the_end octets past s ≡ Err (fault, start) → MessageFault octets fault start
@@ -253,8 +245,8 @@ module _ (octets : List ℕ) (each : (k : ℕ) → get_or octets k 0 < 256) wher
       let here : MessageFault octets TrailingOctets 0 = left_over past header stands (omega (arith, less, message_inside octets past header stands)) in
       subst (λ (x : Fault × ℕ). MessageFault octets x.0 x.1) f.1 here
 
-  behind_faults : (fault : Fault) (start : ℕ) → HasHeader octets → behind_header octets ≡ Err (fault, start) → MessageFault octets fault start
-  behind_faults fault start header e =
+  after_faults : (fault : Fault) (start : ℕ) → HasHeader octets → after_header octets ≡ Err (fault, start) → MessageFault octets fault start
+  after_faults fault start header e =
       elim (stops (questions_from octets (qdcount_of octets) 12) _ (fault, start) e) [
         | inl h ↦ of_question fault start header (questions_fault (qdcount_of octets) 12 fault start h)
         | inr q ↦ (let questions : HasQuestions octets q.0.1 = questions_stand (qdcount_of octets) 12 q.0 q.1.0 in elim (stops (records_from octets (ancount_of octets) q.0.1) _ (fault, start) q.1.1) [
@@ -266,8 +258,8 @@ module _ (octets : List ℕ) (each : (k : ℕ) → get_or octets k 0 < 256) wher
         ])
       ]
 
-  opened_fault : (fault : Fault) (start : ℕ) (o : Option Fault) → header_fault octets ≡ o → (let r : Result Sections (Fault × ℕ) = elim o [ Some f ↦ Err (f, 0) | None ↦ behind_header octets ] in r) ≡ Err (fault, start) → MessageFault octets fault start
-  opened_fault fault start None is e = behind_faults fault start (header_shows octets is) e
+  opened_fault : (fault : Fault) (start : ℕ) (o : Option Fault) → header_fault octets ≡ o → (let r : Result Sections (Fault × ℕ) = elim o [ Some f ↦ Err (f, 0) | None ↦ after_header octets ] in r) ≡ Err (fault, start) → MessageFault octets fault start
+  opened_fault fault start None is e = after_faults fault start (header_shows octets is) e
   opened_fault fault start (Some f) is e = subst (λ (x : Fault × ℕ). MessageFault octets x.0 x.1) (err_same (f, 0) (fault, start) e) (of_header f (header_faults octets f is))
 
   -- where the sections of a message stop being read, it has its first fault
@@ -275,18 +267,14 @@ module _ (octets : List ℕ) (each : (k : ℕ) → get_or octets k 0 < 256) wher
   unfolding sections_of
   sections_fault fault start e = opened_fault fault start (header_fault octets) refl e
 
-opens_fault : (octets : List ℕ) (fault : Fault) (o : Option Fault) → o ≡ Some fault → (let r : Result Sections (Fault × ℕ) = elim o [ Some f ↦ Err (f, 0) | None ↦ behind_header octets ] in r) ≡ Err (fault, 0)
+opens_fault : (octets : List ℕ) (fault : Fault) (o : Option Fault) → o ≡ Some fault → (let r : Result Sections (Fault × ℕ) = elim o [ Some f ↦ Err (f, 0) | None ↦ after_header octets ] in r) ≡ Err (fault, 0)
 opens_fault octets fault None e = cc
 opens_fault octets fault (Some f) e = ap (λ x. Err (x, 0)) (some_same f fault e)
 
-opens_none : (octets : List ℕ) (o : Option Fault) → o ≡ None → (let r : Result Sections (Fault × ℕ) = elim o [ Some f ↦ Err (f, 0) | None ↦ behind_header octets ] in r) ≡ behind_header octets
-opens_none octets None e = refl
-opens_none octets (Some f) e = cc
-
-questions_are : (octets : List ℕ) (count offset past : ℕ) (s : Stand (IsQuestionAt octets) (λ q. q.end) count offset past) → questions_from octets count offset ≡ Ok (s.0, past)
+questions_are : (octets : List ℕ) (count offset past : ℕ) (s : HasParts (IsQuestionAt octets) (λ q. q.end) count offset past) → questions_from octets count offset ≡ Ok (s.0, past)
 questions_are octets count offset past s = each_reads (question_at octets) (λ q. q.end) (IsQuestionAt octets) (question_reads octets) s.0 count offset past s.1.0 s.1.1
 
-records_are : (octets : List ℕ) (count offset past : ℕ) (s : Stand (IsRecordAt octets) (λ r. r.end) count offset past) → records_from octets count offset ≡ Ok (s.0, past)
+records_are : (octets : List ℕ) (count offset past : ℕ) (s : HasParts (IsRecordAt octets) (λ r. r.end) count offset past) → records_from octets count offset ≡ Ok (s.0, past)
 records_are octets count offset past s = each_reads (record_at octets) (λ r. r.end) (IsRecordAt octets) (record_reads octets) s.0 count offset past s.1.0 s.1.1
 
 questions_refuse : (octets : List ℕ) (count offset : ℕ) (fault : Fault) (start : ℕ) → FirstQuestionFault octets count offset fault start → questions_from octets count offset ≡ Err (fault, start)
@@ -299,13 +287,13 @@ records_refuse octets count offset fault start is = first_refuses (record_at oct
 refused_record : (octets : List ℕ) (fault : Fault) (start past : ℕ) → HasHeader octets → HasQuestions octets past → (is : FirstRecordFault octets (record_count octets) past fault start) → (t : Bool) → nat_lt (length is.before) (ancount_of octets) ≡ t → sections_of octets ≡ Err (fault, start)
 unfolding sections_of
 refused_record octets fault start past header questions is true e =
-    opens_none octets (header_fault octets) (header_reads octets header)
+    opens octets (header_fault octets) (header_reads octets header)
     ∙ and_then_ok (questions_from octets (qdcount_of octets) 12) (questions.0, past) _ (questions_are octets (qdcount_of octets) 12 past questions)
     ∙ and_then_err (records_from octets (ancount_of octets) past) (fault, start) _ (records_refuse octets (ancount_of octets) past fault start (record { before = is.before; few = ltb-true _ _ e; stand = is.stand; next = is.next }))
 refused_record octets fault start past header questions is false e =
     let d = divided (IsRecordAt octets) (λ r. r.end) (ancount_of octets) is.before past start (ltb-false _ _ e) is.stand in
     let fewer : length d.back < arcount_of octets = omega (arith, is.few, d.count, ap length d.whole, length-append d.front d.back) in
-    opens_none octets (header_fault octets) (header_reads octets header)
+    opens octets (header_fault octets) (header_reads octets header)
     ∙ and_then_ok (questions_from octets (qdcount_of octets) 12) (questions.0, past) _ (questions_are octets (qdcount_of octets) 12 past questions)
     ∙ and_then_ok (records_from octets (ancount_of octets) past) (d.front, d.mid) _ (records_are octets (ancount_of octets) past d.mid (d.front, (d.count, d.first)))
     ∙ and_then_err (records_from octets (arcount_of octets) d.mid) (fault, start) _ (records_refuse octets (arcount_of octets) d.mid fault start (record { before = d.back; few = fewer; stand = d.next; next = is.next }))
@@ -315,7 +303,7 @@ pub sections_refuse : (octets : List ℕ) (fault : Fault) (start : ℕ) → Mess
 unfolding sections_of
 sections_refuse octets fault start (of_header f is) = opens_fault octets f (header_fault octets) (header_refuses octets f is)
 sections_refuse octets fault start (of_question f n header is) =
-    opens_none octets (header_fault octets) (header_reads octets header)
+    opens octets (header_fault octets) (header_reads octets header)
     ∙ and_then_err (questions_from octets (qdcount_of octets) 12) (f, n) _ (questions_refuse octets (qdcount_of octets) 12 f n is)
 sections_refuse octets fault start (of_record f n past header questions is) = refused_record octets f n past header questions is (nat_lt (length is.before) (ancount_of octets)) refl
 sections_refuse octets fault start (left_over past header stands less) =
@@ -323,7 +311,7 @@ sections_refuse octets fault start (left_over past header stands less) =
     let records = stands.1.1 in
     let d = divided (IsRecordAt octets) (λ r. r.end) (ancount_of octets) records.0 stands.0 past (omega (arith, records.1.0)) records.1.1 in
     let others : length d.back ≡ arcount_of octets = omega (arith, records.1.0, d.count, ap length d.whole, length-append d.front d.back) in
-    opens_none octets (header_fault octets) (header_reads octets header)
+    opens octets (header_fault octets) (header_reads octets header)
     ∙ and_then_ok (questions_from octets (qdcount_of octets) 12) (questions.0, stands.0) _ (questions_are octets (qdcount_of octets) 12 stands.0 questions)
     ∙ and_then_ok (records_from octets (ancount_of octets) stands.0) (d.front, d.mid) _ (records_are octets (ancount_of octets) stands.0 d.mid (d.front, (d.count, d.first)))
     ∙ and_then_ok (records_from octets (arcount_of octets) d.mid) (d.back, past) _ (records_are octets (arcount_of octets) d.mid past (d.back, (others, d.next)))

@@ -2,9 +2,8 @@
 use Rattle.std.proofs.Common.{◌≡◌, ℕ, ◌<◌, ◌≤◌, List, length, refl, sym, subst}
 use Rattle.std.specs.Prelude.{get_or, Result, Ok, Err, IfOk, IfErr, IsOk, MatchResult}
 use Rattle.zone_wire.specs.Name.{Found, IsNameAt, found_by}
+use Rattle.zone_wire.specs.Walk.{Visit, IsWalk, NameFault}
 use Rattle.zone_wire.specs.Machine.Walk.{walk}
-use Rattle.zone_wire.specs.Walk.{Visit}
-use Rattle.zone_wire.specs.WholeWalk.{IsWalk, NameFault}
 use Rattle.zone_wire.specs.Machine.Finding.{Outcome, refused, outcome, Says}
 use Rattle.zone_rdata.specs.declared.fault.Fault.{Fault}
 use Rattle.zone_wire.specs.declared.name.Decoded.{Decoded}

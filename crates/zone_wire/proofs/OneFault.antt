@@ -14,13 +14,13 @@ use Rattle.zone_rdata.specs.declared.field.Field.TheVariants.{Name, Serial, Time
 use Rattle.zone_rdata.specs.declared.record.Placed.{Placed}
 use Rattle.zone_rdata.proofs.Tables.{table_row}
 use Rattle.zone_wire.specs.AnswerFault.{OwnFault, of_class, of_kind, unread, of_data, AnswerFault, own, of_order}
-use Rattle.zone_wire.specs.Answers.{StandsBehind}
-use Rattle.zone_wire.specs.DataFault.{HasValueAt, FieldFault, FieldsFault, DataFault}
+use Rattle.zone_wire.specs.Answers.{ComesAfter}
+use Rattle.zone_wire.specs.DataFault.{IsFieldAt, FieldFault, FieldsFault, DataFault}
 use Rattle.zone_wire.specs.Machine.Answers.{is_no_class, order_fault}
 use Rattle.zone_wire.specs.Message.{QuestionAt, RecordAt}
 use Rattle.zone_wire.specs.Name.{Found, IsNameAt}
-use Rattle.zone_wire.specs.Transfer.{octets_between, StandEach, AreFieldsAt, IsDataAt, compressible, IsReadable, StatesRecord}
-use Rattle.zone_wire.specs.WholeWalk.{NameFault}
+use Rattle.zone_wire.specs.Transfer.{octets_between, AreValuesAt, AreFieldsAt, IsDataAt, compressible, IsReadable, AnswerStates}
+use Rattle.zone_wire.specs.Walk.{NameFault}
 use Rattle.zone_wire.proofs.AnswerFaults.{order_refuses, stands_unrefused}
 use Rattle.zone_wire.proofs.Answering.{holds_data, none_of}
 use Rattle.zone_wire.proofs.Fielding.{value_reads}
@@ -43,14 +43,14 @@ name_not_both octets offset found f is fault =
     cc
 
 module _ (octets : List ℕ) (end : ℕ) (within : end ≤ length octets) where
-  value_one : (field : Field) (start past late : ℕ) (v w : FieldValue) → HasValueAt octets end field start past v → HasValueAt octets end field start late w → (v ≡ w) × (past ≡ late)
+  value_one : (field : Field) (start past late : ℕ) (v w : FieldValue) → IsFieldAt octets end field start past v → IsFieldAt octets end field start late w → (v ≡ w) × (past ≡ late)
   value_one field start past late v w is too =
       let e = value_reads octets end start past field v is.last is.held is.inside within is.stands in
       let k = value_reads octets end start late field w too.last too.held too.inside within too.stands in
       let same : (v, past) ≡ (w, late) = cc in
       (ap (λ (x : FieldValue × ℕ). x.0) same, ap (λ (x : FieldValue × ℕ). x.1) same)
 
-  field_not_both : (field : Field) (start past : ℕ) (v : FieldValue) (f : Fault) → HasValueAt octets end field start past v → FieldFault octets end field start f → ⊥
+  field_not_both : (field : Field) (start past : ℕ) (v : FieldValue) (f : Fault) → IsFieldAt octets end field start past v → FieldFault octets end field start f → ⊥
   field_not_both Name start past (name labels) f h (inl is) = name_not_both octets start h.stands.0 f h.stands.1 is
   field_not_both Name start past (name labels) f h (inr is) =
       let same = ap (λ (x : Found). x.end) (one_name octets start h.stands.0 is.1 h.stands.1 is.2) in
@@ -88,20 +88,20 @@ module _ (octets : List ℕ) (end : ℕ) (within : end ≤ length octets) where
       fields_one fields too.0 f g (subst (λ n. FieldsFault octets end fields n f) same.1 is.3) too.3
 
   -- a field that has its value leaves the fault to those after it
-  behind : (field : Field) (fields : List Field) (start past : ℕ) (v : FieldValue) (f : Fault) → HasValueAt octets end field start past v → FieldsFault octets end (field ∷ fields) start f → FieldsFault octets end fields past f
-  behind field fields start past v f h (inl is) = absurd (field_not_both field start past v f h is)
-  behind field fields start past v f h (inr is) = subst (λ n. FieldsFault octets end fields n f) (value_one field start is.0 past is.1 v is.2 h).1 is.3
+  after : (field : Field) (fields : List Field) (start past : ℕ) (v : FieldValue) (f : Fault) → IsFieldAt octets end field start past v → FieldsFault octets end (field ∷ fields) start f → FieldsFault octets end fields past f
+  after field fields start past v f h (inl is) = absurd (field_not_both field start past v f h is)
+  after field fields start past v f h (inr is) = subst (λ n. FieldsFault octets end fields n f) (value_one field start is.0 past is.1 v is.2 h).1 is.3
 
-  fields_not_both : (fields : List Field) (values : List FieldValue) (start : ℕ) (f : Fault) → StringsLast fields → HoldEach fields values → StandEach octets start end values → FieldsFault octets end fields start f → ⊥
+  fields_not_both : (fields : List Field) (values : List FieldValue) (start : ℕ) (f : Fault) → StringsLast fields → HoldEach fields values → AreValuesAt octets start end values → FieldsFault octets end fields start f → ⊥
   fields_not_both [] [] start f last held stand is = is.1 stand
   fields_not_both [] (v ∷ values) start f last held stand is = held
   fields_not_both (field ∷ fields) [] start f last held stand is = held
   fields_not_both (field ∷ []) (v ∷ []) start f last held stand is =
-      (behind field [] start stand.0 v f (record { held = held.0; stands = stand.2; inside = stand.1; last = λ e. stand.3 }) is).1 stand.3
+      (after field [] start stand.0 v f (record { held = held.0; stands = stand.2; inside = stand.1; last = λ e. stand.3 }) is).1 stand.3
   fields_not_both (field ∷ []) (v ∷ w ∷ values) start f last held stand is = held.1
   fields_not_both (field ∷ next ∷ fields) (v ∷ values) start f last held stand is =
       fields_not_both (next ∷ fields) values stand.0 f last.1 held.1 stand.3
-      (behind field (next ∷ fields) start stand.0 v f (record { held = held.0; stands = stand.2; inside = stand.1; last = λ e. absurd (last.0 e) }) is)
+      (after field (next ∷ fields) start stand.0 v f (record { held = held.0; stands = stand.2; inside = stand.1; last = λ e. absurd (last.0 e) }) is)
 
   row_one : (start : ℕ) (f g : Fault) (row : Option (List Field)) → MatchOption row ⊥ (λ fields. FieldsFault octets end fields start f) → MatchOption row ⊥ (λ fields. FieldsFault octets end fields start g) → f ≡ g
   row_one start f g None is too = absurd is
@@ -155,7 +155,7 @@ own_head octets a f (unread class kind none) =
     inl (cond-false _ _ _ (ap not (is_class a.class class)) ∙ cond-false _ _ _ (ap not (is_kind a.kind kind)) ∙ cond-true _ _ _ among)
 own_head octets a f (of_data g class kind read is) = inr (head_none a class kind read, is)
 
-states_head : (octets : List ℕ) (a : RecordAt) (r : Record) → StatesRecord octets a r → head_fault a ≡ None
+states_head : (octets : List ℕ) (a : RecordAt) (r : Record) → AnswerStates octets a r → head_fault a ≡ None
 states_head octets a r s = head_none a (subst IsClass s.class s.fits.rdata.class) (subst IsKind s.kind s.fits.rdata.kind) s.readable
 
 own_one : (octets : List ℕ) (a : RecordAt) (f g : Fault) → a.end ≤ length octets → OwnFault octets a f → OwnFault octets a g → f ≡ g
@@ -167,7 +167,7 @@ own_one octets a f g within is too = by (own_head octets a f is) (own_head octet
     by (inr x) (inl y) = let z = x.0 in cc
     by (inr x) (inr y) = data_one octets a f g within x.1 y.1
 
-own_not_both : (octets : List ℕ) (a : RecordAt) (f : Fault) (r : Record) → a.end ≤ length octets → OwnFault octets a f → StatesRecord octets a r → ⊥
+own_not_both : (octets : List ℕ) (a : RecordAt) (f : Fault) (r : Record) → a.end ≤ length octets → OwnFault octets a f → AnswerStates octets a r → ⊥
 own_not_both octets a f r within is states = by (own_head octets a f is)
   where
     by : (head_fault a ≡ Some f) ⊎ ((head_fault a ≡ None) × DataFault octets a f) → ⊥
@@ -176,7 +176,7 @@ own_not_both octets a f r within is states = by (own_head octets a f is)
 
 -- an answer after others
 module _ (octets : List ℕ) (questions : List QuestionAt) (before : List Placed) (a : RecordAt) (within : a.end ≤ length octets) where
-  pub answer_not_both : (f : Fault) (r : Record) → AnswerFault octets questions before a f → StatesRecord octets a r → StandsBehind questions before r → ⊥
+  pub answer_not_both : (f : Fault) (r : Record) → AnswerFault octets questions before a f → AnswerStates octets a r → ComesAfter questions before r → ⊥
   answer_not_both f r (own is) states stands = own_not_both octets a f r within is states
   answer_not_both f r (of_order s other is) states stands =
       let same = record_unique octets a s r within other states in

@@ -4,7 +4,7 @@ use Rattle.std.proofs.Common.{◌≡◌, ℕ, ◌-◌, List, [], ◌∷◌, leng
 use Rattle.std.specs.Prelude.{map}
 use Rattle.zone_wire.specs.Message.{u16_at, QuestionAt, question_by, IsQuestionAt, AreQuestionsAt, RecordAt, record_by, IsRecordAt, AreRecordsAt, Sections, IsMessage}
 use Rattle.zone_wire.specs.Name.{Found, IsNameAt}
-use Rattle.zone_wire.specs.Machine.Parsing.{parsed, IsParsed, raw_from, records_or_none, StandFrom}
+use Rattle.zone_wire.specs.Machine.Parsing.{parsed, IsParsed, raw_from, records_or_none, HasRecordsFrom}
 use Rattle.zone_wire.specs.Machine.Sections.{record_at}
 use Rattle.zone_wire.specs.View.{raw_at}
 use Rattle.zone_wire.proofs.Messages.{one_record}
@@ -12,32 +12,32 @@ use Rattle.zone_wire.proofs.Sectioning.{record_reads, each_reads}
 use Rattle.zone_wire.proofs.Walking.{one_name}
 
 -- records that stand somewhere are read there
-pub stand_read : (octets : List ℕ) (count offset : ℕ) (s : StandFrom octets count offset) → raw_from octets count offset ≡ map (raw_at octets) s.records
+pub stand_read : (octets : List ℕ) (count offset : ℕ) (s : HasRecordsFrom octets count offset) → raw_from octets count offset ≡ map (raw_at octets) s.records
 stand_read octets count offset s = ap (λ r. map (raw_at octets) (records_or_none r)) (each_reads (record_at octets) (λ r. r.end) (IsRecordAt octets) (record_reads octets) s.records count offset s.past s.counted s.stand)
 
 -- the first of them, and the others
 pub record OneMore (octets : List ℕ) (count offset : ℕ) : Type 0 where
   pub first : RecordAt
   pub is : IsRecordAt octets offset first
-  pub rest : StandFrom octets (count - 1) first.end
+  pub rest : HasRecordsFrom octets (count - 1) first.end
   pub shown : raw_from octets count offset ≡ raw_at octets first ∷ raw_from octets (count - 1) first.end
 
-pub one_more : (octets : List ℕ) (count offset : ℕ) → StandFrom octets count offset → (count ≡ 0 → ⊥) → OneMore octets count offset
+pub one_more : (octets : List ℕ) (count offset : ℕ) → HasRecordsFrom octets count offset → (count ≡ 0 → ⊥) → OneMore octets count offset
 one_more octets count offset s some = by s.records s.stand s.counted (stand_read octets count offset s)
   where
     by : (records : List RecordAt) → AreRecordsAt octets offset records s.past → length records ≡ count → raw_from octets count offset ≡ map (raw_at octets) records → OneMore octets count offset
     by [] stand counted shown = absurd (some (sym counted))
     by (first ∷ others) stand counted shown =
-        let rest : StandFrom octets (count - 1) first.end = record { records = others; past = s.past; stand = stand.1; counted = omega (arith, counted) } in
+        let rest : HasRecordsFrom octets (count - 1) first.end = record { records = others; past = s.past; stand = stand.1; counted = omega (arith, counted) } in
         record { first = first; is = stand.0; rest = rest; shown = shown ∙ ap (λ rs. raw_at octets first ∷ rs) (sym (stand_read octets (count - 1) first.end rest)) }
 
 -- the same by any record that stands there first
-pub one_more_is : (octets : List ℕ) (count offset : ℕ) → StandFrom octets count offset → (count ≡ 0 → ⊥) → (r : RecordAt) → IsRecordAt octets offset r → (end : ℕ) → r.end ≡ end → StandFrom octets (count - 1) end × (raw_from octets count offset ≡ raw_at octets r ∷ raw_from octets (count - 1) end)
+pub one_more_is : (octets : List ℕ) (count offset : ℕ) → HasRecordsFrom octets count offset → (count ≡ 0 → ⊥) → (r : RecordAt) → IsRecordAt octets offset r → (end : ℕ) → r.end ≡ end → HasRecordsFrom octets (count - 1) end × (raw_from octets count offset ≡ raw_at octets r ∷ raw_from octets (count - 1) end)
 one_more_is octets count offset s some r is end e =
     let more = one_more octets count offset s some in
     let same : more.first ≡ r = one_record octets offset more.first r more.is is in
     let there : more.first.end ≡ end = ap (λ (x : RecordAt). x.end) same ∙ e in
-    (subst (StandFrom octets (count - 1)) there more.rest, more.shown ∙ ap (λ (x : RecordAt). raw_at octets x ∷ raw_from octets (count - 1) more.first.end) same ∙ ap (λ n. raw_at octets r ∷ raw_from octets (count - 1) n) there)
+    (subst (HasRecordsFrom octets (count - 1)) there more.rest, more.shown ∙ ap (λ (x : RecordAt). raw_at octets x ∷ raw_from octets (count - 1) more.first.end) same ∙ ap (λ n. raw_at octets r ∷ raw_from octets (count - 1) n) there)
 
 -- the record after this name, where a record stands
 pub record_of_name : (octets : List ℕ) (offset : ℕ) (r : RecordAt) → IsRecordAt octets offset r → (found : Found) → IsNameAt octets offset found → IsRecordAt octets offset (record_by octets offset found)
@@ -46,7 +46,7 @@ record_of_name octets offset r is found name =
     subst (IsRecordAt octets offset) same is
 
 -- the answers of a message that was parsed
-pub answers_stand : (octets : List ℕ) (answers : ℕ) → IsParsed octets answers → StandFrom octets (u16_at octets 6) answers
+pub answers_stand : (octets : List ℕ) (answers : ℕ) → IsParsed octets answers → HasRecordsFrom octets (u16_at octets 6) answers
 answers_stand octets answers is = record { records = (parsed octets).sections.answers; past = is.past; stand = is.begin; counted = is.message.answer_count }
 
 pub answers_shown : (octets : List ℕ) (answers : ℕ) → IsParsed octets answers → raw_from octets (u16_at octets 6) answers ≡ map (raw_at octets) (parsed octets).sections.answers

@@ -15,12 +15,12 @@ use Rattle.zone_rdata.specs.declared.fault.Fault.{Fault}
 use Rattle.zone_rdata.specs.declared.fault.Place.TheVariants.{Message}
 use Rattle.zone_rdata.specs.declared.record.Placed.{Placed}
 use Rattle.zone_wire.specs.AnswerFault.{AnswerFault, FirstAnswerFault}
-use Rattle.zone_wire.specs.Answers.{ZoneAsked, zone_of, AgreeWith, questions_of, handed_on, is_closed, StandsBehind, follows, StandInOrder}
-use Rattle.zone_wire.specs.Machine.Transferring.{Among, Behind, Gains, Hands, Takes, TakesUpTo, TakesHead, HeadFault, other_id, other_zone, TakesWhole, StopsIn, IfNoMemory, TakesEach, TakesMessageUpTo, TakesMessage, ReadsNext, zone_held, zone_with}
+use Rattle.zone_wire.specs.Answers.{ZoneAsked, zone_of, AgreeWith, questions_of, handed_on, is_closed, ComesAfter, follows, ComeInOrder}
+use Rattle.zone_wire.specs.Machine.Transferring.{Among, IsAfter, Gains, Hands, Takes, TakesUpTo, TakesHead, HeadFault, other_id, other_zone, TakesWhole, StopsIn, IfNoMemory, TakesEach, TakesMessageUpTo, TakesMessage, ReadsNext, zone_held, zone_with}
 use Rattle.zone_wire.specs.Message.{QuestionAt, RecordAt, Sections, IsMessage}
 use Rattle.zone_wire.specs.MessageFault.{MessageFault}
-use Rattle.zone_wire.specs.Stream.{sections_in, asked_in, placed_in, first_id, opening_of, HasFirstId, AsksIn, AskBehind, of_structure, of_id, of_questions, of_answers}
-use Rattle.zone_wire.specs.Transfer.{StatesRecord, StatedMessage, StateEach}
+use Rattle.zone_wire.specs.Stream.{sections_in, asked_in, placed_in, first_id, opening_of, HasFirstId, AsksIn, AskAfter, of_structure, of_id, of_questions, of_answers}
+use Rattle.zone_wire.specs.Transfer.{AnswerStates, StatedMessage, AnswersState}
 use Rattle.zone_wire.specs.View.{RawRecord, raw_at, asked}
 use Rattle.zone_wire.specs.declared.message.Question.{Question}
 use Rattle.zone_wire.specs.Machine.Answers.{same_name}
@@ -121,8 +121,8 @@ gains_other questions placed p opened old new among some other opening zone clos
 -- the answers that were read
 pub record SoFar (octets : List ℕ) (done : List RecordAt) (questions : List QuestionAt) (placed : List Placed) (old new : Transfer) : Type 0 where
   pub here : List Placed
-  pub stated : StateEach old.messages octets done here
-  pub order : StandInOrder questions placed here
+  pub stated : AnswersState old.messages octets done here
+  pub order : ComeInOrder questions placed here
   pub gains : Gains here questions placed old new
 
 -- those that are still to come
@@ -153,15 +153,15 @@ gains_more here more questions placed old mid new first next = record {
   ending = next.ending ∙ first.ending;
 }
 
-state_append : (number : ℕ) (octets : List ℕ) (done : List RecordAt) (here : List Placed) (a : RecordAt) (p : Placed) → StateEach number octets done here → StatesRecord octets a p.rr → p.place ≡ Message number a.offset → StateEach number octets (done ++ a ∷ []) (here ++ p ∷ [])
+state_append : (number : ℕ) (octets : List ℕ) (done : List RecordAt) (here : List Placed) (a : RecordAt) (p : Placed) → AnswersState number octets done here → AnswerStates octets a p.rr → p.place ≡ Message number a.offset → AnswersState number octets (done ++ a ∷ []) (here ++ p ∷ [])
 state_append number octets [] [] a p each states place = (states, place, tt)
 state_append number octets [] (q ∷ here) a p each states place = absurd each
 state_append number octets (b ∷ done) [] a p each states place = absurd each
 state_append number octets (b ∷ done) (q ∷ here) a p each states place = (each.0, each.1, state_append number octets done here a p each.2 states place)
 
-order_append : (questions : List QuestionAt) (placed here : List Placed) (p : Placed) → StandInOrder questions placed here → StandsBehind questions (placed ++ here) p.rr → StandInOrder questions placed (here ++ p ∷ [])
-order_append questions placed [] p order stands = (subst (λ ps. StandsBehind questions ps p.rr) (append-nil placed) stands, tt)
-order_append questions placed (q ∷ here) p order stands = (order.0, order_append questions (placed ++ q ∷ []) here p order.1 (subst (λ ps. StandsBehind questions ps p.rr) (sym (append_assoc placed (q ∷ []) here)) stands))
+order_append : (questions : List QuestionAt) (placed here : List Placed) (p : Placed) → ComeInOrder questions placed here → ComesAfter questions (placed ++ here) p.rr → ComeInOrder questions placed (here ++ p ∷ [])
+order_append questions placed [] p order stands = (subst (λ ps. ComesAfter questions ps p.rr) (append-nil placed) stands, tt)
+order_append questions placed (q ∷ here) p order stands = (order.0, order_append questions (placed ++ q ∷ []) here p order.1 (subst (λ ps. ComesAfter questions ps p.rr) (sym (append_assoc placed (q ∷ []) here)) stands))
 
 pub pending_all : (octets : List ℕ) (answers : List RecordAt) (left : List RawRecord) (t : Transfer) → left ≡ map (raw_at octets) answers → Pending octets answers left t t
 pending_all octets answers left t e = record {
@@ -220,7 +220,7 @@ pub takes_all : (octets : List ℕ) (answers : List RecordAt) (left : List RawRe
 takes_all octets answers left old new none p questions placed among =
     let s = p.so_far questions placed among in
     let all : p.done ≡ answers = sym (p.parts ∙ ap (λ rest. p.done ++ rest) (no_rest octets p.rest (sym none ∙ p.left_is)) ∙ append-nil p.done) in
-    record { here = s.here; gives = (subst (λ (done : List RecordAt). StateEach old.messages octets done s.here) all s.stated, s.order); gains = s.gains }
+    record { here = s.here; gives = (subst (λ (done : List RecordAt). AnswersState old.messages octets done s.here) all s.stated, s.order); gains = s.gains }
 
 -- the next answer has a fault
 pub takes_up_to : (octets : List ℕ) (answers : List RecordAt) (first : RawRecord) (left before : List RawRecord) (old mid new : Transfer) (fault : Fault) (offset : ℕ) → Pending octets answers before old mid → before ≡ first ∷ left → new ≡ mid → offset ≡ first.at.offset
@@ -245,9 +245,9 @@ takes_up_to octets answers first left before old mid new fault offset p e same t
     }
 
 -- what the ID and the questions of a message leave
-first_id_behind : (before : List StatedMessage) (p : StatedMessage) → HasFirstId before p.sections → Some p.sections.id ≡ first_id (before ++ p ∷ [])
-first_id_behind [] p same = refl
-first_id_behind (first ∷ before) p same = ap Some same
+first_id_after : (before : List StatedMessage) (p : StatedMessage) → HasFirstId before p.sections → Some p.sections.id ≡ first_id (before ++ p ∷ [])
+first_id_after [] p same = refl
+first_id_after (first ∷ before) p same = ap Some same
 
 pub has_first_id : (before : List StatedMessage) (s : Sections) (id : Option ℕ) → id ≡ first_id before → MatchOption id ⊤ (λ first. s.id ≡ first) → HasFirstId before s
 has_first_id [] s id e h = tt
@@ -261,9 +261,9 @@ no_first_id (first ∷ before) s id e h has = h (subst (λ (o : Option ℕ). Mat
 among_nothing : (before : List StatedMessage) (s : Sections) (t : Transfer) → s.questions ≡ [] → Among (asked_in before) (placed_in before) t → Among (asked_in before ++ s.questions) (placed_in before) t
 among_nothing before s t none among = subst (λ qs. Among qs (placed_in before) t) (sym (ap (λ qs. asked_in before ++ qs) none ∙ append-nil (asked_in before))) among
 
-pub takes_none : (before : List StatedMessage) (s : Sections) (old new : Transfer) (id : ℕ) → Behind before old → s.questions ≡ [] → id ≡ s.id → HasFirstId before s → new.messages ≡ old.messages + 1 → new.id ≡ Some id → new.zone ≡ old.zone → new.opening ≡ old.opening → new.closed ≡ old.closed → TakesHead before s old new
-takes_none before s old new id behind none is same count new_id zone opening closed =
-    let among : Among (asked_in before) (placed_in before) new = record { zone = ap zone_held zone ∙ behind.among.zone; opening = opening ∙ behind.among.opening; closed = closed ∙ behind.among.closed } in
+pub takes_none : (before : List StatedMessage) (s : Sections) (old new : Transfer) (id : ℕ) → IsAfter before old → s.questions ≡ [] → id ≡ s.id → HasFirstId before s → new.messages ≡ old.messages + 1 → new.id ≡ Some id → new.zone ≡ old.zone → new.opening ≡ old.opening → new.closed ≡ old.closed → TakesHead before s old new
+takes_none before s old new id after none is same count new_id zone opening closed =
+    let among : Among (asked_in before) (placed_in before) new = record { zone = ap zone_held zone ∙ after.among.zone; opening = opening ∙ after.among.opening; closed = closed ∙ after.among.closed } in
     record {
       same_id = same;
       asks = subst (AllByRecursion (AsksIn (zone_of (asked_in before) (placed_in before)))) (sym none) tt;
@@ -278,11 +278,11 @@ zone_asked [] [] q agree = refl
 zone_asked [] (p ∷ placed) q agree = refl
 zone_asked (first ∷ questions) placed q agree = let name = agree.0 in let class = agree.1 in cc
 
-pub takes_one : (before : List StatedMessage) (s : Sections) (old new : Transfer) (id : ℕ) (q : QuestionAt) → Behind before old → s.questions ≡ q ∷ [] → id ≡ s.id → HasFirstId before s → q.kind ≡ 252 → AgreeWith (zone_held old.zone) q.name q.class → new.messages ≡ old.messages + 1 → new.id ≡ Some id → zone_held new.zone ≡ Some (record { name = q.name; class = q.class }) → new.opening ≡ old.opening → new.closed ≡ old.closed → TakesHead before s old new
-takes_one before s old new id q behind one is same kind agree count new_id zone opening closed =
+pub takes_one : (before : List StatedMessage) (s : Sections) (old new : Transfer) (id : ℕ) (q : QuestionAt) → IsAfter before old → s.questions ≡ q ∷ [] → id ≡ s.id → HasFirstId before s → q.kind ≡ 252 → AgreeWith (zone_held old.zone) q.name q.class → new.messages ≡ old.messages + 1 → new.id ≡ Some id → zone_held new.zone ≡ Some (record { name = q.name; class = q.class }) → new.opening ≡ old.opening → new.closed ≡ old.closed → TakesHead before s old new
+takes_one before s old new id q after one is same kind agree count new_id zone opening closed =
     let fixed = zone_of (asked_in before) (placed_in before) in
-    let agrees_with : AgreeWith fixed q.name q.class = subst (λ z. AgreeWith z q.name q.class) behind.among.zone agree in
-    let among : Among (asked_in before ++ q ∷ []) (placed_in before) new = record { zone = zone ∙ zone_asked (asked_in before) (placed_in before) q agrees_with; opening = opening ∙ behind.among.opening; closed = closed ∙ behind.among.closed } in
+    let agrees_with : AgreeWith fixed q.name q.class = subst (λ z. AgreeWith z q.name q.class) after.among.zone agree in
+    let among : Among (asked_in before ++ q ∷ []) (placed_in before) new = record { zone = zone ∙ zone_asked (asked_in before) (placed_in before) q agrees_with; opening = opening ∙ after.among.opening; closed = closed ∙ after.among.closed } in
     record {
       same_id = same;
       asks = subst (AllByRecursion (AsksIn fixed)) (sym one) (record { kind = kind; agrees = agrees_with }, tt);
@@ -292,48 +292,48 @@ takes_one before s old new id q behind one is same kind agree count new_id zone 
     }
 
 -- a question that doesn't ask for the zone
-pub asks_other : (before : List StatedMessage) (s : Sections) (old : Transfer) (q : QuestionAt) → Behind before old → s.questions ≡ q ∷ [] → (q.kind ≡ 252 → AgreeWith (zone_held old.zone) q.name q.class → ⊥) → AskBehind before s → ⊥
-asks_other before s old q behind one other asks =
+pub asks_other : (before : List StatedMessage) (s : Sections) (old : Transfer) (q : QuestionAt) → IsAfter before old → s.questions ≡ q ∷ [] → (q.kind ≡ 252 → AgreeWith (zone_held old.zone) q.name q.class → ⊥) → AskAfter before s → ⊥
+asks_other before s old q after one other asks =
     let asked = subst (AllByRecursion (AsksIn (zone_of (asked_in before) (placed_in before)))) one asks in
-    other asked.0.kind (subst (λ z. AgreeWith z q.name q.class) (sym behind.among.zone) asked.0.agrees)
+    other asked.0.kind (subst (λ z. AgreeWith z q.name q.class) (sym after.among.zone) asked.0.agrees)
 
 -- a message that was read whole
-placed_behind : (before : List StatedMessage) (p : StatedMessage) → placed_in (before ++ p ∷ []) ≡ placed_in before ++ p.placed
-placed_behind before p = flat_map-append (λ (x : StatedMessage). x.placed) before (p ∷ []) ∙ ap (λ ps. placed_in before ++ ps) (append-nil p.placed)
+placed_after : (before : List StatedMessage) (p : StatedMessage) → placed_in (before ++ p ∷ []) ≡ placed_in before ++ p.placed
+placed_after before p = flat_map-append (λ (x : StatedMessage). x.placed) before (p ∷ []) ∙ ap (λ ps. placed_in before ++ ps) (append-nil p.placed)
 
-sections_behind : (before : List StatedMessage) (p : StatedMessage) → sections_in (before ++ p ∷ []) ≡ sections_in before ++ p.sections ∷ []
-sections_behind [] p = refl
-sections_behind (q ∷ before) p = ap (λ x. q.sections ∷ x) (sections_behind before p)
+sections_after : (before : List StatedMessage) (p : StatedMessage) → sections_in (before ++ p ∷ []) ≡ sections_in before ++ p.sections ∷ []
+sections_after [] p = refl
+sections_after (q ∷ before) p = ap (λ x. q.sections ∷ x) (sections_after before p)
 
-asked_behind : (before : List StatedMessage) (p : StatedMessage) → asked_in (before ++ p ∷ []) ≡ asked_in before ++ p.sections.questions
-asked_behind before p = ap questions_of (sections_behind before p) ∙ flat_map-append (λ (s : Sections). s.questions) (sections_in before) (p.sections ∷ []) ∙ ap (λ qs. asked_in before ++ qs) (append-nil p.sections.questions)
+asked_after : (before : List StatedMessage) (p : StatedMessage) → asked_in (before ++ p ∷ []) ≡ asked_in before ++ p.sections.questions
+asked_after before p = ap questions_of (sections_after before p) ∙ flat_map-append (λ (s : Sections). s.questions) (sections_in before) (p.sections ∷ []) ∙ ap (λ qs. asked_in before ++ qs) (append-nil p.sections.questions)
 
-pub takes_whole : (octets : List ℕ) (before : List StatedMessage) (s : Sections) (old mid new : Transfer) → Behind before old → IsMessage octets s → TakesHead before s old mid → mid.decided ≡ old.decided → TakesUpTo octets s.answers (asked_in before ++ s.questions) (placed_in before) mid new None → TakesWhole octets before old new
-takes_whole octets before s old mid new behind is head decided takes =
+pub takes_whole : (octets : List ℕ) (before : List StatedMessage) (s : Sections) (old mid new : Transfer) → IsAfter before old → IsMessage octets s → TakesHead before s old mid → mid.decided ≡ old.decided → TakesUpTo octets s.answers (asked_in before ++ s.questions) (placed_in before) mid new None → TakesWhole octets before old new
+takes_whole octets before s old mid new after is head decided takes =
     let p : StatedMessage = record { octets = octets; sections = s; placed = takes.here } in
-    let number : mid.messages ≡ length before + 1 = head.count ∙ ap (λ n. n + 1) behind.count in
-    let asked = asked_behind before p in
-    let placed = placed_behind before p in
+    let number : mid.messages ≡ length before + 1 = head.count ∙ ap (λ n. n + 1) after.count in
+    let asked = asked_after before p in
+    let placed = placed_after before p in
     let among : Among (asked_in (before ++ p ∷ [])) (placed_in (before ++ p ∷ [])) new = subst (λ qs. Among qs (placed_in (before ++ p ∷ [])) new) (sym asked) (subst (λ ps. Among (asked_in before ++ s.questions) ps new) (sym placed) takes.gains.among) in
     record {
       part = p;
       octets_are = refl;
       read = record {
         message = record { message = is; same_id = head.same_id; asks = head.asks };
-        stated = subst (λ n. StateEach n octets s.answers takes.here) number takes.gives.0;
+        stated = subst (λ n. AnswersState n octets s.answers takes.here) number takes.gives.0;
         order = takes.gives.1;
       };
-      behind = record {
+      after = record {
         count = takes.gains.messages ∙ number ∙ sym (length-append before (p ∷ []));
-        id = takes.gains.id ∙ head.id ∙ first_id_behind before p head.same_id;
+        id = takes.gains.id ∙ head.id ∙ first_id_after before p head.same_id;
         among = among;
       };
       handed = λ given e. takes.gains.handed given (ap (λ d. given ++ d.placed) decided ∙ e) ∙ ap handed_on (sym placed);
     }
 
-pub stops_in_answers : (octets : List ℕ) (before : List StatedMessage) (s : Sections) (old mid new : Transfer) (e : Fault × ℕ) → Behind before old → IsMessage octets s → TakesHead before s old mid → mid.decided ≡ old.decided → TakesUpTo octets s.answers (asked_in before ++ s.questions) (placed_in before) mid new (Some e) → StopsIn octets before old new e
-stops_in_answers octets before s old mid new e behind is head decided takes =
-    let number : mid.messages ≡ length before + 1 = head.count ∙ ap (λ n. n + 1) behind.count in
+pub stops_in_answers : (octets : List ℕ) (before : List StatedMessage) (s : Sections) (old mid new : Transfer) (e : Fault × ℕ) → IsAfter before old → IsMessage octets s → TakesHead before s old mid → mid.decided ≡ old.decided → TakesUpTo octets s.answers (asked_in before ++ s.questions) (placed_in before) mid new (Some e) → StopsIn octets before old new e
+stops_in_answers octets before s old mid new e after is head decided takes =
+    let number : mid.messages ≡ length before + 1 = head.count ∙ ap (λ n. n + 1) after.count in
     record {
       here = takes.here;
       next = of_answers s takes.here e.0 e.1 (record { message = is; same_id = head.same_id; asks = head.asks }) (subst (λ n. FirstAnswerFault n octets (asked_in before ++ s.questions) (placed_in before) s.answers takes.here e.0 e.1) number takes.gives);
@@ -386,19 +386,19 @@ other_gains questions placed rr offset old mid new among some other mid_is new_i
     (items ∙ ap (λ (t : Transfer). t.decided.placed ++ here_at rr t.messages offset ∷ []) mid_is)
 
 -- a record that is no SOA stands after the opening one, while the transfer isn't closed
-pub stands_after : (questions : List QuestionAt) (placed : List Placed) (rr : Record) (t : Transfer) → Among questions placed t → is_some t.opening ≡ true → t.closed ≡ false → (rr.kind ≡ 6 → ⊥) → StandsBehind questions placed rr
+pub stands_after : (questions : List QuestionAt) (placed : List Placed) (rr : Record) (t : Transfer) → Among questions placed t → is_some t.opening ≡ true → t.closed ≡ false → (rr.kind ≡ 6 → ⊥) → ComesAfter questions placed rr
 stands_after questions placed rr t among some going other =
     let has = some_of t.opening some in
     let first = some_placed placed has.0 (sym has.1 ∙ among.opening) in
     follows first.0 first.1 first.2 (sym among.closed ∙ going) (λ soa. absurd (other soa))
 
 -- a message is refused: its fault at its place ends the records
-pub stopped_next : (octets : List ℕ) (before : List StatedMessage) (old mid new : Transfer) (failing : Failing) (number offset : ℕ) → Behind before old → number ≡ old.messages + 1 → IfNoMemory (TakesMessageUpTo octets before old mid) (Err (failing, offset))
+pub stopped_next : (octets : List ℕ) (before : List StatedMessage) (old mid new : Transfer) (failing : Failing) (number offset : ℕ) → IsAfter before old → number ≡ old.messages + 1 → IfNoMemory (TakesMessageUpTo octets before old mid) (Err (failing, offset))
     → (f : Fault) × (failing ≡ failings.Fault f) × (new ≡ record mid { decided = record mid.decided { ending = Some (f, Message number offset) } }) → ReadsNext octets before old new
-stopped_next octets before old mid new failing number offset behind count takes e =
+stopped_next octets before old mid new failing number offset after count takes e =
     let stops : StopsIn octets before old mid (e.0, offset) = subst (λ (f : Failing). IfNoMemory (TakesMessageUpTo octets before old mid) (Err (f, offset))) e.1 takes in
     let ended : Transfer = record mid { decided = record mid.decided { ending = Some (e.0, Message number offset) } } in
-    let there : Message number offset ≡ Message (length before + 1) offset = ap (λ n. Message n offset) (count ∙ ap (λ n. n + 1) behind.count) in
+    let there : Message number offset ≡ Message (length before + 1) offset = ap (λ n. Message n offset) (count ∙ ap (λ n. n + 1) after.count) in
     let is : StopsIn octets before old ended (e.0, offset) = record { here = stops.here; next = stops.next; handed = stops.handed } in
     subst (ReadsNext octets before old) (sym e.2) (offset, (is, there))
 
@@ -410,13 +410,13 @@ stopped_by octets answers first left before old mid new (failings.Fault fault) o
 stopped_by octets answers first left before old mid new failings.Memory offset p e there refuses same questions placed among = tt
 
 -- a message after others, by what its answers give
-module _ (octets : List ℕ) (before : List StatedMessage) (s : Sections) (old mid new : Transfer) (behind : Behind before old) (is : IsMessage octets s) (head : TakesHead before s old mid) (decided : mid.decided ≡ old.decided) where
+module _ (octets : List ℕ) (before : List StatedMessage) (s : Sections) (old mid new : Transfer) (after : IsAfter before old) (is : IsMessage octets s) (head : TakesHead before s old mid) (decided : mid.decided ≡ old.decided) where
   failing_taken : (failing : Failing) (offset : ℕ) → IfNoMemory (TakesUpTo octets s.answers (asked_in before ++ s.questions) (placed_in before) mid new) (Err (failing, offset)) → IfNoMemory (TakesMessageUpTo octets before old new) (Err (failing, offset))
-  failing_taken (failings.Fault fault) offset takes = stops_in_answers octets before s old mid new (fault, offset) behind is head decided takes
+  failing_taken (failings.Fault fault) offset takes = stops_in_answers octets before s old mid new (fault, offset) after is head decided takes
   failing_taken failings.Memory offset takes = tt
 
   pub message_taken : (r : Result (Unit {0}) (Failing × ℕ)) → TakesEach octets s.answers (asked_in before ++ s.questions) (placed_in before) r mid new → TakesMessage octets before r old new
-  message_taken (Ok done) takes = takes_whole octets before s old mid new behind is head decided takes
+  message_taken (Ok done) takes = takes_whole octets before s old mid new after is head decided takes
   message_taken (Err e) takes = failing_taken e.0 e.1 takes
 
 -- a question as it is held

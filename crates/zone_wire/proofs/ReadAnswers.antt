@@ -3,40 +3,38 @@ use Rattle.std.proofs.Common.{◌≡◌, ◌≢◌, ℕ, ◌≤◌, ◌<◌, Lis
 use Rattle.std.specs.Prelude.{get_or, ◌==◌, ◌&&◌, ◌⊎◌, not, Option, Some, None, Result, Ok, Err, if◌then◌else◌, ⊤}
 use Rattle.std.specs.List.{AllByRecursion, list_any}
 use Rattle.std.specs.Cmp.Lexicographic.{pointwise, pointwise_decides, bytes_decides}
-use Rattle.std.proofs.lemmas.Bool.{and_parts, or_parts, and_cases, eqb-true, eq-eqb, not-false}
+use Rattle.std.proofs.lemmas.Bool.{and_parts, or_parts, and_cases, eqb-true, not-false}
 use Rattle.zone_rdata.specs.Record.{Record, IsRecord}
 use Rattle.zone_rdata.specs.Words.{is_meta}
 use Rattle.zone_rdata.specs.declared.fault.Fault.{Fault}
 use Rattle.zone_rdata.specs.declared.fault.Fault.TheVariants.{BadClass, MetaType, CompressibleType}
 use Rattle.zone_rdata.specs.declared.fault.Place.TheVariants.{Message}
 use Rattle.zone_rdata.specs.declared.record.Placed.{Placed}
-use Rattle.zone_wire.specs.Machine.Answers.{same_name, same_record, is_no_class, record_of, agrees, order_fault, answer_of, Answered, before_others, answers_of}
+use Rattle.zone_wire.specs.Machine.Answers.{same_name, same_record, is_no_class, own_record, agrees, order_fault, answer_record, Answered, before_others, answers_of}
 use Rattle.zone_wire.specs.Answers.{zone_of}
 use Rattle.zone_wire.specs.Machine.Data.{data_at}
 use Rattle.zone_wire.specs.Message.{QuestionAt, RecordAt, AreRecordsAt}
-use Rattle.zone_wire.specs.Transfer.{ttl_of, compressible, StatesRecord, StateEach}
+use Rattle.zone_wire.specs.Transfer.{ttl_of, compressible, AnswerStates, AnswersState}
 use Rattle.zone_wire.proofs.Answering.{is_soa}
 use Rattle.zone_wire.proofs.ReadFields.{data_shown}
 use Rattle.zone_wire.proofs.ReadSections.{ok_same, leads, passes_on, no_fault}
 use Rattle.zone_wire.proofs.Transfers.{equal_parts}
-
-pub unequal : (a b : ℕ) → nat_eq a b ≡ false → a ≢ b
-unequal a b e same = let yes : nat_eq a b ≡ true = eq-eqb a b same in cc
+use Rattle.zone_wire.proofs.Places.{unequal}
 
 pub each_other : (kind : ℕ) (kinds : List ℕ) → list_any (nat_eq kind) kinds ≡ false → AllByRecursion (λ k. kind ≢ k) kinds
 each_other kind [] e = tt
 each_other kind (k ∷ kinds) e = let parts = or_parts (nat_eq kind k) (list_any (nat_eq kind) kinds) e in (unequal kind k parts.0, each_other kind kinds parts.1)
 
-pub record_shown : (octets : List ℕ) (a : RecordAt) (r : Record) → ((k : ℕ) → get_or octets k 0 < 256) → a.end ≤ length octets → record_of octets a ≡ Ok r → IsRecord r → StatesRecord octets a r
-unfolding record_of
+pub record_shown : (octets : List ℕ) (a : RecordAt) (r : Record) → ((k : ℕ) → get_or octets k 0 < 256) → a.end ≤ length octets → own_record octets a ≡ Ok r → IsRecord r → AnswerStates octets a r
+unfolding own_record
 record_shown octets a r each within e =
     let class = passes_on (is_no_class a.class) BadClass _ r e in
     let kind = passes_on (is_meta a.kind) MetaType _ r class.1 in
     let read = passes_on (list_any (nat_eq a.kind) compressible) CompressibleType _ r kind.1 in
     let states = λ (canonical : List ℕ). let x : Result Record Fault = Ok (record { owner = a.owner; class = a.class; kind = a.kind; ttl = ttl_of a.ttl; octets = canonical }) in x in
     let l = leads (data_at octets a) states r read.1 in
-    let stated : IsRecord (record { owner = a.owner; class = a.class; kind = a.kind; ttl = ttl_of a.ttl; octets = l.first }) → StatesRecord octets a (record { owner = a.owner; class = a.class; kind = a.kind; ttl = ttl_of a.ttl; octets = l.first }) = λ fits. record { owner = refl; class = refl; kind = refl; ttl = refl; rdata = data_shown octets a l.first each within l.is; fits = fits; readable = each_other a.kind compressible read.0 } in
-    subst (λ (x : Record). IsRecord x → StatesRecord octets a x) (ok_same _ _ l.goes_on) stated
+    let stated : IsRecord (record { owner = a.owner; class = a.class; kind = a.kind; ttl = ttl_of a.ttl; octets = l.first }) → AnswerStates octets a (record { owner = a.owner; class = a.class; kind = a.kind; ttl = ttl_of a.ttl; octets = l.first }) = λ fits. record { owner = refl; class = refl; kind = refl; ttl = refl; rdata = data_shown octets a l.first each within l.is; fits = fits; readable = each_other a.kind compressible read.0 } in
+    subst (λ (x : Record). IsRecord x → AnswerStates octets a x) (ok_same _ _ l.goes_on) stated
 
 pub names_equal : (n m : List (List ℕ)) → same_name n m ≡ true → n ≡ m
 names_equal n m e = (pointwise_decides bytes_decides n m).0 e
@@ -54,20 +52,20 @@ pub agree_parts : (name other : List (List ℕ)) (class last : ℕ) → (same_na
 agree_parts name other class last e = let p = and_parts (same_name name other) (class == last) e in (names_equal name other p.0, eqb-true _ _ p.1)
 
 -- where a record stands in a transfer, those before it known
-abbrev pub Behind : List Placed → Placed → Type 0
-Behind [] p = p.rr.kind ≡ 6
-Behind (opening ∷ others) p = (list_any is_soa others ≡ false) × ((is_soa p ≡ false) ⊎ (p.rr ≡ opening.rr))
+abbrev pub Later : List Placed → Placed → Type 0
+Later [] p = p.rr.kind ≡ 6
+Later (opening ∷ others) p = (list_any is_soa others ≡ false) × ((is_soa p ≡ false) ⊎ (p.rr ≡ opening.rr))
 
-agreed : (test : Bool) (fault : Fault) → (if test then None else Some fault) ≡ None → test ≡ true
+pub agreed : (test : Bool) (fault : Fault) → (if test then None else Some fault) ≡ None → test ≡ true
 agreed true fault e = refl
 agreed false fault e = cc
 
 soa_again : (p opening : Placed) → (is_soa p && not (same_record p.rr opening.rr)) ≡ false → (is_soa p ≡ false) ⊎ (p.rr ≡ opening.rr)
 soa_again p opening e = elim (and_cases (is_soa p) (not (same_record p.rr opening.rr)) e) [ inl a ↦ inl a | inr b ↦ inr (records_equal p.rr opening.rr (not-false _ b)) ]
 
-pub stands_behind : (questions : List QuestionAt) (before : List Placed) (p : Placed) → order_fault questions before p.rr ≡ None → Behind before p
-stands_behind questions [] p e = eqb-true p.rr.kind 6 (not-false _ (no_fault _ _ _ e).0)
-stands_behind questions (opening ∷ others) p e = let a = no_fault _ _ _ e in (a.0, soa_again p opening (no_fault _ _ _ a.1).0)
+pub stands_later : (questions : List QuestionAt) (before : List Placed) (p : Placed) → order_fault questions before p.rr ≡ None → Later before p
+stands_later questions [] p e = eqb-true p.rr.kind 6 (not-false _ (no_fault _ _ _ e).0)
+stands_later questions (opening ∷ others) p e = let a = no_fault _ _ _ e in (a.0, soa_again p opening (no_fault _ _ _ a.1).0)
 
 pub opening_agrees : (questions : List QuestionAt) (p : Placed) → order_fault questions [] p.rr ≡ None → agrees (zone_of questions []) p.rr.owner p.rr.class ≡ true
 opening_agrees questions p e = agreed _ _ (no_fault _ _ _ e).1
@@ -81,10 +79,10 @@ kept_record : (r s : Record) (fault : Option Fault) → (let x : Result Record F
 kept_record r s None e = (refl, ok_same r s e)
 kept_record r s (Some f) e = cc
 
-pub answer_shown : (octets : List ℕ) (questions : List QuestionAt) (before : List Placed) (a : RecordAt) (r : Record) → answer_of octets questions before a ≡ Ok r → (record_of octets a ≡ Ok r) × (order_fault questions before r ≡ None)
-unfolding answer_of
+pub answer_shown : (octets : List ℕ) (questions : List QuestionAt) (before : List Placed) (a : RecordAt) (r : Record) → answer_record octets questions before a ≡ Ok r → (own_record octets a ≡ Ok r) × (order_fault questions before r ≡ None)
+unfolding answer_record
 answer_shown octets questions before a r e =
-    let l = leads (record_of octets a) _ r e in
+    let l = leads (own_record octets a) _ r e in
     let k = kept_record l.first r (order_fault questions before l.first) l.goes_on in
     (l.is ∙ ap Ok k.1, subst (λ (x : Record). order_fault questions before x ≡ None) k.1 k.0)
 
@@ -103,14 +101,14 @@ first_shown number offset (Err fault) next e = cc
 
 -- what answers without a fault state
 pub record AreStated (number : ℕ) (octets : List ℕ) (questions : List QuestionAt) (before : List Placed) (answers : List RecordAt) (placed : List Placed) : Type 0 where
-  pub stated : AllByRecursion (λ p. IsRecord p.rr) placed → StateEach number octets answers placed
+  pub stated : AllByRecursion (λ p. IsRecord p.rr) placed → AnswersState number octets answers placed
   pub kept : Kept questions before placed
 
 pub answers_shown : (number : ℕ) (octets : List ℕ) (questions : List QuestionAt) → ((k : ℕ) → get_or octets k 0 < 256) → (offset end : ℕ) (answers : List RecordAt) (before : List Placed) → AreRecordsAt octets offset answers end → (answers_of number octets questions before answers).fault ≡ None → AreStated number octets questions before answers (answers_of number octets questions before answers).placed
 answers_shown number octets questions each offset end [] before are e = record { stated = λ fits. tt; kept = tt }
 answers_shown number octets questions each offset end (a ∷ answers) before are e =
     let next = λ (q : Placed). answers_of number octets questions (before ++ q ∷ []) answers in
-    let one = first_shown number a.offset (answer_of octets questions before a) next e in
+    let one = first_shown number a.offset (answer_record octets questions before a) next e in
     let p : Placed = placed_at number a.offset one.rr in
     let shown = answer_shown octets questions before a one.rr one.is in
     let rest = answers_shown number octets questions each a.end end answers (before ++ p ∷ []) are.1 one.rest in

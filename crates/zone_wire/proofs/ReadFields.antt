@@ -21,14 +21,15 @@ use Rattle.zone_wire.specs.Machine.Data.{name_before, sized_before, strings_befo
 use Rattle.zone_wire.specs.Message.{RecordAt}
 use Rattle.zone_wire.specs.Machine.Finding.{Outcome, named, refused, outcome}
 use Rattle.zone_wire.specs.Machine.Sections.{and_then}
-use Rattle.zone_wire.specs.Transfer.{octets_between, StandsAt, StandEach, AreFieldsAt, IsDataAt}
+use Rattle.zone_wire.specs.Transfer.{octets_between, IsValueAt, AreValuesAt, AreFieldsAt, IsDataAt}
 use Rattle.zone_wire.specs.Machine.Walk.{walk}
 use Rattle.zone_wire.proofs.Fielding.{part_first}
 use Rattle.zone_wire.proofs.ReadSections.{ok_same, leads, passes}
 use Rattle.zone_wire.proofs.Walking.{walk_names, take_each, drop_each}
+use Rattle.zone_rdata.proofs.Fields.Strings.{some_frames}
 
 abbrev Shown : List ℕ → ℕ → ℕ → Field → FieldValue × ℕ → Type 0
-Shown octets end start field v = Holds field v.0 × (v.1 ≤ end) × StandsAt octets start v.1 v.0
+Shown octets end start field v = Holds field v.0 × (v.1 ≤ end) × IsValueAt octets start v.1 v.0
 
 strings_each_by : (n : ℕ) (octets : List ℕ) → ((k : ℕ) → get_or octets k 0 < 256) → AllByRecursion IsString (strings_by n octets)
 strings_each_by zero octets small = tt
@@ -39,10 +40,6 @@ strings_each_by (suc n) (c ∷ octets) small =
 pub strings_each : (octets : List ℕ) → ((k : ℕ) → get_or octets k 0 < 256) → AllByRecursion IsString (strings_of octets)
 unfolding strings_of
 strings_each octets small = strings_each_by (length octets) octets small
-
-pub some_strings : (many : List (List ℕ)) → 0 < length (flat_map with_length many) → 0 < length many
-some_strings [] h = absurd (omega arith)
-some_strings (text ∷ many) h = omega arith
 
 module _ (octets : List ℕ) (each : (k : ℕ) → get_or octets k 0 < 256) (end : ℕ) (within : end ≤ length octets) where
   name_shows : (start : ℕ) (o : Outcome) (v : FieldValue × ℕ) → outcome octets (walk octets start) ≡ o → name_before end o ≡ Ok v → Shown octets end start Name v
@@ -116,7 +113,7 @@ module _ (octets : List ℕ) (each : (k : ℕ) → get_or octets k 0 < 256) (end
       let some : 0 < length bs = ltb-true 0 (length bs) b.0 in
       let whole : flat_map with_length (strings_of bs) ≡ bs = (bytes_decides (flat_map with_length (strings_of bs)) bs).0 b.1 in
       let order : start ≤ end = omega (arith, some, length-take (end - start) (drop start octets)) in
-      subst (Shown octets end start Strings) p.1 (record { some = some_strings (strings_of bs) (omega (arith, some, ap length whole)); each = strings_each bs (part_bytes start end) }, omega arith, (order, sym whole))
+      subst (Shown octets end start Strings) p.1 (record { some = some_frames (strings_of bs) (omega (arith, some, ap length whole)); each = strings_each bs (part_bytes start end) }, omega arith, (order, sym whole))
 
   -- what is read for a field stands there
   pub value_shows : (start : ℕ) (field : Field) (v : FieldValue × ℕ) → value_at octets end start field ≡ Ok v → Shown octets end start field v
@@ -129,16 +126,16 @@ module _ (octets : List ℕ) (each : (k : ℕ) → get_or octets k 0 < 256) (end
   value_shows start Strings v e = strings_show start v e
   value_shows start U16 v e = sized_shows start 2 U16 v (λ fits. (two_short _ (take_each 2 _ (part_bytes start (start + 2))), fits, two_stands start fits)) e
 
-  pub values_show : (fields : List Field) (start : ℕ) (values : List FieldValue) → values_at octets end start fields ≡ Ok values → HoldEach fields values × StandEach octets start end values
+  pub values_show : (fields : List Field) (start : ℕ) (values : List FieldValue) → values_at octets end start fields ≡ Ok values → HoldEach fields values × AreValuesAt octets start end values
   values_show [] start values e =
       let p = passes (start == end) [] values _ e in
-      subst (λ (vs : List FieldValue). HoldEach [] vs × StandEach octets start end vs) p.1 (tt, eqb-true start end p.0)
+      subst (λ (vs : List FieldValue). HoldEach [] vs × AreValuesAt octets start end vs) p.1 (tt, eqb-true start end p.0)
   values_show (f ∷ fields) start values e =
       let one = leads (value_at octets end start f) _ values e in
       let rest = leads (values_at octets end one.first.1 fields) _ values one.goes_on in
       let here = value_shows start f one.first one.is in
       let others = values_show fields one.first.1 rest.first rest.is in
-      subst (λ (vs : List FieldValue). HoldEach (f ∷ fields) vs × StandEach octets start end vs) (ok_same _ _ rest.goes_on) ((here.0, others.0), (one.first.1, here.1, here.2, others.1))
+      subst (λ (vs : List FieldValue). HoldEach (f ∷ fields) vs × AreValuesAt octets start end vs) (ok_same _ _ rest.goes_on) ((here.0, others.0), (one.first.1, here.1, here.2, others.1))
 
   layout_shows : (start : ℕ) (canonical : List ℕ) (o : Option (List Field)) → (let r : Result (List ℕ) Fault = elim o [ None ↦ Ok (octets_between octets start end) | Some fields ↦ and_then (values_at octets end start fields) (λ values. Ok (octets_of values)) ] in r) ≡ Ok canonical → MatchOption o (canonical ≡ octets_between octets start end) (λ fields. AreFieldsAt octets start end fields canonical)
   layout_shows start canonical None e = sym (ok_same _ _ e)

@@ -15,12 +15,12 @@ use Rattle.zone_rdata.specs.declared.field.Field.{Field}
 use Rattle.zone_rdata.specs.declared.field.Field.TheVariants.{Strings}
 use Rattle.zone_rdata.specs.declared.record.Placed.{Placed}
 use Rattle.zone_rdata.proofs.Tables.{each_layout}
-use Rattle.zone_wire.specs.Machine.Answers.{is_no_class, record_of}
+use Rattle.zone_wire.specs.Machine.Answers.{is_no_class, own_record}
 use Rattle.zone_wire.specs.Machine.Data.{data_at}
 use Rattle.zone_wire.specs.Message.{u16_at, RecordAt, IsRecordAt}
 use Rattle.zone_wire.specs.Answers.{handed_on}
-use Rattle.zone_wire.specs.Transfer.{octets_between, StandsAt, StandEach, AreFieldsAt, ttl_of, compressible}
-use Rattle.zone_wire.proofs.ReadAnswers.{unequal}
+use Rattle.zone_wire.specs.Transfer.{octets_between, IsValueAt, AreValuesAt, AreFieldsAt, ttl_of, compressible}
+use Rattle.zone_wire.proofs.Places.{unequal}
 use Rattle.zone_rdata.proofs.Lists.{bytes_each}
 use Rattle.zone_wire.proofs.ReadFields.{data_shown}
 use Rattle.zone_wire.proofs.ReadSections.{ok_same, leads, passes_on}
@@ -66,11 +66,11 @@ part_short : (octets : List ℕ) (start end : ℕ) → length (octets_between oc
 part_short octets start end = omega (arith, length-take (end - start) (drop start octets), length-drop start octets)
 
 -- strings take as many octets as in the message
-held_strings_short : (octets : List ℕ) (start end : ℕ) (value : FieldValue) → Holds Strings value → StandsAt octets start end value → length (field_octets value) ≤ length octets
+held_strings_short : (octets : List ℕ) (start end : ℕ) (value : FieldValue) → Holds Strings value → IsValueAt octets start end value → length (field_octets value) ≤ length octets
 held_strings_short octets start end (strings many) held stands = omega (arith, part_short octets start end, ap length stands.1)
 held_strings_short octets start end value held stands = absurd held
 
-strings_short : (octets : List ℕ) (start end : ℕ) (values : List FieldValue) → HoldEach (Strings ∷ []) values → StandEach octets start end values → length (octets_of values) ≤ length octets
+strings_short : (octets : List ℕ) (start end : ℕ) (values : List FieldValue) → HoldEach (Strings ∷ []) values → AreValuesAt octets start end values → length (octets_of values) ≤ length octets
 strings_short octets start end [] held stand = absurd held
 strings_short octets start end (v ∷ []) held stand = omega (arith, held_strings_short octets start stand.0 v held.0 stand.2, ap length (append-nil (field_octets v)))
 strings_short octets start end (v ∷ w ∷ values) held stand = absurd held.1
@@ -113,7 +113,7 @@ UnstrungAreShort = (class kind : ℕ) (fields : List Field) (values : List Field
 
 module _ (are_data : HeldAreData) (are_short : UnstrungAreShort) where
   module _ (octets : List ℕ) (each : Bytes octets) (short : length octets ≤ 65535) where
-    values_short : (class kind start end : ℕ) (fields : List Field) (values : List FieldValue) → layout class kind ≡ Some fields → HoldEach fields values → StandEach octets start end values → IsRow (Some fields) → length (octets_of values) ≤ 65535
+    values_short : (class kind start end : ℕ) (fields : List Field) (values : List FieldValue) → layout class kind ≡ Some fields → HoldEach fields values → AreValuesAt octets start end values → IsRow (Some fields) → length (octets_of values) ≤ 65535
     values_short class kind start end fields values row held stand (inl none) = are_short class kind fields values row none held
     values_short class kind start end fields values row held stand (inr alone) = omega (arith, short, strings_short octets start end values (subst (λ fs. HoldEach fs values) alone held) stand)
 
@@ -131,8 +131,8 @@ module _ (are_data : HeldAreData) (are_short : UnstrungAreShort) where
     word_short offset = omega (arith, each offset, each (offset + 1))
 
     -- the record of an answer
-    pub record_fits : (offset : ℕ) (a : RecordAt) (r : Record) → IsRecordAt octets offset a → record_of octets a ≡ Ok r → IsRecord r
-    unfolding record_of
+    pub record_fits : (offset : ℕ) (a : RecordAt) (r : Record) → IsRecordAt octets offset a → own_record octets a ≡ Ok r → IsRecord r
+    unfolding own_record
     record_fits offset a r at e =
         let class = passes_on (is_no_class a.class) BadClass _ r e in
         let kind = passes_on (is_meta a.kind) MetaType _ r class.1 in

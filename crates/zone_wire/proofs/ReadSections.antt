@@ -6,7 +6,7 @@ use Rattle.zone_rdata.specs.declared.fault.Fault.{Fault}
 use Rattle.zone_wire.specs.Message.{u16_at, IsResponse, HasHeader, QuestionAt, question_by, IsQuestionAt, RecordAt, record_by, IsRecordAt, AreAt, Sections, IsMessage}
 use Rattle.zone_wire.specs.Name.{Found}
 use Rattle.zone_wire.specs.Machine.Finding.{Outcome, named, refused, outcome}
-use Rattle.zone_wire.specs.Machine.Sections.{and_then, at_offset, header_fault, inside, question_at, record_at, each_from, questions_from, records_from, behind_header, sections_of}
+use Rattle.zone_wire.specs.Machine.Sections.{and_then, at_offset, header_fault, inside, question_at, record_at, each_from, questions_from, records_from, after_header, sections_of}
 use Rattle.zone_wire.specs.Machine.Walk.{walk}
 use Rattle.zone_wire.proofs.Walking.{walk_names}
 
@@ -80,7 +80,7 @@ record_shows octets each offset r e =
     let s = inside_shows octets (record_by octets offset) (λ (x : RecordAt). x.end) (outcome octets (walk octets offset)) r e in
     record { found = s.found; name = walk_names octets offset s.found each s.is; stands = sym s.stands; inside = subst (λ (x : RecordAt). x.end ≤ length octets) s.stands s.fits }
 
-at_offset_shows : {X : Type 0} (offset : ℕ) (r : Result X Fault) (x : X) → at_offset offset r ≡ Ok x → r ≡ Ok x
+pub at_offset_shows : {X : Type 0} (offset : ℕ) (r : Result X Fault) (x : X) → at_offset offset r ≡ Ok x → r ≡ Ok x
 at_offset_shows offset (Ok y) x e = ap Ok (ok_same y x e)
 at_offset_shows offset (Err fault) x e = cc
 
@@ -93,12 +93,12 @@ each_shows {X} read end_of Is shows (suc count) offset run e =
     let others = each_shows read end_of Is shows count (end_of one.first) rest.first rest.is in
     subst (λ (x : List X × ℕ). (length x.0 ≡ suc count) × AreAt Is end_of offset x.0 x.1) (ok_same _ _ rest.goes_on) (ap suc others.0, (here, others.1))
 
-opened : (octets : List ℕ) (s : Sections) (fault : Option Fault) → (let r : Result Sections (Fault × ℕ) = elim fault [ Some f ↦ Err (f, 0) | None ↦ behind_header octets ] in r) ≡ Ok s → (fault ≡ None) × (behind_header octets ≡ Ok s)
+opened : (octets : List ℕ) (s : Sections) (fault : Option Fault) → (let r : Result Sections (Fault × ℕ) = elim fault [ Some f ↦ Err (f, 0) | None ↦ after_header octets ] in r) ≡ Ok s → (fault ≡ None) × (after_header octets ≡ Ok s)
 opened octets s None e = (refl, e)
 opened octets s (Some f) e = cc
 
-behind_shows : (octets : List ℕ) (s : Sections) → ((k : ℕ) → get_or octets k 0 < 256) → HasHeader octets → behind_header octets ≡ Ok s → IsMessage octets s
-behind_shows octets s each header e =
+after_shows : (octets : List ℕ) (s : Sections) → ((k : ℕ) → get_or octets k 0 < 256) → HasHeader octets → after_header octets ≡ Ok s → IsMessage octets s
+after_shows octets s each header e =
     let q = leads (questions_from octets (u16_at octets 4) 12) _ s e in
     let a = leads (records_from octets (u16_at octets 6) q.first.1) _ s q.goes_on in
     let d = leads (records_from octets (u16_at octets 10) a.first.1) _ s a.goes_on in
@@ -123,4 +123,4 @@ behind_shows octets s each header e =
 -- what is read as sections is a message
 pub sections_shown : (octets : List ℕ) (s : Sections) → ((k : ℕ) → get_or octets k 0 < 256) → sections_of octets ≡ Ok s → IsMessage octets s
 unfolding sections_of
-sections_shown octets s each e = let o = opened octets s (header_fault octets) e in behind_shows octets s each (header_shows octets o.0) o.1
+sections_shown octets s each e = let o = opened octets s (header_fault octets) e in after_shows octets s each (header_shows octets o.0) o.1

@@ -15,12 +15,12 @@ use Rattle.zone_wire.specs.Answers.{ZoneAsked, zone_of, questions_of, handed_on,
 use Rattle.zone_wire.specs.Machine.Answers.{agrees, Answered, answers_of}
 use Rattle.zone_wire.specs.Message.{QuestionAt, Sections, IsMessage}
 use Rattle.zone_wire.specs.Machine.Sections.{sections_of}
-use Rattle.zone_wire.specs.Machine.Stream.{has_first_id, ask_for_zone, message_of, unless_refused, followed_by, records_of, ending_of}
+use Rattle.zone_wire.specs.Machine.Stream.{has_first_id, ask_for_zone, message_of, unless_refused, followed_by, stream_records, ending_of}
 use Rattle.zone_wire.specs.Machine.Stream.{FindsReading}
-use Rattle.zone_wire.specs.Transfer.{StatedMessage, AreStatedMessages, AsksFor, StateEach, frame, StreamStates}
+use Rattle.zone_wire.specs.Transfer.{StatedMessage, AreStatedMessages, AsksFor, AnswersState, frame, StreamStates}
 use Rattle.zone_wire.proofs.Accepting.{all_append, octets_of_parts, placed_of_parts, any_append, framed_parts, handed_transfer}
 use Rattle.zone_wire.proofs.Answering.{is_soa}
-use Rattle.zone_wire.proofs.ReadAnswers.{Behind, stands_behind, opening_agrees, agree_parts, Kept, answers_shown}
+use Rattle.zone_wire.proofs.ReadAnswers.{Later, stands_later, opening_agrees, agree_parts, Kept, answers_shown}
 use Rattle.zone_wire.proofs.ReadSections.{ok_same, leads, passes, sections_shown}
 
 abbrev pub Bytes : List ℕ → Type 0
@@ -84,11 +84,11 @@ records_in_zone (q ∷ questions) [] (p ∷ placed) kept of =
 
 abbrev Orders : List Placed → List Placed → Type 0
 Orders before [] = ⊤
-Orders before (p ∷ placed) = Behind before p × Orders (before ++ p ∷ []) placed
+Orders before (p ∷ placed) = Later before p × Orders (before ++ p ∷ []) placed
 
 orders_from : (questions : List QuestionAt) (before placed : List Placed) → Kept questions before placed → Orders before placed
 orders_from questions before [] kept = tt
-orders_from questions before (p ∷ placed) kept = (stands_behind questions before p kept.0, orders_from questions (before ++ p ∷ []) placed kept.1)
+orders_from questions before (p ∷ placed) kept = (stands_later questions before p kept.0, orders_from questions (before ++ p ∷ []) placed kept.1)
 
 orders_append : (before xs ys : List Placed) → Orders before xs → Orders (before ++ xs) ys → Orders before (xs ++ ys)
 orders_append before [] ys o p = subst (λ b. Orders b ys) (append-nil before) p
@@ -134,7 +134,7 @@ message_shown before placed octets s each ids zone e =
 record IsLoose (number : ℕ) (p : StatedMessage) : Type 0 where
   short : length p.octets ≤ 65535
   message : IsMessage p.octets p.sections
-  answers : AllByRecursion (λ x. IsRecord x.rr) p.placed → StateEach number p.octets p.sections.answers p.placed
+  answers : AllByRecursion (λ x. IsRecord x.rr) p.placed → AnswersState number p.octets p.sections.answers p.placed
 
 abbrev AreLoose : ℕ → List StatedMessage → Type 0
 AreLoose number [] = ⊤
@@ -167,7 +167,7 @@ followed number here None next e = (refl, e, refl)
 followed number here (Some f) next e = cc
 
 -- a message, and those after it
-accepted_more : (before : List Sections) (placed : List Placed) (octets : List ℕ) (messages : List (List ℕ)) (s : Sections) (here : List Placed) (answered whole : Answered (Fault × Place)) → length octets ≤ 65535 → IsMessage octets s → (AllByRecursion (λ x. IsRecord x.rr) here → StateEach (length before + 1) octets s.answers here) → Orders placed here → whole.placed ≡ here ++ answered.placed → AreAccepted (before ++ s ∷ []) (placed ++ here) messages answered → AreAccepted before placed (octets ∷ messages) whole
+accepted_more : (before : List Sections) (placed : List Placed) (octets : List ℕ) (messages : List (List ℕ)) (s : Sections) (here : List Placed) (answered whole : Answered (Fault × Place)) → length octets ≤ 65535 → IsMessage octets s → (AllByRecursion (λ x. IsRecord x.rr) here → AnswersState (length before + 1) octets s.answers here) → Orders placed here → whole.placed ≡ here ++ answered.placed → AreAccepted (before ++ s ∷ []) (placed ++ here) messages answered → AreAccepted before placed (octets ∷ messages) whole
 accepted_more before placed octets messages s here answered whole short message states order all rest =
     let parts = rest.parts in
     let count : length (before ++ s ∷ []) + 1 ≡ length before + 1 + 1 = omega (arith, length-append before (s ∷ [])) in
@@ -184,8 +184,8 @@ accepted_more before placed octets messages s here answered whole short message 
       order = orders_append placed here (placed_of_parts parts) order rest.order;
     }
 
-accepted : (messages : List (List ℕ)) (before : List Sections) (placed : List Placed) → AllByRecursion (λ octets. length octets ≤ 65535) messages → AllByRecursion Bytes messages → OfOneId before → OfOneZone (questions_of before) placed → (records_of before placed messages).fault ≡ None → AreAccepted before placed messages (records_of before placed messages)
-unfolding records_of
+accepted : (messages : List (List ℕ)) (before : List Sections) (placed : List Placed) → AllByRecursion (λ octets. length octets ≤ 65535) messages → AllByRecursion Bytes messages → OfOneId before → OfOneZone (questions_of before) placed → (stream_records before placed messages).fault ≡ None → AreAccepted before placed messages (stream_records before placed messages)
+unfolding stream_records
 accepted [] before placed short each ids zone e = record {
   parts = [];
   octets = refl;
@@ -197,13 +197,13 @@ accepted [] before placed short each ids zone e = record {
 }
 accepted (octets ∷ messages) before placed short each ids zone e =
     let number : ℕ = length before + 1 in
-    let next = λ (s : Sections). followed_by number (answers_of number octets (questions_of (before ++ s ∷ [])) placed s.answers) (λ here. records_of (before ++ s ∷ []) (placed ++ here) messages) in
+    let next = λ (s : Sections). followed_by number (answers_of number octets (questions_of (before ++ s ∷ [])) placed s.answers) (λ here. stream_records (before ++ s ∷ []) (placed ++ here) messages) in
     let n = not_refused number (message_of before placed octets) next e in
     let s : Sections = n.s in
     let read = message_shown before placed octets s each.0 ids zone n.is in
     let questions = questions_of (before ++ s ∷ []) in
     let answered = answers_of number octets questions placed s.answers in
-    let after = λ (here : List Placed). records_of (before ++ s ∷ []) (placed ++ here) messages in
+    let after = λ (here : List Placed). stream_records (before ++ s ∷ []) (placed ++ here) messages in
     let f = followed number answered.placed answered.fault after n.rest in
     let stated = answers_shown number octets questions each.0 read.message.past_questions read.message.past_answers s.answers placed read.message.answers f.0 in
     let rest = accepted messages (before ++ s ∷ []) (placed ++ answered.placed) short.1 each.1 read.one_id (records_in_zone questions placed answered.placed stated.kept read.one_zone) f.1 in
@@ -298,7 +298,7 @@ asks_for zone r name class (q ∷ questions) ask = (record { name = ask.0.name �
 -- what is read without a fault is a transfer
 pub read_is_transfer : (stream : List ℕ) (placed : List Placed) → ((i : ℕ) → get_or stream i 0 < 256) → AllByRecursion (λ p. IsRecord p.rr) placed → FindsReading stream placed None → StreamStates stream placed
 read_is_transfer stream placed each fits r =
-    let answered = records_of [] [] r.messages in
+    let answered = stream_records [] [] r.messages in
     let end = ended (length r.messages + 1) answered.placed answered.fault r.rest (sym r.ends) in
     let bytes : AllByRecursion Bytes r.messages = message_bytes r.messages (front_bytes (flat_map frame r.messages) r.rest (subst Bytes r.framed.whole each)) in
     let a = accepted r.messages [] [] r.framed.short bytes (0, tt) (record { name = []; class = 0 }, record { asked = tt; opens = tt }) end.0 in

@@ -16,7 +16,7 @@ use Rattle.zone_wire.specs.DataFault.{DataFault}
 use Rattle.zone_wire.specs.Machine.Data.{data_at}
 use Rattle.zone_wire.specs.Machine.DataReading.{IsRead}
 use Rattle.zone_wire.specs.Message.{RecordAt, IsRecordAt}
-use Rattle.zone_wire.specs.Transfer.{IsDataAt, IsReadable, StatesRecord, ttl_of}
+use Rattle.zone_wire.specs.Transfer.{IsDataAt, IsReadable, AnswerStates, ttl_of}
 use Rattle.zone_wire.specs.View.{RawRecord}
 use Rattle.zone_wire.proofs.AnswerFaults.{Bytes}
 use Rattle.zone_wire.proofs.DataFaults.{data_faults, data_refuses}
@@ -26,12 +26,12 @@ use Rattle.zone_wire.proofs.ReadSections.{ok_same}
 use Rattle.zone_wire.proofs.Transfers.{equal_parts}
 
 -- ---- one record, or one fault
-one_record : (octets : List ℕ) (a : RecordAt) (r s : Record) → a.end ≤ length octets → StatesRecord octets a r → StatesRecord octets a s → s ≡ r
+one_record : (octets : List ℕ) (a : RecordAt) (r s : Record) → a.end ≤ length octets → AnswerStates octets a r → AnswerStates octets a s → s ≡ r
 one_record octets a r s within is too =
     equal_parts s r (too.owner ∙ sym is.owner) (too.class ∙ sym is.class) (too.kind ∙ sym is.kind) (too.ttl ∙ sym is.ttl)
     (ok_same s.octets r.octets (sym (data_reads octets a s.octets within too.rdata) ∙ data_reads octets a r.octets within is.rdata))
 
-stated_unrefused : (octets : List ℕ) (a : RecordAt) (r : Record) (fault : Fault) → Bytes octets → a.end ≤ length octets → StatesRecord octets a r → OwnFault octets a fault → ⊥
+stated_unrefused : (octets : List ℕ) (a : RecordAt) (r : Record) (fault : Fault) → Bytes octets → a.end ≤ length octets → AnswerStates octets a r → OwnFault octets a fault → ⊥
 stated_unrefused octets a r _ each within is (of_class none) = none (subst IsClass is.class is.fits.rdata.class)
 stated_unrefused octets a r _ each within is (of_kind class none) = none (subst IsKind is.kind is.fits.rdata.kind)
 stated_unrefused octets a r _ each within is (unread class kind none) = none is.readable
@@ -41,13 +41,13 @@ stated_unrefused octets a r _ each within is (of_data fault class kind read bad)
     cc
 
 abbrev pub IsOnlyAnswer : List ℕ → RecordAt → Result Record Failing → Type 0
-IsOnlyAnswer octets a result = (r : Record) → StatesRecord octets a r → IfOk result (λ s. s ≡ r) × IfErr result (λ e. e ≡ failings.Memory)
+IsOnlyAnswer octets a result = (r : Record) → AnswerStates octets a r → IfOk result (λ s. s ≡ r) × IfErr result (λ e. e ≡ failings.Memory)
 
-pub only_answer : (raw now : RawRecord) → raw ≡ now → (offset : ℕ) → Bytes raw.octets → IsRecordAt raw.octets offset raw.at → (result : Result Record Failing) → IfOk result (StatesRecord now.octets now.at) → IfErr result (IfFault (OwnFault now.octets now.at)) → IsOnlyAnswer now.octets now.at result
+pub only_answer : (raw now : RawRecord) → raw ≡ now → (offset : ℕ) → Bytes raw.octets → IsRecordAt raw.octets offset raw.at → (result : Result Record Failing) → IfOk result (AnswerStates now.octets now.at) → IfErr result (IfFault (OwnFault now.octets now.at)) → IsOnlyAnswer now.octets now.at result
 only_answer raw now view offset each at result shows faults =
-    subst (λ (v : RawRecord). IfOk result (StatesRecord v.octets v.at) → IfErr result (IfFault (OwnFault v.octets v.at)) → IsOnlyAnswer v.octets v.at result) view (by result) shows faults
+    subst (λ (v : RawRecord). IfOk result (AnswerStates v.octets v.at) → IfErr result (IfFault (OwnFault v.octets v.at)) → IsOnlyAnswer v.octets v.at result) view (by result) shows faults
   where
-    by : (result : Result Record Failing) → IfOk result (StatesRecord raw.octets raw.at) → IfErr result (IfFault (OwnFault raw.octets raw.at)) → IsOnlyAnswer raw.octets raw.at result
+    by : (result : Result Record Failing) → IfOk result (AnswerStates raw.octets raw.at) → IfErr result (IfFault (OwnFault raw.octets raw.at)) → IsOnlyAnswer raw.octets raw.at result
     by (Ok s) shows faults r is = (one_record raw.octets raw.at r s at.inside is shows, tt)
     by (Err (failings.Fault fault)) shows faults r is = absurd (stated_unrefused raw.octets raw.at r fault each at.inside is faults)
     by (Err failings.Memory) shows faults r is = (tt, refl)
@@ -81,7 +81,7 @@ data_is_read raw now view offset each at b canonical is same =
 pub stated : (raw now : RawRecord) → raw ≡ now → (class kind ttl : ℕ) (d : Data) (r : Record)
     → r ≡ record { owner = raw.at.owner; class = d.class; kind = d.kind; ttl = ttl; octets = d.octets }
     → IsRecord r → d.class ≡ class → d.kind ≡ kind → class ≡ now.at.class → kind ≡ now.at.kind → ttl ≡ ttl_of raw.at.ttl
-    → IsDataAt now.octets now.at d.octets → IsReadable now.at.kind → StatesRecord now.octets now.at r
+    → IsDataAt now.octets now.at d.octets → IsReadable now.at.kind → AnswerStates now.octets now.at r
 stated raw now view class kind ttl d r made fits its_class its_kind is_class is_kind is_ttl stands readable = record {
   owner = ap (λ (x : Record). x.owner) made ∙ ap (λ (v : RawRecord). v.at.owner) view;
   class = ap (λ (x : Record). x.class) made ∙ its_class ∙ is_class;

@@ -9,7 +9,7 @@ use Rattle.zone_rdata.specs.declared.record.Placed.{Placed}
 use Rattle.zone_wire.specs.Answers.{handed_on}
 use Rattle.zone_wire.specs.Frames.{IsFramed}
 use Rattle.zone_wire.specs.Machine.Stream.{ending_of}
-use Rattle.zone_wire.specs.Stream.{ReadBehind, StreamReads, Decided}
+use Rattle.zone_wire.specs.Stream.{ReadAfter, StreamReads, StreamDecides}
 use Rattle.zone_wire.proofs.Frames.{framed_unique, framed_extends, framing}
 use Rattle.zone_wire.proofs.GivenMessages.{finds}
 use Rattle.zone_wire.proofs.GivenStreams.{EndsWith, ends_are, stream_shows, decision_shows}
@@ -20,22 +20,22 @@ one_reading stream placed other ending late reads also =
     let is = reads.frames in
     let too = also.frames in
     let same = framed_unique stream is.messages too.messages is.rest too.rest is.framed too.framed in
-    let one = one_way too.messages is.all too.all reads.first also.first (subst (λ m. ReadBehind [] m is.all reads.first) same.0 is.read) too.read in
+    let one = one_way too.messages is.all too.all reads.first also.first (subst (λ m. ReadAfter [] m is.all reads.first) same.0 is.read) too.read in
     let number = length is.messages + 1 in
     let ends = ap (λ x. ending_of number (finds x reads.first) is.rest) one.0 ∙ ap (λ x. ending_of number (finds too.all x) is.rest) one.1 ∙ ap (λ m. ending_of (length m + 1) (finds too.all also.first) is.rest) same.0 ∙ ap (ending_of (length too.messages + 1) (finds too.all also.first)) same.1 in
     (is.stated ∙ ap handed_on one.0 ∙ sym too.stated, ends_are number is.all reads.first is.rest ending reads.ends ∙ ends ∙ sym (ends_are (length too.messages + 1) too.all also.first too.rest late also.ends))
 
-pub one_decision : (stream : List ℕ) (placed other : List Placed) (ending late : Option (Fault × Place)) → Decided stream placed ending → Decided stream other late → (placed ≡ other) × (ending ≡ late)
+pub one_decision : (stream : List ℕ) (placed other : List Placed) (ending late : Option (Fault × Place)) → StreamDecides stream placed ending → StreamDecides stream other late → (placed ≡ other) × (ending ≡ late)
 one_decision stream placed other ending late is too =
     let same = framed_unique stream is.messages too.messages is.rest too.rest is.framed too.framed in
-    let one = one_way too.messages is.all too.all ending late (subst (λ m. ReadBehind [] m is.all ending) same.0 is.read) too.read in
+    let one = one_way too.messages is.all too.all ending late (subst (λ m. ReadAfter [] m is.all ending) same.0 is.read) too.read in
     (is.stated ∙ ap handed_on one.0 ∙ sym too.stated, one.1)
 
 -- the messages of a longer stream go on
-messages_go_on : (stream more : List ℕ) (ms ns : List (List ℕ)) (r s : List ℕ) (placed other : List Placed) (ending late : Option (Fault × Place)) → IsFramed stream ms r → IsFramed (stream ++ more) ns s → ReadBehind [] ms placed ending → ReadBehind [] ns other late → GoesOn placed ending other late
+messages_go_on : (stream more : List ℕ) (ms ns : List (List ℕ)) (r s : List ℕ) (placed other : List Placed) (ending late : Option (Fault × Place)) → IsFramed stream ms r → IsFramed (stream ++ more) ns s → ReadAfter [] ms placed ending → ReadAfter [] ns other late → GoesOn placed ending other late
 messages_go_on stream more ms ns r s placed other ending late is longer read also =
     let after = framed_extends stream more ms ns r s is longer in
-    read_goes_on ms after.0 [] placed other ending late read (subst (λ m. ReadBehind [] m other late) after.1 also)
+    read_goes_on ms after.0 [] placed other ending late read (subst (λ m. ReadAfter [] m other late) after.1 also)
 
 pub handed_more : (placed more : List Placed) → (rest : List Placed) × (handed_on (placed ++ more) ≡ handed_on placed ++ rest)
 handed_more [] more = (handed_on more, refl)
@@ -46,24 +46,24 @@ handed_goes_on all every placed other ending late x is too =
     let rest = handed_more all x.more in
     (rest.0, too ∙ ap handed_on x.goes_on ∙ rest.1 ∙ ap (λ y. y ++ rest.0) (sym is))
 
-pub records_stay : (stream more : List ℕ) (placed other : List Placed) (ending late : Option (Fault × Place)) → Decided stream placed ending → Decided (stream ++ more) other late → (rest : List Placed) × (other ≡ placed ++ rest)
+pub records_stay : (stream more : List ℕ) (placed other : List Placed) (ending late : Option (Fault × Place)) → StreamDecides stream placed ending → StreamDecides (stream ++ more) other late → (rest : List Placed) × (other ≡ placed ++ rest)
 records_stay stream more placed other ending late is too =
     handed_goes_on is.all too.all placed other ending late (messages_go_on stream more is.messages too.messages is.rest too.rest is.all too.all ending late is.framed too.framed is.read too.read) is.stated too.stated
 
-pub fault_stays : (stream more : List ℕ) (placed other : List Placed) (e : Fault × Place) (late : Option (Fault × Place)) → Decided stream placed (Some e) → Decided (stream ++ more) other late → (other ≡ placed) × (late ≡ Some e)
+pub fault_stays : (stream more : List ℕ) (placed other : List Placed) (e : Fault × Place) (late : Option (Fault × Place)) → StreamDecides stream placed (Some e) → StreamDecides (stream ++ more) other late → (other ≡ placed) × (late ≡ Some e)
 fault_stays stream more placed other e late is too =
     let x = messages_go_on stream more is.messages too.messages is.rest too.rest is.all too.all (Some e) late is.framed too.framed is.read too.read in
     let s = x.stays e refl in
     (too.stated ∙ ap handed_on s.0 ∙ sym is.stated, s.1)
 
-pub records_are_read : (stream more : List ℕ) (placed other : List Placed) (ending late : Option (Fault × Place)) → Decided stream placed ending → StreamReads (stream ++ more) other late → (rest : List Placed) × (other ≡ placed ++ rest)
+pub records_are_read : (stream more : List ℕ) (placed other : List Placed) (ending late : Option (Fault × Place)) → StreamDecides stream placed ending → StreamReads (stream ++ more) other late → (rest : List Placed) × (other ≡ placed ++ rest)
 records_are_read stream more placed other ending late is too = records_stay stream more placed other ending too.first is too.frames
 
 ends_by_fault : (number : ℕ) (placed : List Placed) (first : Option (Fault × Place)) (rest : List ℕ) (ending : Option (Fault × Place)) (e : Fault × Place) → first ≡ Some e → EndsWith number placed first rest ending → ending ≡ Some e
 ends_by_fault number placed None rest ending e h ends = cc
 ends_by_fault number placed (Some f) rest ending e h ends = ends ∙ h
 
-pub fault_is_read : (stream more : List ℕ) (placed other : List Placed) (e : Fault × Place) (late : Option (Fault × Place)) → Decided stream placed (Some e) → StreamReads (stream ++ more) other late → (other ≡ placed) × (late ≡ Some e)
+pub fault_is_read : (stream more : List ℕ) (placed other : List Placed) (e : Fault × Place) (late : Option (Fault × Place)) → StreamDecides stream placed (Some e) → StreamReads (stream ++ more) other late → (other ≡ placed) × (late ≡ Some e)
 fault_is_read stream more placed other e late is too =
     let s = fault_stays stream more placed other e too.first is too.frames in
     (s.0, ends_by_fault (length too.frames.messages + 1) too.frames.all too.first too.frames.rest late e s.1 too.ends)
@@ -72,5 +72,5 @@ fault_is_read stream more placed other e late is too =
 pub some_reading : (stream : List ℕ) → ((i : ℕ) → get_or stream i 0 < 256) → (placed : List Placed) × (ending : Option (Fault × Place)) × StreamReads stream placed ending
 some_reading stream each = let f = framing stream each in (_, _, stream_shows stream each _ _ (record { messages = f.messages; rest = f.rest; framed = f.framed; stated = refl; ends = refl }))
 
-pub some_decision : (stream : List ℕ) → ((i : ℕ) → get_or stream i 0 < 256) → (placed : List Placed) × (ending : Option (Fault × Place)) × Decided stream placed ending
+pub some_decision : (stream : List ℕ) → ((i : ℕ) → get_or stream i 0 < 256) → (placed : List Placed) × (ending : Option (Fault × Place)) × StreamDecides stream placed ending
 some_decision stream each = let f = framing stream each in (_, _, decision_shows stream each _ _ (record { messages = f.messages; rest = f.rest; framed = f.framed; stated = refl; ends = refl }))

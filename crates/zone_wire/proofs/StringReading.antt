@@ -16,14 +16,14 @@ use Rattle.zone_rdata.specs.Fields.Strings.{AreStrings, strings_of}
 use Rattle.zone_rdata.specs.Machine.Fronts.{AreWithLengths}
 use Rattle.zone_rdata.specs.Layout.{layout}
 use Rattle.zone_rdata.specs.Strings.{IsString}
-use Rattle.zone_rdata.proofs.Fields.Strings.{Framed, framed_short}
+use Rattle.zone_rdata.proofs.Fields.Strings.{Framed, framed_short, some_frames}
 use Rattle.zone_name.proofs.Pushing.{AllByRecursion-append}
 use Rattle.zone_rdata.proofs.Lists.{bytes_each}
 use Rattle.zone_wire.specs.Machine.Data.{strings_before, value_at}
-use Rattle.zone_wire.specs.Machine.DataReading.{parts_for, put_behind, Awaits, AwaitsStrings, PutsValue}
-use Rattle.zone_wire.specs.Transfer.{octets_between, StandsAt}
+use Rattle.zone_wire.specs.Machine.DataReading.{parts_for, put_after, Awaits, AwaitsStrings, PutsValue}
+use Rattle.zone_wire.specs.Transfer.{octets_between, IsValueAt}
 use Rattle.zone_wire.proofs.Fielding.{strings_read}
-use Rattle.zone_wire.proofs.ReadFields.{part_bytes, strings_each, some_strings, value_shows}
+use Rattle.zone_wire.proofs.ReadFields.{part_bytes, strings_each, value_shows}
 use Rattle.zone_wire.proofs.FieldReading.{between_first, between_join, part_len, sized_fails, string_sized}
 
 -- ---- strings
@@ -32,11 +32,11 @@ pub record HavePut (octets : List ℕ) (end start : ℕ) (old now : Built) (plac
   pub many : List (List ℕ)
   pub each : AllByRecursion IsString many
   pub parts : octets_between octets start place ≡ flat_map with_length many
-  pub put : now ≡ put_behind old (map string many)
+  pub put : now ≡ put_after old (map string many)
   pub past : start ≤ place
   pub inside : place ≤ end
 
-pub put_none : (b : Built) → b ≡ put_behind b []
+pub put_none : (b : Built) → b ≡ put_after b []
 put_none b = ap (λ (ps : List FieldValue). let v : Built = record b { parts = ps } in v) (sym (append-nil b.parts))
 
 nothing_between : (octets : List ℕ) (start : ℕ) → octets_between octets start start ≡ []
@@ -47,7 +47,7 @@ octets_of_strings [] = refl
 octets_of_strings (text ∷ many) = ap (λ o. with_length text ++ o) (octets_of_strings many)
 
 -- what a builder of such parts is, whichever it is named
-put_parts : (old now : Built) (parts : List FieldValue) → now ≡ put_behind old parts → (P : Built → Type 0) → P (put_behind old parts) → P now
+put_parts : (old now : Built) (parts : List FieldValue) → now ≡ put_after old parts → (P : Built → Type 0) → P (put_after old parts) → P now
 put_parts old now parts e P h = subst P (sym e) h
 
 pub length-strings : (many : List (List ℕ)) → length (map string many) ≡ length many
@@ -58,7 +58,7 @@ string_suits : (part : FieldValue) → Suits (Some OneString) part → Suits (So
 string_suits (string text) s = tt
 string_suits part s = absurd s
 
-string_stands : (octets : List ℕ) (start past : ℕ) (v : FieldValue) → Holds OneString v → StandsAt octets start past v → (text : List ℕ) × (v ≡ string text) × IsString text × (start ≤ past) × (octets_between octets start past ≡ with_length text)
+string_stands : (octets : List ℕ) (start past : ℕ) (v : FieldValue) → Holds OneString v → IsValueAt octets start past v → (text : List ℕ) × (v ≡ string text) × IsString text × (start ≤ past) × (octets_between octets start past ≡ with_length text)
 string_stands octets start past (string text) held stands = (text, refl, held, stands.0, stands.1)
 string_stands octets start past v held stands = absurd held
 
@@ -94,7 +94,7 @@ module _ (octets : List ℕ) (each : (k : ℕ) → get_or octets k 0 < 256) (end
         parts = between_join octets start place past h.past s.3 ∙ ap (λ t. t ++ octets_between octets place past) h.parts
             ∙ ap (λ t. flat_map with_length h.many ++ t) (s.4 ∙ sym (append-nil (with_length s.0)))
             ∙ sym (flat_map-append with_length h.many (s.0 ∷ []));
-        put = p.put ∙ ap (λ v. put_behind now (parts_for v)) s.1 ∙ ap (λ (b : Built). put_behind b (string s.0 ∷ [])) h.put
+        put = p.put ∙ ap (λ v. put_after now (parts_for v)) s.1 ∙ ap (λ (b : Built). put_after b (string s.0 ∷ [])) h.put
             ∙ ap (λ (ps : List FieldValue). let v : Built = record old { parts = ps } in v) (append_assoc old.parts (map string h.many) (string s.0 ∷ []) ∙ ap (λ t. old.parts ++ t) (sym (map-append string h.many (s.0 ∷ []))));
         past = omega (arith, h.past, s.3);
         inside = shows.1;
@@ -115,7 +115,7 @@ module _ (octets : List ℕ) (each : (k : ℕ) → get_or octets k 0 < 256) (end
   all_put old now place some done h =
       let same : place ≡ end = omega (arith, h.inside) in
       let is : octets_between octets start end ≡ flat_map with_length h.many = ap (octets_between octets start) (sym same) ∙ h.parts in
-      let are : AreStrings h.many = record { some = some_strings h.many (omega (arith, some, part_len octets start end within, ap length is)); each = h.each } in
+      let are : AreStrings h.many = record { some = some_frames h.many (omega (arith, some, part_len octets start end within, ap length is)); each = h.each } in
       record { value = strings h.many; read = strings_value h.many are is ∙ ap (λ n. Ok (strings h.many, n)) (sym same); put = h.put; past = h.past; inside = h.inside }
 
   strings_none : (AreWithLengths (octets_between octets start end) → ⊥) → strings_before end (octets_between octets start end) ≡ Err BadRdata
@@ -124,7 +124,7 @@ module _ (octets : List ℕ) (each : (k : ℕ) → get_or octets k 0 < 256) (end
       cond-false _ _ _ (untrue (nat_lt 0 (length bs) && pointwise nat_eq (flat_map with_length (strings_of bs)) bs) (λ yes.
       let p = and_parts (nat_lt 0 (length bs)) (pointwise nat_eq (flat_map with_length (strings_of bs)) bs) yes in
       let whole : flat_map with_length (strings_of bs) ≡ bs = (bytes_decides (flat_map with_length (strings_of bs)) bs).0 p.1 in
-      none (strings_of bs, record { some = some_strings (strings_of bs) (omega (arith, ltb-true 0 (length bs) p.0, ap length whole)); each = strings_each bs (part_bytes octets each end within start end) }, sym whole)))
+      none (strings_of bs, record { some = some_frames (strings_of bs) (omega (arith, ltb-true 0 (length bs) p.0, ap length whole)); each = strings_each bs (part_bytes octets each end within start end) }, sym whole)))
     where
       untrue : (t : Bool) → (t ≡ true → ⊥) → t ≡ false
       untrue true never = absurd (never refl)
@@ -148,12 +148,12 @@ module _ (octets : List ℕ) (each : (k : ℕ) → get_or octets k 0 < 256) (end
   string_bad old now place fault some h e =
       let f = string_fails place fault e in
       let bs : List ℕ = octets_between octets start end in
-      let behind : List ℕ = octets_between octets (place + 1) end in
+      let after : List ℕ = octets_between octets (place + 1) end in
       let so_far : Framed bs (octets_between octets place end) = record {
         many = h.many;
         each = h.each;
         parts = between_join octets start place end h.past h.inside ∙ ap (λ t. t ++ octets_between octets place end) h.parts;
         low = bytes_each (octets_between octets place end) (part_bytes octets each end within place end);
       } in
-      strings_fault (framed_short bs (octets_between octets place end) (slice_index octets place) (slice_index octets place) behind so_far (between_first octets place end some (omega arith)) refl (omega (arith, f.1, part_len octets (place + 1) end within)))
+      strings_fault (framed_short bs (octets_between octets place end) (slice_index octets place) (slice_index octets place) after so_far (between_first octets place end some (omega arith)) refl (omega (arith, f.1, part_len octets (place + 1) end within)))
       ∙ ap Err (sym f.0)

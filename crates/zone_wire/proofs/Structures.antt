@@ -7,7 +7,7 @@ use Rattle.zone_rdata.specs.declared.fault.Fault.{Fault}
 use Rattle.zone_rdata.specs.declared.fault.Fault.TheVariants.{TrailingOctets}
 use Rattle.zone_wire.specs.Message.{u16_at, HasHeader, QuestionAt, RecordAt, IsRecordAt, AreRecordsAt, Sections, IsMessage}
 use Rattle.zone_wire.specs.Machine.Parsing.{IsParsed, parsed, sections_or_none, run_end_of}
-use Rattle.zone_wire.specs.Machine.Sections.{and_then, header_fault, record_at, questions_from, records_from, to_the_end, behind_header, sections_of}
+use Rattle.zone_wire.specs.Machine.Sections.{and_then, header_fault, record_at, questions_from, records_from, to_the_end, after_header, sections_of}
 use Rattle.zone_wire.proofs.ReadSections.{header_shows, record_shows, each_shows, sections_shown}
 use Rattle.zone_wire.proofs.Sectioning.{and_then_ok, opens}
 
@@ -27,57 +27,57 @@ run_refuses (Err other) e h = ap Err (let same : other ≡ e = cc in same)
 refuses : {X Y : Type 0} (r : Result X (Fault × ℕ)) (next : X → Result Y (Fault × ℕ)) (e : Fault × ℕ) → r ≡ Err e → and_then r next ≡ Err e
 refuses r next e h = ap (λ z. and_then z next) h
 
-abbrev behind_additional : List ℕ → List QuestionAt → List RecordAt → List RecordAt × ℕ → Result Sections (Fault × ℕ)
-behind_additional octets questions answers additional = to_the_end octets additional.1 (record { id = u16_at octets 0; questions = questions; answers = answers; additional = additional.0 })
+abbrev after_additional : List ℕ → List QuestionAt → List RecordAt → List RecordAt × ℕ → Result Sections (Fault × ℕ)
+after_additional octets questions answers additional = to_the_end octets additional.1 (record { id = u16_at octets 0; questions = questions; answers = answers; additional = additional.0 })
 
-abbrev behind_answers : List ℕ → List QuestionAt → List RecordAt × ℕ → Result Sections (Fault × ℕ)
-behind_answers octets questions answers = and_then (records_from octets (u16_at octets 10) answers.1) (behind_additional octets questions answers.0)
+abbrev after_answers : List ℕ → List QuestionAt → List RecordAt × ℕ → Result Sections (Fault × ℕ)
+after_answers octets questions answers = and_then (records_from octets (u16_at octets 10) answers.1) (after_additional octets questions answers.0)
 
-abbrev behind_questions : List ℕ → List QuestionAt × ℕ → Result Sections (Fault × ℕ)
-behind_questions octets questions = and_then (records_from octets (u16_at octets 6) questions.1) (behind_answers octets questions.0)
+abbrev after_questions : List ℕ → List QuestionAt × ℕ → Result Sections (Fault × ℕ)
+after_questions octets questions = and_then (records_from octets (u16_at octets 6) questions.1) (after_answers octets questions.0)
 
 pub header_refused : (octets : List ℕ) (fault : Fault) → Some fault ≡ header_fault octets → sections_of octets ≡ Err (fault, 0)
 unfolding sections_of
-header_refused octets fault e = ap (λ (h : Option Fault). elim h [ Some f ↦ Err (f, 0) | None ↦ behind_header octets ]) (sym e)
+header_refused octets fault e = ap (λ (h : Option Fault). elim h [ Some f ↦ Err (f, 0) | None ↦ after_header octets ]) (sym e)
 
 -- a header without a fault counts its parts
 pub has_header : (octets : List ℕ) → None ≡ header_fault octets → HasHeader octets
 has_header octets e = header_shows octets (sym e)
 
 module _ (octets : List ℕ) (none : None ≡ header_fault octets) where
-  from_header : sections_of octets ≡ and_then (questions_from octets (u16_at octets 4) 12) (behind_questions octets)
+  from_header : sections_of octets ≡ and_then (questions_from octets (u16_at octets 4) 12) (after_questions octets)
   unfolding sections_of
   from_header = opens octets (header_fault octets) (sym none)
 
   pub questions_refused : (e : Fault × ℕ) → Err e ≡ run_end_of (questions_from octets (u16_at octets 4) 12) → sections_of octets ≡ Err e
-  questions_refused e h = from_header ∙ refuses _ (behind_questions octets) e (run_refuses _ e h)
+  questions_refused e h = from_header ∙ refuses _ (after_questions octets) e (run_refuses _ e h)
 
   module _ (answers : ℕ) (after : Ok answers ≡ run_end_of (questions_from octets (u16_at octets 4) 12)) where
     questions_run : Runs (questions_from octets (u16_at octets 4) 12) answers
     questions_run = run_ends _ answers after
 
-    from_questions : sections_of octets ≡ and_then (records_from octets (u16_at octets 6) answers) (behind_answers octets questions_run.parts)
-    from_questions = from_header ∙ and_then_ok _ (questions_run.parts, answers) (behind_questions octets) questions_run.is
+    from_questions : sections_of octets ≡ and_then (records_from octets (u16_at octets 6) answers) (after_answers octets questions_run.parts)
+    from_questions = from_header ∙ and_then_ok _ (questions_run.parts, answers) (after_questions octets) questions_run.is
 
     pub answers_refused : (e : Fault × ℕ) → Err e ≡ run_end_of (records_from octets (u16_at octets 6) answers) → sections_of octets ≡ Err e
-    answers_refused e h = from_questions ∙ refuses _ (behind_answers octets questions_run.parts) e (run_refuses _ e h)
+    answers_refused e h = from_questions ∙ refuses _ (after_answers octets questions_run.parts) e (run_refuses _ e h)
 
-    module _ (additional : ℕ) (behind : Ok additional ≡ run_end_of (records_from octets (u16_at octets 6) answers)) where
+    module _ (additional : ℕ) (later : Ok additional ≡ run_end_of (records_from octets (u16_at octets 6) answers)) where
       answers_run : Runs (records_from octets (u16_at octets 6) answers) additional
-      answers_run = run_ends _ additional behind
+      answers_run = run_ends _ additional later
 
-      from_answers : sections_of octets ≡ and_then (records_from octets (u16_at octets 10) additional) (behind_additional octets questions_run.parts answers_run.parts)
-      from_answers = from_questions ∙ and_then_ok _ (answers_run.parts, additional) (behind_answers octets questions_run.parts) answers_run.is
+      from_answers : sections_of octets ≡ and_then (records_from octets (u16_at octets 10) additional) (after_additional octets questions_run.parts answers_run.parts)
+      from_answers = from_questions ∙ and_then_ok _ (answers_run.parts, additional) (after_answers octets questions_run.parts) answers_run.is
 
       pub additional_refused : (e : Fault × ℕ) → Err e ≡ run_end_of (records_from octets (u16_at octets 10) additional) → sections_of octets ≡ Err e
-      additional_refused e h = from_answers ∙ refuses _ (behind_additional octets questions_run.parts answers_run.parts) e (run_refuses _ e h)
+      additional_refused e h = from_answers ∙ refuses _ (after_additional octets questions_run.parts answers_run.parts) e (run_refuses _ e h)
 
       module _ (end : ℕ) (last : Ok end ≡ run_end_of (records_from octets (u16_at octets 10) additional)) where
         additional_run : Runs (records_from octets (u16_at octets 10) additional) end
         additional_run = run_ends _ end last
 
-        from_additional : sections_of octets ≡ behind_additional octets questions_run.parts answers_run.parts (additional_run.parts, end)
-        from_additional = from_answers ∙ and_then_ok _ (additional_run.parts, end) (behind_additional octets questions_run.parts answers_run.parts) additional_run.is
+        from_additional : sections_of octets ≡ after_additional octets questions_run.parts answers_run.parts (additional_run.parts, end)
+        from_additional = from_answers ∙ and_then_ok _ (additional_run.parts, end) (after_additional octets questions_run.parts answers_run.parts) additional_run.is
 
         pub trailing : end ≢ length octets → sections_of octets ≡ Err (TrailingOctets, 0)
         trailing h = from_additional ∙ cond-false _ _ _ (differs end (length octets) h)

@@ -4,7 +4,7 @@ use Rattle.std.specs.List.{flat_map}
 use Rattle.zone_rdata.specs.Record.{Record}
 use Rattle.zone_rdata.specs.declared.record.Placed.{Placed}
 use Rattle.zone_wire.specs.Message.{RecordAt, Sections, AreRecordsAt, IsMessage}
-use Rattle.zone_wire.specs.Transfer.{IsDataAt, StatesRecord, StateEach, StatedMessage, IsStatedMessage, AreStatedMessages, frame, StreamStates}
+use Rattle.zone_wire.specs.Transfer.{IsDataAt, AnswerStates, AnswersState, StatedMessage, IsStatedMessage, AreStatedMessages, frame, StreamStates}
 use Rattle.zone_wire.proofs.Fielding.{data_reads}
 use Rattle.zone_wire.proofs.Messages.{one_message}
 
@@ -47,12 +47,12 @@ equal_parts r t owner class kind ttl octets =
 one_data : (octets : List ℕ) (a : RecordAt) (c d : List ℕ) → a.end ≤ length octets → IsDataAt octets a c → IsDataAt octets a d → c ≡ d
 one_data octets a c d inside is too = let e = data_reads octets a c inside is in let k = data_reads octets a d inside too in cc
 
-pub record_unique : (octets : List ℕ) (a : RecordAt) (r t : Record) → a.end ≤ length octets → StatesRecord octets a r → StatesRecord octets a t → r ≡ t
+pub record_unique : (octets : List ℕ) (a : RecordAt) (r t : Record) → a.end ≤ length octets → AnswerStates octets a r → AnswerStates octets a t → r ≡ t
 record_unique octets a r t inside x y =
     equal_parts r t (x.owner ∙ sym y.owner) (x.class ∙ sym y.class) (x.kind ∙ sym y.kind) (x.ttl ∙ sym y.ttl) (one_data octets a r.octets t.octets inside x.rdata y.rdata)
 
 -- the records that the answers of a message state
-placed_unique : (number : ℕ) (octets : List ℕ) (offset end : ℕ) (answers : List RecordAt) (ps qs : List Placed) → AreRecordsAt octets offset answers end → StateEach number octets answers ps → StateEach number octets answers qs → ps ≡ qs
+placed_unique : (number : ℕ) (octets : List ℕ) (offset end : ℕ) (answers : List RecordAt) (ps qs : List Placed) → AreRecordsAt octets offset answers end → AnswersState number octets answers ps → AnswersState number octets answers qs → ps ≡ qs
 placed_unique number octets offset end [] [] [] are s t = refl
 placed_unique number octets offset end [] [] (q ∷ qs) are s t = absurd t
 placed_unique number octets offset end [] (p ∷ ps) qs are s t = absurd s
@@ -65,8 +65,8 @@ placed_unique number octets offset end (a ∷ answers) (p ∷ ps) (q ∷ qs) are
 part_unique : (id ie : ℕ) (zone other : Record) (number : ℕ) (p q : StatedMessage) → IsStatedMessage id zone number p → IsStatedMessage ie other number q → p.octets ≡ q.octets → p.placed ≡ q.placed
 part_unique id ie zone other number p q is too e =
     let sections : p.sections ≡ q.sections = one_message p.octets p.sections q.sections is.message (subst (λ (x : List ℕ). IsMessage x q.sections) (sym e) too.message) in
-    let moved : StateEach number p.octets q.sections.answers q.placed = subst (λ (x : List ℕ). StateEach number x q.sections.answers q.placed) (sym e) too.answers in
-    let states : StateEach number p.octets p.sections.answers q.placed = subst (λ (x : Sections). StateEach number p.octets x.answers q.placed) (sym sections) moved in
+    let moved : AnswersState number p.octets q.sections.answers q.placed = subst (λ (x : List ℕ). AnswersState number x q.sections.answers q.placed) (sym e) too.answers in
+    let states : AnswersState number p.octets p.sections.answers q.placed = subst (λ (x : Sections). AnswersState number p.octets x.answers q.placed) (sym sections) moved in
     placed_unique number p.octets is.message.past_questions is.message.past_answers p.sections.answers p.placed q.placed is.message.answers is.answers states
 
 abbrev stream_of : List StatedMessage → List ℕ

@@ -3,8 +3,8 @@ use Rattle.std.proofs.Common.{◌≡◌, ℕ, zero, suc, ◌+◌, ◌*◌, ◌�
 use Rattle.std.specs.Prelude.{if◌then◌else◌}
 use Rattle.std.proofs.lemmas.List.Sums.{sum_by-cons}
 use Rattle.zone_wire.specs.Visits.{is_label, is_pointer, labels_in, pointers_in, LeadToLast}
-use Rattle.zone_wire.specs.Walk.{Standing, at_root, at_label, at_pointer, at_fault, Spot, Visit, place_of}
-use Rattle.zone_wire.specs.Machine.Walk.{visit, walk_on, walk_by, walk, outset, past_label, past_pointer}
+use Rattle.zone_wire.specs.Walk.{Standing, at_root, at_label, at_pointer, at_fault, Spot, Visit, visit, outset, past_label, past_pointer}
+use Rattle.zone_wire.specs.Machine.Walk.{place_of, walk_on, walk_by, walk}
 use Rattle.zone_wire.proofs.Places.{Shows, place_shows}
 
 -- each label takes two octets or more of the 254 that labels can have
@@ -14,7 +14,7 @@ labels_on n message spot (Some at_root) shows short each = omega arith
 labels_on n message spot (Some (at_label size)) shows short each =
     let others = walk_by n message (past_label spot size) in
     let one_more : labels_in (visit spot (at_label size) ∷ others) ≡ 1 + labels_in others = sum_by-cons (λ v. if is_label v.standing then 1 else 0) (visit spot (at_label size)) others in
-    omega (arith, one_more, shows.some, each (past_label spot size) (omega (arith, shows.room)))
+    omega (arith, one_more, shows.0.some, each (past_label spot size) (omega (arith, shows.1)))
 labels_on n message spot (Some (at_pointer target)) shows short each = each (past_pointer spot target) short
 labels_on n message spot (Some (at_fault fault)) shows short each = omega arith
 
@@ -30,7 +30,7 @@ pointers_on n message spot (Some (at_label size)) shows few each = each (past_la
 pointers_on n message spot (Some (at_pointer target)) shows few each =
     let others = walk_by n message (past_pointer spot target) in
     let one_more : pointers_in (visit spot (at_pointer target) ∷ others) ≡ 1 + pointers_in others = sum_by-cons (λ v. if is_pointer v.standing then 1 else 0) (visit spot (at_pointer target)) others in
-    omega (arith, one_more, each (past_pointer spot target) (omega (arith, shows.few)))
+    omega (arith, one_more, each (past_pointer spot target) (omega (arith, shows.1)))
 pointers_on n message spot (Some (at_fault fault)) shows few each = omega arith
 
 pointers_by : (n : ℕ) (message : List ℕ) (spot : Spot) → spot.pointers ≤ 128 → spot.pointers + pointers_in (walk_by n message spot) ≤ 128

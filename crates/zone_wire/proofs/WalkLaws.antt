@@ -4,10 +4,9 @@ use Rattle.std.specs.Prelude.{get_or, None, Result, Ok, Err}
 use Rattle.zone_name.specs.Common.{IsVerdict}
 use Rattle.zone_rdata.specs.declared.fault.Fault.{Fault}
 use Rattle.zone_wire.specs.Machine.Finding.{Outcome, named, refused, outcome}
+use Rattle.zone_wire.specs.Walk.{Visit, ending, IsWalk, NameFault}
 use Rattle.zone_wire.specs.Machine.Walk.{walk}
 use Rattle.zone_wire.specs.Name.{Found, IsNameAt}
-use Rattle.zone_wire.specs.Walk.{Visit, ending}
-use Rattle.zone_wire.specs.WholeWalk.{IsWalk, NameFault}
 use Rattle.zone_wire.proofs.MessageFaults.{name_refused, name_refuses}
 use Rattle.zone_wire.proofs.Verdicts.{decides}
 use Rattle.zone_wire.proofs.Walking.{name_measures, name_walks, walk_gives_name, walk_names}

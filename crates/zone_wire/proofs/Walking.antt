@@ -1,16 +1,17 @@
 -- The walk and the relation of names agree.
 use Rattle.std.proofs.Common.{◌≡◌, ℕ, zero, suc, ◌+◌, ◌*◌, ◌<◌, ◌≤◌, List, [], ◌∷◌, length, refl, ap, sym, ◌∙◌, subst, arith, length-append, get_or-drop, lit<, lit≤}
-use Rattle.std.specs.Prelude.{take, drop, map, get_or, Option, Some, None}
+use Rattle.std.specs.Prelude.{take, drop, get_or, Option, Some, None}
 use Rattle.std.specs.List.{flat_map, AllByRecursion}
 use Rattle.std.proofs.lemmas.List.{length-map, length-take-le, length-drop}
-use Rattle.std.proofs.lemmas.Bool.Decides.{nat_tests}
-use Rattle.zone_name.specs.Name.{IsLabel, IsFoldedOctet, folded_octet, with_length, wire}
+use Rattle.zone_name.specs.Name.{IsLabel, folded_octet, with_length, wire}
 use Rattle.zone_wire.specs.Name.{At, root, label, pointer, Found, IsNameAt, label_at}
-use Rattle.zone_wire.specs.Walk.{Spot, Standing, at_root, at_label, at_pointer, at_fault, Visit, ending, place_of}
-use Rattle.zone_wire.specs.Machine.Walk.{visit, walk_on, walk_by, walk, outset, past_label, past_pointer}
-use Rattle.zone_wire.specs.Machine.Finding.{Outcome, named, refused, outcome, behind_label, behind_pointer}
+use Rattle.zone_wire.specs.Walk.{Spot, Standing, at_root, at_label, at_pointer, at_fault, Visit, ending, visit, outset, past_label, past_pointer}
+use Rattle.zone_wire.specs.Machine.Walk.{place_of, walk_on, walk_by, walk}
+use Rattle.zone_wire.specs.Machine.Finding.{Outcome, named, refused, outcome, after_label, after_pointer}
 use Rattle.zone_rdata.specs.declared.fault.Fault.TheVariants.{ShortMessage}
-use Rattle.zone_wire.proofs.Places.{Shows, IsLabelHere, IsPointerHere, place_shows, place_root, place_label, place_pointer}
+use Rattle.zone_wire.proofs.Places.{Shows, place_shows, place_root, place_label, place_pointer, fault_inside}
+use Rattle.zone_name.proofs.Pushing.{IsLabel-folded}
+use Rattle.zone_rdata.proofs.Lists.{bytes_each}
 
 -- what n places from a spot on lead to
 unfoldable pub outcome_by : ℕ → List ℕ → Spot → Outcome
@@ -20,8 +21,8 @@ outcome_by n message spot = outcome message (walk_by n message spot)
 abbrev pub outcome_at : List ℕ → ℕ → Spot → Option Standing → Outcome
 outcome_at message n spot None = refused ShortMessage 0
 outcome_at message n spot (Some at_root) = named (record { labels = []; end = spot.offset + 1; steps = 1; pointers = 0 })
-outcome_at message n spot (Some (at_label size)) = behind_label (label_at message spot.offset size) (outcome_by n message (past_label spot size))
-outcome_at message n spot (Some (at_pointer target)) = behind_pointer (spot.offset + 2) (outcome_by n message (past_pointer spot target))
+outcome_at message n spot (Some (at_label size)) = after_label (label_at message spot.offset size) (outcome_by n message (past_label spot size))
+outcome_at message n spot (Some (at_pointer target)) = after_pointer (spot.offset + 2) (outcome_by n message (past_pointer spot target))
 outcome_at message n spot (Some (at_fault fault)) = refused fault 1
 
 outcome_on : (message : List ℕ) (n : ℕ) (spot : Spot) (standing : Option Standing) → outcome message (walk_on (walk_by n message) spot standing) ≡ outcome_at message n spot standing
@@ -38,65 +39,63 @@ unfolding walk_by outcome_by
 outcome_step message n spot standing e = rw e (outcome_on message n spot standing)
 
 -- the octets of labels, each after its length
-abbrev pub octets_of : List (List ℕ) → ℕ
-octets_of labels = length (flat_map with_length labels)
+abbrev pub label_octets : List (List ℕ) → ℕ
+label_octets labels = length (flat_map with_length labels)
 
-pub octets_of-label : (message : List ℕ) (offset size : ℕ) → offset + size < length message → length (label_at message offset size) ≡ size
-octets_of-label message offset size h = length-map (take size (drop (offset + 1) message)) folded_octet ∙ length-take-le size (drop (offset + 1) message) (omega (arith, length-drop (offset + 1) message))
+pub label_octets-label : (message : List ℕ) (offset size : ℕ) → offset + size < length message → length (label_at message offset size) ≡ size
+label_octets-label message offset size h = length-map (take size (drop (offset + 1) message)) folded_octet ∙ length-take-le size (drop (offset + 1) message) (omega (arith, length-drop (offset + 1) message))
 
-pub octets_of-more : (l : List ℕ) (labels : List (List ℕ)) → octets_of (l ∷ labels) ≡ length l + 1 + octets_of labels
-octets_of-more l labels = omega (arith, length-append (with_length l) (flat_map with_length labels))
+pub label_octets-more : (l : List ℕ) (labels : List (List ℕ)) → label_octets (l ∷ labels) ≡ length l + 1 + label_octets labels
+label_octets-more l labels = omega (arith, length-append (with_length l) (flat_map with_length labels))
 
 -- a name of the relation is what its walk finds
-pub at_walks : {message : List ℕ} {offset bound : ℕ} {labels : List (List ℕ)} {end steps pointers : ℕ} → At message offset bound labels end steps pointers → (n before octets : ℕ) → steps ≤ n → before + pointers ≤ 128 → octets + octets_of labels + 1 ≤ 255 → outcome_by n message (record { offset = offset; bound = bound; pointers = before; octets = octets }) ≡ named (record { labels = labels; end = end; steps = steps; pointers = pointers })
+pub at_walks : {message : List ℕ} {offset bound : ℕ} {labels : List (List ℕ)} {end steps pointers : ℕ} → At message offset bound labels end steps pointers → (n before octets : ℕ) → steps ≤ n → before + pointers ≤ 128 → octets + label_octets labels + 1 ≤ 255 → outcome_by n message (record { offset = offset; bound = bound; pointers = before; octets = octets }) ≡ named (record { labels = labels; end = end; steps = steps; pointers = pointers })
 at_walks (root offset bound inside first) zero before octets enough few short = absurd (omega arith)
 at_walks {message} (root offset bound inside first) (suc n) before octets enough few short = outcome_step message n (record { offset = offset; bound = bound; pointers = before; octets = octets }) (Some at_root) (place_root message (record { offset = offset; bound = bound; pointers = before; octets = octets }) inside first)
-at_walks (label offset bound size labels end steps pointers first some short_label inside rest) zero before octets enough few short = absurd (omega arith)
-at_walks {message} (label offset bound size labels end steps pointers first some short_label inside rest) (suc n) before octets enough few short =
+at_walks (label offset bound size labels end steps pointers here rest) zero before octets enough few short = absurd (omega arith)
+at_walks {message} (label offset bound size labels end steps pointers here rest) (suc n) before octets enough few short =
     let spot : Spot = record { offset = offset; bound = bound; pointers = before; octets = octets } in
     let this = label_at message offset size in
-    let room : octets + 1 + size + octets_of labels + 1 ≤ 255 = omega (arith, octets_of-more this labels, octets_of-label message offset size inside) in
-    let here : IsLabelHere message spot size = record { first = first; some = some; short = short_label; inside = inside; room = omega arith } in
-    outcome_step message n spot (Some (at_label size)) (place_label message spot size here) ∙ ap (behind_label this) (at_walks rest n before (octets + 1 + size) (omega arith) few room)
-at_walks (pointer offset bound target labels end steps pointers inside first leads past_header below rest) zero before octets enough few short = absurd (omega arith)
-at_walks {message} (pointer offset bound target labels end steps pointers inside first leads past_header below rest) (suc n) before octets enough few short =
+    let room : octets + 1 + size + label_octets labels + 1 ≤ 255 = omega (arith, label_octets-more this labels, label_octets-label message offset size here.inside) in
+    outcome_step message n spot (Some (at_label size)) (place_label message spot size here (omega arith)) ∙ ap (after_label this) (at_walks rest n before (octets + 1 + size) (omega arith) few room)
+at_walks (pointer offset bound target labels end steps pointers here rest) zero before octets enough few short = absurd (omega arith)
+at_walks {message} (pointer offset bound target labels end steps pointers here rest) (suc n) before octets enough few short =
     let spot : Spot = record { offset = offset; bound = bound; pointers = before; octets = octets } in
-    let here : IsPointerHere message spot target = record { first = first; leads = leads; inside = inside; past_header = past_header; below = below; few = omega arith } in
-    outcome_step message n spot (Some (at_pointer target)) (place_pointer message spot target here) ∙ ap (behind_pointer (offset + 2)) (at_walks rest n (before + 1) octets (omega arith) (omega arith) short)
+    outcome_step message n spot (Some (at_pointer target)) (place_pointer message spot target here (omega arith)) ∙ ap (after_pointer (offset + 2)) (at_walks rest n (before + 1) octets (omega arith) (omega arith) short)
 
 -- the steps are the labels, the pointers and the root
 pub at_steps : {message : List ℕ} {offset bound : ℕ} {labels : List (List ℕ)} {end steps pointers : ℕ} → At message offset bound labels end steps pointers → steps ≡ length labels + pointers + 1
 at_steps (root offset bound inside first) = omega arith
-at_steps (label offset bound size labels end steps pointers first some short inside rest) = omega (arith, at_steps rest)
-at_steps (pointer offset bound target labels end steps pointers inside first leads past_header below rest) = omega (arith, at_steps rest)
+at_steps (label offset bound size labels end steps pointers here rest) = omega (arith, at_steps rest)
+at_steps (pointer offset bound target labels end steps pointers here rest) = omega (arith, at_steps rest)
 
 -- each label takes two octets or more
-pub at_octets : {message : List ℕ} {offset bound : ℕ} {labels : List (List ℕ)} {end steps pointers : ℕ} → At message offset bound labels end steps pointers → 2 * length labels ≤ octets_of labels
+pub at_octets : {message : List ℕ} {offset bound : ℕ} {labels : List (List ℕ)} {end steps pointers : ℕ} → At message offset bound labels end steps pointers → 2 * length labels ≤ label_octets labels
 at_octets (root offset bound inside first) = omega arith
-at_octets {message} (label offset bound size labels end steps pointers first some short inside rest) =
+at_octets {message} (label offset bound size labels end steps pointers here rest) =
     let this = label_at message offset size in
-    omega (arith, at_octets rest, octets_of-more this labels, octets_of-label message offset size inside)
-at_octets (pointer offset bound target labels end steps pointers inside first leads past_header below rest) = at_octets rest
+    omega (arith, at_octets rest, label_octets-more this labels, label_octets-label message offset size here.inside)
+at_octets (pointer offset bound target labels end steps pointers here rest) = at_octets rest
 
 -- a name ends inside its message
 pub at_ends : {message : List ℕ} {offset bound : ℕ} {labels : List (List ℕ)} {end steps pointers : ℕ} → At message offset bound labels end steps pointers → (offset < end) × (end ≤ length message)
 at_ends (root offset bound inside first) = (omega arith, omega arith)
-at_ends (label offset bound size labels end steps pointers first some short inside rest) = (omega (arith, (at_ends rest).0), (at_ends rest).1)
-at_ends (pointer offset bound target labels end steps pointers inside first leads past_header below rest) = (omega arith, omega arith)
+at_ends (label offset bound size labels end steps pointers here rest) = (omega (arith, (at_ends rest).0), (at_ends rest).1)
+at_ends (pointer offset bound target labels end steps pointers here rest) = (omega arith, omega (arith, here.inside))
 
-pub wire-octets : (labels : List (List ℕ)) → length (wire labels) ≡ octets_of labels + 1
+pub wire-octets : (labels : List (List ℕ)) → length (wire labels) ≡ label_octets labels + 1
 wire-octets labels = length-append (flat_map with_length labels) (0 ∷ [])
 
 pub record IsBounded (message : List ℕ) (offset : ℕ) (found : Found) : Type 0 where
   pub labels : length found.labels ≤ 127
   pub steps : found.steps ≤ 256
-  pub short : octets_of found.labels + 1 ≤ 255
+  pub short : label_octets found.labels + 1 ≤ 255
   pub start : offset < found.end
   pub end : found.end ≤ length message
 
 pub name_bounds : (message : List ℕ) (offset : ℕ) (found : Found) → IsNameAt message offset found → IsBounded message offset found
 name_bounds message offset found is =
-    let short : octets_of found.labels + 1 ≤ 255 = rw wire-octets at is.name.short in
+    let short : label_octets found.labels + 1 ≤ 255 = rw wire-octets at is.name.short in
     let few : length found.labels ≤ 127 = omega (arith, at_octets is.at) in
     record { labels = few; steps = omega (arith, at_steps is.at, is.few); short = short; start = (at_ends is.at).0; end = (at_ends is.at).1 }
 
@@ -115,27 +114,27 @@ one_name message offset found other is too =
 pub record Finds (message : List ℕ) (spot : Spot) (found : Found) : Type 0 where
   pub at : At message spot.offset spot.bound found.labels found.end found.steps found.pointers
   pub few : spot.pointers + found.pointers ≤ 128
-  pub short : spot.octets + octets_of found.labels + 1 ≤ 255
+  pub short : spot.octets + label_octets found.labels + 1 ≤ 255
 
 -- a name of which a label is the first
-record LeadsBehindLabel (front : List ℕ) (rest : Outcome) (found : Found) : Type 0 where
+record LeadsAfterLabel (front : List ℕ) (rest : Outcome) (found : Found) : Type 0 where
   others : Found
   rest_is : rest ≡ named others
   whole : record others { labels = front ∷ others.labels; steps = suc others.steps } ≡ found
 
-behind_label_leads : (front : List ℕ) (rest : Outcome) (found : Found) → behind_label front rest ≡ named found → LeadsBehindLabel front rest found
-behind_label_leads front (named others) found e = record { others = others; rest_is = refl; whole = cc }
-behind_label_leads front (refused fault steps) found e = cc
+after_label_leads : (front : List ℕ) (rest : Outcome) (found : Found) → after_label front rest ≡ named found → LeadsAfterLabel front rest found
+after_label_leads front (named others) found e = record { others = others; rest_is = refl; whole = cc }
+after_label_leads front (refused fault steps) found e = cc
 
 -- a name of which a pointer is the first step
-record LeadsBehindPointer (end : ℕ) (rest : Outcome) (found : Found) : Type 0 where
+record LeadsAfterPointer (end : ℕ) (rest : Outcome) (found : Found) : Type 0 where
   others : Found
   rest_is : rest ≡ named others
   whole : record others { end = end; steps = suc others.steps; pointers = suc others.pointers } ≡ found
 
-behind_pointer_leads : (end : ℕ) (rest : Outcome) (found : Found) → behind_pointer end rest ≡ named found → LeadsBehindPointer end rest found
-behind_pointer_leads end (named others) found e = record { others = others; rest_is = refl; whole = cc }
-behind_pointer_leads end (refused fault steps) found e = cc
+after_pointer_leads : (end : ℕ) (rest : Outcome) (found : Found) → after_pointer end rest ≡ named found → LeadsAfterPointer end rest found
+after_pointer_leads end (named others) found e = record { others = others; rest_is = refl; whole = cc }
+after_pointer_leads end (refused fault steps) found e = cc
 
 -- where what n places lead to is found
 abbrev pub FindsBy : ℕ → List ℕ → Type 0
@@ -148,18 +147,18 @@ found_at message n spot (Some at_root) found shows short few finds e =
     subst (Finds message spot) same (record { at = root spot.offset spot.bound shows.0 shows.1; few = omega arith; short = omega arith })
 found_at message n spot (Some (at_label size)) found shows short few finds e =
     let front = label_at message spot.offset size in
-    let leads = behind_label_leads front (outcome_by n message (past_label spot size)) found e in
-    let rest = finds (past_label spot size) leads.others (omega (arith, shows.room)) few leads.rest_is in
+    let leads = after_label_leads front (outcome_by n message (past_label spot size)) found e in
+    let rest = finds (past_label spot size) leads.others (omega (arith, shows.1)) few leads.rest_is in
     subst (Finds message spot) leads.whole (record {
-      at = label spot.offset spot.bound size leads.others.labels leads.others.end leads.others.steps leads.others.pointers shows.first shows.some shows.short shows.inside rest.at;
+      at = label spot.offset spot.bound size leads.others.labels leads.others.end leads.others.steps leads.others.pointers shows.0 rest.at;
       few = rest.few;
-      short = omega (arith, rest.short, octets_of-more front leads.others.labels, octets_of-label message spot.offset size shows.inside);
+      short = omega (arith, rest.short, label_octets-more front leads.others.labels, label_octets-label message spot.offset size shows.0.inside);
     })
 found_at message n spot (Some (at_pointer target)) found shows short few finds e =
-    let leads = behind_pointer_leads (spot.offset + 2) (outcome_by n message (past_pointer spot target)) found e in
-    let rest = finds (past_pointer spot target) leads.others short (omega (arith, shows.few)) leads.rest_is in
+    let leads = after_pointer_leads (spot.offset + 2) (outcome_by n message (past_pointer spot target)) found e in
+    let rest = finds (past_pointer spot target) leads.others short (omega (arith, shows.1)) leads.rest_is in
     subst (Finds message spot) leads.whole (record {
-      at = pointer spot.offset spot.bound target leads.others.labels leads.others.end leads.others.steps leads.others.pointers shows.inside shows.first shows.leads shows.past_header shows.below rest.at;
+      at = pointer spot.offset spot.bound target leads.others.labels leads.others.end leads.others.steps leads.others.pointers shows.0 rest.at;
       few = omega (arith, rest.few);
       short = rest.short;
     })
@@ -169,21 +168,6 @@ pub finds_by : (n : ℕ) (message : List ℕ) → FindsBy n message
 unfolding outcome_by walk_by outcome
 finds_by zero message spot found short few e = cc
 finds_by (suc n) message spot found short few e = found_at message n spot (place_of message spot) found (place_shows message spot) short few (finds_by n message) (sym (outcome_step message n spot (place_of message spot) refl) ∙ e)
-
--- folding a folded octet changes nothing
-folded_twice : (c : ℕ) → folded_octet (folded_octet c) ≡ folded_octet c
-folded_twice c = grind (arith, nat_tests)
-
-folded_short : (c : ℕ) → c < 256 → folded_octet c < 256
-folded_short c h = grind (arith, nat_tests)
-
-is_folded : (c : ℕ) → c < 256 → IsFoldedOctet (folded_octet c)
-is_folded c h = record { octet = folded_short c h; lower = folded_twice c }
-
--- octets of a message, each below 256
-folded_each : (octets : List ℕ) → ((k : ℕ) → get_or octets k 0 < 256) → AllByRecursion IsFoldedOctet (map folded_octet octets)
-folded_each [] each = tt
-folded_each (c ∷ octets) each = (is_folded c (each 0), folded_each octets (λ k. each (suc k)))
 
 pub drop_each : (n : ℕ) (octets : List ℕ) → ((k : ℕ) → get_or octets k 0 < 256) → (k : ℕ) → get_or (drop n octets) k 0 < 256
 drop_each n octets each k = rw get_or-drop (each (n + k))
@@ -196,17 +180,14 @@ take_each (suc n) (c ∷ octets) each (suc k) = take_each n octets (λ i. each (
 
 is_label : (message : List ℕ) (offset size : ℕ) → ((k : ℕ) → get_or message k 0 < 256) → 0 < size → size ≤ 63 → offset + size < length message → IsLabel (label_at message offset size)
 is_label message offset size each some short inside =
-    let len = octets_of-label message offset size inside in
-    record {
-      some = omega (arith, len);
-      short = omega (arith, len);
-      each = folded_each (take size (drop (offset + 1) message)) (take_each size (drop (offset + 1) message) (drop_each (offset + 1) message each));
-    }
+    let octets = take size (drop (offset + 1) message) in
+    let len : length octets ≡ size = length-take-le size (drop (offset + 1) message) (omega (arith, length-drop (offset + 1) message)) in
+    IsLabel-folded octets (omega (arith, len)) (omega (arith, len)) (bytes_each octets (take_each size (drop (offset + 1) message) (drop_each (offset + 1) message each)))
 
 at_labels : {message : List ℕ} {offset bound : ℕ} {labels : List (List ℕ)} {end steps pointers : ℕ} → ((k : ℕ) → get_or message k 0 < 256) → At message offset bound labels end steps pointers → AllByRecursion IsLabel labels
 at_labels each (root offset bound inside first) = tt
-at_labels {message} each (label offset bound size labels end steps pointers first some short inside rest) = (is_label message offset size each some short inside, at_labels each rest)
-at_labels each (pointer offset bound target labels end steps pointers inside first leads past_header below rest) = at_labels each rest
+at_labels {message} each (label offset bound size labels end steps pointers here rest) = (is_label message offset size each here.some here.short here.inside, at_labels each rest)
+at_labels each (pointer offset bound target labels end steps pointers here rest) = at_labels each rest
 
 -- what is found is a name
 pub walk_names : (message : List ℕ) (offset : ℕ) (found : Found) → ((k : ℕ) → get_or message k 0 < 256) → outcome message (walk message offset) ≡ named found → IsNameAt message offset found
@@ -220,12 +201,12 @@ abbrev pub Measures : Outcome → List Visit → Type 0
 Measures (named found) visits = (length visits ≡ found.steps) × (ending visits ≡ None)
 Measures (refused fault steps) visits = (length visits ≡ steps) × (ending visits ≡ Some fault)
 
-measures_label : (front : List ℕ) (rest : Outcome) (size : ℕ) (spot : Spot) (visits : List Visit) → Measures rest visits → Measures (behind_label front rest) (visit spot (at_label size) ∷ visits)
+measures_label : (front : List ℕ) (rest : Outcome) (size : ℕ) (spot : Spot) (visits : List Visit) → Measures rest visits → Measures (after_label front rest) (visit spot (at_label size) ∷ visits)
 unfolding ending
 measures_label front (named found) size spot visits m = (ap suc m.0, m.1)
 measures_label front (refused fault steps) size spot visits m = (ap suc m.0, m.1)
 
-measures_pointer : (end : ℕ) (rest : Outcome) (target : ℕ) (spot : Spot) (visits : List Visit) → Measures rest visits → Measures (behind_pointer end rest) (visit spot (at_pointer target) ∷ visits)
+measures_pointer : (end : ℕ) (rest : Outcome) (target : ℕ) (spot : Spot) (visits : List Visit) → Measures rest visits → Measures (after_pointer end rest) (visit spot (at_pointer target) ∷ visits)
 unfolding ending
 measures_pointer end (named found) target spot visits m = (ap suc m.0, m.1)
 measures_pointer end (refused fault steps) target spot visits m = (ap suc m.0, m.1)
@@ -253,9 +234,9 @@ walk_on_length n message spot (Some (at_fault fault)) each = omega arith
 walk_on_inside : (n : ℕ) (message : List ℕ) (spot : Spot) (standing : Option Standing) → Shows message spot standing → ((next : Spot) → AllByRecursion (λ v. v.offset < length message) (walk_by n message next)) → AllByRecursion (λ v. v.offset < length message) (walk_on (walk_by n message) spot standing)
 walk_on_inside n message spot None shows each = tt
 walk_on_inside n message spot (Some at_root) shows each = (shows.0, tt)
-walk_on_inside n message spot (Some (at_label size)) shows each = (omega (arith, shows.inside), each (past_label spot size))
-walk_on_inside n message spot (Some (at_pointer target)) shows each = (omega (arith, shows.inside), each (past_pointer spot target))
-walk_on_inside n message spot (Some (at_fault fault)) shows each = (shows, tt)
+walk_on_inside n message spot (Some (at_label size)) shows each = (omega (arith, shows.0.inside), each (past_label spot size))
+walk_on_inside n message spot (Some (at_pointer target)) shows each = (omega (arith, shows.0.inside), each (past_pointer spot target))
+walk_on_inside n message spot (Some (at_fault fault)) shows each = (fault_inside message spot fault shows, tt)
 
 -- n places or fewer
 pub walk_length : (n : ℕ) (message : List ℕ) (spot : Spot) → length (walk_by n message spot) ≤ n

@@ -5,10 +5,10 @@ use Rattle.zone_rdata.specs.Words.{IsClass, IsKind}
 use Rattle.zone_rdata.specs.declared.fault.Fault.{Fault}
 use Rattle.zone_rdata.specs.declared.fault.Fault.TheVariants.{BadClass, MetaType, CompressibleType, AfterClosing, NoOpeningSoa, BadQuestion, SoaMismatch}
 use Rattle.zone_rdata.specs.declared.record.Placed.{Placed}
-use Rattle.zone_wire.specs.Answers.{zone_of, is_closed, AgreeWith, StandInOrder}
+use Rattle.zone_wire.specs.Answers.{zone_of, is_closed, AgreeWith, ComeInOrder}
 use Rattle.zone_wire.specs.DataFault.{DataFault}
 use Rattle.zone_wire.specs.Message.{QuestionAt, RecordAt}
-use Rattle.zone_wire.specs.Transfer.{IsReadable, StatesRecord, StateEach}
+use Rattle.zone_wire.specs.Transfer.{IsReadable, AnswerStates, AnswersState}
 
 -- The first fault of an answer by itself: its class or its type can't be in a zone, its type isn't
 -- read, or its data's.
@@ -37,7 +37,7 @@ pub data OrderFault (questions : List QuestionAt) (before : List Placed)
 pub data AnswerFault (octets : List ℕ) (questions : List QuestionAt) (before : List Placed)
     (a : RecordAt) (fault : Fault) : Type 0 where
   own : OwnFault octets a fault → AnswerFault octets questions before a fault
-  of_order : (r : Record) → StatesRecord octets a r → OrderFault questions before r fault
+  of_order : (r : Record) → AnswerStates octets a r → OrderFault questions before r fault
       → AnswerFault octets questions before a fault
 
 -- of the answers of the message of this number the first that has a fault, and its offset: those
@@ -49,7 +49,7 @@ pub record FirstAnswerFault (number : ℕ) (octets : List ℕ) (questions : List
   pub answer : RecordAt
   pub rest : List RecordAt
   pub parts : answers ≡ front ++ answer ∷ rest
-  pub stated : StateEach number octets front placed
-  pub order : StandInOrder questions before placed
+  pub stated : AnswersState number octets front placed
+  pub order : ComeInOrder questions before placed
   pub next : AnswerFault octets questions (before ++ placed) answer fault
   pub start : offset ≡ answer.offset

@@ -39,15 +39,15 @@ is_closed (opening ∷ others) = list_any (λ p. p.rr.kind == 6) others
 
 -- Where a record can stand after questions and records: as the opening SOA, of the zone that a
 -- question fixed; or after that, the transfer not being closed, as no SOA or the opening one again.
-pub data StandsBehind (questions : List QuestionAt) (before : List Placed)
+pub data ComesAfter (questions : List QuestionAt) (before : List Placed)
     (r : Record) : Type 0 where
   opens : before ≡ [] → r.kind ≡ 6 → AgreeWith (zone_of questions []) r.owner r.class
-      → StandsBehind questions before r
+      → ComesAfter questions before r
   follows : (opening : Placed) (others : List Placed) → before ≡ opening ∷ others
-      → is_closed before ≡ false → (r.kind ≡ 6 → r ≡ opening.rr) → StandsBehind questions before r
+      → is_closed before ≡ false → (r.kind ≡ 6 → r ≡ opening.rr) → ComesAfter questions before r
 
 -- each after those before it
-abbrev pub StandInOrder : List QuestionAt → List Placed → List Placed → Type 0
-StandInOrder questions before [] = ⊤
-StandInOrder questions before (p ∷ placed) =
-    StandsBehind questions before p.rr × StandInOrder questions (before ++ p ∷ []) placed
+abbrev pub ComeInOrder : List QuestionAt → List Placed → List Placed → Type 0
+ComeInOrder questions before [] = ⊤
+ComeInOrder questions before (p ∷ placed) =
+    ComesAfter questions before p.rr × ComeInOrder questions (before ++ p ∷ []) placed

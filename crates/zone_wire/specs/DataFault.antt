@@ -9,15 +9,15 @@ use Rattle.zone_rdata.specs.declared.field.Field.{Field}
 use Rattle.zone_rdata.specs.declared.field.Field.TheVariants.{Name, Strings}
 use Rattle.zone_wire.specs.Message.{RecordAt}
 use Rattle.zone_wire.specs.Name.{Found, IsNameAt}
-use Rattle.zone_wire.specs.Transfer.{StandsAt}
-use Rattle.zone_wire.specs.WholeWalk.{NameFault}
+use Rattle.zone_wire.specs.Transfer.{IsValueAt}
+use Rattle.zone_wire.specs.Walk.{NameFault}
 
 -- a field has a value from one offset to another, in data that ends at a third; strings go on to
 -- that end
-pub record HasValueAt (octets : List ℕ) (end : ℕ) (field : Field) (start past : ℕ)
+pub record IsFieldAt (octets : List ℕ) (end : ℕ) (field : Field) (start past : ℕ)
     (value : FieldValue) : Type 0 where
   pub held : Holds field value
-  pub stands : StandsAt octets start past value
+  pub stands : IsValueAt octets start past value
   pub inside : past ≤ end
   pub last : field ≡ Strings → past ≡ end
 
@@ -29,7 +29,7 @@ FieldFault octets end Name start fault =
     ⊎ ((fault ≡ BadRdata) × (found : Found) × IsNameAt octets start found × (end < found.end))
 FieldFault octets end field start fault =
     (fault ≡ BadRdata)
-    × ((past : ℕ) (value : FieldValue) → HasValueAt octets end field start past value → ⊥)
+    × ((past : ℕ) (value : FieldValue) → IsFieldAt octets end field start past value → ⊥)
 
 -- the first of fields from an offset on that has none; or after the last of them the data isn't at
 -- its end
@@ -37,7 +37,7 @@ abbrev pub FieldsFault : List ℕ → ℕ → List Field → ℕ → Fault → T
 FieldsFault octets end [] start fault = (fault ≡ BadRdata) × (start ≢ end)
 FieldsFault octets end (field ∷ fields) start fault =
     FieldFault octets end field start fault
-    ⊎ ((past : ℕ) × (value : FieldValue) × HasValueAt octets end field start past value
+    ⊎ ((past : ℕ) × (value : FieldValue) × IsFieldAt octets end field start past value
     × FieldsFault octets end fields past fault)
 
 -- the first fault of a record's data; opaque data has none

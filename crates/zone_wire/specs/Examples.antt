@@ -6,19 +6,18 @@ use Rattle.zone_name.specs.Common.{Labels}
 use Rattle.zone_rdata.specs.Record.{Record}
 use Rattle.zone_rdata.specs.declared.fault.Place.TheVariants.{Message}
 use Rattle.zone_rdata.specs.declared.record.Placed.{Placed}
-use Rattle.zone_wire.specs.Walk.{Visit, ending}
-use Rattle.zone_wire.specs.WholeWalk.{IsWalk}
+use Rattle.zone_wire.specs.Walk.{Visit, ending, IsWalk}
 use Rattle.zone_rdata.specs.declared.fault.Fault.{Fault}
 
 -- octets after a header of twelve zeros
-abbrev pub behind_zeros : List ℕ → List ℕ
-behind_zeros octets = replicate 12 0 ++ octets
+abbrev pub after_zeros : List ℕ → List ℕ
+after_zeros octets = replicate 12 0 ++ octets
 
 -- the walk of the name at an offset of octets after twelve zeros ends so, after so many places
 pub record WalkEnds (octets : List ℕ) (offset : ℕ) (fault : Option Fault)
     (places : ℕ) : Type 0 where
   pub visits : List Visit
-  pub walk : IsWalk (behind_zeros octets) offset visits
+  pub walk : IsWalk (after_zeros octets) offset visits
   pub ends : ending visits ≡ fault
   pub count : length visits ≡ places
 

@@ -12,5 +12,4 @@ pub mod Transfer
 pub mod View
 pub mod Visits
 pub mod Walk
-pub mod WholeWalk
 pub mod Machine

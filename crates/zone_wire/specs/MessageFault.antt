@@ -5,7 +5,7 @@ use Rattle.zone_rdata.specs.declared.fault.Fault.{Fault}
 use Rattle.zone_rdata.specs.declared.fault.Fault.TheVariants.{ShortMessage, NotAResponse, Truncated, ErrorCode, BadCounts, TrailingOctets}
 use Rattle.zone_wire.specs.Message.{tc_of, rcode_of, qdcount_of, ancount_of, arcount_of, IsResponse, HasCounts, HasHeader, question_by, IsQuestionAt, record_by, IsRecordAt, AreAt}
 use Rattle.zone_wire.specs.Name.{Found, IsNameAt}
-use Rattle.zone_wire.specs.WholeWalk.{NameFault}
+use Rattle.zone_wire.specs.Walk.{NameFault}
 
 -- The first fault of a header: it isn't whole, it is of no response to a query, the message is
 -- truncated, it carries an error, or its counts are none of a transfer.
@@ -21,11 +21,11 @@ pub data HeaderFault (octets : List ℕ) : Fault → Type 0 where
 
 -- What begins with a name at an offset, and ends as far after it as is given, has a fault: the
 -- name's, or it runs past the message.
-pub data PartFault (octets : List ℕ) (end_behind : Found → ℕ) (offset : ℕ) : Fault → Type 0 where
+pub data PartFault (octets : List ℕ) (end_later : Found → ℕ) (offset : ℕ) : Fault → Type 0 where
   of_name : (fault : Fault) → NameFault octets offset fault
-      → PartFault octets end_behind offset fault
-  past_end : (found : Found) → IsNameAt octets offset found → length octets < end_behind found
-      → PartFault octets end_behind offset ShortMessage
+      → PartFault octets end_later offset fault
+  past_end : (found : Found) → IsNameAt octets offset found → length octets < end_later found
+      → PartFault octets end_later offset ShortMessage
 
 abbrev pub QuestionFault : List ℕ → ℕ → Fault → Type 0
 QuestionFault octets offset fault =
@@ -36,8 +36,8 @@ RecordFault octets offset fault =
     PartFault octets (λ found. (record_by octets offset found).end) offset fault
 
 -- so many parts stand one after another from an offset to another
-abbrev pub Stand : {X : Type 0} → (ℕ → X → Type 0) → (X → ℕ) → ℕ → ℕ → ℕ → Type 0
-Stand {X} Is end_of count offset end =
+abbrev pub HasParts : {X : Type 0} → (ℕ → X → Type 0) → (X → ℕ) → ℕ → ℕ → ℕ → Type 0
+HasParts {X} Is end_of count offset end =
     (parts : List X) × ((length parts ≡ count) × AreAt Is end_of offset parts end)
 
 -- of so many parts from an offset on the first that has a fault, and where it begins: those before
@@ -51,7 +51,7 @@ pub record FirstFault {X : Type 0} (Is : ℕ → X → Type 0) (end_of : X → �
 
 -- as many questions as the header counts stand up to an offset
 abbrev pub HasQuestions : List ℕ → ℕ → Type 0
-HasQuestions octets end = Stand (IsQuestionAt octets) (λ q. q.end) (qdcount_of octets) 12 end
+HasQuestions octets end = HasParts (IsQuestionAt octets) (λ q. q.end) (qdcount_of octets) 12 end
 
 -- how many records the header counts: the answers and the additional ones
 abbrev pub record_count : List ℕ → ℕ
@@ -62,7 +62,7 @@ abbrev pub HasRecords : List ℕ → ℕ → Type 0
 HasRecords octets end =
     (start : ℕ)
     × (HasQuestions octets start
-    × Stand (IsRecordAt octets) (λ r. r.end) (record_count octets) start end)
+    × HasParts (IsRecordAt octets) (λ r. r.end) (record_count octets) start end)
 
 -- the first of so many questions, or records, that has a fault
 abbrev pub FirstQuestionFault : List ℕ → ℕ → ℕ → Fault → ℕ → Type 0

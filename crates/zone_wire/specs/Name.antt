@@ -13,20 +13,34 @@ abbrev pub target_at : List ℕ → ℕ → ℕ
 target_at message offset =
     (slice_index message offset - 192) * 256 + slice_index message (offset + 1)
 
+-- a label at an offset: its length, 1 to 63, and as many octets after it, all in the message
+pub record IsLabelAt (message : List ℕ) (offset size : ℕ) : Type 0 where
+  pub first : slice_index message offset ≡ size
+  pub some : 0 < size
+  pub short : size ≤ 63
+  pub inside : offset + size < length message
+
+-- A pointer at an offset: two octets of the message of which the first is 192 or more. It leads to
+-- at least 12, past the header, and below a bound. RFC 1035 4.1.4 says only that it leads to a prior
+-- occurrence of a name; both limits are this project's own choice.
+pub record IsPointerAt (message : List ℕ) (offset bound target : ℕ) : Type 0 where
+  pub inside : offset + 1 < length message
+  pub first : 192 ≤ slice_index message offset
+  pub leads : target ≡ target_at message offset
+  pub past_header : 12 ≤ target
+  pub below : target < bound
+
 -- The labels from an offset on, with the offset after them, the steps and the pointers. The bound
--- is the offset at which the run of labels began that stands there: a pointer leads to at least 12,
--- past the header, and below it. RFC 1035 4.1.4 says only that it leads to a prior occurrence of a
--- name; both bounds are this project's own choice.
+-- of a pointer is the offset at which the run of labels began that it ends.
 pub data At (message : List ℕ) : ℕ → ℕ → Labels → ℕ → ℕ → ℕ → Type 0 where
   root : (offset bound : ℕ) → offset < length message → slice_index message offset ≡ 0
       → At message offset bound [] (offset + 1) 1 0
   label : (offset bound size : ℕ) (labels : Labels) (end steps pointers : ℕ)
-      → slice_index message offset ≡ size → 0 < size → size ≤ 63 → offset + size < length message
+      → IsLabelAt message offset size
       → At message (offset + 1 + size) bound labels end steps pointers
       → At message offset bound (label_at message offset size ∷ labels) end (suc steps) pointers
   pointer : (offset bound target : ℕ) (labels : Labels) (end steps pointers : ℕ)
-      → offset + 1 < length message → 192 ≤ slice_index message offset
-      → target ≡ target_at message offset → 12 ≤ target → target < bound
+      → IsPointerAt message offset bound target
       → At message target target labels end steps pointers
       → At message offset bound labels (offset + 2) (suc steps) (suc pointers)
 

@@ -6,7 +6,7 @@ use Rattle.zone_rdata.specs.Source.{Pending}
 use Rattle.zone_rdata.specs.declared.record.Placed.{Placed}
 use Rattle.zone_wire.specs.Answers.{ZoneAsked, zone_of, is_closed}
 use Rattle.zone_wire.specs.Frames.{IsFramed}
-use Rattle.zone_wire.specs.Stream.{octets_in, asked_in, placed_in, first_id, opening_of, AreRead, StreamReads, Decided}
+use Rattle.zone_wire.specs.Stream.{octets_in, asked_in, placed_in, first_id, opening_of, AreRead, StreamReads, StreamDecides}
 use Rattle.zone_wire.specs.Transfer.{StatedMessage}
 
 -- What a source holds besides what it has left to give: whether the stream has ended, the number of
@@ -62,7 +62,7 @@ pub record Stands (source : SourceState) (fed : List ℕ) (given : List Placed) 
   pub octets : (i : ℕ) → slice_index fed i < 256
   pub count : source.held.fed ≡ length fed
   pub decided : source.held.finished ≡ false
-      → Decided fed (given ++ source.pending.records) source.pending.ending
+      → StreamDecides fed (given ++ source.pending.records) source.pending.ending
   pub leave : source.held.finished ≡ false → source.pending.ending ≡ None → Leave fed source.held
   pub read : source.held.finished ≡ true
       → StreamReads fed (given ++ source.pending.records) source.pending.ending

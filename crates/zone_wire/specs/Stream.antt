@@ -9,11 +9,11 @@ use Rattle.zone_rdata.specs.declared.fault.Place.{Place}
 use Rattle.zone_rdata.specs.declared.fault.Place.TheVariants.{Message}
 use Rattle.zone_rdata.specs.declared.record.Placed.{Placed}
 use Rattle.zone_wire.specs.AnswerFault.{FirstAnswerFault}
-use Rattle.zone_wire.specs.Answers.{ZoneAsked, zone_of, AgreeWith, questions_of, handed_on, is_closed, StandInOrder}
+use Rattle.zone_wire.specs.Answers.{ZoneAsked, zone_of, AgreeWith, questions_of, handed_on, is_closed, ComeInOrder}
 use Rattle.zone_wire.specs.Frames.{IsFramed}
 use Rattle.zone_wire.specs.Message.{QuestionAt, Sections, IsMessage}
 use Rattle.zone_wire.specs.MessageFault.{MessageFault}
-use Rattle.zone_wire.specs.Transfer.{StatedMessage, StateEach}
+use Rattle.zone_wire.specs.Transfer.{StatedMessage, AnswersState}
 
 -- the octets of messages, what stands in them, their questions, and the records that they state
 abbrev pub octets_in : List StatedMessage → List (List ℕ)
@@ -40,44 +40,44 @@ pub record AsksIn (zone : Option ZoneAsked) (q : QuestionAt) : Type 0 where
   pub agrees : AgreeWith zone q.name q.class
 
 -- each question asks for the zone that messages before fixed
-abbrev pub AskBehind : List StatedMessage → Sections → Type 0
-AskBehind before s =
+abbrev pub AskAfter : List StatedMessage → Sections → Type 0
+AskAfter before s =
     AllByRecursion (AsksIn (zone_of (asked_in before) (placed_in before))) s.questions
 
 -- octets are a message that stands after others: of the same ID, and its questions are for the same
 -- zone
-pub record IsMessageBehind (before : List StatedMessage) (octets : List ℕ)
+pub record IsMessageAfter (before : List StatedMessage) (octets : List ℕ)
     (s : Sections) : Type 0 where
   pub message : IsMessage octets s
   pub same_id : HasFirstId before s
-  pub asks : AskBehind before s
+  pub asks : AskAfter before s
 
 -- a message after others is read: each of its answers states a record, and these stand in order
-pub record IsReadBehind (before : List StatedMessage) (p : StatedMessage) : Type 0 where
-  pub message : IsMessageBehind before p.octets p.sections
-  pub stated : StateEach (length before + 1) p.octets p.sections.answers p.placed
-  pub order : StandInOrder (asked_in before ++ p.sections.questions) (placed_in before) p.placed
+pub record IsReadAfter (before : List StatedMessage) (p : StatedMessage) : Type 0 where
+  pub message : IsMessageAfter before p.octets p.sections
+  pub stated : AnswersState (length before + 1) p.octets p.sections.answers p.placed
+  pub order : ComeInOrder (asked_in before ++ p.sections.questions) (placed_in before) p.placed
 
 -- messages are read, each after those before it
 abbrev pub AreRead : List StatedMessage → List StatedMessage → Type 0
 AreRead before [] = ⊤
-AreRead before (p ∷ messages) = IsReadBehind before p × AreRead (before ++ p ∷ []) messages
+AreRead before (p ∷ messages) = IsReadAfter before p × AreRead (before ++ p ∷ []) messages
 
 -- The first fault of a message after others and the offset at which it stands, and the records that
 -- are read before it: of its structure; its ID; a question; an answer.
-pub data FaultBehind (before : List StatedMessage)
+pub data FaultAfter (before : List StatedMessage)
     (octets : List ℕ) : List Placed → Fault → ℕ → Type 0 where
   of_structure : (fault : Fault) (offset : ℕ) → MessageFault octets fault offset
-      → FaultBehind before octets [] fault offset
+      → FaultAfter before octets [] fault offset
   of_id : (s : Sections) → IsMessage octets s → (HasFirstId before s → ⊥)
-      → FaultBehind before octets [] IdMismatch 0
+      → FaultAfter before octets [] IdMismatch 0
   of_questions : (s : Sections) → IsMessage octets s → HasFirstId before s
-      → (AskBehind before s → ⊥) → FaultBehind before octets [] BadQuestion 12
+      → (AskAfter before s → ⊥) → FaultAfter before octets [] BadQuestion 12
   of_answers : (s : Sections) (placed : List Placed) (fault : Fault) (offset : ℕ)
-      → IsMessageBehind before octets s
+      → IsMessageAfter before octets s
       → FirstAnswerFault (length before + 1) octets (asked_in before ++ s.questions)
       (placed_in before) s.answers placed fault offset
-      → FaultBehind before octets placed fault offset
+      → FaultAfter before octets placed fault offset
 
 -- all of these octets are messages that are read after others, and state the records
 pub record AllRead (before : List StatedMessage) (messages : List (List ℕ))
@@ -97,16 +97,16 @@ pub record ReadUpTo (before : List StatedMessage) (messages : List (List ℕ)) (
   pub fault : Fault
   pub offset : ℕ
   pub read : AreRead before parts
-  pub next : FaultBehind (before ++ parts) octets here fault offset
+  pub next : FaultAfter (before ++ parts) octets here fault offset
   pub whole : messages ≡ octets_in parts ++ octets ∷ rest
   pub stated : placed ≡ placed_in parts ++ here
   pub place : e ≡ (fault, Message (length (before ++ parts) + 1) offset)
 
 -- the records of messages after others up to the first fault, and that fault with its place, or
 -- none
-abbrev pub ReadBehind : List StatedMessage → List (List ℕ) → List Placed → Option (Fault × Place)
+abbrev pub ReadAfter : List StatedMessage → List (List ℕ) → List Placed → Option (Fault × Place)
     → Type 0
-ReadBehind before messages placed ending =
+ReadAfter before messages placed ending =
     MatchOption ending (AllRead before messages placed) (λ e. ReadUpTo before messages placed e)
 
 -- the ID of the first of messages, and the opening SOA, which is the first of records
@@ -139,19 +139,19 @@ pub data StreamEnd (number : ℕ) (placed : List Placed) (rest : List ℕ)
 
 -- what is decided once this much of a stream is known: the records of its whole frames up to their
 -- first fault, and that fault with its place
-pub record Decided (stream : List ℕ) (placed : List Placed)
+pub record StreamDecides (stream : List ℕ) (placed : List Placed)
     (ending : Option (Fault × Place)) : Type 0 where
   pub messages : List (List ℕ)
   pub rest : List ℕ
   pub framed : IsFramed stream messages rest
   pub all : List Placed
-  pub read : ReadBehind [] messages all ending
+  pub read : ReadAfter [] messages all ending
   pub stated : placed ≡ handed_on all
 
 -- what a whole stream is read as: what its frames decide, and where none has a fault, how it ends
 pub record StreamReads (stream : List ℕ) (placed : List Placed)
     (ending : Option (Fault × Place)) : Type 0 where
   pub first : Option (Fault × Place)
-  pub frames : Decided stream placed first
+  pub frames : StreamDecides stream placed first
   pub ends : MatchOption first
       (StreamEnd (length frames.messages + 1) frames.all frames.rest ending) (λ e. ending ≡ Some e)

@@ -16,24 +16,24 @@ octets_between octets start end = take (end - start) (drop start octets)
 
 -- The value of a field stands from one offset to another: a name as names stand in messages, every
 -- other value by its octets (RFC 1035 3.3).
-abbrev pub StandsAt : List ℕ → ℕ → ℕ → FieldValue → Type 0
-StandsAt octets start end (name labels) =
+abbrev pub IsValueAt : List ℕ → ℕ → ℕ → FieldValue → Type 0
+IsValueAt octets start end (name labels) =
     (found : Found) × IsNameAt octets start found × (found.labels ≡ labels) × (found.end ≡ end)
-StandsAt octets start end value =
+IsValueAt octets start end value =
     (start ≤ end) × (octets_between octets start end ≡ field_octets value)
 
 -- values stand one after another from one offset to another
-abbrev pub StandEach : List ℕ → ℕ → ℕ → List FieldValue → Type 0
-StandEach octets start end [] = start ≡ end
-StandEach octets start end (v ∷ values) =
-    (next : ℕ) × (next ≤ end) × StandsAt octets start next v × StandEach octets next end values
+abbrev pub AreValuesAt : List ℕ → ℕ → ℕ → List FieldValue → Type 0
+AreValuesAt octets start end [] = start ≡ end
+AreValuesAt octets start end (v ∷ values) =
+    (next : ℕ) × (next ≤ end) × IsValueAt octets start next v × AreValuesAt octets next end values
 
 -- the canonical octets of the values that stand there for the fields of a layout
 pub record AreFieldsAt (octets : List ℕ) (start end : ℕ) (fields : List Field)
     (canonical : List ℕ) : Type 0 where
   pub values : List FieldValue
   pub held : HoldEach fields values
-  pub stand : StandEach octets start end values
+  pub stand : AreValuesAt octets start end values
   pub whole : canonical ≡ octets_of values
 
 -- the canonical octets of a record's data: of the values of its layout, or the octets as they are
@@ -56,7 +56,7 @@ abbrev pub IsReadable : ℕ → Type 0
 IsReadable kind = AllByRecursion (λ k. kind ≢ k) compressible
 
 -- an answer of a message states a record
-pub record StatesRecord (octets : List ℕ) (a : RecordAt) (r : Record) : Type 0 where
+pub record AnswerStates (octets : List ℕ) (a : RecordAt) (r : Record) : Type 0 where
   pub owner : r.owner ≡ a.owner
   pub class : r.class ≡ a.class
   pub kind : r.kind ≡ a.kind
@@ -66,12 +66,12 @@ pub record StatesRecord (octets : List ℕ) (a : RecordAt) (r : Record) : Type 0
   pub readable : IsReadable a.kind
 
 -- each answer of the message of this number states its record, which stands at the answer's offset
-abbrev pub StateEach : ℕ → List ℕ → List RecordAt → List Placed → Type 0
-StateEach number octets [] [] = ⊤
-StateEach number octets (a ∷ answers) (p ∷ placed) =
-    StatesRecord octets a p.rr × (p.place ≡ Message number a.offset)
-    × StateEach number octets answers placed
-StateEach number octets answers placed = ⊥
+abbrev pub AnswersState : ℕ → List ℕ → List RecordAt → List Placed → Type 0
+AnswersState number octets [] [] = ⊤
+AnswersState number octets (a ∷ answers) (p ∷ placed) =
+    AnswerStates octets a p.rr × (p.place ≡ Message number a.offset)
+    × AnswersState number octets answers placed
+AnswersState number octets answers placed = ⊥
 
 -- a message of a stream, what stands in it, and the records that its answers state
 pub record StatedMessage : Type 0 where
@@ -92,7 +92,7 @@ pub record IsStatedMessage (id : ℕ) (zone : Record) (number : ℕ) (p : Stated
   pub message : IsMessage p.octets p.sections
   pub same_id : p.sections.id ≡ id
   pub questions : AllByRecursion (AsksFor zone) p.sections.questions
-  pub answers : StateEach number p.octets p.sections.answers p.placed
+  pub answers : AnswersState number p.octets p.sections.answers p.placed
 
 abbrev pub AreStatedMessages : ℕ → Record → ℕ → List StatedMessage → Type 0
 AreStatedMessages id zone number [] = ⊤

@@ -1,6 +1,6 @@
--- The places of a walk along a name in a message, and what stands there (RFC 1035 3.1, 4.1.4).
-use Rattle.std.specs.Prelude.{ℕ, ◌+◌, List, [], ◌∷◌, length, slice_index, nat_le, nat_lt, nat_eq, ◌||◌, if◌then◌else◌, Option, Some, None}
-use Rattle.zone_wire.specs.Name.{target_at}
+-- The walk along a name in a message: its places, and what stands there (RFC 1035 3.1, 4.1.4).
+use Rattle.std.specs.Prelude.{◌≡◌, ℕ, ◌+◌, ◌<◌, ◌≤◌, ◌⊎◌, List, [], ◌∷◌, length, slice_index, Option, Some, None}
+use Rattle.zone_wire.specs.Name.{target_at, IsLabelAt, IsPointerAt}
 use Rattle.zone_rdata.specs.declared.fault.Fault.{Fault}
 use Rattle.zone_rdata.specs.declared.fault.Fault.TheVariants.{ShortMessage, NameTooLong, ReservedLabel, BadPointer, TooManyPointers}
 
@@ -25,35 +25,59 @@ pub record Spot : Type 0 where
   pub pointers : ℕ
   pub octets : ℕ
 
--- a label: its octets lie in the message, and with it and the root the name has at most 255 octets
-abbrev pub label_of : List ℕ → Spot → ℕ → Standing
-label_of message spot size =
-    if nat_le (length message) (spot.offset + size) then at_fault ShortMessage
-    else if nat_lt 255 (spot.octets + size + 2) then at_fault NameTooLong
-    else at_label size
+-- where the walk of the name at an offset begins
+abbrev pub outset : ℕ → Spot
+outset offset = record { offset = offset; bound = offset; pointers = 0; octets = 0 }
 
--- a pointer: its two octets lie in the message, its target is past the header and below the bound,
--- and it is at most the 128th
-abbrev pub pointer_of : List ℕ → Spot → ℕ → Standing
-pointer_of message spot target =
-    if nat_le (length message) (spot.offset + 1) then at_fault ShortMessage
-    else if nat_lt target 12 || nat_le spot.bound target then at_fault BadPointer
-    else if nat_le 128 spot.pointers then at_fault TooManyPointers
-    else at_pointer target
+abbrev pub past_label : Spot → ℕ → Spot
+past_label spot size =
+    record spot { offset = spot.offset + 1 + size; octets = spot.octets + 1 + size }
 
--- what stands at a place that lies in the message, by its first octet
-abbrev pub standing_at : List ℕ → Spot → Standing
-standing_at message spot =
-    let first : ℕ = slice_index message spot.offset in
-    if nat_eq first 0 then at_root
-    else if nat_le first 63 then label_of message spot first
-    else if nat_lt first 192 then at_fault ReservedLabel
-    else pointer_of message spot (target_at message spot.offset)
+abbrev pub past_pointer : Spot → ℕ → Spot
+past_pointer spot target =
+    record spot { offset = target; bound = target; pointers = spot.pointers + 1 }
 
--- what stands at a place, none where it doesn't lie in the message
-unfoldable pub place_of : List ℕ → Spot → Option Standing
-place_of message spot =
-    if nat_le (length message) spot.offset then None else Some (standing_at message spot)
+abbrev pub visit : Spot → Standing → Visit
+visit spot standing = record { offset = spot.offset; standing = standing }
+
+-- The fault at a place: a label or a pointer that isn't whole in the message; a label with which,
+-- and the root, the name has more than 255 octets; a first octet of 64 to 191; a pointer to the
+-- header, or to the bound or after it; or the 129th pointer.
+pub data FaultHere (message : List ℕ) (spot : Spot) : Fault → Type 0 where
+  cut_label : 0 < slice_index message spot.offset → slice_index message spot.offset ≤ 63
+      → length message ≤ spot.offset + slice_index message spot.offset
+      → FaultHere message spot ShortMessage
+  long_name : (size : ℕ) → IsLabelAt message spot.offset size → 255 < spot.octets + size + 2
+      → FaultHere message spot NameTooLong
+  reserved : 64 ≤ slice_index message spot.offset → slice_index message spot.offset < 192
+      → FaultHere message spot ReservedLabel
+  cut_pointer : 192 ≤ slice_index message spot.offset → length message ≤ spot.offset + 1
+      → FaultHere message spot ShortMessage
+  bad_target : 192 ≤ slice_index message spot.offset → spot.offset + 1 < length message
+      → (target_at message spot.offset < 12) ⊎ (spot.bound ≤ target_at message spot.offset)
+      → FaultHere message spot BadPointer
+  too_many : (target : ℕ) → IsPointerAt message spot.offset spot.bound target
+      → 128 ≤ spot.pointers → FaultHere message spot TooManyPointers
+
+-- The places from one on, up to the root, to a fault, or to a place outside the message: after a
+-- label comes the place after it, and after a pointer the one to which it leads.
+pub data Walks (message : List ℕ) : Spot → List Visit → Type 0 where
+  outside : (spot : Spot) → length message ≤ spot.offset → Walks message spot []
+  to_root : (spot : Spot) → spot.offset < length message → slice_index message spot.offset ≡ 0
+      → Walks message spot (visit spot at_root ∷ [])
+  to_fault : (spot : Spot) (fault : Fault) → FaultHere message spot fault
+      → Walks message spot (visit spot (at_fault fault) ∷ [])
+  over_label : (spot : Spot) (size : ℕ) (visits : List Visit) → IsLabelAt message spot.offset size
+      → spot.octets + size + 2 ≤ 255 → Walks message (past_label spot size) visits
+      → Walks message spot (visit spot (at_label size) ∷ visits)
+  by_pointer : (spot : Spot) (target : ℕ) (visits : List Visit)
+      → IsPointerAt message spot.offset spot.bound target → spot.pointers < 128
+      → Walks message (past_pointer spot target) visits
+      → Walks message spot (visit spot (at_pointer target) ∷ visits)
+
+-- the places of the name at an offset
+abbrev pub IsWalk : List ℕ → ℕ → List Visit → Type 0
+IsWalk message start visits = Walks message (outset start) visits
 
 -- The fault with which a walk ends, none where it ends at the root. One that ends at no fault and
 -- no root ends before a place outside the message.
@@ -66,3 +90,9 @@ ending (last ∷ visits) =
       | at_pointer target ↦ ending visits
       | at_fault fault ↦ Some fault
     ]
+
+-- the walk of the name at an offset ends with a fault
+pub record NameFault (message : List ℕ) (start : ℕ) (fault : Fault) : Type 0 where
+  pub visits : List Visit
+  pub walk : IsWalk message start visits
+  pub ends : ending visits ≡ Some fault

@@ -108,11 +108,11 @@ impl<'m> Model for Answers<'m> {
 
     ghost Value = { List RawRecord };
 
-    ghost use Rattle.zone_wire.specs.Machine.Parsing.{raw_from, StandFrom};
+    ghost use Rattle.zone_wire.specs.Machine.Parsing.{raw_from, HasRecordsFrom};
 
     ghost view = { λ a. raw_from a.message.now a.left a.offset };
 
-    ghost invariant = { λ a. StandFrom a.message.now a.left a.offset };
+    ghost invariant = { λ a. HasRecordsFrom a.message.now a.left a.offset };
 }
 
 impl<'m> Iterator for Answers<'m> {

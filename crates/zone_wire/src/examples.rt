@@ -1,6 +1,6 @@
 //! Names in messages, zone transfers and the faults of both, computed from the definitions.
 ghost use Rattle.std.specs.Prelude.{◌∷◌, ◌++◌, [], Some, None};
-ghost use Rattle.zone_wire.specs.Examples.{behind_zeros, chain, labels_a, longest_walk, root_soa, soa_message, placed_soa, WalkEnds, answer_header, numbers, question_x, opening_x, server_x, record_of_class, record_x, closing_x, ends_with, message_with, small_body, small_message, first_message, second_message, soa_x, ns_x, srv_x, naptr_x, address_n, placed_at, small_records};
+ghost use Rattle.zone_wire.specs.Examples.{after_zeros, chain, labels_a, longest_walk, root_soa, soa_message, placed_soa, WalkEnds, answer_header, numbers, question_x, opening_x, server_x, record_of_class, record_x, closing_x, ends_with, message_with, small_body, small_message, first_message, second_message, soa_x, ns_x, srv_x, naptr_x, address_n, placed_at, small_records};
 ghost use Rattle.std.specs.List.{AllByRecursion};
 ghost use Rattle.zone_wire.specs.Name.{IsNameAt};
 ghost use Rattle.zone_wire.specs.Stream.{StreamReads};
@@ -12,13 +12,13 @@ use crate::laws::a_transfer_is_read;
 
 /// `A.x.` by a pointer after `X.`: letters are folded, and the name ends after the pointer.
 pub fn a_compressed_name()
-    ensures { IsNameAt (behind_zeros (1 ∷ 88 ∷ 0 ∷ 1 ∷ 65 ∷ 192 ∷ 12 ∷ [])) 15
+    ensures { IsNameAt (after_zeros (1 ∷ 88 ∷ 0 ∷ 1 ∷ 65 ∷ 192 ∷ 12 ∷ [])) 15
         (record { labels = (97 ∷ []) ∷ (120 ∷ []) ∷ []; end = 19; steps = 4; pointers = 1 }) }
 {}
 
 /// The root, a name of no label.
 pub fn the_root()
-    ensures { IsNameAt (behind_zeros (0 ∷ [])) 12
+    ensures { IsNameAt (after_zeros (0 ∷ [])) 12
         (record { labels = []; end = 13; steps = 1; pointers = 0 }) }
 {}
 

@@ -12,14 +12,13 @@ ghost use Rattle.zone_wire.specs.Name.{Found, IsNameAt};
 ghost use Rattle.zone_wire.specs.Transfer.{IsDataAt, StreamStates};
 ghost use Rattle.zone_wire.specs.DataFault.{DataFault};
 ghost use Rattle.zone_wire.specs.MessageFault.{MessageFault};
-ghost use Rattle.zone_wire.specs.Stream.{StreamReads, Decided};
+ghost use Rattle.zone_wire.specs.Stream.{StreamReads, StreamDecides};
 ghost use Rattle.zone_rdata.specs.Record.{IsRecord};
 ghost use Rattle.zone_rdata.specs.declared.fault.Fault.{Fault};
 ghost use Rattle.zone_rdata.specs.declared.fault.Place.{Place};
 ghost use Rattle.zone_rdata.specs.declared.record.Placed.{Placed};
 ghost use Rattle.zone_wire.specs.Visits.{labels_in, pointers_in, LeadToLast};
-ghost use Rattle.zone_wire.specs.Walk.{Visit, ending};
-ghost use Rattle.zone_wire.specs.WholeWalk.{IsWalk};
+ghost use Rattle.zone_wire.specs.Walk.{Visit, ending, IsWalk};
 
 /// At most one name stands at an offset of a message.
 pub fn one_name_at_an_offset()
@@ -97,7 +96,7 @@ pub fn one_reading_of_a_stream()
         × (ending ≡ late) }
     ensures decided { (stream : Octets) (placed other : List Placed)
         (ending late : Option (Fault × Place))
-        → Decided stream placed ending → Decided stream other late → (placed ≡ other)
+        → StreamDecides stream placed ending → StreamDecides stream other late → (placed ≡ other)
         × (ending ≡ late) }
 {}
 
@@ -108,7 +107,7 @@ pub fn each_stream_is_read()
         × StreamReads stream placed ending }
     ensures decided { (stream : Octets) → ((i : ℕ) → slice_index stream i < 256)
         → (placed : List Placed) × (ending : Option (Fault × Place))
-        × Decided stream placed ending }
+        × StreamDecides stream placed ending }
 {}
 
 /// The records that are decided for a stream begin those of every longer one, and a decided fault
@@ -116,12 +115,12 @@ pub fn each_stream_is_read()
 pub fn what_is_decided_stays()
     ensures records { (stream more : Octets) (placed other : List Placed)
         (ending late : Option (Fault × Place))
-        → Decided stream placed ending → Decided (stream ++ more) other late
+        → StreamDecides stream placed ending → StreamDecides (stream ++ more) other late
         → (rest : List Placed) × (other ≡ placed ++ rest) }
     ensures fault { (stream more : Octets) (placed other : List Placed) (e : Fault × Place)
         (late : Option (Fault × Place))
-        → Decided stream placed (Some e) → Decided (stream ++ more) other late → (other ≡ placed)
-        × (late ≡ Some e) }
+        → StreamDecides stream placed (Some e) → StreamDecides (stream ++ more) other late
+        → (other ≡ placed) × (late ≡ Some e) }
 {}
 
 /// The records that are decided for a stream begin those that every longer one is read as, and a
@@ -129,11 +128,11 @@ pub fn what_is_decided_stays()
 pub fn what_is_decided_is_read()
     ensures records { (stream more : Octets) (placed other : List Placed)
         (ending late : Option (Fault × Place))
-        → Decided stream placed ending → StreamReads (stream ++ more) other late
+        → StreamDecides stream placed ending → StreamReads (stream ++ more) other late
         → (rest : List Placed) × (other ≡ placed ++ rest) }
     ensures fault { (stream more : Octets) (placed other : List Placed) (e : Fault × Place)
         (late : Option (Fault × Place))
-        → Decided stream placed (Some e) → StreamReads (stream ++ more) other late
+        → StreamDecides stream placed (Some e) → StreamReads (stream ++ more) other late
         → (other ≡ placed) × (late ≡ Some e) }
 {}
 

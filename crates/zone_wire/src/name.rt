@@ -1,9 +1,8 @@
 ghost use Rattle.std.specs.Prelude.{◌≡◌, ◌<◌, ◌≤◌, ℕ, [], length, IfOk, IfErr, IsOk, MatchResult, List};
 ghost use Rattle.zone_wire.specs.Name.{Found, IsNameAt, found_by};
 ghost use Rattle.zone_wire.specs.Machine.Finding.{Says, Tells, outcome};
+ghost use Rattle.zone_wire.specs.Walk.{Visit, IsWalk, NameFault};
 ghost use Rattle.zone_wire.specs.Machine.Walk.{walk};
-ghost use Rattle.zone_wire.specs.Walk.{Visit};
-ghost use Rattle.zone_wire.specs.WholeWalk.{IsWalk, NameFault};
 
 use crate::place::{Spot, Standing, place_at};
 use crate::ticks::Ticks;

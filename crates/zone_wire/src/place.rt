@@ -1,8 +1,8 @@
 ghost use Rattle.std.specs.Prelude.{◌≡◌, ◌+◌, ◌^◌, ◌<◌, ◌≤◌, length, slice_index, Some};
 ghost use Rattle.zone_wire.specs.Name.{target_at};
 ghost use Rattle.zone_wire.specs.Machine.Place.{spot_of, standing_of, ticks_at};
-ghost use Rattle.zone_wire.specs.Walk.{place_of, label_of, pointer_of};
-ghost use Rattle.zone_wire.specs.Machine.Walk.{outset, past_label, past_pointer};
+ghost use Rattle.zone_wire.specs.Walk.{outset, past_label, past_pointer};
+ghost use Rattle.zone_wire.specs.Machine.Walk.{place_of, label_of, pointer_of};
 
 use crate::number::u16_at;
 use crate::ticks::Ticks;
@@ -61,7 +61,7 @@ pub(crate) enum Standing {
 
 /// What stands at a place, by its first octet. Where there is one, it counts a step before it looks
 /// at it.
-#[tactic(auto, unfolding(crate::specs::Walk::place_of))]
+#[tactic(auto, unfolding(crate::specs::Machine::Walk::place_of))]
 pub(crate) fn place_at(message: &[u8], spot: Spot, ticks: &mut Ticks) -> Standing
     requires octets { spot.octets < 256 }
     requires ticks { ticks.old < 256 }

@@ -4,7 +4,7 @@ ghost use Rattle.zone_rdata.specs.Fault.{IfFault};
 ghost use Rattle.zone_rdata.specs.Record.{Record};
 ghost use Rattle.zone_rdata.specs.Words.{IsClass, IsKind};
 ghost use Rattle.zone_wire.specs.AnswerFault.{OwnFault};
-ghost use Rattle.zone_wire.specs.Transfer.{IsReadable, StatesRecord, ttl_of};
+ghost use Rattle.zone_wire.specs.Transfer.{IsReadable, AnswerStates, ttl_of};
 
 use crate::answers::RawRr;
 use crate::octets::are_octets;
@@ -70,8 +70,8 @@ impl<'m> RawRr<'m> {
     /// data: `BadRdata`, or a name's `ShortMessage`, `ReservedLabel`, `BadPointer`,
     /// `TooManyPointers` or `NameTooLong`; and `Failing::Memory` for want of memory.
     pub fn to_rr(&self, alloc: Global) -> Result<Rr, Failing>
-        ensures found { IfOk result (StatesRecord self.now.octets self.now.at) }
-        ensures only { (r : Record) → StatesRecord self.now.octets self.now.at r
+        ensures found { IfOk result (AnswerStates self.now.octets self.now.at) }
+        ensures only { (r : Record) → AnswerStates self.now.octets self.now.at r
             → IfOk result (λ s. s ≡ r) × IfErr result (λ e. e ≡ Failing.Memory) }
         ensures fault { IfErr result (IfFault (OwnFault self.now.octets self.now.at)) }
     {
@@ -80,8 +80,8 @@ impl<'m> RawRr<'m> {
 
     /// `to_rr`, with an answer of few octets.
     pub(crate) fn read(&self, alloc: Global) -> Result<Rr, NarrowFailing>
-        ensures found { IfOk result (StatesRecord self.now.octets self.now.at) }
-        ensures only { (r : Record) → StatesRecord self.now.octets self.now.at r
+        ensures found { IfOk result (AnswerStates self.now.octets self.now.at) }
+        ensures only { (r : Record) → AnswerStates self.now.octets self.now.at r
             → IfOk result (λ s. s ≡ r) × IfErr result (λ e. e ≡ Failing.Memory) }
         ensures fault { IfErr result (IfFault (OwnFault self.now.octets self.now.at)) }
     {

@@ -89,7 +89,7 @@ fn question_end(message: &[u8], offset: usize) -> Result<usize, Cause>
     Ok(end + 4)
 }
 
-/// The offset after the record at an offset: its name, type, class, TTL, and its data behind its length (RFC 1035 4.1.3).
+/// The offset after the record at an offset: its name, type, class, TTL, and its data after its length (RFC 1035 4.1.3).
 fn record_end(message: &[u8], offset: usize) -> Result<usize, Cause>
     ensures { end_or_fault result ≡ part_end_of (λ r. r.end) (record_at message.now offset) }
 {

@@ -8,9 +8,9 @@ ghost use Rattle.zone_rdata.specs.declared.fault.Place.TheVariants.{Message as i
 ghost use Rattle.zone_rdata.specs.declared.record.Placed.{Placed};
 ghost use Rattle.zone_wire.specs.AnswerFault.{AnswerFault};
 ghost use Rattle.zone_wire.specs.Machine.Answers.{agrees, order_fault, same_name, same_record};
-ghost use Rattle.zone_wire.specs.Machine.Transferring.{zone_held, zone_with, Among, Behind, Gains, Takes, TakesEach, TakesHead, HeadFault, TakesMessage, ReadsNext};
+ghost use Rattle.zone_wire.specs.Machine.Transferring.{zone_held, zone_with, Among, IsAfter, Gains, Takes, TakesEach, TakesHead, HeadFault, TakesMessage, ReadsNext};
 ghost use Rattle.zone_wire.specs.Message.{QuestionAt};
-ghost use Rattle.zone_wire.specs.Transfer.{StatesRecord, StatedMessage};
+ghost use Rattle.zone_wire.specs.Transfer.{AnswerStates, StatedMessage};
 
 use crate::answers::RawRr;
 use crate::message::Message;
@@ -50,7 +50,7 @@ pub(crate) struct Transfer {
 impl Transfer {
     /// No message yet.
     pub(crate) fn new(alloc: Global) -> Transfer
-        ensures behind { Behind [] result }
+        ensures after { IsAfter [] result }
         ensures none { result.decided.ending ≡ None }
         ensures records { result.decided.placed ≡ [] }
     {
@@ -79,7 +79,7 @@ impl Transfer {
         requires going { self.old.decided.ending ≡ None }
         requires fits { self.old.messages + 1 < 2 ^ 64 }
         requires short { length octets.now ≤ 65535 }
-        ensures next { OnOk result ((before : List StatedMessage) → Behind before self.old
+        ensures next { OnOk result ((before : List StatedMessage) → IsAfter before self.old
             → ReadsNext octets.now before self.old self.new) }
         ensures count { OnOk result (self.new.messages ≤ self.old.messages + 1) }
     {
@@ -113,7 +113,7 @@ impl Transfer {
     fn take_message(&mut self, octets: &[u8]) -> Result<(), (NarrowFailing, usize)>
         requires fits { self.old.messages + 1 < 2 ^ 64 }
         requires short { length octets.now ≤ 65535 }
-        ensures taken { (before : List StatedMessage) → Behind before self.old
+        ensures taken { (before : List StatedMessage) → IsAfter before self.old
             → TakesMessage octets.now before result self.old self.new }
         ensures ending { self.new.decided.ending ≡ self.old.decided.ending }
         ensures count { self.new.messages ≤ self.old.messages + 1 }
@@ -131,9 +131,9 @@ impl Transfer {
     /// Counts a message, and takes its ID and its question.
     fn take_head(&mut self, message: &Message<'_>) -> Result<(), (Cause, usize)>
         requires { self.old.messages + 1 < 2 ^ 64 }
-        ensures taken { OnOk result ((before : List StatedMessage) → Behind before self.old
+        ensures taken { OnOk result ((before : List StatedMessage) → IsAfter before self.old
             → TakesHead before message.now.sections self.old self.new) }
-        ensures fault { IfErr result (λ e. (before : List StatedMessage) → Behind before self.old
+        ensures fault { IfErr result (λ e. (before : List StatedMessage) → IsAfter before self.old
             → HeadFault before message.now.sections (fault_for e.0, e.1)) }
         ensures decided { self.new.decided ≡ self.old.decided }
         ensures count { self.new.messages ≤ self.old.messages + 1 }
@@ -239,7 +239,7 @@ impl Transfer {
 
     /// Takes the record that an answer states after those before it.
     fn take_record(&mut self, rr: Rr, answer: &RawRr<'_>) -> Result<(), AllocError>
-        requires { StatesRecord answer.now.octets answer.now.at rr }
+        requires { AnswerStates answer.now.octets answer.now.at rr }
         ensures gains { OnOk result ((questions : List QuestionAt) (placed : List Placed)
             → Among questions placed self.old
             → Gains (record { rr = rr; place = in_message self.old.messages answer.now.at.offset }

@@ -134,6 +134,6 @@ fault_told words (Clap told) h memory = λ call calls. let e : Clap told ≡ Mem
 fault_told words Memory h memory = tt
 
 -- the texts of all words but the first
-pub map_behind : {X Y : Type 0} (f : X → Y) (xs : List X) → map f (take (length xs - 1) (drop 1 xs)) ≡ drop 1 (map f xs)
-map_behind f [] = refl
-map_behind f (x ∷ xs) = ap (map f) (take_all (length (x ∷ xs) - 1) xs (omega arith))
+pub map_after : {X Y : Type 0} (f : X → Y) (xs : List X) → map f (take (length xs - 1) (drop 1 xs)) ≡ drop 1 (map f xs)
+map_after f [] = refl
+map_after f (x ∷ xs) = ap (map f) (take_all (length (x ∷ xs) - 1) xs (omega arith))

@@ -108,13 +108,13 @@ pub ends_second : (records others left right left' : List Record) (r : Record) (
 ends_second records others left right left' r number walked first none =
     differ_at records others left right number walked (rw (first, none) (λ same. cc))
 
-is_record_behind : (front left : List Record) (r : Record) → AllByRecursion IsRecord (front ++ r ∷ left) → IsRecord r
-is_record_behind [] left r each = each.0
-is_record_behind (s ∷ front) left r each = is_record_behind front left r each.1
+is_record_after : (front left : List Record) (r : Record) → AllByRecursion IsRecord (front ++ r ∷ left) → IsRecord r
+is_record_after [] left r each = each.0
+is_record_after (s ∷ front) left r each = is_record_after front left r each.1
 
 is_record_at : (records front left left' : List Record) (r : Record) → AllByRecursion IsRecord records → records ≡ front ++ left → left ≡ r ∷ left' → IsRecord r
 is_record_at records front left left' r each split first =
-    is_record_behind front left' r (subst (AllByRecursion IsRecord) (split ∙ ap (λ rs. front ++ rs) first) each)
+    is_record_after front left' r (subst (AllByRecursion IsRecord) (split ∙ ap (λ rs. front ++ rs) first) each)
 
 differing_lines : (r s : Record) (left right : List Record) → (line r ≡ line s → r ≡ s) → (r ≡ s → ⊥) → slice_get (map line (r ∷ left)) 0 ≢ slice_get (map line (s ∷ right)) 0
 differing_lines r s left right exact other same = let one : line r ≡ line s = cc in other (exact one)

@@ -44,7 +44,7 @@ refuses_on placed later ending last _ _ on (by_ending fault place all is) =
     unread fault place (subst AllAccepted (sym same.0) all) (same.1 ∙ is)
 
 abbrev FilesGoOn : Type 0
-FilesGoOn = (origin : List (List ℕ)) (octets more : List ℕ) (placed later : List Placed) (ending last : Ending) → file_decides.Decided origin octets placed ending → FileReads origin (octets ++ more) later last → Stays placed ending later last
+FilesGoOn = (origin : List (List ℕ)) (octets more : List ℕ) (placed later : List Placed) (ending last : Ending) → file_decides.FileDecides origin octets placed ending → FileReads origin (octets ++ more) later last → Stays placed ending later last
 
 abbrev FilesAreRead : Type 0
 FilesAreRead = (origin : List (List ℕ)) (octets : List ℕ) → IsName origin → AllByRecursion (λ c. c < 256) octets → (placed : List Placed) × ((ending : Ending) × FileReads origin octets placed ending)
@@ -53,10 +53,10 @@ abbrev StreamsAreRead : Type 0
 StreamsAreRead = (stream : List ℕ) → ((i : ℕ) → get_or stream i 0 < 256) → (placed : List Placed) × (ending : Ending) × StreamReads stream placed ending
 
 abbrev RecordsGoOn : Type 0
-RecordsGoOn = (stream more : List ℕ) (placed other : List Placed) (ending late : Ending) → stream_decides.Decided stream placed ending → StreamReads (stream ++ more) other late → (rest : List Placed) × (other ≡ placed ++ rest)
+RecordsGoOn = (stream more : List ℕ) (placed other : List Placed) (ending late : Ending) → stream_decides.StreamDecides stream placed ending → StreamReads (stream ++ more) other late → (rest : List Placed) × (other ≡ placed ++ rest)
 
 abbrev FaultsStay : Type 0
-FaultsStay = (stream more : List ℕ) (placed other : List Placed) (e : Fault × Place) (late : Ending) → stream_decides.Decided stream placed (Some e) → StreamReads (stream ++ more) other late → (other ≡ placed) × (late ≡ Some e)
+FaultsStay = (stream more : List ℕ) (placed other : List Placed) (e : Fault × Place) (late : Ending) → stream_decides.StreamDecides stream placed (Some e) → StreamReads (stream ++ more) other late → (other ≡ placed) × (late ≡ Some e)
 
 module _ (files : FilesAreRead) (files_go : FilesGoOn) (streams : StreamsAreRead) (records_go : RecordsGoOn) (faults : FaultsStay) where
   refused_whole : (form : InputForm) (front more : List ℕ) (placed : List Placed) (ending : Ending) (fault : Fault) (place : Place) → IsForm form → AllByRecursion (λ c. c < 256) (front ++ more) → Decides (input_of form front) placed ending → RefusesFront placed ending fault place → RefusesRead (input_of form (front ++ more)) fault place
@@ -76,7 +76,7 @@ module _ (files : FilesAreRead) (files_go : FilesGoOn) (streams : StreamsAreRead
         ending = last;
         reads = reads;
         refuses = refuses_on placed later ending last fault place
-            (records_go front more placed later ending last decides reads, λ e is. let same = faults front more placed later e last (subst (stream_decides.Decided front placed) is decides) reads in (same.0, same.1 ∙ sym is)) refuses;
+            (records_go front more placed later ending last decides reads, λ e is. let same = faults front more placed later e last (subst (stream_decides.StreamDecides front placed) is decides) reads in (same.0, same.1 ∙ sym is)) refuses;
       }
 
   pub refused_by_front : (form : InputForm) (octets front more : List ℕ) (placed : List Placed) (ending : Ending) (fault : Fault) (place : Place) → IsForm form → AllByRecursion (λ c. c < 256) octets → octets ≡ front ++ more → Decides (input_of form front) placed ending → RefusesFront placed ending fault place → RefusesRead (input_of form octets) fault place

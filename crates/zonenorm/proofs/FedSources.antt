@@ -8,7 +8,7 @@ use Rattle.zone_rdata.specs.declared.fault.Fault.{Fault}
 use Rattle.zone_rdata.specs.declared.fault.Place.{Place}
 use Rattle.zone_rdata.specs.declared.fault.Stop.{Stop}
 use Rattle.zone_rdata.specs.declared.record.Placed.{Placed}
-use Rattle.zone_text.specs.Decided.{Decided}
+use Rattle.zone_text.specs.Decided.{FileDecides}
 use Rattle.zone_text.specs.Source.{SourceState, Stands}
 use Rattle.zone_wire.specs.Source as wire
 use Rattle.zonenorm.specs.Input.{InputForm, as_file, as_transfer}
@@ -31,7 +31,7 @@ pending_is pending works empty whole =
     ∙ ap (λ ending. record { failed = false; records = []; ending = ending }) whole
 
 -- a source of a file that was fed nothing begins
-pub file_begins : ((origin : Labels) (placed : List Placed) (ending : Option (Fault × Place)) → Decided origin [] placed ending → (placed ≡ []) × (ending ≡ None)) → (origin : Labels) (source : SourceState) → Stands origin source [] [] → source.held.finished ≡ false → Begins (FileStands (as_file origin)) source.pending source.held
+pub file_begins : ((origin : Labels) (placed : List Placed) (ending : Option (Fault × Place)) → FileDecides origin [] placed ending → (placed ≡ []) × (ending ≡ None)) → (origin : Labels) (source : SourceState) → Stands origin source [] [] → source.held.finished ≡ false → Begins (FileStands (as_file origin)) source.pending source.held
 file_begins nothing origin source stands going =
     let none = nothing origin source.pending.records source.pending.ending (stands.decided going) in
     record {

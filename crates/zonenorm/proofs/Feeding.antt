@@ -14,14 +14,14 @@ use Rattle.zone_rdata.specs.declared.fault.Stop.{Stop}
 use Rattle.zone_rdata.specs.declared.fault.Stop.TheVariants.{Refused, Read, Write, Memory}
 use Rattle.zone_rdata.specs.declared.record.Placed.{Placed}
 use Rattle.zone_set.specs.Zone.{Zone}
-use Rattle.zonenorm.specs.Input.{InputForm, as_file, as_transfer, input_of, octets_of, IsInput}
+use Rattle.zonenorm.specs.Input.{InputForm, as_file, as_transfer, input_of, input_octets, IsInput}
 use Rattle.zonenorm.specs.Machine.Input.{IsForm}
 use Rattle.zonenorm.specs.Machine.Taking.{IsTaken, all_taken, Begins, ReadsZone, ReadsZoneWithin, RefusesRead}
 use Rattle.zonenorm.specs.Normalise.{IsOfBytes, IsOfReading}
 use Rattle.zonenorm.specs.Refusal.{IfRefused, IsRefusalWithin, too_long, reading}
 use Rattle.zonenorm.specs.Stops.{TellsRead}
 
-pub octets_of_input : (form : InputForm) (octets : Octets) → octets_of (input_of form octets) ≡ octets
+pub octets_of_input : (form : InputForm) (octets : Octets) → input_octets (input_of form octets) ≡ octets
 octets_of_input (as_file origin) octets = refl
 octets_of_input as_transfer octets = refl
 
@@ -111,6 +111,6 @@ no_octets [] none = refl
 no_octets (c ∷ octets) none = absurd (omega (arith, eqb-true (length (c ∷ octets)) 0 none))
 
 -- octets are an input of a form
-pub is_input : (form : InputForm) (octets : Octets) → IsForm form → AllByRecursion (λ c. c < 256) (octets_of (input_of form octets)) → IsInput (input_of form octets)
+pub is_input : (form : InputForm) (octets : Octets) → IsForm form → AllByRecursion (λ c. c < 256) (input_octets (input_of form octets)) → IsInput (input_of form octets)
 is_input (as_file origin) octets name each = (name, each)
 is_input as_transfer octets name each = each

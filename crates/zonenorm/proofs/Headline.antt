@@ -10,8 +10,7 @@ use Rattle.zone_set.specs.Zone.{IsZone, Zone}
 use Rattle.zone_print.specs.Canonical.{canon, text_limit}
 use Rattle.zone_print.specs.Denotes.{Denotes}
 use Rattle.zone_wire.specs.Name.{Found, IsNameAt}
-use Rattle.zone_wire.specs.Walk.{Visit}
-use Rattle.zone_wire.specs.WholeWalk.{IsWalk}
+use Rattle.zone_wire.specs.Walk.{Visit, IsWalk}
 use Rattle.zonenorm.specs.declared.compare.Verdict.{Verdict}
 use Rattle.zonenorm.specs.declared.compare.Verdict.TheVariants.{Different, Same}
 use Rattle.zonenorm.specs.Compare.{Compares, DifferFirstAt, IsVerdictOnTexts, line_at}

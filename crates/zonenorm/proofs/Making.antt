@@ -21,17 +21,9 @@ use Rattle.zone_set.specs.Zone.{Has, SameRecords, AreCompatible, Zone, IsZone}
 use Rattle.zone_print.specs.Canonical.{canon, text_limit}
 use Rattle.zone_print.specs.Denotes.{MakesZone}
 use Rattle.zonenorm.specs.Refusal.{RefusesReading, refused, unread, unfinished, too_large}
-use Rattle.zone_set.proofs.Together.{accepted_ttl, one_set}
+use Rattle.zone_set.proofs.Together.{accepted_ttl, one_set, each_Has, each_from_Has}
 use Rattle.zonenorm.proofs.Parting.{all_class, all_ttl, all_soa}
 use Rattle.zonenorm.proofs.Deciding.{Settled, not_settled, same_owner, is_within, some_or_none, one_or_all}
-
-each_Has : (P : Record → Type 0) (records : List Record) (r : Record) → AllByRecursion P records → Has records r → P r
-each_Has P [] r each has = absurd has
-each_Has P (s ∷ records) r each has = ⊎_elim (λ same. subst P (sym same) each.0) (λ more. each_Has P records r each.1 more) has
-
-each_from_Has : (P : Record → Type 0) (records : List Record) → ((r : Record) → Has records r → P r) → AllByRecursion P records
-each_from_Has P [] holds = tt
-each_from_Has P (s ∷ records) holds = (holds s (inl refl), each_from_Has P records (λ r has. holds r (inr has)))
 
 -- ---- the ascending list
 

@@ -1,7 +1,6 @@
 -- A reading is refused for one fault at one place, and no zone has the records of a refused one.
 use Rattle.std.proofs.Common.{◌≡◌, ℕ, ◌≤◌, List, [], ◌∷◌, ◌++◌, length, Option, Some, None, Less, refl, sym, ap, ◌∙◌, subst, inl, inr, ⊎_elim, arith}
 use Rattle.std.specs.Cmp.{IsTotalOrder}
-use Rattle.std.specs.List.{AllByRecursion}
 use Rattle.std.specs.Ordering.{ordering_reverse}
 use Rattle.zone_name.specs.Name.{IsWithin}
 use Rattle.zone_name.specs.Order.{name_cmp}
@@ -19,7 +18,7 @@ use Rattle.zone_set.specs.Zone.{Has, SameRecords, Zone, IsZone}
 use Rattle.zone_print.specs.Canonical.{canon, text_limit}
 use Rattle.zone_print.specs.Denotes.{MakesZone}
 use Rattle.zonenorm.specs.Refusal.{RefusesReading, refused, unread, unfinished, too_large}
-use Rattle.zone_set.proofs.Together.{stable_owner}
+use Rattle.zone_set.proofs.Together.{stable_owner, each_Has}
 use Rattle.zonenorm.proofs.Parting.{Partings, same, first, second, two_partings, Has-part, all_soa}
 
 -- ---- the first record that is refused
@@ -61,10 +60,6 @@ module _ (z : Zone) (placed : List Placed) (zone : IsZone z) (same_records : Sam
   in_zone : (r : Record) → Has (records_of placed) r → Has z.records r
   in_zone r has = (same_records r).1 has
 
-  each_in_zone : (P : Record → Type 0) (records : List Record) (r : Record) → AllByRecursion P records → Has records r → P r
-  each_in_zone P [] r each has = absurd has
-  each_in_zone P (s ∷ records) r each has = ⊎_elim (λ is. subst P (sym is) each.0) (λ more. each_in_zone P records r each.1 more) has
-
   zone_accepted : AllAccepted placed
   zone_accepted before others p parts = record {
     one_class = λ (s, has, other). other (zone.compatible.one_class s p.rr (earlier s has) here);
@@ -91,7 +86,7 @@ module _ (z : Zone) (placed : List Placed) (zone : IsZone z) (same_records : Sam
       let (s, has_s, owned) = least.held_owner in
       let one : least.soa ≡ r = zone.compatible.one_soa least.soa r (in_zone least.soa least.held_soa.0) has least.held_soa.1 is_soa in
       let apex : z.apex ≡ least.soa.owner = sym at ∙ sym (ap (λ t. t.owner) one) in
-      least.outside (subst (λ o. IsWithin o least.soa.owner) owned (subst (IsWithin s.owner) apex (each_in_zone (λ t. IsWithin t.owner z.apex) z.records s zone.within (in_zone s has_s))))
+      least.outside (subst (λ o. IsWithin o least.soa.owner) owned (subst (IsWithin s.owner) apex (each_Has (λ t. IsWithin t.owner z.apex) z.records s zone.within (in_zone s has_s))))
 
   zone_not_stopped : (f : Fault) (at : Place) → StopsFinish (records_of placed) (Refused f at) → ⊥
   zone_not_stopped f at stops = by (Refused f at) stops

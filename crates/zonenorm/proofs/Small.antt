@@ -1,18 +1,15 @@
 -- Records of short lists that are accepted, and names of one label that lie outside an apex of one
 -- label.
-use Rattle.std.proofs.Common.{◌≡◌, ◌≢◌, ℕ, List, [], ◌∷◌, sym, subst, ⊎_elim}
+use Rattle.std.proofs.Common.{◌≡◌, ◌≢◌, ℕ, List, [], ◌∷◌}
 use Rattle.std.specs.List.{AllByRecursion}
 use Rattle.zone_name.specs.Name.{IsWithin}
 use Rattle.zone_rdata.specs.Record.{Record}
 use Rattle.zone_rdata.specs.declared.record.Placed.{Placed}
 use Rattle.zone_set.specs.Builder.{OtherClass, OtherSoa, Accepts}
 use Rattle.zone_set.specs.Refusal.{AllAccepted}
-use Rattle.zone_set.specs.Zone.{Has, InOneSet}
+use Rattle.zone_set.specs.Zone.{InOneSet}
 use Rattle.zonenorm.proofs.Deciding.{AllAccepted-push, none_before}
-
-pub each_Has : (P : Record → Type 0) (records : List Record) (r : Record) → AllByRecursion P records → Has records r → P r
-each_Has P [] r each has = absurd has
-each_Has P (s ∷ records) r each has = ⊎_elim (λ same. subst P (sym same) each.0) (λ more. each_Has P records r each.1 more) has
+use Rattle.zone_set.proofs.Together.{each_Has}
 
 pub no_other_class : (held : List Record) (r : Record) → AllByRecursion (λ s. s.class ≡ r.class) held → OtherClass held r → ⊥
 no_other_class held r each (s, has, other) = other (each_Has (λ t. t.class ≡ r.class) held s each has)

@@ -15,7 +15,7 @@ use Rattle.zone_rdata.specs.declared.record.Placed.{Placed}
 use Rattle.zone_set.specs.Builder.{AddsEach, IsRefusedFor, leaves, TakesAll, StopsTaking, failure, memory, refused as refused_record, ending as ending_fault, StopsFinish, no_soa, outside}
 use Rattle.zone_set.specs.Refusal.{IsFirstRefused, records_of}
 use Rattle.zone_set.specs.Zone.{Zone, IsZone}
-use Rattle.zonenorm.specs.Input.{InputForm, input_of, Reads}
+use Rattle.zonenorm.specs.Input.{InputForm, input_of, InputReads}
 use Rattle.zonenorm.specs.Machine.Input.{Decides, IsForm}
 use Rattle.zonenorm.specs.Machine.Taking.{IsTaken, all_taken, front_refuses, nothing_pending, RefusesFront, by_record, by_ending, ReadsZone, RefusesRead}
 use Rattle.zonenorm.specs.Normalise.{IsOfBytes}
@@ -81,15 +81,15 @@ module _ (Beside : Type 0) (Stands : InputForm → Pending → Beside → Octets
   Decided finished = (pending : Pending) (beside : Beside) (octets : Octets) (given : List Placed) → Stands form pending beside octets given → finished beside ≡ false → Decides (input_of form octets) (given ++ pending.records) pending.ending
 
   abbrev pub ReadWhole : (Beside → Bool) → Type 0
-  ReadWhole finished = (pending : Pending) (beside : Beside) (octets : Octets) (given : List Placed) → Stands form pending beside octets given → finished beside ≡ true → Reads (input_of form octets) (given ++ pending.records) pending.ending
+  ReadWhole finished = (pending : Pending) (beside : Beside) (octets : Octets) (given : List Placed) → Stands form pending beside octets given → finished beside ≡ true → InputReads (input_of form octets) (given ++ pending.records) pending.ending
 
   abbrev pub GivesOn : Type 0
   GivesOn = (pending : Pending) (beside : Beside) (octets : Octets) (given taken others : List Placed) → Stands form pending beside octets given → pending.records ≡ taken ++ others → Stands form (leaves pending others) beside octets (given ++ taken)
 
   -- after a refusal nothing more is taken
-  pub taken_behind : (pending : Pending) (beside : Beside) (held : List Record) (refusal : Option (Fault × Place)) (octets piece : Octets) (e : Fault × Place) → refusal ≡ Some e → IsTaken (Stands form pending beside) form pending held refusal octets → IsTaken (Stands form pending beside) form pending held refusal (octets ++ piece)
-  taken_behind pending beside held refusal octets piece e is (all_taken given none stands nothing each) = absurd (not_both (sym is ∙ none))
-  taken_behind pending beside held refusal octets piece e is (front_refuses front more placed ending fault place at parts decides refuses) =
+  pub taken_after : (pending : Pending) (beside : Beside) (held : List Record) (refusal : Option (Fault × Place)) (octets piece : Octets) (e : Fault × Place) → refusal ≡ Some e → IsTaken (Stands form pending beside) form pending held refusal octets → IsTaken (Stands form pending beside) form pending held refusal (octets ++ piece)
+  taken_after pending beside held refusal octets piece e is (all_taken given none stands nothing each) = absurd (not_both (sym is ∙ none))
+  taken_after pending beside held refusal octets piece e is (front_refuses front more placed ending fault place at parts decides refuses) =
       front_refuses front (more ++ piece) placed ending fault place at (ap (λ os. os ++ piece) parts ∙ append_assoc front more piece) decides refuses
 
   module _ (p0 p1 p2 : Pending) (b0 b1 b2 : Beside) (held new : List Record) (octets piece : Octets) (refusal : Option (Fault × Place)) (none : refusal ≡ None) (fed : (given : List Placed) → Stands form p0 b0 octets given → Stands form p1 b1 (octets ++ piece) given) where
@@ -116,7 +116,7 @@ module _ (Beside : Type 0) (Stands : InputForm → Pending → Beside → Octets
     zone_read new rest z takes zone records (front_refuses front more placed ending f at is parts decided refuses) = absurd (not_both (sym is ∙ none))
     zone_read new rest z takes zone records (all_taken given unrefused stands nothing each) = record {
       placed = given ++ p1.records;
-      reads = subst (Reads (input_of form octets) (given ++ p1.records)) takes.whole (reads p1 b1 octets given (kept given stands) ended);
+      reads = subst (InputReads (input_of form octets) (given ++ p1.records)) takes.whole (reads p1 b1 octets given (kept given stands) ended);
       same = added_all (given ++ p1.records) new z.records (AddsEach-append [] held new given p1.records each takes.taken) records;
       zone = zone;
     }
@@ -141,10 +141,10 @@ module _ (Beside : Type 0) (Stands : InputForm → Pending → Beside → Octets
     finishing_refused new rest stop takes stops (all_taken given unrefused stands nothing each) =
         let placed : List Placed = given ++ p1.records in
         let taken : AddsEach [] placed new = AddsEach-append [] held new given p1.records each takes.taken in
-        let is_read : Reads (input_of form octets) placed p1.ending = reads p1 b1 octets given (kept given stands) ended in
+        let is_read : InputReads (input_of form octets) placed p1.ending = reads p1 b1 octets given (kept given stands) ended in
         by placed taken is_read stop (StopsFinish-same new (records_of placed) stop (added_all placed new new taken refl) stops)
       where
-        by : (placed : List Placed) → AddsEach [] placed new → Reads (input_of form octets) placed p1.ending → (s : Stop) → StopsFinish (records_of placed) s → IfRefused s (RefusesRead (input_of form octets))
+        by : (placed : List Placed) → AddsEach [] placed new → InputReads (input_of form octets) placed p1.ending → (s : Stop) → StopsFinish (records_of placed) s → IfRefused s (RefusesRead (input_of form octets))
         by placed taken is_read _ (no_soa without) = record { placed = placed; ending = p1.ending; reads = is_read; refuses = unfinished NoSoa Whole (taken_accepted placed new taken) takes.whole (no_soa without) }
         by placed taken is_read _ (outside owner least) = record { placed = placed; ending = p1.ending; reads = is_read; refuses = unfinished (OutOfZone owner) Whole (taken_accepted placed new taken) takes.whole (outside owner least) }
 

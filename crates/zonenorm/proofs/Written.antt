@@ -11,14 +11,14 @@ use Rattle.zone_set.specs.Zone.{Zone}
 use Rattle.zone_print.specs.Canonical.{canon, text_limit}
 use Rattle.zone_print.specs.Writing.{StopsPush, StopsWrite}
 use Rattle.zone_print.specs.Writing as printing
-use Rattle.zonenorm.specs.Input.{Input, IsInput, InputDenotes, Reads, States}
+use Rattle.zonenorm.specs.Input.{Input, IsInput, InputDenotes, InputReads, InputStates}
 use Rattle.zonenorm.specs.Machine.Taking.{ReadsZoneWithin}
 use Rattle.zonenorm.specs.Normalise.{IsOfBytes, Normalises, NormalisesTo, WritesNothing, WritesPrefix}
 use Rattle.zonenorm.specs.Refusal.{IfRefused, IsRefusal, reading, too_large}
 use Rattle.zonenorm.specs.Stops.{TellsRead}
 
 abbrev ReadIsStated : Type 0
-ReadIsStated = (input : Input) (placed : List Placed) → IsInput input → Reads input placed None → States input placed
+ReadIsStated = (input : Input) (placed : List Placed) → IsInput input → InputReads input placed None → InputStates input placed
 
 module _ (input : Input) (z : Zone) (reads : ReadsZoneWithin text_limit input z) where
   pub denotes_zone : ReadIsStated → IsInput input → length (canon z) ≤ text_limit → InputDenotes input z

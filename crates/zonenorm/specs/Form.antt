@@ -4,6 +4,6 @@ use Rattle.zonenorm.specs.declared.form.Form.{Form}
 use Rattle.zonenorm.specs.declared.form.Form.TheVariants.{File, Transfer}
 
 -- the form of the input
-abbrev pub form_of : Form → InputForm
-form_of (File origin) = as_file origin.now
-form_of Transfer = as_transfer
+abbrev pub input_form : Form → InputForm
+input_form (File origin) = as_file origin.now
+input_form Transfer = as_transfer

@@ -3,8 +3,7 @@ use Rattle.std.specs.Prelude.{◌≡◌, ℕ, ◌<◌, ◌≤◌, List, length}
 use Rattle.std.specs.List.{AllByRecursion}
 use Rattle.zone_set.specs.Zone.{Zone}
 use Rattle.zone_wire.specs.Name.{Found, IsNameAt}
-use Rattle.zone_wire.specs.Walk.{Visit}
-use Rattle.zone_wire.specs.WholeWalk.{IsWalk}
+use Rattle.zone_wire.specs.Walk.{Visit, IsWalk}
 use Rattle.zonenorm.specs.Input.{Input, InputDenotes}
 use Rattle.zonenorm.specs.Normalise.{NormalisesTo}
 

@@ -1,8 +1,8 @@
 -- The inputs that state records: a master file with its origin (RFC 1035 5), or the octets of a
 -- zone transfer as they came over TCP (RFC 5936 2.2), each message after its length (RFC 1035
 -- 4.2.2).
-use Rattle.std.specs.Prelude.{ℕ, ◌<◌, List, Option}
-use Rattle.std.specs.List.{AllByRecursion}
+use Rattle.std.specs.Prelude.{ℕ, List, Option}
+use Rattle.zone_name.specs.Common.{Labels, AreOctets}
 use Rattle.zone_name.specs.Name.{IsName}
 use Rattle.zone_rdata.specs.declared.fault.Fault.{Fault}
 use Rattle.zone_rdata.specs.declared.fault.Place.{Place}
@@ -16,16 +16,16 @@ use Rattle.zone_print.specs.Denotes.{DenotesBy}
 
 -- the form of an input: a master file under an origin, or a transfer
 pub data InputForm : Type 0 where
-  as_file : List (List ℕ) → InputForm
+  as_file : Labels → InputForm
   as_transfer : InputForm
 
 pub data Input : Type 0 where
-  file : List (List ℕ) → List ℕ → Input
+  file : Labels → List ℕ → Input
   transfer : List ℕ → Input
 
-abbrev pub octets_of : Input → List ℕ
-octets_of (file origin octets) = octets
-octets_of (transfer octets) = octets
+abbrev pub input_octets : Input → List ℕ
+input_octets (file origin octets) = octets
+input_octets (transfer octets) = octets
 
 -- octets as an input of a form
 abbrev pub input_of : InputForm → List ℕ → Input
@@ -34,19 +34,19 @@ input_of as_transfer octets = transfer octets
 
 -- what can be given as an input: octets, a file's under an origin that is a name
 abbrev pub IsInput : Input → Type 0
-IsInput (file origin octets) = IsName origin × AllByRecursion (λ c. c < 256) octets
-IsInput (transfer octets) = AllByRecursion (λ c. c < 256) octets
+IsInput (file origin octets) = IsName origin × AreOctets octets
+IsInput (transfer octets) = AreOctets octets
 
 -- the records that an input states, in order and with their places
-abbrev pub States : Input → List Placed → Type 0
-States (file origin octets) placed = FileStates origin octets placed
-States (transfer octets) placed = StreamStates octets placed
+abbrev pub InputStates : Input → List Placed → Type 0
+InputStates (file origin octets) placed = FileStates origin octets placed
+InputStates (transfer octets) placed = StreamStates octets placed
 
 -- what an input is read as: the records before its first fault, and that fault with its place
-abbrev pub Reads : Input → List Placed → Option (Fault × Place) → Type 0
-Reads (file origin octets) placed ending = FileReads origin octets placed ending
-Reads (transfer octets) placed ending = StreamReads octets placed ending
+abbrev pub InputReads : Input → List Placed → Option (Fault × Place) → Type 0
+InputReads (file origin octets) placed ending = FileReads origin octets placed ending
+InputReads (transfer octets) placed ending = StreamReads octets placed ending
 
 -- the zone that an input denotes
 abbrev pub InputDenotes : Input → Zone → Type 0
-InputDenotes input z = DenotesBy (States input) (octets_of input) z
+InputDenotes input z = DenotesBy (InputStates input) (input_octets input) z

@@ -2,7 +2,7 @@
 use Rattle.std.specs.Prelude.{◌≡◌, ℕ, true, List, [], ◌∷◌, codes, string_bytes, Option, Some, None, ◌⊎◌}
 use Rattle.std.specs.List.{AllByRecursion}
 use Rattle.clap.specs.Words.{App, Row, Rule, Text, new_rule, new_app, with_rule, with_subcommand, subcommand_of, first_of, fault_of}
-use Rattle.zone_name.specs.Common.{NothingIs}
+use Rattle.zone_name.specs.Common.{NothingIs, Labels}
 use Rattle.zone_name.specs.Spelling.{Spells}
 use Rattle.zone_rdata.specs.declared.fault.Stop.TheVariants.{Memory}
 use Rattle.zonenorm.specs.Telling.{stop_line}
@@ -74,7 +74,7 @@ pub record Calls (words : List Text) (call : Call) : Type 0 where
 
 -- what a text given as an origin asks for: the word `transfer` for a transfer, any other
 -- text for a master file under the origin that it spells as an absolute name
-abbrev pub IsOriginText : Text → Option (List (List ℕ)) → Type 0
+abbrev pub IsOriginText : Text → Option Labels → Type 0
 IsOriginText text None = text ≡ codes "transfer"
 IsOriginText text (Some origin) = Spells None text origin
 

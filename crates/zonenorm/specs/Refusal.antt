@@ -12,7 +12,7 @@ use Rattle.zone_set.specs.Builder.{StopsFinish}
 use Rattle.zone_set.specs.Refusal.{AllAccepted, IsFirstRefused, records_of}
 use Rattle.zone_set.specs.Zone.{Zone, IsZone, SameRecords}
 use Rattle.zone_print.specs.Canonical.{canon, text_limit}
-use Rattle.zonenorm.specs.Input.{Input, octets_of, Reads}
+use Rattle.zonenorm.specs.Input.{Input, input_octets, InputReads}
 
 -- What refuses a reading, the records of an input in their order and the fault after them: the
 -- first record that can't stand with those before it; else the fault of reading; else that no SOA
@@ -33,9 +33,9 @@ pub data RefusesReading (placed : List Placed)
 -- why an input is refused, and where: it is longer than a limit, or else its reading is refused (by
 -- the limit of canonical texts, which is the same for all)
 pub data IsRefusalWithin (limit : ℕ) (input : Input) : Fault → Place → Type 0 where
-  too_long : limit < length (octets_of input) → IsRefusalWithin limit input InputTooLong Whole
+  too_long : limit < length (input_octets input) → IsRefusalWithin limit input InputTooLong Whole
   reading : (placed : List Placed) (ending : Option (Fault × Place)) (fault : Fault) (place : Place)
-      → length (octets_of input) ≤ limit → Reads input placed ending
+      → length (input_octets input) ≤ limit → InputReads input placed ending
       → RefusesReading placed ending fault place → IsRefusalWithin limit input fault place
 
 abbrev pub IsRefusal : Input → Fault → Place → Type 0

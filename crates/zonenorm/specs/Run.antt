@@ -1,6 +1,7 @@
 -- What a run of an order reads, writes and answers (this project's own).
 use Rattle.std.specs.Prelude.{ℕ, ◌+◌, List, [], ◌++◌, Option, Some, None, IfSome}
 use Rattle.std.specs.Io.KnownBytes.{IsAtEnd, Keeps}
+use Rattle.zone_name.specs.Common.{Labels}
 use Rattle.zone_rdata.specs.declared.fault.Fault.{Fault}
 use Rattle.zone_rdata.specs.declared.fault.Place.{Place}
 use Rattle.zone_rdata.specs.declared.fault.Stop.{Stop}
@@ -21,7 +22,7 @@ use Rattle.zonenorm.specs.declared.order.Order.TheVariants.{Normalise, Explain, 
 use Rattle.zonenorm.specs.declared.order.Source.{Source}
 
 -- the form of an input with this origin: a master file's, none for a transfer
-abbrev pub form_with : Option (List (List ℕ)) → InputForm
+abbrev pub form_with : Option Labels → InputForm
 form_with None = as_transfer
 form_with (Some origin) = as_file origin
 
@@ -76,11 +77,11 @@ pub record AreCompared (first second : Source) (input other : Device) (verdict :
 -- What a run leaves that carried its order out with this status: the canonical text of the zone, the line that explains the
 -- input, or that of the verdict on two.
 pub data CarriesOut (d : Devices) : Order → ℕ → Type 0 where
-  normalised : (origin : Option (List (List ℕ))) (count : ℕ)
+  normalised : (origin : Option Labels) (count : ℕ)
       → IfSome d.first.old (λ octets. Normalises (input_of (form_with origin) octets) d.output.old d.output.new count)
       → IsAtEnd d.first.new → d.first.works → IsLeft d.second → d.output.works
       → CarriesOut d (Normalise origin) 0
-  explained : (origin : Option (List (List ℕ))) (status : ℕ)
+  explained : (origin : Option Labels) (status : ℕ)
       → Explains (form_with origin) d.first.old d.output.old d.output.new status
       → ReadsWhole text_limit d.first.old d.first.new → d.first.works → IsLeft d.second → d.output.works
       → CarriesOut d (Explain origin) status
@@ -98,10 +99,10 @@ pub record StopsNormalise (form : InputForm) (input output : Device) (stop : Sto
 
 -- What stopped a run, and what the line on that begins with: of a comparison, the input that stopped it.
 pub data IsStopped (d : Devices) : Order → List ℕ → Stop → Type 0 where
-  normalising : (origin : Option (List (List ℕ))) (stop : Stop)
+  normalising : (origin : Option Labels) (stop : Stop)
       → StopsNormalise (form_with origin) d.first d.output stop → IsLeft d.second
       → IsStopped d (Normalise origin) [] stop
-  explaining : (origin : Option (List (List ℕ))) (stop : Stop)
+  explaining : (origin : Option Labels) (stop : Stop)
       → StopsExplain (form_with origin) d.first.old d.output.old d.output.new stop
       → TellsRead d.first.works d.first.failed stop → TellsWrite d.output.works d.output.failed stop → IsLeft d.second
       → IsStopped d (Explain origin) [] stop

@@ -5,7 +5,7 @@ ghost use Rattle.zone_rdata.specs.declared.fault.Place.TheVariants.{Line, Whole}
 ghost use Rattle.zone_set.specs.Refusal.{IsFirstRefused};
 ghost use Rattle.zone_print.specs.Canonical.{canon};
 ghost use Rattle.zone_print.specs.Laws.{placed_from};
-ghost use Rattle.zonenorm.specs.Examples.{top, under, x, a_x, soa_of, server_of, address_of, zone_of};
+ghost use Rattle.zonenorm.specs.Examples.{top, under, x, a_x, soa_of, server_of, address_of, example_zone};
 ghost use Rattle.zonenorm.specs.Input.{file, InputDenotes};
 ghost use Rattle.zonenorm.specs.Normalise.{NormalisesTo};
 ghost use Rattle.zonenorm.specs.Refusal.{IsRefusal, RefusesReading};
@@ -14,14 +14,14 @@ use crate::laws::headline;
 
 /// The canonical text of a zone with an SOA and a name server.
 pub fn a_canonical_text()
-    ensures { canon (zone_of 3600) ≡ codes "x. 3600 IN SOA n.x. h.x. 1 2 3 4 5" ++ 10
+    ensures { canon (example_zone 3600) ≡ codes "x. 3600 IN SOA n.x. h.x. 1 2 3 4 5" ++ 10
         ∷ codes "x. 3600 IN NS n.x." ++ 10 ∷ [] }
 {}
 
 /// A file, the zone that it denotes and its canonical text: the MINIMUM of the SOA is the TTL.
 pub fn a_file_and_its_zone()
-    ensures zone { InputDenotes (file x (codes "@ SOA n h 1 2 3 4 5\n NS n\n")) (zone_of 5) }
-    ensures text { canon (zone_of 5) ≡ codes "x. 5 IN SOA n.x. h.x. 1 2 3 4 5" ++ 10
+    ensures zone { InputDenotes (file x (codes "@ SOA n h 1 2 3 4 5\n NS n\n")) (example_zone 5) }
+    ensures text { canon (example_zone 5) ≡ codes "x. 5 IN SOA n.x. h.x. 1 2 3 4 5" ++ 10
         ∷ codes "x. 5 IN NS n.x." ++ 10 ∷ [] }
 {
     zone_text::examples::entries::the_minimum_is_the_last_choice();
@@ -32,10 +32,10 @@ pub fn a_file_and_its_zone()
 pub fn a_canonical_text_read_back()
     ensures same_origin { InputDenotes
         (file x (codes "x. 5 IN SOA n.x. h.x. 1 2 3 4 5" ++ 10 ∷ codes "x. 5 IN NS n.x." ++ 10
-        ∷ [])) (zone_of 5) }
+        ∷ [])) (example_zone 5) }
     ensures other_origin { InputDenotes
         (file a_x (codes "x. 5 IN SOA n.x. h.x. 1 2 3 4 5" ++ 10 ∷ codes "x. 5 IN NS n.x." ++ 10
-        ∷ [])) (zone_of 5) }
+        ∷ [])) (example_zone 5) }
     ensures again { let text = codes "x. 5 IN SOA n.x. h.x. 1 2 3 4 5" ++ 10
         ∷ codes "x. 5 IN NS n.x." ++ 10 ∷ [] in NormalisesTo (file a_x text) text }
 {

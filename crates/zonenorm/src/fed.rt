@@ -4,7 +4,7 @@ ghost use Rattle.zone_rdata.specs.Source.{Pending};
 ghost use Rattle.zone_rdata.specs.declared.fault.Stop.TheVariants.{Memory};
 ghost use Rattle.zone_rdata.specs.declared.record.Placed.{Placed};
 ghost use Rattle.zone_set.specs.Builder.{leaves};
-ghost use Rattle.zonenorm.specs.Input.{InputForm, input_of, Reads};
+ghost use Rattle.zonenorm.specs.Input.{InputForm, input_of, InputReads};
 ghost use Rattle.zonenorm.specs.Machine.Input.{Decides};
 
 use zone_rdata::{RrSource, Stop};
@@ -70,7 +70,7 @@ pub(crate) trait FedSource: RrSource {
     ghost reads: { (form : InputForm) (pending : Pending) (inside : Self.Held) (octets : Octets)
         (given : List Placed)
         → Stands form pending inside octets given → finished inside ≡ true
-        → Reads (input_of form octets) (given ++ pending.records) pending.ending };
+        → InputReads (input_of form octets) (given ++ pending.records) pending.ending };
 
     /// What is given is pending no more.
     ghost gives: { (form : InputForm) (pending : Pending) (inside : Self.Held) (octets : Octets)

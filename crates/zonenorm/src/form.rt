@@ -1,5 +1,5 @@
 ghost use Rattle.std.specs.Prelude.{◌≡◌};
-ghost use Rattle.zonenorm.specs.Form.{form_of};
+ghost use Rattle.zonenorm.specs.Form.{input_form};
 ghost use Rattle.zonenorm.specs.Run.{form_with};
 
 use zone_name::Name;
@@ -17,7 +17,7 @@ pub enum Form<'n> {
 impl<'n> Form<'n> {
     /// A master file with this origin, or a transfer where there is none.
     pub(crate) fn with_origin(origin: &'n Option<Name>) -> Form<'n>
-        ensures { form_of result ≡ form_with origin.now }
+        ensures { input_form result ≡ form_with origin.now }
     {
         match origin {
             Some(origin) => Form::File(origin),

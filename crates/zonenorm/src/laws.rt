@@ -1,9 +1,9 @@
 //! Laws of inputs over the definitions alone. The functions only call other laws: their contracts
 //! are the laws.
-ghost use Rattle.std.specs.Prelude.{◌≡◌, ◌<◌, ◌++◌, ◌⊎◌, ◌↔◌, ℕ, List, Option, Some, None};
+ghost use Rattle.std.specs.Prelude.{◌≡◌, ◌++◌, ◌⊎◌, ◌↔◌, ℕ, List, Option, Some, None};
 ghost use Rattle.std.specs.Io.KnownBytes.{Appends};
 ghost use Rattle.std.specs.List.{AllByRecursion};
-ghost use Rattle.zone_name.specs.Common.{AtMostOneIs, Labels, NothingIs, Octets};
+ghost use Rattle.zone_name.specs.Common.{AtMostOneIs, Labels, NothingIs, Octets, AreOctets};
 ghost use Rattle.zone_rdata.specs.Record.{IsRecord};
 ghost use Rattle.zone_rdata.specs.declared.fault.Fault.{Fault};
 ghost use Rattle.zone_rdata.specs.declared.fault.Place.{Place};
@@ -19,7 +19,7 @@ ghost use Rattle.zonenorm.specs.declared.compare.Verdict.{Verdict};
 ghost use Rattle.zonenorm.specs.declared.compare.Verdict.TheVariants.{Same};
 ghost use Rattle.zonenorm.specs.Compare.{Compares};
 ghost use Rattle.zonenorm.specs.Headline.{DenoteOne, DenotesOnly, IsBoundedWalk, NormalisesOnlyTo};
-ghost use Rattle.zonenorm.specs.Input.{file, Input, InputDenotes, InputForm, input_of, IsInput, Reads, States};
+ghost use Rattle.zonenorm.specs.Input.{file, Input, InputDenotes, InputForm, input_of, IsInput, InputReads, InputStates};
 ghost use Rattle.zonenorm.specs.Machine.Input.{Decides, IsForm};
 ghost use Rattle.zonenorm.specs.Machine.Taking.{RefusesFront, RefusesRead};
 ghost use Rattle.zonenorm.specs.Normalise.{Normalises, NormalisesTo};
@@ -107,7 +107,7 @@ pub fn refusal_or_zone()
 pub(crate) fn what_is_decided_refuses()
     ensures { (form : InputForm) (octets front more : Octets) (placed : List Placed)
         (ending : Option (Fault × Place)) (fault : Fault) (place : Place)
-        → IsForm form → AllByRecursion (λ c. c < 256) octets → octets ≡ front ++ more
+        → IsForm form → AreOctets octets → octets ≡ front ++ more
         → Decides (input_of form front) placed ending → RefusesFront placed ending fault place
         → RefusesRead (input_of form octets) fault place }
 {
@@ -119,8 +119,8 @@ pub(crate) fn what_is_decided_refuses()
 
 /// What an input of octets is read as, without a fault, it states.
 pub fn what_is_read_is_stated()
-    ensures { (input : Input) (placed : List Placed) → IsInput input → Reads input placed None
-        → States input placed }
+    ensures { (input : Input) (placed : List Placed) → IsInput input → InputReads input placed None
+        → InputStates input placed }
 {
     zone_text::laws::file::a_file_states_what_is_read();
     zone_wire::laws::a_transfer_is_read();

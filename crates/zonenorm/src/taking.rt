@@ -1,6 +1,5 @@
-ghost use Rattle.std.specs.Prelude.{◌≡◌, ◌+◌, ◌^◌, ◌<◌, ◌≤◌, ◌++◌, ℕ, false, [], None, length, IfOk, IfErr, OnOk};
-ghost use Rattle.std.specs.List.{AllByRecursion};
-ghost use Rattle.zone_name.specs.Common.{Octets};
+ghost use Rattle.std.specs.Prelude.{◌≡◌, ◌+◌, ◌^◌, ◌<◌, ◌≤◌, ◌++◌, false, [], None, length, IfOk, IfErr, OnOk};
+ghost use Rattle.zone_name.specs.Common.{Octets, AreOctets};
 ghost use Rattle.zone_rdata.specs.declared.fault.Stop.TheVariants.{Memory};
 ghost use Rattle.zonenorm.specs.Input.{InputForm, input_of};
 ghost use Rattle.zonenorm.specs.Machine.Input.{IsForm};
@@ -52,7 +51,7 @@ impl Taking {
         ensures open { S.finished (S.held source.new) ≡ false }
         ensures fed { S.fed (S.held source.new) ≤ S.fed (S.held source.old) + length piece.now }
         ensures stopped { IfErr result (λ stop. stop ≡ Memory) }
-        ensures octets { AllByRecursion (λ c. c < 256) piece.now }
+        ensures octets { AreOctets piece.now }
     {
         if self.refusal.is_some() {
             return Ok(());
@@ -81,7 +80,7 @@ impl Taking {
             self.builder self.refusal form octets
             → ReadsZone (input_of form octets) z) }
         ensures fault { IfErr result (λ stop. (form : InputForm) (octets : Octets)
-            → IsForm form → AllByRecursion (λ c. c < 256) octets
+            → IsForm form → AreOctets octets
             → IsTakenOf S.Stands (S.pending source.old) (S.held source.old)
             self.builder self.refusal form octets
             → IfRefused stop (RefusesRead (input_of form octets))) }

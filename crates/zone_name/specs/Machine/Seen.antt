@@ -53,8 +53,8 @@ Goes text open_label rest =
     → (m : ℕ) × (length rest < m) × (read n labels [] text ≡ read m labels open_label rest)
 
 -- the reading of a text ends with a fault, whatever labels are before it
-abbrev pub Refuses : List ℕ → NameFault → Type 0
-Refuses text fault =
+abbrev pub EndsInFault : List ℕ → NameFault → Type 0
+EndsInFault text fault =
     (labels : List (List ℕ)) (n : ℕ) → length text < n → read n labels [] text ≡ Err fault
 
 -- the label that a text begins with, and what is left from its dot or the end on

@@ -34,9 +34,9 @@ part v s fits real = absurd s
 -- ---- the string at the beginning of octets
 
 -- the first octet, and those after it
-pub first_behind : (octets : List ℕ) → 1 ≤ length octets → octets ≡ get_or octets 0 0 ∷ drop 1 octets
-first_behind [] some = absurd (omega arith)
-first_behind (c ∷ octets) some = refl
+pub first_later : (octets : List ℕ) → 1 ≤ length octets → octets ≡ get_or octets 0 0 ∷ drop 1 octets
+first_later [] some = absurd (omega arith)
+first_later (c ∷ octets) some = refl
 
 pub low_string : (c : ℕ) (behind : List ℕ) → AreLow (c ∷ behind) → c ≤ length behind → IsString (take c behind)
 low_string c behind low fits = record { short = omega (arith, length-take c behind, low.0); each = low_take c behind low.1 }

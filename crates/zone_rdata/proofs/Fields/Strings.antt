@@ -24,7 +24,7 @@ use Rattle.zone_rdata.proofs.Sent.{frame_at, frame_same, frames_push}
 use Rattle.zone_rdata.proofs.StringFields.{strings_back}
 use Rattle.zone_rdata.proofs.StringLaws.{fault-once, printed-spells, printed-stands, string-never_both, string-once}
 use Rattle.zone_rdata.proofs.Strings.{string-or_fault}
-use Rattle.zone_rdata.proofs.Standing.{Stands}
+use Rattle.zone_rdata.proofs.Standing.{IsPrintedItem}
 use Rattle.zone_rdata.proofs.FieldLengths.{strings_length}
 
 only : (v : FieldValue) → Holds Strings v → (many : List (List ℕ)) × (v ≡ strings many)
@@ -84,7 +84,7 @@ framed_more octets rest c count behind after so_far e same fits is =
       low = subst AreLow (sym is) (low_drop count behind low.1);
     }
 
-some_frames : (many : List (List ℕ)) → 0 < length (flat_map with_length many) → 0 < length many
+pub some_frames : (many : List (List ℕ)) → 0 < length (flat_map with_length many) → 0 < length many
 some_frames [] h = absurd (omega arith)
 some_frames (x ∷ many) h = omega arith
 
@@ -205,7 +205,7 @@ unmarked : (many : List (List ℕ)) (rest : List RawItem) → AreStrings many �
 unmarked [] rest h g = omega (arith, h.some)
 unmarked (octets ∷ many) rest h g = cc g.1
 
-stand_each : (many : List (List ℕ)) → AllByRecursion IsString many → AllByRecursion Stands (map string_item many)
+stand_each : (many : List (List ℕ)) → AllByRecursion IsString many → AllByRecursion IsPrintedItem (map string_item many)
 stand_each [] each = tt
 stand_each (octets ∷ many) each = (printed-stands octets each.0, stand_each many each.1)
 

@@ -1,12 +1,12 @@
 -- A field that is an address of a fixed number of octets (RFC 1035 3.4.1; RFC 3596 2.2).
-use Rattle.std.specs.Prelude.{◌≡◌, ℕ, ◌<◌, List, length, ◌==◌, if◌then◌else◌}
-use Rattle.std.specs.List.{AllByRecursion}
+use Rattle.std.specs.Prelude.{◌≡◌, ℕ, List, length, ◌==◌, if◌then◌else◌}
+use Rattle.zone_name.specs.Common.{AreOctets}
 use Rattle.zone_rdata.specs.Address.{IsIpv4Address, IsIpv6Address, ipv4_text, ipv6_text}
 
 -- octets of a fixed number
 pub record AreFixed (n : ℕ) (octets : List ℕ) : Type 0 where
   pub size : length octets ≡ n
-  pub each : AllByRecursion (λ c. c < 256) octets
+  pub each : AreOctets octets
 
 -- the text of an address of n octets
 pub data IsAddress (n : ℕ) (text octets : List ℕ) : Type 0 where

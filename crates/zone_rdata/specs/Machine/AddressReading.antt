@@ -9,7 +9,7 @@ abbrev pub Lacks : ℕ → List ℕ → Type 0
 Lacks c text = AllByRecursion (λ d. d ≢ c) text
 
 -- the text is cut at the first of an octet
-pub record IsCut (c : ℕ) (text front back : List ℕ) : Type 0 where
+pub record IsCutAtFirst (c : ℕ) (text front back : List ℕ) : Type 0 where
   pub parted : text ≡ front ++ c ∷ back
   pub lacks : Lacks c front
 

@@ -1,7 +1,8 @@
 -- Octets that grow while the items of record data are read.
 use Rattle.std.specs.Prelude.{◌≡◌, ℕ, List, ◌++◌, ◌≤◌, [], length, take, drop}
+use Rattle.zone_name.specs.Common.{Labels}
 use Rattle.zone_rdata.specs.declared.field.Field.{Field}
-use Rattle.zone_rdata.specs.Field.{FieldValue, field_octets, octets_of, SpellsField, own_items, items_behind, Holds, IsSent}
+use Rattle.zone_rdata.specs.Field.{FieldValue, field_octets, octets_of, SpellsField, own_items, items_after, Holds, IsSent}
 use Rattle.zone_rdata.specs.Item.{RawItem}
 use Rattle.zone_rdata.specs.Spelling.{SpellEach}
 use Rattle.zone_rdata.specs.declared.field.Field.TheVariants.{Strings}
@@ -14,18 +15,18 @@ pub record Appends {V : Type 0} (Stated : V → Type 0) (octets : V → List ℕ
   pub written : new ≡ old ++ octets value
 
 -- the octets of the value that items spell for a field are appended
-abbrev pub AppendsField : List (List ℕ) → Field → List RawItem → List ℕ → List ℕ → Type 0
+abbrev pub AppendsField : Labels → Field → List RawItem → List ℕ → List ℕ → Type 0
 AppendsField origin field items old new =
     Appends (SpellsField origin field items) field_octets old new
 
 -- likewise for the field that the items begin with; `rest` is what follows it
-pub record AppendsFirst (origin : List (List ℕ)) (field : Field) (items rest : List RawItem)
+pub record AppendsFirst (origin : Labels) (field : Field) (items rest : List RawItem)
     (old new : List ℕ) : Type 0 where
   pub appends : AppendsField origin field (own_items field items) old new
-  pub behind : rest ≡ items_behind field items
+  pub behind : rest ≡ items_after field items
 
 -- the octets are those of the values that items spell for fields
-pub record AreSpelt (origin : List (List ℕ)) (fields : List Field) (items : List RawItem)
+pub record AreSpelt (origin : Labels) (fields : List Field) (items : List RawItem)
     (octets : List ℕ) : Type 0 where
   pub values : List FieldValue
   pub spelt : SpellEach origin fields items values

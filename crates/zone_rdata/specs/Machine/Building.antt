@@ -1,6 +1,6 @@
 -- How the builder keeps its parts.
 use Rattle.std.specs.Prelude.{◌≡◌, ℕ, zero, suc, ◌+◌, ◌^◌, ◌<◌, ◌≤◌, List, [], ◌∷◌, ◌++◌, length, ⊤, Option, Some, None}
-use Rattle.std.specs.List.{AllByRecursion}
+use Rattle.zone_name.specs.Common.{AreOctets}
 use Rattle.zone_name.specs.Name.{IsName}
 use Rattle.zone_rdata.specs.declared.fault.Fault.{Fault}
 use Rattle.zone_rdata.specs.declared.fault.Fault.TheVariants.{StringTooLong, RdataTooLong}
@@ -30,10 +30,10 @@ part_fields (f ∷ []) (suc n) = part_field f ∷ more_fields f n
 part_fields (f ∷ g ∷ fields) (suc n) = part_field f ∷ part_fields (g ∷ fields) n
 
 -- the parts that octets hold
-abbrev pub parts_of : Option (List Field) → ℕ → List ℕ → List FieldValue
-parts_of None zero octets = []
-parts_of None (suc n) octets = fixed octets ∷ []
-parts_of (Some fields) n octets = values_of (part_fields fields n) octets
+abbrev pub parts_held : Option (List Field) → ℕ → List ℕ → List FieldValue
+parts_held None zero octets = []
+parts_held None (suc n) octets = fixed octets ∷ []
+parts_held (Some fields) n octets = values_of (part_fields fields n) octets
 
 -- the octets are those of so many parts
 abbrev pub ArePushedParts : Option (List Field) → ℕ → List ℕ → Type 0
@@ -54,8 +54,8 @@ abbrev pub IsReal : FieldValue → Type 0
 IsReal (name labels) = IsName labels
 IsReal (u32_value n) = n < 2 ^ 32
 IsReal (u16_value n) = n < 2 ^ 16
-IsReal (fixed octets) = AllByRecursion (λ c. c < 256) octets
-IsReal (string octets) = AllByRecursion (λ c. c < 256) octets
+IsReal (fixed octets) = AreOctets octets
+IsReal (string octets) = AreOctets octets
 IsReal part = ⊤
 
 -- why a part can't be added after octets

@@ -1,15 +1,16 @@
 -- Octets that begin with what one kind of field holds (RFC 1035 3.3).
 use Rattle.std.specs.Prelude.{◌≡◌, ℕ, ◌<◌, List, ◌++◌, length, take}
 use Rattle.std.specs.List.{flat_map, AllByRecursion}
+use Rattle.zone_name.specs.Common.{Labels}
 use Rattle.zone_name.specs.Name.{IsName, folded, wire, with_length}
 use Rattle.zone_rdata.specs.Fields.OneString.{string_at}
 use Rattle.zone_rdata.specs.Fields.Strings.{AreStrings, strings_of}
 use Rattle.zone_rdata.specs.Strings.{IsString}
 
 -- octets that begin with a name, in any letter case
-pub record BeginsWithSent (octets : List ℕ) (labels : List (List ℕ)) (rest : List ℕ) : Type 0 where
+pub record BeginsWithSent (octets : List ℕ) (labels : Labels) (rest : List ℕ) : Type 0 where
   pub is_name : IsName labels
-  pub sent : List (List ℕ)
+  pub sent : Labels
   pub folds : folded sent ≡ labels
   pub parts : octets ≡ wire sent ++ rest
 

@@ -5,7 +5,7 @@ use Rattle.zone_name.specs.Spelling.{is_digit}
 use Rattle.zone_rdata.specs.declared.time.Progress.{Progress}
 use Rattle.zone_rdata.specs.Number.{Group, IsTimeGroup, group_text, group_seconds, decimal_value}
 
-pub record Reads (text : List ℕ) (p : Progress) : Type 0 where
+pub record ReadsTime (text : List ℕ) (p : Progress) : Type 0 where
   pub groups : List Group
   pub digits : List ℕ
   pub parts : text ≡ flat_map group_text groups ++ digits

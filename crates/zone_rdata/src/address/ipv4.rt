@@ -1,14 +1,14 @@
 ghost use Rattle.std.specs.Prelude.{◌≡◌, ◌+◌, ◌≤◌, ℕ, suc, IfSome, IfNone};
 ghost use Rattle.zone_name.specs.Common.{NothingIs, Octets};
 ghost use Rattle.zone_rdata.specs.Address.{AreNumbers, IsIpv4Address, IsOctetNumber};
-ghost use Rattle.zone_rdata.specs.Machine.AddressReading.{IsCut, Lacks};
+ghost use Rattle.zone_rdata.specs.Machine.AddressReading.{IsCutAtFirst, Lacks};
 
 use crate::number::decimal_of;
 
 /// What stands before the first of an octet, and what stands after it. `None`: the text lacks the
 /// octet.
 pub(super) fn cut_at(text: &[u8], octet: u8) -> Option<(&[u8], &[u8])>
-    ensures some { IfSome result (λ parts. IsCut octet text.now parts.0.now parts.1.now) }
+    ensures some { IfSome result (λ parts. IsCutAtFirst octet text.now parts.0.now parts.1.now) }
     ensures none { IfNone result (Lacks octet text.now) }
 {
     for (at, found) in text.iter().enumerate() {
@@ -34,7 +34,8 @@ fn octet_of(text: &[u8]) -> Option<u8>
 /// The octet of the number before the first dot, and what stands after that dot.
 fn octet_before_dot(text: &[u8]) -> Option<(u8, &[u8])>
     ensures found { IfSome result (λ parts.
-        (front : Octets) × (IsCut 46 text.now front parts.1.now × IsOctetNumber front parts.0)) }
+        (front : Octets) × (IsCutAtFirst 46 text.now front parts.1.now
+        × IsOctetNumber front parts.0)) }
     ensures none { IfNone result ((more : ℕ) → NothingIs (AreNumbers (suc (suc more)) text.now)) }
 {
     let (number, rest) = cut_at(text, b'.')?;

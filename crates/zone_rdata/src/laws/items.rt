@@ -1,6 +1,7 @@
 //! Laws of the items that state record data (RFC 1035 5.1; RFC 3597 5).
-ghost use Rattle.std.specs.Prelude.{◌≡◌, ◌⊎◌, ◌<◌, List, ℕ, Some};
+ghost use Rattle.std.specs.Prelude.{◌≡◌, ◌⊎◌, List, ℕ, Some};
 ghost use Rattle.std.specs.List.{AllByRecursion};
+ghost use Rattle.zone_name.specs.Common.{Labels, AreOctets};
 ghost use Rattle.zone_name.specs.Name.{IsName};
 ghost use Rattle.zone_rdata.specs.DataFault.{IsDataFault};
 ghost use Rattle.zone_rdata.specs.Item.{RawItem};
@@ -21,7 +22,7 @@ pub fn layouts_are_sound()
 
 /// Items state at most one value of a class and type under an origin.
 pub fn data_is_unique()
-    ensures { (origin : List (List ℕ)) (class kind : ℕ) (items : List RawItem) (a b : List ℕ)
+    ensures { (origin : Labels) (class kind : ℕ) (items : List RawItem) (a b : List ℕ)
         → States origin class kind items a → States origin class kind items b → a ≡ b }
 {
     spelling_is_unique();
@@ -29,15 +30,15 @@ pub fn data_is_unique()
 
 /// What items state is data that a record can have.
 pub fn stated_data_is_data()
-    ensures { (origin : List (List ℕ)) (class kind : ℕ) (items : List RawItem) (octets : List ℕ)
+    ensures { (origin : Labels) (class kind : ℕ) (items : List RawItem) (octets : List ℕ)
         → States origin class kind items octets → IsData class kind octets }
 {}
 
 /// Items of octets state a value of a class and type under an origin that is a name, or have a
 /// first fault.
 pub fn data_or_fault()
-    ensures { (origin : List (List ℕ)) (class kind : ℕ) (items : List RawItem) → IsName origin
-        → AllByRecursion (λ item. AllByRecursion (λ c. c < 256) (item_text item)) items
+    ensures { (origin : Labels) (class kind : ℕ) (items : List RawItem) → IsName origin
+        → AllByRecursion (λ item. AreOctets (item_text item)) items
         → ((octets : List ℕ) × States origin class kind items octets)
         ⊎ ((fault : Fault) × IsDataFault origin class kind items fault) }
 {
@@ -46,7 +47,7 @@ pub fn data_or_fault()
 
 /// Items that have a first fault state no value.
 pub fn faulty_items_state_none()
-    ensures { (origin : List (List ℕ)) (class kind : ℕ) (items : List RawItem) (octets : List ℕ)
+    ensures { (origin : Labels) (class kind : ℕ) (items : List RawItem) (octets : List ℕ)
         (fault : Fault) → States origin class kind items octets
         → IsDataFault origin class kind items fault → ⊥ }
 {
@@ -56,7 +57,7 @@ pub fn faulty_items_state_none()
 
 /// Items have at most one first fault.
 pub fn data_fault_is_unique()
-    ensures { (origin : List (List ℕ)) (class kind : ℕ) (items : List RawItem) (a b : Fault)
+    ensures { (origin : Labels) (class kind : ℕ) (items : List RawItem) (a b : Fault)
         → IsDataFault origin class kind items a → IsDataFault origin class kind items b → a ≡ b }
 {
     texts_have_one_verdict();

@@ -16,15 +16,15 @@ use Rattle.zone_rdata.specs.declared.queue.PendingRecords.{PendingRecords}
 use Rattle.zone_text.specs.Defaults.{AreDefaults, IsTtlOrNone}
 use Rattle.zone_text.specs.Entries.{Entry}
 use Rattle.zone_text.specs.EntryFault.{EntryFault}
-use Rattle.zone_text.specs.Forms.{form_of, parts_of, parts_after}
+use Rattle.zone_text.specs.Forms.{statement_of, parts_of, parts_after}
 use Rattle.zone_text.specs.Inherited.{IsLastOwner, IsOwner, IsTtl, one_bare, ttl_text}
-use Rattle.zone_text.specs.Records.{Head, HasHead, StatesNothing, StatesRecord}
+use Rattle.zone_text.specs.Records.{Head, HasHead, StatesNothing, EntryStates}
 use Rattle.zone_text.specs.declared.defaults.Defaults.{Defaults}
 
 -- an entry that states no record, and what is left to those after it
 abbrev pub LeavesNoRecord : Labels → List Entry → Entry → Defaults → Type 0
 LeavesNoRecord origin before entry next =
-    StatesNothing origin before (form_of entry) × AreDefaults origin (entry ∷ before) next
+    StatesNothing origin before (statement_of entry) × AreDefaults origin (entry ∷ before) next
 
 -- What an entry at a place decides after what was decided, and what is left to those after it:
 -- nothing; the record that it states; or its fault, after which nothing is said of what is left
@@ -32,7 +32,7 @@ pub data DecidesEntry (origin : Labels) (before : List Entry) (entry : Entry) (p
     (old new : PendingRecords) (next : Defaults) : Type 0 where
   decides_none : LeavesNoRecord origin before entry next → new ≡ old
       → DecidesEntry origin before entry place old new next
-  decides_one : (r : Record) → StatesRecord origin before entry r
+  decides_one : (r : Record) → EntryStates origin before entry r
       → AreDefaults origin (entry ∷ before) next
       → new.placed ≡ old.placed ++ (record { rr = r; place = place }) ∷ []
       → new.ending ≡ old.ending → DecidesEntry origin before entry place old new next
@@ -41,10 +41,10 @@ pub data DecidesEntry (origin : Labels) (before : List Entry) (entry : Entry) (p
       → DecidesEntry origin before entry place old new next
 
 -- the fault is decided, and nothing after it
-abbrev pub Refuses : Failing → Place → PendingRecords → PendingRecords → Type 0
-Refuses (failings.Fault fault) place old new =
+abbrev pub DecidesFault : Failing → Place → PendingRecords → PendingRecords → Type 0
+DecidesFault (failings.Fault fault) place old new =
     (new.placed ≡ old.placed) × (new.ending ≡ Some (fault, place))
-Refuses failings.Memory place old new = ⊥
+DecidesFault failings.Memory place old new = ⊥
 
 abbrev pub with_owner : Option Labels → Defaults → Defaults
 with_owner owner d = record {
@@ -62,7 +62,7 @@ pub record IsRecordEntry (origin : Labels) (before : List Entry) (entry : Entry)
     (name : Labels) (items : List RawItem) : Type 0 where
   pub held : Option Labels
   pub defaults : AreDefaults origin before (with_owner held d)
-  pub owner : IsOwner origin before (form_of entry) name
+  pub owner : IsOwner origin before (statement_of entry) name
   pub parts : parts_of entry ≡ Some (parts_after [] items)
 
 -- the owner of a record entry and of those after it, or the fault that there is none
@@ -78,7 +78,7 @@ pub record IsReadTo (origin : Labels) (before : List Entry) (entry : Entry) (d :
   pub held : Option Labels
   pub defaults : AreDefaults origin before (with_owner held d)
   pub has : HasHead origin before entry head
-  pub own_ttl : IsTtlOrNone (ttl_text (form_of entry)) own
+  pub own_ttl : IsTtlOrNone (ttl_text (statement_of entry)) own
   pub class : rdata.class ≡ head.class
   pub kind : rdata.kind ≡ head.kind
   pub states : States d.origin head.class head.kind head.items rdata.octets

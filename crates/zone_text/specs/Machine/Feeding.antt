@@ -4,7 +4,7 @@ use Rattle.zone_name.specs.Common.{Labels}
 use Rattle.zone_rdata.specs.declared.fault.Fault.{Fault}
 use Rattle.zone_rdata.specs.declared.fault.Place.{Place}
 use Rattle.zone_rdata.specs.declared.record.Placed.{Placed}
-use Rattle.zone_text.specs.Decided.{Decided}
+use Rattle.zone_text.specs.Decided.{FileDecides}
 use Rattle.zone_text.specs.Defaults.{AreDefaults}
 use Rattle.zone_text.specs.Entries.{Entry, entry_of}
 use Rattle.zone_text.specs.FileReads.{FileReads, ReadEach}
@@ -42,7 +42,7 @@ pub record ReadsOctets (octets : List ℕ) (old new : EndedEntries) : Type 0 whe
 -- given
 pub record Follow (origin : Labels) (ended : EndedEntries) (unfinished : List ℕ) (fed : List ℕ)
     (given : List Placed) : Type 0 where
-  pub decided : Decided origin fed (given ++ ended.decided.placed) ended.decided.ending
+  pub decided : FileDecides origin fed (given ++ ended.decided.placed) ended.decided.ending
   pub leave : ended.decided.ending ≡ None → Leave origin fed ended.defaults ended.line unfinished
 
 -- the scan of octets took all of them, and they lead there

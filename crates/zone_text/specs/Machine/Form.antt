@@ -1,18 +1,18 @@
 -- The form of an entry as the code holds it.
 use Rattle.std.specs.Prelude.{map}
 use Rattle.zone_rdata.specs.Item.{raw}
-use Rattle.zone_text.specs.Forms.{EntryForm, no_items, sets_origin, sets_ttl, includes, unknown, owned, unowned}
+use Rattle.zone_text.specs.Forms.{Statement, no_items, sets_origin, sets_ttl, includes, unknown, owned, unowned}
 use Rattle.zone_text.specs.declared.form as code
 use Rattle.zone_text.specs.declared.form.Directive.TheVariants as directives
 use Rattle.zone_text.specs.declared.form.EntryForm.TheVariants as forms
 
-abbrev pub directive_in : code.Directive.Directive → EntryForm
+abbrev pub directive_in : code.Directive.Directive → Statement
 directive_in (directives.Origin items) = sets_origin (map raw items.now)
 directive_in (directives.Ttl items) = sets_ttl (map raw items.now)
 directive_in directives.Include = includes
 directive_in directives.Unknown = unknown
 
-abbrev pub form_in : code.EntryForm.EntryForm → EntryForm
+abbrev pub form_in : code.EntryForm.EntryForm → Statement
 form_in forms.Blank = no_items
 form_in (forms.Directive directive) = directive_in directive
 form_in (forms.Owned owner items) = owned (raw owner) (map raw items.now)

@@ -39,5 +39,5 @@ EndsBefore p rest = Unit {0}
 
 -- the first n octets are of the item, and the last of them is no backslash that takes the octet
 -- after it
-abbrev pub Reaches : (ℕ → Bool) → List ℕ → ℕ → Type 0
-Reaches ends text n = item_len ends false text ≡ n + item_len ends false (drop n text)
+abbrev pub ItemReaches : (ℕ → Bool) → List ℕ → ℕ → Type 0
+ItemReaches ends text n = item_len ends false text ≡ n + item_len ends false (drop n text)

@@ -16,6 +16,6 @@ pub record HaveValues (words : List Word) (values : Words) : Type 0 where
       (λ word. IsSomeAnd values.class (IsClassWord word))
 
 -- the parts are words of these values and the items from the type on
-pub record ArePartsOf (parts : Parts) (values : Words) (left : List RawItem) : Type 0 where
+pub record AreWordsOf (parts : Parts) (values : Words) (left : List RawItem) : Type 0 where
   pub words : HaveValues parts.words values
   pub rest : parts.rest ≡ left

@@ -6,10 +6,10 @@ ghost use Rattle.zone_rdata.specs.Words.{IsClassWord};
 ghost use Rattle.zone_rdata.specs.declared.fault.Fault.{Fault};
 ghost use Rattle.zone_text.specs.Entries.{Entry};
 ghost use Rattle.zone_text.specs.EntryFault.{EntryFault};
-ghost use Rattle.zone_text.specs.Forms.{begins_with_digit, form_of, is_class_word};
+ghost use Rattle.zone_text.specs.Forms.{begins_with_digit, statement_of, is_class_word};
 ghost use Rattle.zone_text.specs.Machine.Lower.{Choices, Lower};
 ghost use Rattle.zone_text.specs.Outcome.{AllState, AreOctetItems};
-ghost use Rattle.zone_text.specs.Records.{StatesNothing, StatesRecord};
+ghost use Rattle.zone_text.specs.Records.{StatesNothing, EntryStates};
 
 use zone_name::laws::{spelling_is_unique, texts_have_one_verdict};
 use zone_rdata::laws::items::{
@@ -59,7 +59,7 @@ pub fn class_words_are_known()
 /// An entry states at most one record.
 pub fn an_entry_states_one_record()
     ensures { (origin : List (List ℕ)) (before : List Entry) (entry : Entry) (a b : Record)
-        → StatesRecord origin before entry a → StatesRecord origin before entry b → a ≡ b }
+        → EntryStates origin before entry a → EntryStates origin before entry b → a ≡ b }
 {
     lower_laws();
 }
@@ -76,14 +76,14 @@ pub fn an_entry_has_one_fault()
 /// states no record.
 pub fn an_entry_has_one_outcome()
     ensures record_or_fault { (origin : List (List ℕ)) (before : List Entry) (entry : Entry)
-        (r : Record) (fault : Fault) → StatesRecord origin before entry r
+        (r : Record) (fault : Fault) → EntryStates origin before entry r
         → EntryFault origin before entry fault → ⊥ }
     ensures nothing_or_fault { (origin : List (List ℕ)) (before : List Entry) (entry : Entry)
-        (fault : Fault) → StatesNothing origin before (form_of entry)
+        (fault : Fault) → StatesNothing origin before (statement_of entry)
         → EntryFault origin before entry fault → ⊥ }
     ensures nothing_or_record { (origin : List (List ℕ)) (before : List Entry) (entry : Entry)
-        (r : Record) → StatesNothing origin before (form_of entry)
-        → StatesRecord origin before entry r → ⊥ }
+        (r : Record) → StatesNothing origin before (statement_of entry)
+        → EntryStates origin before entry r → ⊥ }
 {
     lower_laws();
 }
@@ -93,8 +93,8 @@ pub fn an_entry_has_one_outcome()
 pub fn an_entry_has_an_outcome()
     ensures { (origin : List (List ℕ)) (before : List Entry) (entry : Entry) → IsName origin
         → AllState origin before → AreOctetItems entry.items
-        → StatesNothing origin before (form_of entry)
-        ⊎ (((r : Record) × StatesRecord origin before entry r)
+        → StatesNothing origin before (statement_of entry)
+        ⊎ (((r : Record) × EntryStates origin before entry r)
         ⊎ ((fault : Fault) × EntryFault origin before entry fault)) }
 {
     lower_laws();

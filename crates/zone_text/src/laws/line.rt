@@ -7,7 +7,7 @@ ghost use Rattle.zone_text.specs.Entries.{cut_from, Entry, entries_of, entry_of,
 ghost use Rattle.zone_text.specs.Inherited.{IsOrigin};
 ghost use Rattle.zone_text.specs.Line.{IsItem, line_of, StatesWhole};
 ghost use Rattle.zone_text.specs.Tokens.{Cuts, Token, text};
-ghost use Rattle.zone_text.specs.Records.{StatesRecord};
+ghost use Rattle.zone_text.specs.Records.{EntryStates};
 
 /// A line of items that are parted by single spaces is one entry with these items, which its line
 /// feed ends.
@@ -25,7 +25,7 @@ pub fn a_line_of_items_is_one_entry()
 /// An entry that states every part of a record, with absolute names, states it after any entries.
 pub fn a_whole_entry_states_its_record()
     ensures { (origin above : Labels) (before : List Entry) (entry : Entry) (r : Record)
-        → IsOrigin origin before above → StatesWhole entry r → StatesRecord origin before entry r }
+        → IsOrigin origin before above → StatesWhole entry r → EntryStates origin before entry r }
 {}
 
 /// An entry that states every part of a record leaves the origin as it was.

@@ -32,8 +32,8 @@ is_no_class n = n == 0 || n == 254 || n == 255
 
 -- the record that an answer states by itself: its class and type can be in a zone, its type is
 -- read, and so is its data
-unfoldable pub record_of : List ℕ → RecordAt → Result Record Fault
-record_of octets a =
+unfoldable pub own_record : List ℕ → RecordAt → Result Record Fault
+own_record octets a =
     if is_no_class a.class then Err BadClass
     else if is_meta a.kind then Err MetaType
     else if list_any (nat_eq a.kind) compressible then Err CompressibleType
@@ -65,9 +65,10 @@ order_fault questions (opening ∷ others) r =
     else None
 
 -- the record of an answer after questions and records, or its first fault
-unfoldable pub answer_of : List ℕ → List QuestionAt → List Placed → RecordAt → Result Record Fault
-answer_of octets questions before a =
-    and_then (record_of octets a)
+unfoldable pub answer_record : List ℕ → List QuestionAt → List Placed → RecordAt
+    → Result Record Fault
+answer_record octets questions before a =
+    and_then (own_record octets a)
     (λ r. elim (order_fault questions before r) [ Some fault ↦ Err fault | None ↦ Ok r ])
 
 -- records, and the fault after them
@@ -90,5 +91,5 @@ abbrev pub answers_of : ℕ → List ℕ → List QuestionAt → List Placed →
     → Answered (Fault × ℕ)
 answers_of number octets questions before [] = record { placed = []; fault = None }
 answers_of number octets questions before (a ∷ answers) =
-    before_others number a.offset (answer_of octets questions before a)
+    before_others number a.offset (answer_record octets questions before a)
     (λ p. answers_of number octets questions (before ++ p ∷ []) answers)

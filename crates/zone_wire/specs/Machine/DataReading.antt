@@ -14,8 +14,8 @@ abbrev pub parts_for : FieldValue → List FieldValue
 parts_for (strings many) = map string many
 parts_for value = value ∷ []
 
-abbrev pub put_behind : Built → List FieldValue → Built
-put_behind b parts = record b { parts = b.parts ++ parts }
+abbrev pub put_after : Built → List FieldValue → Built
+put_after b parts = record b { parts = b.parts ++ parts }
 
 -- the builder's next part is a value of the field, and it has room for the one that stands there
 pub record Awaits (octets : List ℕ) (end start : ℕ) (b : Built) (field : Field) : Type 0 where
@@ -40,7 +40,7 @@ pub record PutsValue (octets : List ℕ) (end start : ℕ) (field : Field) (old 
     (place : ℕ) : Type 0 where
   pub value : FieldValue
   pub read : value_at octets end start field ≡ Ok (value, place)
-  pub put : new ≡ put_behind old (parts_for value)
+  pub put : new ≡ put_after old (parts_for value)
   pub past : start ≤ place
   pub inside : place ≤ end
 
@@ -49,7 +49,7 @@ pub record PutsValues (octets : List ℕ) (end start : ℕ) (fields : List Field
     (old new : Built) : Type 0 where
   pub values : List FieldValue
   pub read : values_at octets end start fields ≡ Ok values
-  pub put : new ≡ put_behind old (flat_map parts_for values)
+  pub put : new ≡ put_after old (flat_map parts_for values)
   pub whole : IsWhole (Some fields) new.parts
 
 -- a builder has all the data of a record

@@ -3,9 +3,9 @@ use Rattle.std.specs.Prelude.{◌≡◌, ℕ, ◌+◌, ◌^◌, ◌<◌, ◌≤�
 use Rattle.zone_rdata.specs.declared.record.Placed.{Placed}
 use Rattle.zone_wire.specs.Answers.{handed_on}
 use Rattle.zone_wire.specs.Frames.{IsFramed}
-use Rattle.zone_wire.specs.Machine.Transferring.{Behind}
+use Rattle.zone_wire.specs.Machine.Transferring.{IsAfter}
 use Rattle.zone_wire.specs.Message.{u16_at}
-use Rattle.zone_wire.specs.Stream.{octets_in, placed_in, AreRead, Decided}
+use Rattle.zone_wire.specs.Stream.{octets_in, placed_in, AreRead, StreamDecides}
 use Rattle.zone_wire.specs.Transfer.{StatedMessage}
 use Rattle.zone_wire.specs.declared.source.Status.{Status}
 use Rattle.zone_wire.specs.declared.source.Status.TheVariants.{Open, Finished, OutOfMemory}
@@ -21,7 +21,7 @@ pub record Going (t : Transfer) (unfinished : List ℕ) (fed : List ℕ)
   pub parts : List StatedMessage
   pub framed : IsFramed fed (octets_in parts) unfinished
   pub read : AreRead [] parts
-  pub behind : Behind parts t
+  pub after : IsAfter parts t
   pub handed : given ++ t.decided.placed ≡ handed_on (placed_in parts)
 
 -- what is held follows from the octets fed and the records given
@@ -29,7 +29,7 @@ pub record Follow (t : Transfer) (unfinished : List ℕ) (fed : List ℕ)
     (given : List Placed) : Type 0 where
   pub octets : (i : ℕ) → slice_index fed i < 256
   pub state : MatchOption t.decided.ending (Going t unfinished fed given)
-      (λ e. Decided fed (given ++ t.decided.placed) (Some e))
+      (λ e. StreamDecides fed (given ++ t.decided.placed) (Some e))
 
 abbrev pub is_failed : Status → Bool
 is_failed Open = false

@@ -14,23 +14,23 @@ pub data Outcome : Type 0 where
   named : Found → Outcome
   refused : Fault → ℕ → Outcome
 
-abbrev pub behind_label : List ℕ → Outcome → Outcome
-behind_label label (named found) =
+abbrev pub after_label : List ℕ → Outcome → Outcome
+after_label label (named found) =
     named (record found { labels = label ∷ found.labels; steps = suc found.steps })
-behind_label label (refused fault steps) = refused fault (suc steps)
+after_label label (refused fault steps) = refused fault (suc steps)
 
-abbrev pub behind_pointer : ℕ → Outcome → Outcome
-behind_pointer end (named found) =
+abbrev pub after_pointer : ℕ → Outcome → Outcome
+after_pointer end (named found) =
     named (record found { end = end; steps = suc found.steps; pointers = suc found.pointers })
-behind_pointer end (refused fault steps) = refused fault (suc steps)
+after_pointer end (refused fault steps) = refused fault (suc steps)
 
 unfoldable pub outcome : List ℕ → List Visit → Outcome
 outcome message [] = refused ShortMessage 0
 outcome message (first ∷ visits) =
     elim first.standing [
       | at_root ↦ named (record { labels = []; end = first.offset + 1; steps = 1; pointers = 0 })
-      | at_label size ↦ behind_label (label_at message first.offset size) (outcome message visits)
-      | at_pointer target ↦ behind_pointer (first.offset + 2) (outcome message visits)
+      | at_label size ↦ after_label (label_at message first.offset size) (outcome message visits)
+      | at_pointer target ↦ after_pointer (first.offset + 2) (outcome message visits)
       | at_fault fault ↦ refused fault 1
     ]
 

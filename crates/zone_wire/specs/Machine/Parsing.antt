@@ -31,7 +31,7 @@ raw_from octets count offset =
     map (raw_at octets) (records_or_none (records_from octets count offset))
 
 -- so many records stand from an offset on
-pub record StandFrom (octets : List ℕ) (count offset : ℕ) : Type 0 where
+pub record HasRecordsFrom (octets : List ℕ) (count offset : ℕ) : Type 0 where
   pub records : List RecordAt
   pub past : ℕ
   pub stand : AreRecordsAt octets offset records past

@@ -67,8 +67,8 @@ to_the_end octets end sections =
 
 -- as many questions, answers and additional records as the header counts, in this order, and
 -- nothing after them
-abbrev pub behind_header : List ℕ → Result Sections (Fault × ℕ)
-behind_header octets =
+abbrev pub after_header : List ℕ → Result Sections (Fault × ℕ)
+after_header octets =
     and_then (questions_from octets (u16_at octets 4) 12) (λ questions.
     and_then (records_from octets (u16_at octets 6) questions.1) (λ answers.
     and_then (records_from octets (u16_at octets 10) answers.1) (λ additional.
@@ -82,4 +82,4 @@ behind_header octets =
 
 unfoldable pub sections_of : List ℕ → Result Sections (Fault × ℕ)
 sections_of octets =
-    elim (header_fault octets) [ Some fault ↦ Err (fault, 0) | None ↦ behind_header octets ]
+    elim (header_fault octets) [ Some fault ↦ Err (fault, 0) | None ↦ after_header octets ]

@@ -55,14 +55,15 @@ unless_refused number (Ok s) next = next s
 
 -- the records of messages after others, whose records are these, up to the first fault, and that
 -- fault with its place
-unfoldable pub records_of : List Sections → List Placed → List (List ℕ) → Answered (Fault × Place)
-records_of before placed [] = record { placed = []; fault = None }
-records_of before placed (octets ∷ messages) =
+unfoldable pub stream_records : List Sections → List Placed → List (List ℕ)
+    → Answered (Fault × Place)
+stream_records before placed [] = record { placed = []; fault = None }
+stream_records before placed (octets ∷ messages) =
     let number : ℕ = length before + 1 in
     unless_refused number (message_of before placed octets) (λ s.
     followed_by number (answers_of number octets (questions_of (before ++ s ∷ [])) placed s.answers)
     (λ here.
-    records_of (before ++ s ∷ []) (placed ++ here) messages))
+    stream_records (before ++ s ∷ []) (placed ++ here) messages))
 
 -- the fault of the stream's end, where no message has one: in a frame, or before the closing SOA
 abbrev pub end_fault : ℕ → List Placed → List ℕ → Option (Fault × Place)
@@ -80,8 +81,8 @@ pub record FindsReading (stream : List ℕ) (placed : List Placed)
   pub messages : List (List ℕ)
   pub rest : List ℕ
   pub framed : IsFramed stream messages rest
-  pub stated : placed ≡ handed_on (records_of [] [] messages).placed
-  pub ends : ending ≡ ending_of (length messages + 1) (records_of [] [] messages) rest
+  pub stated : placed ≡ handed_on (stream_records [] [] messages).placed
+  pub ends : ending ≡ ending_of (length messages + 1) (stream_records [] [] messages) rest
 
 -- what is found in the whole frames of a stream
 pub record FindsDecision (stream : List ℕ) (placed : List Placed)
@@ -89,5 +90,5 @@ pub record FindsDecision (stream : List ℕ) (placed : List Placed)
   pub messages : List (List ℕ)
   pub rest : List ℕ
   pub framed : IsFramed stream messages rest
-  pub stated : placed ≡ handed_on (records_of [] [] messages).placed
-  pub ends : ending ≡ (records_of [] [] messages).fault
+  pub stated : placed ≡ handed_on (stream_records [] [] messages).placed
+  pub ends : ending ≡ (stream_records [] [] messages).fault

@@ -8,10 +8,10 @@ use Rattle.zone_rdata.specs.declared.fault.Fault.TheVariants.{IdMismatch, BadQue
 use Rattle.zone_rdata.specs.declared.fault.Place.TheVariants.{Message}
 use Rattle.zone_rdata.specs.declared.record.Placed.{Placed}
 use Rattle.zone_wire.specs.AnswerFault.{FirstAnswerFault}
-use Rattle.zone_wire.specs.Answers.{ZoneAsked, zone_of, handed_on, is_closed, StandsBehind, StandInOrder}
+use Rattle.zone_wire.specs.Answers.{ZoneAsked, zone_of, handed_on, is_closed, ComesAfter, ComeInOrder}
 use Rattle.zone_wire.specs.Message.{QuestionAt, RecordAt, Sections}
-use Rattle.zone_wire.specs.Stream.{asked_in, placed_in, first_id, opening_of, HasFirstId, AskBehind, IsReadBehind, FaultBehind}
-use Rattle.zone_wire.specs.Transfer.{StatesRecord, StatedMessage, StateEach}
+use Rattle.zone_wire.specs.Stream.{asked_in, placed_in, first_id, opening_of, HasFirstId, AskAfter, IsReadAfter, FaultAfter}
+use Rattle.zone_wire.specs.Transfer.{AnswerStates, StatedMessage, AnswersState}
 use Rattle.zone_wire.specs.declared.transfer.FixedZone.{FixedZone}
 use Rattle.zone_wire.specs.declared.transfer.Transfer.{Transfer}
 
@@ -31,7 +31,7 @@ pub record Among (questions : List QuestionAt) (placed : List Placed) (t : Trans
   pub closed : t.closed ≡ is_closed placed
 
 -- the transfer holds what these messages fix
-pub record Behind (before : List StatedMessage) (t : Transfer) : Type 0 where
+pub record IsAfter (before : List StatedMessage) (t : Transfer) : Type 0 where
   pub count : t.messages ≡ length before
   pub id : t.id ≡ first_id before
   pub among : Among (asked_in before) (placed_in before) t
@@ -55,8 +55,8 @@ pub record Gains (here : List Placed) (questions : List QuestionAt) (placed : Li
 pub record Takes (octets : List ℕ) (a : RecordAt) (questions : List QuestionAt)
     (placed : List Placed) (old new : Transfer) : Type 0 where
   pub rr : Record
-  pub states : StatesRecord octets a rr
-  pub stands : StandsBehind questions placed rr
+  pub states : AnswerStates octets a rr
+  pub stands : ComesAfter questions placed rr
   pub gains : Gains
       (record { rr = rr; place = Message old.messages a.offset } ∷ []) questions placed old new
 
@@ -70,7 +70,7 @@ IfNoMemory Is (Err e) =
 abbrev pub AnswersGive : ℕ → List ℕ → List QuestionAt → List Placed → List RecordAt → List Placed
     → Option (Fault × ℕ) → Type 0
 AnswersGive number octets questions placed answers here None =
-    StateEach number octets answers here × StandInOrder questions placed here
+    AnswersState number octets answers here × ComeInOrder questions placed here
 AnswersGive number octets questions placed answers here (Some e) =
     FirstAnswerFault number octets questions placed answers here e.0 e.1
 
@@ -90,7 +90,7 @@ TakesEach octets answers questions placed result old new =
 pub record TakesHead (before : List StatedMessage) (s : Sections)
     (old new : Transfer) : Type 0 where
   pub same_id : HasFirstId before s
-  pub asks : AskBehind before s
+  pub asks : AskAfter before s
   pub count : new.messages ≡ old.messages + 1
   pub id : new.id ≡ Some s.id
   pub among : Among (asked_in before ++ s.questions) (placed_in before) new
@@ -98,22 +98,22 @@ pub record TakesHead (before : List StatedMessage) (s : Sections)
 -- the fault of a message's ID, or of a question
 pub data HeadFault (before : List StatedMessage) (s : Sections) : Fault × ℕ → Type 0 where
   other_id : (HasFirstId before s → ⊥) → HeadFault before s (IdMismatch, 0)
-  other_zone : HasFirstId before s → (AskBehind before s → ⊥) → HeadFault before s (BadQuestion, 12)
+  other_zone : HasFirstId before s → (AskAfter before s → ⊥) → HeadFault before s (BadQuestion, 12)
 
 -- a message came after others
 pub record TakesWhole (octets : List ℕ) (before : List StatedMessage)
     (old new : Transfer) : Type 0 where
   pub part : StatedMessage
   pub octets_are : part.octets ≡ octets
-  pub read : IsReadBehind before part
-  pub behind : Behind (before ++ part ∷ []) new
+  pub read : IsReadAfter before part
+  pub after : IsAfter (before ++ part ∷ []) new
   pub handed : Hands (placed_in before) (placed_in (before ++ part ∷ [])) old new
 
 -- a message after others has a fault
 pub record StopsIn (octets : List ℕ) (before : List StatedMessage) (old new : Transfer)
     (e : Fault × ℕ) : Type 0 where
   pub here : List Placed
-  pub next : FaultBehind before octets here e.0 e.1
+  pub next : FaultAfter before octets here e.0 e.1
   pub handed : Hands (placed_in before) (placed_in before ++ here) old new
 
 abbrev pub TakesMessageUpTo : List ℕ → List StatedMessage → Transfer → Transfer → Option (Fault × ℕ)

@@ -1,22 +1,39 @@
--- The walk along a name in a message, place by place, to its root or its first fault; `IsWalk` says
--- of a whole list that it is these places.
-use Rattle.std.specs.Prelude.{ℕ, zero, suc, ◌+◌, List, [], ◌∷◌, Option, Some, None}
-use Rattle.zone_wire.specs.Walk.{Standing, at_root, at_label, at_pointer, at_fault, Visit, Spot, place_of}
+-- The walk along a name in a message, place by place, to its root or its first fault: the list that
+-- `IsWalk` holds of.
+use Rattle.std.specs.Prelude.{ℕ, zero, suc, ◌+◌, List, [], ◌∷◌, length, slice_index, nat_le, nat_lt, nat_eq, ◌||◌, if◌then◌else◌, Option, Some, None}
+use Rattle.zone_wire.specs.Name.{target_at}
+use Rattle.zone_wire.specs.Walk.{Standing, at_root, at_label, at_pointer, at_fault, Visit, Spot, outset, past_label, past_pointer, visit}
+use Rattle.zone_rdata.specs.declared.fault.Fault.TheVariants.{ShortMessage, NameTooLong, ReservedLabel, BadPointer, TooManyPointers}
 
--- where the walk of the name at an offset begins
-abbrev pub outset : ℕ → Spot
-outset offset = record { offset = offset; bound = offset; pointers = 0; octets = 0 }
+-- a label: its octets lie in the message, and with it and the root the name has at most 255 octets
+abbrev pub label_of : List ℕ → Spot → ℕ → Standing
+label_of message spot size =
+    if nat_le (length message) (spot.offset + size) then at_fault ShortMessage
+    else if nat_lt 255 (spot.octets + size + 2) then at_fault NameTooLong
+    else at_label size
 
-abbrev pub past_label : Spot → ℕ → Spot
-past_label spot size =
-    record spot { offset = spot.offset + 1 + size; octets = spot.octets + 1 + size }
+-- a pointer: its two octets lie in the message, its target is past the header and below the bound,
+-- and it is at most the 128th
+abbrev pub pointer_of : List ℕ → Spot → ℕ → Standing
+pointer_of message spot target =
+    if nat_le (length message) (spot.offset + 1) then at_fault ShortMessage
+    else if nat_lt target 12 || nat_le spot.bound target then at_fault BadPointer
+    else if nat_le 128 spot.pointers then at_fault TooManyPointers
+    else at_pointer target
 
-abbrev pub past_pointer : Spot → ℕ → Spot
-past_pointer spot target =
-    record spot { offset = target; bound = target; pointers = spot.pointers + 1 }
+-- what stands at a place that lies in the message, by its first octet
+abbrev pub standing_at : List ℕ → Spot → Standing
+standing_at message spot =
+    let first : ℕ = slice_index message spot.offset in
+    if nat_eq first 0 then at_root
+    else if nat_le first 63 then label_of message spot first
+    else if nat_lt first 192 then at_fault ReservedLabel
+    else pointer_of message spot (target_at message spot.offset)
 
-abbrev pub visit : Spot → Standing → Visit
-visit spot standing = record { offset = spot.offset; standing = standing }
+-- what stands at a place, none where it doesn't lie in the message
+unfoldable pub place_of : List ℕ → Spot → Option Standing
+place_of message spot =
+    if nat_le (length message) spot.offset then None else Some (standing_at message spot)
 
 -- a walk from a place on, where `rest` walks on
 abbrev pub walk_on : (Spot → List Visit) → Spot → Option Standing → List Visit

@@ -6,7 +6,7 @@ ghost use Rattle.zone_rdata.specs.declared.fault.Place.TheVariants.{Message};
 ghost use Rattle.zone_rdata.specs.declared.record.Placed.{Placed};
 ghost use Rattle.zone_wire.specs.Answers.{handed_on};
 ghost use Rattle.zone_wire.specs.Frames.{IsFramed};
-ghost use Rattle.zone_wire.specs.Stream.{octets_in, placed_in, IsReadBehind, AreRead, FaultBehind, AreAlike, Decided};
+ghost use Rattle.zone_wire.specs.Stream.{octets_in, placed_in, IsReadAfter, AreRead, FaultAfter, AreAlike, StreamDecides};
 ghost use Rattle.zone_wire.specs.Transfer.{StatedMessage, frame};
 
 /// The frames of joined octets are those of the first octets, and then those of their rest and the
@@ -19,11 +19,11 @@ pub fn frames_of_joined_octets()
 {}
 
 /// After messages that are read, octets are one that is read, or are refused for one fault.
-pub fn a_message_behind_others()
+pub fn a_message_after_others()
     ensures { (before : List StatedMessage) (octets : Octets)
         → ((i : ℕ) → slice_index octets i < 256) → length octets ≤ 65535
-        → IsVerdict (λ (p : StatedMessage). (p.octets ≡ octets) × IsReadBehind before p)
-        (λ (e : List Placed × Fault × ℕ). FaultBehind before octets e.0 e.1 e.2) }
+        → IsVerdict (λ (p : StatedMessage). (p.octets ≡ octets) × IsReadAfter before p)
+        (λ (e : List Placed × Fault × ℕ). FaultAfter before octets e.0 e.1 e.2) }
 {}
 
 /// What is decided of a stream and a frame after it is what was decided of the stream, and then
@@ -31,13 +31,13 @@ pub fn a_message_behind_others()
 pub fn one_frame_more()
     ensures read { (stream : Octets) (before : List StatedMessage) (p : StatedMessage)
         → IsFramed stream (octets_in before) []
-        → AreRead [] before → length p.octets ≤ 65535 → IsReadBehind before p
-        → Decided (stream ++ frame p.octets) (handed_on (placed_in before ++ p.placed)) None }
+        → AreRead [] before → length p.octets ≤ 65535 → IsReadAfter before p
+        → StreamDecides (stream ++ frame p.octets) (handed_on (placed_in before ++ p.placed)) None }
     ensures refused { (stream octets : Octets) (before : List StatedMessage) (here : List Placed)
         (fault : Fault) (offset : ℕ)
         → IsFramed stream (octets_in before) [] → AreRead [] before → length octets ≤ 65535
-        → FaultBehind before octets here fault offset
-        → Decided (stream ++ frame octets) (handed_on (placed_in before ++ here))
+        → FaultAfter before octets here fault offset
+        → StreamDecides (stream ++ frame octets) (handed_on (placed_in before ++ here))
         (Some (fault, Message (length before + 1) offset)) }
     ensures adds { (placed here : List Placed) → (rest : List Placed)
         × (handed_on (placed ++ here) ≡ handed_on placed ++ rest) }
@@ -47,11 +47,11 @@ pub fn one_frame_more()
 /// ID, the name and class that are fixed, the opening SOA and whether the closing one came.
 pub fn what_a_message_is_judged_by()
     ensures read { (before other : List StatedMessage) (p : StatedMessage) → AreAlike before other
-        → IsReadBehind before p → IsReadBehind other p }
+        → IsReadAfter before p → IsReadAfter other p }
     ensures refused { (before other : List StatedMessage) (octets : Octets) (here : List Placed)
         (fault : Fault) (offset : ℕ)
-        → AreAlike before other → FaultBehind before octets here fault offset
-        → FaultBehind other octets here fault offset }
+        → AreAlike before other → FaultAfter before octets here fault offset
+        → FaultAfter other octets here fault offset }
     ensures stays { (before other : List StatedMessage) (p : StatedMessage) → AreAlike before other
-        → IsReadBehind before p → AreAlike (before ++ p ∷ []) (other ++ p ∷ []) }
+        → IsReadAfter before p → AreAlike (before ++ p ∷ []) (other ++ p ∷ []) }
 {}

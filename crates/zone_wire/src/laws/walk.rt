@@ -2,11 +2,9 @@
 ghost use Rattle.std.specs.Prelude.{◌<◌, ℕ, List, slice_index};
 ghost use Rattle.zone_name.specs.Common.{AtMostOneIs, IsVerdict, Octets};
 ghost use Rattle.zone_wire.specs.Name.{IsNameAt};
-ghost use Rattle.zone_wire.specs.Walk.{Visit};
-ghost use Rattle.zone_wire.specs.WholeWalk.{IsWalk, NameFault};
+ghost use Rattle.zone_wire.specs.Walk.{Visit, IsWalk, NameFault};
 
-/// One list is the walk from an offset: each of its places is the next after those before it, and
-/// it is whole.
+/// One list is the walk from an offset.
 pub fn one_walk_from_an_offset()
     ensures one { (message : Octets) (offset : ℕ) → AtMostOneIs (IsWalk message offset) }
     ensures some { (message : Octets) (offset : ℕ) → (visits : List Visit)

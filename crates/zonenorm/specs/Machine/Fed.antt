@@ -9,9 +9,9 @@ use Rattle.zone_text.specs.Source as text
 use Rattle.zone_wire.specs.Source as wire
 use Rattle.zone_wire.specs.Stream.{StreamReads}
 use Rattle.zone_wire.specs.Stream as streams
-use Rattle.zone_text.specs.Decided.{Decided}
+use Rattle.zone_text.specs.Decided.{FileDecides}
 use Rattle.zone_text.specs.FileReads.{FileReads}
-use Rattle.zonenorm.specs.Input.{InputForm, as_file, as_transfer, input_of, Reads}
+use Rattle.zonenorm.specs.Input.{InputForm, as_file, as_transfer, input_of, InputReads}
 use Rattle.zonenorm.specs.Machine.Input.{Decides}
 
 -- it stands for a master file under the origin with which it was made
@@ -28,7 +28,7 @@ file_decides as_transfer pending inside octets given never going = absurd never
 
 pub file_reads : (form : InputForm) (pending : Pending) (inside : text.Held) (octets : Octets)
     (given : List Placed) → FileStands form pending inside octets given → inside.finished ≡ true
-    → Reads (input_of form octets) (given ++ pending.records) pending.ending
+    → InputReads (input_of form octets) (given ++ pending.records) pending.ending
 file_reads (as_file origin) pending inside octets given stands ended = stands.read ended
 file_reads as_transfer pending inside octets given never ended = absurd never
 
@@ -43,7 +43,8 @@ file_gives (as_file origin) pending inside octets given taken others stands part
       works = stands.works;
       count = stands.count;
       decided =
-          λ going. subst (λ rs. Decided origin octets rs pending.ending) moved (stands.decided going);
+          λ going. subst (λ rs. FileDecides origin octets rs pending.ending) moved
+          (stands.decided going);
       leave = stands.leave;
       read =
           λ ended. subst (λ rs. FileReads origin octets rs pending.ending) moved (stands.read ended);
@@ -65,7 +66,7 @@ transfer_decides as_transfer pending inside octets given stands going = stands.d
 
 pub transfer_reads : (form : InputForm) (pending : Pending) (inside : wire.Held) (octets : Octets)
     (given : List Placed) → TransferStands form pending inside octets given → inside.finished ≡ true
-    → Reads (input_of form octets) (given ++ pending.records) pending.ending
+    → InputReads (input_of form octets) (given ++ pending.records) pending.ending
 transfer_reads (as_file origin) pending inside octets given never ended = absurd never
 transfer_reads as_transfer pending inside octets given stands ended = stands.read ended
 
@@ -82,7 +83,7 @@ transfer_gives as_transfer pending inside octets given taken others stands parts
       octets = stands.octets;
       count = stands.count;
       decided =
-          λ going. subst (λ rs. streams.Decided octets rs pending.ending) moved
+          λ going. subst (λ rs. streams.StreamDecides octets rs pending.ending) moved
           (stands.decided going);
       leave = stands.leave;
       read = λ ended. subst (λ rs. StreamReads octets rs pending.ending) moved (stands.read ended);

@@ -15,5 +15,5 @@ IsForm as_transfer = ⊤
 
 -- what is decided of an input by the octets so far, whatever octets follow them
 abbrev pub Decides : Input → List Placed → Option (Fault × Place) → Type 0
-Decides (file origin octets) placed ending = file_decides.Decided origin octets placed ending
-Decides (transfer octets) placed ending = stream_decides.Decided octets placed ending
+Decides (file origin octets) placed ending = file_decides.FileDecides origin octets placed ending
+Decides (transfer octets) placed ending = stream_decides.StreamDecides octets placed ending

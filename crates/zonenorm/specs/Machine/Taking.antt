@@ -1,8 +1,7 @@
 -- What the program holds of an input while it is fed: the records that were taken, or why the input
 -- is refused.
-use Rattle.std.specs.Prelude.{◌≡◌, ℕ, ◌≤◌, ◌<◌, List, [], ◌++◌, length, Option, Some, None, IfSome, false}
-use Rattle.std.specs.List.{AllByRecursion}
-use Rattle.zone_name.specs.Common.{Octets}
+use Rattle.std.specs.Prelude.{◌≡◌, ℕ, ◌≤◌, List, [], ◌++◌, length, Option, Some, None, IfSome, false}
+use Rattle.zone_name.specs.Common.{Octets, AreOctets}
 use Rattle.zone_rdata.specs.Record.{Record}
 use Rattle.zone_rdata.specs.Source.{Pending}
 use Rattle.zone_rdata.specs.declared.fault.Fault.{Fault}
@@ -12,7 +11,7 @@ use Rattle.zone_rdata.specs.declared.record.Placed.{Placed}
 use Rattle.zone_set.specs.Builder.{AddsEach}
 use Rattle.zone_set.specs.Refusal.{AllAccepted, IsFirstRefused, records_of}
 use Rattle.zone_set.specs.Zone.{Zone, IsZone, SameRecords}
-use Rattle.zonenorm.specs.Input.{InputForm, Input, input_of, octets_of, Reads}
+use Rattle.zonenorm.specs.Input.{InputForm, Input, input_of, input_octets, InputReads}
 use Rattle.zonenorm.specs.Machine.Input.{Decides, IsForm}
 use Rattle.zonenorm.specs.Refusal.{IfRefused, IsRefusalWithin, RefusesReading}
 
@@ -51,7 +50,7 @@ IsTakenOf Stands pending inside held refusal form octets =
 -- the records that the input is read as are those of the zone, whatever the length of its text
 pub record ReadsZone (input : Input) (z : Zone) : Type 0 where
   pub placed : List Placed
-  pub reads : Reads input placed None
+  pub reads : InputReads input placed None
   pub same : SameRecords z.records (records_of placed)
   pub zone : IsZone z
 
@@ -59,13 +58,13 @@ pub record ReadsZone (input : Input) (z : Zone) : Type 0 where
 pub record RefusesRead (input : Input) (fault : Fault) (place : Place) : Type 0 where
   pub placed : List Placed
   pub ending : Option (Fault × Place)
-  pub reads : Reads input placed ending
+  pub reads : InputReads input placed ending
   pub refuses : RefusesReading placed ending fault place
 
 -- the same of an input of octets that is no longer than a limit
 pub record ReadsZoneWithin (limit : ℕ) (input : Input) (z : Zone) : Type 0 where
-  pub each : AllByRecursion (λ c. c < 256) (octets_of input)
-  pub short : length (octets_of input) ≤ limit
+  pub each : AreOctets (input_octets input)
+  pub short : length (input_octets input) ≤ limit
   pub reads : ReadsZone input z
 
 -- a source was fed nothing, and has nothing to give

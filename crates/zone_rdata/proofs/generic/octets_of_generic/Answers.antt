@@ -4,7 +4,7 @@ use Rattle.std.proofs.lemmas.Result.{err_from_is_err_and}
 use Rattle.zone_rdata.specs.Item.{raw}
 use Rattle.zone_rdata.specs.Generic.{JoinTo}
 use Rattle.zone_rdata.proofs.Failings.{IfErr-fault}
-use Rattle.zone_rdata.proofs.GenericForm.{form_parts, form_faults, form_missing, form_digits, behind_two}
+use Rattle.zone_rdata.proofs.GenericForm.{form_parts, form_faults, form_missing, form_digits, later_two}
 use Rattle.zone_rdata.proofs.generic.octets_of_generic.Goals as goal
 
 pub returns-in_err-len-in-len2-up-clause-fault : goal.returns-in_err-len-in-len2-up-clause-fault
@@ -18,5 +18,5 @@ returns-in_default-clause-fault c = rw c.of.ensures (form_missing _ c.requires (
 pub returns-in_ok-len-in-len2-up-clause-fault : goal.returns-in_ok-len-in-len2-up-clause-fault
 returns-in_ok-len-in-len2-up-clause-fault c =
     IfErr-fault c.octets_of_digits.result _ _
-    (λ fault bad. form_digits _ _ _ c.in_ok-len-in-len2-up.len fault (form_parts c.args.items.now _ c.in-len2-up.len_at_least c.requires) c.in_ok-len-in-len2-up.ensures.found c.in_ok-len-in-len2-up.ensures.short (bad.0, λ octets h. bad.1 octets (subst (λ r. JoinTo (map raw r) octets) (sym (behind_two c.args.items.now)) h)))
+    (λ fault bad. form_digits _ _ _ c.in_ok-len-in-len2-up.len fault (form_parts c.args.items.now _ c.in-len2-up.len_at_least c.requires) c.in_ok-len-in-len2-up.ensures.found c.in_ok-len-in-len2-up.ensures.short (bad.0, λ octets h. bad.1 octets (subst (λ r. JoinTo (map raw r) octets) (sym (later_two c.args.items.now)) h)))
     c.octets_of_digits.ensures.fault

@@ -1,5 +1,5 @@
 use Rattle.std.proofs.Common.{refl, subst}
-use Rattle.zone_name.proofs.Sinks.{stops_behind, takes_both}
+use Rattle.zone_name.proofs.Sinks.{stops_after, takes_both}
 use Rattle.zone_rdata.proofs.Texts.{hex_started, hex_more, at_is_ok}
 use Rattle.zone_rdata.proofs.printing.push_hex.Goals as goal
 
@@ -7,7 +7,7 @@ pub loop-octet-init : goal.loop-octet-init
 loop-octet-init g c = subst (λ t. g.S.Sink.takes c.args.out.now t c.args.out.now) hex_started (g.met.S.Sink.nothing c.args.out.now)
 
 pub returns-in_err-push-clause-err : goal.returns-in_err-push-clause-err
-returns-in_err-push-clause-err g c = stops_behind _ _ g.met.S.Sink.joins _ _ _ _ c.loop-octet.invariant (_, c.in_err-push.ensures.err)
+returns-in_err-push-clause-err g c = stops_after _ _ g.met.S.Sink.joins _ _ _ _ c.loop-octet.invariant (_, c.in_err-push.ensures.err)
 
 pub loop-octet-preserved : goal.loop-octet-preserved
 loop-octet-preserved g c =

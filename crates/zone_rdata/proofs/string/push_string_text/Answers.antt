@@ -1,11 +1,11 @@
 use Rattle.std.proofs.Common.{arith}
 use Rattle.std.proofs.lemmas.Grind.{common_steps}
 use Rattle.std.proofs.lemmas.Result.{on_ok_weaker}
-use Rattle.zone_name.proofs.Sinks.{stops_behind, stops_last, takes_both}
+use Rattle.zone_name.proofs.Sinks.{stops_after, stops_last, takes_both}
 use Rattle.zone_rdata.proofs.string.push_string_text.Goals as goal
 
 pub returns-in_err-push_unit-clause-err : goal.returns-in_err-push_unit-clause-err
-returns-in_err-push_unit-clause-err g c = stops_behind _ _ g.met.S.Sink.joins _ _ _ _ c.loop-octet.invariant (_, c.in_err-push_unit.ensures.err)
+returns-in_err-push_unit-clause-err g c = stops_after _ _ g.met.S.Sink.joins _ _ _ _ c.loop-octet.invariant (_, c.in_err-push_unit.ensures.err)
 
 pub loop-octet-preserved : goal.loop-octet-preserved
 loop-octet-preserved g c = takes_both _ g.met.S.Sink.joins _ _ _ _ _ _ c.loop-octet.invariant c.in_ok-push_unit.ensures.ok (grind (arith, common_steps))

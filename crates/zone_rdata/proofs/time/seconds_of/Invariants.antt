@@ -1,6 +1,6 @@
 use Rattle.std.proofs.Common.{take}
-use Rattle.zone_rdata.specs.Machine.TimeProgress.{Reads}
+use Rattle.zone_rdata.specs.Machine.TimeProgress.{ReadsTime}
 use Rattle.zone_rdata.proofs.time.seconds_of.Given as goal
 
 abbrev pub invariant-loop-octet : goal.invariant-loop-octet
-invariant-loop-octet l = Reads (take l.octet-index l.text) l.so_far
+invariant-loop-octet l = ReadsTime (take l.octet-index l.text) l.so_far

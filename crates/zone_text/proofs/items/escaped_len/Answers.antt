@@ -1,6 +1,6 @@
 use Rattle.std.proofs.Common.{length, ◌+◌, ◌-◌, ◌≡◌, ap, ◌∙◌, arith}
 use Rattle.std.proofs.lemmas.List.{length-drop}
-use Rattle.zone_text.specs.Machine.ItemLengths.{Reaches, ends_within, stops_within}
+use Rattle.zone_text.specs.Machine.ItemLengths.{ItemReaches, ends_within, stops_within}
 use Rattle.zone_text.proofs.TokenEnds.{escape_on, reach_on, stops_on, len_reached}
 use Rattle.zone_text.proofs.items.escaped_len.Goals as goal
 
@@ -12,7 +12,7 @@ loop-len-preserved c =
     let k = c.loop-len.len + c.min-len.result in
     let back = c.split_at.ensures.back in
     let left : length c.split_at.result.1.now ≡ length c.args.text.now - k = ap length back ∙ length-drop k c.args.text.now in
-    let escape : Reaches (ends_within c.args.extent) c.args.text.now k = escape_on (ends_within c.args.extent) c.args.text.now c.loop-len.len c.min-len.result c.loop-len-test.true c.if-text-len-eq92.true c.min-len.ensures c.loop-len.invariant.reaches in
+    let escape : ItemReaches (ends_within c.args.extent) c.args.text.now k = escape_on (ends_within c.args.extent) c.args.text.now c.loop-len.len c.min-len.result c.loop-len-test.true c.if-text-len-eq92.true c.min-len.ensures c.loop-len.invariant.reaches in
     record {
       within = omega (arith, left, c.loop-len-test.true, c.min-len.ensures, c.plain_len-len.ensures.within);
       reaches = reach_on (ends_within c.args.extent) c.args.text.now k c.plain_len-len.result escape (rw back at c.plain_len-len.ensures.reaches);

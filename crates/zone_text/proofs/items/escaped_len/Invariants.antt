@@ -1,11 +1,11 @@
 use Rattle.std.proofs.Common.{◌≤◌, ◌-◌, drop, length}
-use Rattle.zone_text.specs.Machine.ItemLengths.{EndsAt, Reaches, ends_within, stops_within}
+use Rattle.zone_text.specs.Machine.ItemLengths.{EndsAt, ItemReaches, ends_within, stops_within}
 use Rattle.zone_text.proofs.items.escaped_len.Given as goal
 
 abbrev pub invariant-loop-len : goal.invariant-loop-len
 invariant-loop-len l = record {
   within : l.len ≤ length l.text;
-  reaches : Reaches (ends_within l.extent) l.text l.len;
+  reaches : ItemReaches (ends_within l.extent) l.text l.len;
   stops : EndsAt (stops_within l.extent) (drop l.len l.text);
 }
 

@@ -1,10 +1,10 @@
 use Rattle.std.proofs.Common.{◌≡◌, take, false}
 use Rattle.std.specs.List.{All}
-use Rattle.zone_text.specs.Machine.ItemLengths.{Reaches, ends_within, stops_within}
+use Rattle.zone_text.specs.Machine.ItemLengths.{ItemReaches, ends_within, stops_within}
 use Rattle.zone_text.proofs.items.plain_len.Given as goal
 
 abbrev pub invariant-loop-index : goal.invariant-loop-index
 invariant-loop-index l = record {
-  reaches : Reaches (ends_within l.extent) l.text l.index;
+  reaches : ItemReaches (ends_within l.extent) l.text l.index;
   plain : All (λ c. stops_within l.extent c ≡ false) (take l.index l.text);
 }

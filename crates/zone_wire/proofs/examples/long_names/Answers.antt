@@ -1,6 +1,6 @@
 use Rattle.std.proofs.Common.{refl}
-use Rattle.zone_wire.specs.Walk.{place_of, ending}
-use Rattle.zone_wire.specs.Machine.Walk.{walk_by, walk}
+use Rattle.zone_wire.specs.Walk.{ending}
+use Rattle.zone_wire.specs.Machine.Walk.{place_of, walk_by, walk}
 use Rattle.zone_wire.proofs.Computing.{walk_computes}
 use Rattle.zone_wire.proofs.examples.long_names.Goals as goal
 

@@ -1,7 +1,6 @@
 use Rattle.std.proofs.Common.{refl}
 use Rattle.zone_wire.specs.Machine.Finding.{outcome}
-use Rattle.zone_wire.specs.Walk.{place_of}
-use Rattle.zone_wire.specs.Machine.Walk.{walk_by, walk}
+use Rattle.zone_wire.specs.Machine.Walk.{place_of, walk_by, walk}
 use Rattle.zone_wire.proofs.Computing.{name_computes}
 use Rattle.zone_wire.proofs.examples.the_root.Goals as goal
 

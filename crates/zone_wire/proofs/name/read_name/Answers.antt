@@ -29,26 +29,26 @@ returns-in-Root c =
     (c.places.spot.pointers, cc (h, c.in-Root.ensures.ticks))
 
 pub overflow_add-start : goal.overflow_add-start
-overflow_add-start c = let h = label_shows _ _ c.in-Label.size (sym c.in-Label.ensures.place) in omega (arith, h.inside)
+overflow_add-start c = let h = label_shows _ _ c.in-Label.size (sym c.in-Label.ensures.place) in omega (arith, h.0.inside)
 
 pub overflow_add-start-in-Label : goal.overflow_add-start-in-Label
-overflow_add-start-in-Label c = let h = label_shows _ _ c.in-Label.size (sym c.in-Label.ensures.place) in omega (arith, h.inside)
+overflow_add-start-in-Label c = let h = label_shows _ _ c.in-Label.size (sym c.in-Label.ensures.place) in omega (arith, h.0.inside)
 
 pub slice_bounds-push_label-end : goal.slice_bounds-push_label-end
-slice_bounds-push_label-end c = let h = label_shows _ _ c.in-Label.size (sym c.in-Label.ensures.place) in omega (arith, h.inside)
+slice_bounds-push_label-end c = let h = label_shows _ _ c.in-Label.size (sym c.in-Label.ensures.place) in omega (arith, h.0.inside)
 
 pub past_label-spot-requires-clause-offset : goal.past_label-spot-requires-clause-offset
-past_label-spot-requires-clause-offset c = let h = label_shows _ _ c.in-Label.size (sym c.in-Label.ensures.place) in omega (arith, h.inside)
+past_label-spot-requires-clause-offset c = let h = label_shows _ _ c.in-Label.size (sym c.in-Label.ensures.place) in omega (arith, h.0.inside)
 
 pub past_label-spot-requires-clause-octets : goal.past_label-spot-requires-clause-octets
-past_label-spot-requires-clause-octets c = let h = label_shows _ _ c.in-Label.size (sym c.in-Label.ensures.place) in omega (arith, h.room)
+past_label-spot-requires-clause-octets c = let h = label_shows _ _ c.in-Label.size (sym c.in-Label.ensures.place) in omega (arith, h.1)
 
 pub unreachable-requires : goal.unreachable-requires
 unreachable-requires c =
     let h = label_shows _ _ c.in-Label.size (sym c.in-Label.ensures.place) in
-    let len = part_length c.args.message.now c.places.spot.offset c.in-Label.size h.inside in
+    let len = part_length c.args.message.now c.places.spot.offset c.in-Label.size h.0.inside in
     push_fits c.in-Err.field-0 _ c.places.labels c.in-Err.ensures.only (λ e. c.in-Err.ensures.empty.0 (ap Err e)) (λ e. c.in-Err.ensures.long.0 (ap Err e)) (λ e. (c.in-Err.ensures.too_long.0 (ap Err e)).2)
-    (omega (arith, len, h.some)) (omega (arith, len, h.short)) (omega (arith, len, h.room, c.places.invariant.octets))
+    (omega (arith, len, h.0.some)) (omega (arith, len, h.0.short)) (omega (arith, len, h.1, c.places.invariant.octets))
 
 pub places-preserved-in-Ok : goal.places-preserved-in-Ok
 places-preserved-in-Ok c =
@@ -57,10 +57,10 @@ places-preserved-in-Ok c =
     rw (c.past_label-spot.ensures, c.in-Label.ensures.ticks, pushed) (carries_label c.in-Label.size c.places.invariant (sym c.in-Label.ensures.place))
 
 pub overflow_add-spot-in-Pointer : goal.overflow_add-spot-in-Pointer
-overflow_add-spot-in-Pointer c = let h = pointer_shows _ _ c.in-Pointer.target (sym c.in-Pointer.ensures.place) in omega (arith, h.inside)
+overflow_add-spot-in-Pointer c = let h = pointer_shows _ _ c.in-Pointer.target (sym c.in-Pointer.ensures.place) in omega (arith, h.0.inside)
 
 pub past_pointer-spot-requires : goal.past_pointer-spot-requires
-past_pointer-spot-requires c = (pointer_shows _ _ c.in-Pointer.target (sym c.in-Pointer.ensures.place)).few
+past_pointer-spot-requires c = (pointer_shows _ _ c.in-Pointer.target (sym c.in-Pointer.ensures.place)).1
 
 pub places-preserved : goal.places-preserved
 places-preserved c =

@@ -27,10 +27,10 @@ pub returns-in-Root : goal.returns-in-Root
 returns-in-Root c = rw c.unwrap_or.ensures (sym (ap name_end_of (carries_root c.places.invariant.1 (sym c.in-Root.ensures.place))))
 
 pub past_label-spot-requires-clause-offset : goal.past_label-spot-requires-clause-offset
-past_label-spot-requires-clause-offset c = let h = label_shows _ _ c.in-Label.size (sym c.in-Label.ensures.place) in omega (arith, h.inside)
+past_label-spot-requires-clause-offset c = let h = label_shows _ _ c.in-Label.size (sym c.in-Label.ensures.place) in omega (arith, h.0.inside)
 
 pub past_label-spot-requires-clause-octets : goal.past_label-spot-requires-clause-octets
-past_label-spot-requires-clause-octets c = let h = label_shows _ _ c.in-Label.size (sym c.in-Label.ensures.place) in omega (arith, h.room)
+past_label-spot-requires-clause-octets c = let h = label_shows _ _ c.in-Label.size (sym c.in-Label.ensures.place) in omega (arith, h.1)
 
 pub places-preserved-in-Label : goal.places-preserved-in-Label
 places-preserved-in-Label c =
@@ -39,10 +39,10 @@ places-preserved-in-Label c =
     rw (c.past_label-spot.ensures, c.in-Label.ensures.ticks) (c.places.invariant.0 ++ label ∷ [], next)
 
 pub overflow_add-spot-in-Pointer : goal.overflow_add-spot-in-Pointer
-overflow_add-spot-in-Pointer c = let h = pointer_shows _ _ c.in-Pointer.target (sym c.in-Pointer.ensures.place) in omega (arith, h.inside)
+overflow_add-spot-in-Pointer c = let h = pointer_shows _ _ c.in-Pointer.target (sym c.in-Pointer.ensures.place) in omega (arith, h.0.inside)
 
 pub past_pointer-spot-requires : goal.past_pointer-spot-requires
-past_pointer-spot-requires c = (pointer_shows _ _ c.in-Pointer.target (sym c.in-Pointer.ensures.place)).few
+past_pointer-spot-requires c = (pointer_shows _ _ c.in-Pointer.target (sym c.in-Pointer.ensures.place)).1
 
 pub places-preserved : goal.places-preserved
 places-preserved c =

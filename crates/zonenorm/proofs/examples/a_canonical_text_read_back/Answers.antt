@@ -1,20 +1,20 @@
 use Rattle.std.proofs.Common.{codes, subst}
-use Rattle.zonenorm.specs.Examples.{a_x, x, zone_of}
+use Rattle.zonenorm.specs.Examples.{a_x, x, example_zone}
 use Rattle.zonenorm.specs.Input.{file, InputDenotes}
 use Rattle.zonenorm.specs.Normalise.{NormalisesTo}
 use Rattle.zonenorm.proofs.examples.a_canonical_text_read_back.Goals as goal
 
 pub returns-clause-same_origin : goal.returns-clause-same_origin
 returns-clause-same_origin c =
-    subst (λ text. InputDenotes (file x text) (zone_of 5)) c.a_file_and_its_zone.ensures.text
-    (c.headline.ensures.back (file x (codes "@ SOA n h 1 2 3 4 5\n NS n\n")) (zone_of 5) x c.a_file_and_its_zone.ensures.zone).denotes
+    subst (λ text. InputDenotes (file x text) (example_zone 5)) c.a_file_and_its_zone.ensures.text
+    (c.headline.ensures.back (file x (codes "@ SOA n h 1 2 3 4 5\n NS n\n")) (example_zone 5) x c.a_file_and_its_zone.ensures.zone).denotes
 
 pub returns-clause-other_origin : goal.returns-clause-other_origin
 returns-clause-other_origin c =
-    subst (λ text. InputDenotes (file a_x text) (zone_of 5)) c.a_file_and_its_zone.ensures.text
-    (c.headline.ensures.back (file x (codes "@ SOA n h 1 2 3 4 5\n NS n\n")) (zone_of 5) a_x c.a_file_and_its_zone.ensures.zone).denotes
+    subst (λ text. InputDenotes (file a_x text) (example_zone 5)) c.a_file_and_its_zone.ensures.text
+    (c.headline.ensures.back (file x (codes "@ SOA n h 1 2 3 4 5\n NS n\n")) (example_zone 5) a_x c.a_file_and_its_zone.ensures.zone).denotes
 
 pub returns-clause-again : goal.returns-clause-again
 returns-clause-again c =
     subst (λ text. NormalisesTo (file a_x text) text) c.a_file_and_its_zone.ensures.text
-    (c.headline.ensures.again (file x (codes "@ SOA n h 1 2 3 4 5\n NS n\n")) (zone_of 5) a_x c.a_file_and_its_zone.ensures.zone).normalises
+    (c.headline.ensures.again (file x (codes "@ SOA n h 1 2 3 4 5\n NS n\n")) (example_zone 5) a_x c.a_file_and_its_zone.ensures.zone).normalises

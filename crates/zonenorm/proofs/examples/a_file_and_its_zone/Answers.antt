@@ -5,18 +5,18 @@ use Rattle.zone_print.specs.Canonical.{canon, text_limit}
 use Rattle.zone_set.specs.Zone.{Has, IsZone}
 use Rattle.zone_rdata.specs.Record.{Record, IsRecord}
 use Rattle.std.specs.List.{AllByRecursion}
-use Rattle.zonenorm.specs.Examples.{x, soa_of, zone_of}
+use Rattle.zonenorm.specs.Examples.{x, soa_of, example_zone}
 use Rattle.zonenorm.proofs.Inputs.{file_fits}
-use Rattle.zonenorm.proofs.Small.{each_Has}
+use Rattle.zone_set.proofs.Together.{each_Has}
 use Rattle.zonenorm.proofs.examples.a_file_and_its_zone.Goals as goal
 
-is_zone : AllByRecursion IsRecord (zone_of 5).records → IsZone (zone_of 5)
+is_zone : AllByRecursion IsRecord (example_zone 5).records → IsZone (example_zone 5)
 is_zone each = record {
   compatible = record {
     each = each;
     ascend = ((refl, tt), (tt, tt));
-    one_class = λ r s has too. each_Has (λ t. t.class ≡ 1) (zone_of 5).records r (refl, (refl, tt)) has ∙ sym (each_Has (λ t. t.class ≡ 1) (zone_of 5).records s (refl, (refl, tt)) too);
-    one_ttl = λ r s has too one. each_Has (λ t. t.ttl ≡ 5) (zone_of 5).records r (refl, (refl, tt)) has ∙ sym (each_Has (λ t. t.ttl ≡ 5) (zone_of 5).records s (refl, (refl, tt)) too);
+    one_class = λ r s has too. each_Has (λ t. t.class ≡ 1) (example_zone 5).records r (refl, (refl, tt)) has ∙ sym (each_Has (λ t. t.class ≡ 1) (example_zone 5).records s (refl, (refl, tt)) too);
+    one_ttl = λ r s has too one. each_Has (λ t. t.ttl ≡ 5) (example_zone 5).records r (refl, (refl, tt)) has ∙ sym (each_Has (λ t. t.ttl ≡ 5) (example_zone 5).records s (refl, (refl, tt)) too);
     one_soa = λ r s has too soa other. the_soa r has soa ∙ sym (the_soa s too other);
   };
   class = (refl, (refl, tt));
@@ -24,10 +24,10 @@ is_zone each = record {
   within = (([], refl), (([], refl), tt));
 }
   where
-    the_soa : (r : Record) → Has (zone_of 5).records r → r.kind ≡ 6 → r ≡ soa_of 1 5 1
-    the_soa r = each_Has (λ t. t.kind ≡ 6 → t ≡ soa_of 1 5 1) (zone_of 5).records r ((λ is. refl), (λ is. absurd (omega (arith, is)), tt))
+    the_soa : (r : Record) → Has (example_zone 5).records r → r.kind ≡ 6 → r ≡ soa_of 1 5 1
+    the_soa r = each_Has (λ t. t.kind ≡ 6 → t ≡ soa_of 1 5 1) (example_zone 5).records r ((λ is. refl), (λ is. absurd (omega (arith, is)), tt))
 
-short : length (canon (zone_of 5)) ≤ text_limit
+short : length (canon (example_zone 5)) ≤ text_limit
 unfolding labels_of digits
 short = lit≤ tt
 

@@ -1,5 +1,5 @@
 use Rattle.std.proofs.Common.{arith, subst}
-use Rattle.zone_name.proofs.Sinks.{Took-more, stops_behind}
+use Rattle.zone_name.proofs.Sinks.{Took-more, stops_after}
 use Rattle.zone_rdata.proofs.StringFields.{first_string}
 use Rattle.zone_rdata.proofs.StringTexts.{quoted_first, quoted_more, quoted_all, first_of_rest}
 use Rattle.zone_rdata.proofs.field.strings.push_strings_text.Goals as goal
@@ -18,11 +18,11 @@ pub split_string-requires-in-loop-rest : goal.split_string-requires-in-loop-rest
 split_string-requires-in-loop-rest g c = first_of_rest _ _ _ (grind (arith, c.loop-rest-test.ensures, c.is_empty.ensures)) c.loop-rest.invariant.known
 
 pub returns-in_err-push-clause-err : goal.returns-in_err-push-clause-err
-returns-in_err-push-clause-err g c = stops_behind _ _ g.met.S.Sink.joins _ _ _ _ c.loop-rest.invariant.taken (_, c.in_err-push.ensures.err)
+returns-in_err-push-clause-err g c = stops_after _ _ g.met.S.Sink.joins _ _ _ _ c.loop-rest.invariant.taken (_, c.in_err-push.ensures.err)
 
 pub returns-in_err-push_string_text-2-clause-err : goal.returns-in_err-push_string_text-2-clause-err
 returns-in_err-push_string_text-2-clause-err g c =
-    stops_behind _ _ g.met.S.Sink.joins _ _ _ _ (g.met.S.Sink.joins _ _ _ _ _ c.loop-rest.invariant.taken c.in_ok-push.ensures.ok) c.in_err-push_string_text-2.ensures.err
+    stops_after _ _ g.met.S.Sink.joins _ _ _ _ (g.met.S.Sink.joins _ _ _ _ _ c.loop-rest.invariant.taken c.in_ok-push.ensures.ok) c.in_err-push_string_text-2.ensures.err
 
 pub loop-rest-preserved : goal.loop-rest-preserved
 loop-rest-preserved g c =

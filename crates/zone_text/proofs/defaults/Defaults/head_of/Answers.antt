@@ -22,7 +22,7 @@ returns-in_err-kind-clause-fault c origin before entry owner is =
 
 pub returns-clause-found : goal.returns-clause-found
 returns-clause-found c origin before entry owner is =
-    let behind = after_words c.args.items.now c.split_at.result.1.now c.in_ok-words.count _ c.split_at.ensures.back c.in-Some.ensures.found in (
-      has_head origin before entry _ owner _ _ _ _ _ _ _ is c.in_ok-words.ensures.found behind c.in_ok-kind.ensures.found c.known.ensures c.unwrap_or.ensures,
+    let after = after_words c.args.items.now c.split_at.result.1.now c.in_ok-words.count _ c.split_at.ensures.back c.in-Some.ensures.found in (
+      has_head origin before entry _ owner _ _ _ _ _ _ _ is c.in_ok-words.ensures.found after c.in_ok-kind.ensures.found c.known.ensures c.unwrap_or.ensures,
       has_own_ttl origin before entry _ owner _ _ _ is c.in_ok-words.ensures.found,
     )

@@ -1,6 +1,6 @@
 use Rattle.std.proofs.Common.{rules, Ok}
 use Rattle.zone_rdata.proofs.Failings.{if_fault_passed, fault_answered}
-use Rattle.zone_wire.specs.Transfer.{StatesRecord}
+use Rattle.zone_wire.specs.Transfer.{AnswerStates}
 use Rattle.zone_wire.proofs.RecordReading.{only_failing, only_answer, own_data}
 use Rattle.zone_wire.proofs.answers.RawRr.read.Goals as goal
 
@@ -24,5 +24,5 @@ returns-in_err-rdata-clause-only c =
 
 pub returns-clause-only : goal.returns-clause-only
 returns-clause-only c =
-    let states : StatesRecord c.args.self.now.octets c.args.self.now.at c.of_parts.result = search rules in
+    let states : AnswerStates c.args.self.now.octets c.args.self.now.at c.of_parts.result = search rules in
     only_answer _ c.args.self.now c.self.view_is c.self.inside.offset c.are_octets.ensures c.self.invariant (Ok c.of_parts.result) states tt

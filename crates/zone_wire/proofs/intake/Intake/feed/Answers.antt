@@ -1,7 +1,7 @@
 use Rattle.std.proofs.Common.{◌≡◌, ◌++◌, None, true, false, ap, sym, ◌∙◌, subst, arith, append_assoc, length}
 use Rattle.std.specs.Prelude.{is_some}
 use Rattle.zone_wire.specs.Machine.Feeding.{Follow}
-use Rattle.zone_wire.proofs.Feeding.{Bytes, FedSoFar, behind_fault, bytes_back, fed_more, rest_taken}
+use Rattle.zone_wire.proofs.Feeding.{Bytes, FedSoFar, after_fault, bytes_back, fed_more, rest_taken}
 use Rattle.zone_wire.proofs.Progress.{none_of}
 use Rattle.zone_wire.proofs.intake.Intake.feed.Goals as goal
 
@@ -29,4 +29,4 @@ returns-else-is_none-clause-follow c = λ fed given follow.
     let no : ⊥ = cc in
     no) in
     subst (λ xs. Follow c.loop-self.self.transfer c.loop-self.self.unfinished.items xs given) (append_assoc fed inv.front rest ∙ ap (λ x. fed ++ x) (sym inv.parts))
-    (behind_fault c.loop-self.self.transfer c.loop-self.self.unfinished.items c.loop-self.self.unfinished.items (fed ++ inv.front) rest given some (bytes_back inv.front rest (subst Bytes inv.parts each)) (inv.follow fed given follow))
+    (after_fault c.loop-self.self.transfer c.loop-self.self.unfinished.items c.loop-self.self.unfinished.items (fed ++ inv.front) rest given some (bytes_back inv.front rest (subst Bytes inv.parts each)) (inv.follow fed given follow))

@@ -10,17 +10,17 @@ use Rattle.zone_wire.proofs.transfer.Transfer.take_head.Goals as goal
 use Rattle.zone_wire.proofs.transfer.Transfer.take_head.Goals.{then-question-ne-AXFR-via-then-question-ne-AXFR, then-question-ne-AXFR-via-else-question-ne-AXFR+then-not-is_of_zone, in-Some+else-question-ne-AXFR+else-not-is_of_zone, in_default}
 
 pub returns-then-not-has_id-clause-fault : goal.returns-then-not-has_id-clause-fault
-returns-then-not-has_id-clause-fault c = λ before behind. other_id (no_first_id before c.args.message.now.sections c.args.self.now.id behind.id (λ h.
+returns-then-not-has_id-clause-fault c = λ before after. other_id (no_first_id before c.args.message.now.sections c.args.self.now.id after.id (λ h.
     let yes : c.has_id.result ≡ true = c.has_id.ensures.1 (subst (λ n. MatchOption c.args.self.now.id ⊤ (λ first. n ≡ first)) (sym c.id-id.ensures) h) in
     let not_it = c.if-not-has_id.true in
     let none : ⊥ = cc in
     none))
 
 pub returns-then-question-ne-AXFR-clause-fault : goal.returns-then-question-ne-AXFR-clause-fault
-returns-then-question-ne-AXFR-clause-fault c = λ before behind.
-    let has = has_first_id before c.args.message.now.sections c.args.self.now.id behind.id (subst (λ n. MatchOption c.args.self.now.id ⊤ (λ first. n ≡ first)) c.id-id.ensures (c.has_id.ensures.0 c.if-not-has_id.false)) in
+returns-then-question-ne-AXFR-clause-fault c = λ before after.
+    let has = has_first_id before c.args.message.now.sections c.args.self.now.id after.id (subst (λ n. MatchOption c.args.self.now.id ⊤ (λ first. n ≡ first)) c.id-id.ensures (c.has_id.ensures.0 c.if-not-has_id.false)) in
     let q = asked_one c.args.message.now.sections.questions c.in-Some.question c.in-Some.ensures in
-    other_zone has (asks_other before c.args.message.now.sections c.args.self.now q.at behind q.one (λ kind agree. elim c.then-question-ne-AXFR.branch [
+    other_zone has (asks_other before c.args.message.now.sections c.args.self.now q.at after q.one (λ kind agree. elim c.then-question-ne-AXFR.branch [
       | then-question-ne-AXFR-via-then-question-ne-AXFR w ↦ w.if-question-ne-AXFR.true (sym (ap (λ x. x.kind) q.same) ∙ kind)
       | then-question-ne-AXFR-via-else-question-ne-AXFR+then-not-is_of_zone w ↦
           (let name = ap (λ x. x.name) q.same in
@@ -33,17 +33,17 @@ returns-then-question-ne-AXFR-clause-fault c = λ before behind.
     ]))
 
 pub returns-clause-taken : goal.returns-clause-taken
-returns-clause-taken c = λ before behind.
-    let has = has_first_id before c.args.message.now.sections c.args.self.now.id behind.id (subst (λ n. MatchOption c.args.self.now.id ⊤ (λ first. n ≡ first)) c.id-id.ensures (c.has_id.ensures.0 c.if-not-has_id.false)) in
+returns-clause-taken c = λ before after.
+    let has = has_first_id before c.args.message.now.sections c.args.self.now.id after.id (subst (λ n. MatchOption c.args.self.now.id ⊤ (λ first. n ≡ first)) c.id-id.ensures (c.has_id.ensures.0 c.if-not-has_id.false)) in
     elim c.match-question.branch [
       | in-Some+else-question-ne-AXFR+else-not-is_of_zone w ↦
           (let q = asked_one c.args.message.now.sections.questions w.in-Some.question w.in-Some.ensures in
           let held : Question → Option ZoneAsked = λ x. Some (record { name = x.name; class = x.class }) in
-          takes_one before c.args.message.now.sections c.args.self.now _ c.id-id.result q.at behind q.one c.id-id.ensures has
+          takes_one before c.args.message.now.sections c.args.self.now _ c.id-id.result q.at after q.one c.id-id.ensures has
           (ap (λ x. x.kind) q.same ∙ w.if-question-ne-AXFR.false)
           (agrees_by (zone_held c.args.self.now.zone) q.at.name q.at.class (ap (λ x. agrees (zone_held c.args.self.now.zone) x.name x.class) q.same ∙ sym w.is_of_zone.ensures ∙ w.if-not-is_of_zone.false))
           (ap (λ t. t.messages + 1) w.self-is) refl
           (ap (λ t. zone_held t.zone) w.self-is ∙ ap held (sym q.same))
           (ap (λ t. t.opening) w.self-is) (ap (λ t. t.closed) w.self-is))
-      | in_default w ↦ takes_none before c.args.message.now.sections c.args.self.now _ c.id-id.result behind w.in_default.ensures c.id-id.ensures has (ap (λ t. t.messages + 1) w.self-is) refl (ap (λ t. t.zone) w.self-is) (ap (λ t. t.opening) w.self-is) (ap (λ t. t.closed) w.self-is)
+      | in_default w ↦ takes_none before c.args.message.now.sections c.args.self.now _ c.id-id.result after w.in_default.ensures c.id-id.ensures has (ap (λ t. t.messages + 1) w.self-is) refl (ap (λ t. t.zone) w.self-is) (ap (λ t. t.opening) w.self-is) (ap (λ t. t.closed) w.self-is)
     ]

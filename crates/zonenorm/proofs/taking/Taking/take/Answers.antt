@@ -1,12 +1,12 @@
 use Rattle.std.proofs.Common.{sym, ◌∙◌, refl, subst}
 use Rattle.zone_set.specs.Builder.{StopsTaking}
-use Rattle.zonenorm.proofs.Taken.{is_none_of, some_of, taken_behind, taken_more, taken_refused}
+use Rattle.zonenorm.proofs.Taken.{is_none_of, some_of, taken_after, taken_more, taken_refused}
 use Rattle.zonenorm.proofs.taking.Taking.take.Goals as goal
 
 pub returns-then-is_some-clause-taken : goal.returns-then-is_some-clause-taken
 returns-then-is_some-clause-taken g c = λ form octets taken.
     let found = some_of c.args.self.now.refusal (sym c.is_some.ensures ∙ c.if-is_some.true) in
-    taken_behind _ g.S.FedSource.Stands form _ _ _ _ octets c.args.piece.now found.0 found.1 taken
+    taken_after _ g.S.FedSource.Stands form _ _ _ _ octets c.args.piece.now found.0 found.1 taken
 
 pub returns-in-Ok-clause-taken : goal.returns-in-Ok-clause-taken
 returns-in-Ok-clause-taken g c = λ form octets taken.

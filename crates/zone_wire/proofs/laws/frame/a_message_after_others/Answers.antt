@@ -1,5 +1,5 @@
 use Rattle.zone_wire.proofs.FrameLaws.{message_verdict}
-use Rattle.zone_wire.proofs.laws.frame.a_message_behind_others.Goals as goal
+use Rattle.zone_wire.proofs.laws.frame.a_message_after_others.Goals as goal
 
 pub returns : goal.returns
 returns c = message_verdict
