@@ -170,9 +170,10 @@ struct BrokenRuns;
 
 impl Question for BrokenRuns {
     fn is_answered(alloc: Global, vector: &Vector) -> Result<bool, Fail> {
-        let len = vector.file().len();
+        let file = vector.file();
+        let len = file.len();
         for count in [0, len / 2, len] {
-            let (left, _) = vector.file().split_at(count);
+            let (left, _) = file.split_at(count);
             let error = ErrorKind::Other;
             let (mut breaking, mut ailing) = (Breaking { left, error }, Ailing { left });
             if !is_broken(alloc, Some(vector.origin()?), &mut breaking)?
