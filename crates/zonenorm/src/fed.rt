@@ -1,4 +1,4 @@
-ghost use Rattle.std.specs.Prelude.{◌≡◌, ◌+◌, ◌^◌, ◌<◌, ◌≤◌, ◌++◌, ℕ, Bool, true, false, List, length, IfErr, OnOk};
+ghost use Rattle.std.specs.Prelude.{◌≡◌, ◌+◌, ◌^◌, ◌<◌, ◌≤◌, ◌++◌, ℕ, Bool, true, false, List, length, IfErr, IfSome, IsOk, OnOk};
 ghost use Rattle.zone_name.specs.Common.{Octets};
 ghost use Rattle.zone_rdata.specs.Source.{Pending};
 ghost use Rattle.zone_rdata.specs.declared.fault.Stop.TheVariants.{Memory};
@@ -41,6 +41,8 @@ pub(crate) trait FedSource: RrSource {
             → Stands form (Self.pending self.new) (held self.new) (octets ++ piece.now) given) }
         ensures open { finished (held self.new) ≡ false }
         ensures fed { fed (held self.new) ≤ fed (held self.old) + length piece.now }
+        ensures decided { (Self.pending self.old).failed ≡ false
+            → IfSome (Self.pending self.old).ending (λ _. IsOk result) }
         ensures stopped { IfErr result (λ stop. stop ≡ Memory) };
 
     /// Ends the input.
@@ -54,6 +56,8 @@ pub(crate) trait FedSource: RrSource {
             → Stands form (Self.pending self.old) (held self.old) octets given
             → Stands form (Self.pending self.new) (held self.new) octets given) }
         ensures ended { OnOk result (finished (held self.new) ≡ true) }
+        ensures decided { (Self.pending self.old).failed ≡ false
+            → IfSome (Self.pending self.old).ending (λ _. IsOk result) }
         ensures stopped { IfErr result (λ stop. stop ≡ Memory) };
 
     /// Giving a record changes nothing else.

@@ -1,4 +1,4 @@
-ghost use Rattle.std.specs.Prelude.{◌≡◌, ◌+◌, ◌^◌, ◌<◌, ◌≤◌, ◌++◌, false, [], None, length, IfOk, IfErr, OnOk};
+ghost use Rattle.std.specs.Prelude.{◌≡◌, ◌+◌, ◌^◌, ◌<◌, ◌≤◌, ◌++◌, false, [], None, Err, length, IfOk, IfErr, IfSome, IsOk, OnOk};
 ghost use Rattle.zone_name.specs.Common.{Octets, AreOctets};
 ghost use Rattle.zone_rdata.specs.declared.fault.Stop.TheVariants.{Memory};
 ghost use Rattle.zonenorm.specs.Input.{InputForm, input_of};
@@ -50,6 +50,7 @@ impl Taking {
             self.new.builder self.new.refusal form (octets ++ piece.now)) }
         ensures open { S.finished (S.held source.new) ≡ false }
         ensures fed { S.fed (S.held source.new) ≤ S.fed (S.held source.old) + length piece.now }
+        ensures refused { IfSome self.old.refusal (λ _. IsOk result × (self.new ≡ self.old)) }
         ensures stopped { IfErr result (λ stop. stop ≡ Memory) }
         ensures octets { AreOctets piece.now }
     {
@@ -84,6 +85,8 @@ impl Taking {
             → IsTakenOf S.Stands (S.pending source.old) (S.held source.old)
             self.builder self.refusal form octets
             → IfRefused stop (RefusesRead (input_of form octets))) }
+        ensures refused { IfSome self.refusal
+            (λ refusal. result ≡ Err (Stop.Refused refusal.0 refusal.1)) }
         ensures stopped { IfErr result IsOfBytes }
     {
         let Taking {

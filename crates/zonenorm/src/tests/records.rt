@@ -89,6 +89,11 @@ fn a_queue_gives_what_was_put_in(rt: HostRuntime) -> Result<(), Fail> {
     assert!(rt; is_server(third.rr, 3));
     let mut rest = pending.into_reading();
     assert!(rt; rest.next()?.is_some());
-    assert!(rt; matches!(rest.next(), Err(Stop::Refused(Fault::BadTtl, Place::Line(5)))));
+    assert!(rt;
+        matches!(
+            rest.next(),
+            Err(Stop::Refused(Fault::BadTtl, Place::Line(5)))
+        )
+    );
     Ok(())
 }
