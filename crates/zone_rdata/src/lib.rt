@@ -23,6 +23,7 @@ mod printing;
 mod rdata;
 mod reading;
 mod record;
+mod same;
 mod source;
 mod string;
 mod table;

@@ -1,26 +1,17 @@
 ghost use Rattle.std.specs.Prelude.{◌≡◌, ◌↔◌, IsTrue};
 ghost use Rattle.zone_rdata.specs.Lent.{record_of};
 
-use zone_name::NameRef;
-use zone_rdata::RrRef;
+use crate::lent::RrRef;
 
-impl<'z> RrRef<'z> {
+impl<'a> RrRef<'a> {
     /// Whether the other has the same owner, class, type, TTL and data.
-    pub fn is_same(&self, other: &RrRef) -> bool
+    pub fn is_same(&self, other: &RrRef<'_>) -> bool
         ensures { IsTrue result ↔ (record_of self.now ≡ record_of other.now) }
     {
         self.kind == other.kind
             && self.ttl == other.ttl
             && self.class == other.class
             && self.rdata.octets() == other.rdata.octets()
-            && is_same_name(&self.owner, &other.owner)
+            && self.owner.is_same(&other.owner)
     }
-}
-
-/// Whether the labels are equal.
-#[tactic(auto, using(crate::proofs::KeyOrder::decides_owner))]
-pub(crate) fn is_same_name(name: &NameRef, other: &NameRef) -> bool
-    ensures { IsTrue result ↔ (name.now ≡ other.now) }
-{
-    name == other
 }
