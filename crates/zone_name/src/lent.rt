@@ -70,6 +70,13 @@ impl<'a> NameRef<'a> {
         Name::holding(self.octets)
     }
 
+    /// Whether the other has the same labels.
+    pub fn is_same(&self, other: &NameRef<'_>) -> bool
+        ensures { IsTrue result ↔ (self.now ≡ other.now) }
+    {
+        self.wire() == other.wire()
+    }
+
     /// Whether the name lies at or below the apex: the apex's labels end the name's.
     pub fn is_within(&self, apex: &Name) -> bool
         ensures { IsTrue result ↔ IsWithin self.now apex.now }

@@ -1,4 +1,4 @@
-ghost use Rattle.std.specs.Prelude.{◌≡◌, OnOk, OnErr};
+ghost use Rattle.std.specs.Prelude.{◌≡◌, ◌≤◌, OnOk, OnErr};
 ghost use Rattle.zone_name.specs.Sink.{TakesSome};
 ghost use Rattle.zone_rdata.specs.Record.{Data, IsRdata};
 ghost use Rattle.zone_rdata.specs.Text.{data_text};
@@ -51,6 +51,13 @@ impl<'a> RdataRef<'a> {
         self.octets
     }
 
+    /// Does nothing, and tells contracts what holds of all data.
+    pub fn known(&self)
+        ensures { IsRdata self.now }
+    {
+        let _ = &self.octets;
+    }
+
     /// Appends the canonical text to any sink.
     ///
     /// # Errors
@@ -79,6 +86,7 @@ pub struct RrRef<'a> {
     pub rdata: RdataRef<'a>,
     pub ghost same_class: { rdata.class ≡ class },
     pub ghost same_kind: { rdata.kind ≡ kind },
+    pub ghost short: { ttl ≤ 2147483647 },
 }
 
 /// A borrowed record and where it was stated.

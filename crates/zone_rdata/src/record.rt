@@ -161,6 +161,16 @@ impl Rr {
     }
 }
 
+impl<'a> RrRef<'a> {
+    /// Does nothing, and tells contracts what holds of every record.
+    pub fn known(&self)
+        ensures { IsRecord (record_of self.now) }
+    {
+        let _ = self.owner.wire();
+        self.rdata.known();
+    }
+}
+
 impl Placed {
     /// The record and its place, borrowed.
     pub fn lend(&self) -> PlacedRef<'_>

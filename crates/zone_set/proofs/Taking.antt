@@ -1,13 +1,13 @@
 -- Records taken from a source, one after another.
 use Rattle.std.proofs.Common.{◌≡◌, Bool, true, false, List, [], ◌∷◌, ◌++◌, Option, Some, None, Ok, Err, refl, ap, sym, ◌∙◌, subst, append_assoc, append-nil}
 use Rattle.zone_rdata.specs.Record.{Record}
-use Rattle.zone_rdata.specs.Source.{Pending, answer_of, after, others}
+use Rattle.zone_rdata.specs.Source.{Pending, answer_of, after, first_of, others}
 use Rattle.zone_rdata.specs.declared.fault.Fault.{Fault}
 use Rattle.zone_rdata.specs.declared.fault.Place.{Place}
 use Rattle.zone_rdata.specs.declared.fault.Stop.{Stop}
 use Rattle.zone_rdata.specs.declared.fault.Stop.TheVariants.{Refused, Memory}
 use Rattle.zone_rdata.specs.declared.record.Placed.{Placed}
-use Rattle.zone_set.specs.Builder.{Accepts, Adds, AddsEach, StopsAdd, leaves, StopsTaking, fault, failure, memory, refused as by_fault, ending as by_ending}
+use Rattle.zone_set.specs.Builder.{Accepts, Adds, AddsEach, StopsAdd, TakesAll, leaves, StopsTaking, fault, failure, memory, refused as by_fault, ending as by_ending}
 
 -- one more at the end
 pub AddsEach-push : (old mid : List Record) (taken : List Placed) (p : Placed) (new : List Record) → AddsEach old taken mid → Accepts mid p.rr → Adds mid p.rr new → AddsEach old (taken ++ p ∷ []) new
@@ -29,6 +29,19 @@ first_parts true records ending p is = cc
 first_parts false [] None p is = cc
 first_parts false [] (Some e) p is = cc
 first_parts false (q ∷ records) ending p is = let same : q ≡ p = cc in (refl, ap (λ (x : Placed). x ∷ records) same)
+
+-- a record that is lent is the next answer
+pub lent_first : (failed : Bool) (records : List Placed) (ending : Option (Fault × Place)) (p : Placed) → Some p ≡ first_of (record { failed = failed; records = records; ending = ending }) → answer_of (record { failed = failed; records = records; ending = ending }) ≡ Ok (Some p)
+lent_first true records ending p is = cc
+lent_first false [] ending p is = cc
+lent_first false (q ∷ records) ending p is = ap Ok (sym is)
+
+-- a source that works and has no record left
+none_left : (failed : Bool) (records : List Placed) (ending : Option (Fault × Place)) (o : Option Placed) → None ≡ first_of (record { failed = failed; records = records; ending = ending }) → answer_of (record { failed = failed; records = records; ending = ending }) ≡ Ok o → (failed ≡ false) × (records ≡ []) × (ending ≡ None)
+none_left true records ending o none is = cc
+none_left false [] None o none is = (refl, refl, refl)
+none_left false [] (Some e) o none is = cc
+none_left false (q ∷ records) ending o none is = cc
 
 -- an answer with a fault: the source failed, or the fault at its end
 pub data Stopped (pending : Pending) : Stop → Type 0 where
@@ -75,6 +88,16 @@ module _ (old : List Record) (start : Pending) (now : List Record) (left : Pendi
 
   whole : left.records ≡ [] → start.records ≡ had.taken
   whole none = had.parts ∙ ap (λ rs. had.taken ++ rs) none ∙ append-nil had.taken
+
+  pub TakesAll-at_end : (o : Option Placed) (next : Pending) → None ≡ first_of left → answer_of left ≡ Ok o → next ≡ after left → TakesAll old start now next
+  TakesAll-at_end o next none answer is =
+      let ended = none_left left.failed left.records left.ending o none answer in
+      record {
+        works = sym failed ∙ ended.0;
+        whole = sym same_end ∙ ended.2;
+        taken = subst (λ rs. AddsEach old rs now) (sym (whole ended.1)) had.each;
+        emptied = is ∙ after_parts left.failed left.records left.ending ended.0 ∙ ap (λ rs. leaves left (others rs)) ended.1 ∙ ap (λ (f : Pending). leaves f []) had.rest;
+      }
 
   pub StopsTaking-at_end : (stop : Stop) (next : Pending) → answer_of left ≡ Err stop → next ≡ after left → StopsTaking old start now next stop
   StopsTaking-at_end stop next answer is = by stop (stop_parts left.failed left.records left.ending stop answer)

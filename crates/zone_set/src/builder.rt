@@ -1,14 +1,13 @@
 ghost use Rattle.std.specs.Prelude.{◌≡◌, [], OnOk, OnErr, IfOk, IfErr};
+ghost use Rattle.zone_rdata.specs.Lent.{record_of};
 ghost use Rattle.zone_set.specs.Builder.{Accepts, Adds, StopsAdd, TakesAll, StopsTaking, StopsFinish};
-ghost use Rattle.zone_set.specs.Machine.Refusal.{stop_for};
 ghost use Rattle.zone_set.specs.Zone.{AreCompatible, IsZone};
 
-use crate::refusal::Refusal;
 use crate::sets::Sets;
 use crate::zone::Zone;
 use std::alloc::Global;
 use std::marker::Model;
-use zone_rdata::{Fault, Place, Placed, RrSource, Stop};
+use zone_rdata::{Fault, LendingSource, Place, Placed, RrRef, RrSource, Stop};
 
 /// The records of a zone so far. Contracts see their set, as its one list in canonical order.
 #[derive(Drop)]
@@ -50,21 +49,25 @@ impl ZoneBuilder {
         ensures returned { IfErr result (λ e. e.1 ≡ placed) }
         ensures unchanged { OnErr result (self.new ≡ self.old) }
     {
-        match self.hold(&placed) {
+        match self.hold(&placed.rr.lend(), placed.place) {
             Ok(()) => Ok(()),
-            Err(refusal) => Err((refusal.stop_at(placed.place), placed)),
+            Err(stop) => Err((stop, placed)),
         }
     }
 
-    /// `add` for a borrowed record, which is not handed back.
-    fn hold(&mut self, placed: &Placed) -> Result<(), Refusal>
-        ensures accepted { OnOk result (Accepts self.old placed.now.rr) }
-        ensures taken { OnOk result (Adds self.old placed.now.rr self.new) }
+    /// `add` for a borrowed record of a place.
+    fn hold(&mut self, rr: &RrRef<'_>, place: Place) -> Result<(), Stop>
+        ensures accepted { OnOk result (Accepts self.old (record_of rr.now)) }
+        ensures taken { OnOk result (Adds self.old (record_of rr.now) self.new) }
         ensures refused { IfErr result
-            (λ e. StopsAdd self.old placed.now (stop_for e placed.now.place)) }
+            (StopsAdd self.old (record { rr = record_of rr.now; place = place })) }
         ensures unchanged { OnErr result (self.new ≡ self.old) }
     {
-        self.sets.add(&placed.rr)
+        rr.known();
+        match self.sets.add(rr) {
+            Ok(()) => Ok(()),
+            Err(refusal) => Err(refusal.stop_at(place)),
+        }
     }
 
     /// Takes all that a source has left to give.
@@ -84,14 +87,39 @@ impl ZoneBuilder {
         loop {
             // Matched whole: a `?` would move each record once more.
             match source.next() {
-                Ok(Some(placed)) => match self.hold(&placed) {
+                Ok(Some(placed)) => match self.hold(&placed.rr.lend(), placed.place) {
                     Ok(()) => {}
-                    Err(refusal) => return Err(refusal.stop_at(placed.place)),
+                    Err(refused) => return Err(refused),
                 },
                 Ok(None) => return Ok(()),
                 Err(stop) => return Err(stop),
             }
         }
+    }
+
+    /// Takes all that a source has left to give, as `take_all` does, and moves no record.
+    ///
+    /// # Errors
+    ///
+    /// Those of `take_all`.
+    pub fn take_lent<S: LendingSource>(&mut self, source: &mut S) -> Result<(), Stop>
+        ensures taken { OnOk result
+            (TakesAll self.old (S.pending source.old) self.new (S.pending source.new)) }
+        ensures stopped { IfErr result
+            (StopsTaking self.old (S.pending source.old) self.new (S.pending source.new)) }
+        ensures beside { S.beside source.new ≡ S.beside source.old }
+    {
+        while let Some(placed) = source.first() {
+            let held = self.hold(&placed.rr, placed.place);
+            source.skip();
+            match held {
+                Ok(()) => {}
+                Err(refused) => return Err(refused),
+            }
+        }
+        // With no record left the fault at the end, if there is one.
+        source.next()?;
+        Ok(())
     }
 
     /// The zone of the records held.

@@ -4,7 +4,7 @@ ghost use Rattle.zone_set.specs.Machine.Hint.{hint, first_octets, IsPutBefore};
 ghost use Rattle.zone_set.specs.Machine.LabelKey.{escaped_octet, label_key, owner_key};
 
 use std::cmp::Ordering;
-use zone_name::Name;
+use zone_name::{Name, NameRef};
 use zone_rdata::Kind;
 
 /// The hint of an owner before the base, but for those at or below it.
@@ -19,7 +19,7 @@ const AFTER: u64 = 3 << 56;
 /// The hint of a record: a number that is never less than that of a record before it in canonical
 /// order. Most owners of a zone lie below its base, and these the first octets of the labels before
 /// the base's tell apart.
-pub(crate) fn hint_of(base: &Name, owner: &Name, kind: Kind) -> u64
+pub(crate) fn hint_of(base: &Name, owner: &NameRef<'_>, kind: Kind) -> u64
     ensures { result ≡ hint base.now owner.now kind }
 {
     if kind.is_soa() {
@@ -27,7 +27,7 @@ pub(crate) fn hint_of(base: &Name, owner: &Name, kind: Kind) -> u64
     }
     match front_key(base, owner) {
         Some(key) => WITHIN + key,
-        None => match owner.cmp(base) {
+        None => match owner.cmp(&NameRef::of_wire(base.wire())) {
             Ordering::Less => BEFORE,
             Ordering::Equal | Ordering::Greater => AFTER,
         },
@@ -36,7 +36,7 @@ pub(crate) fn hint_of(base: &Name, owner: &Name, kind: Kind) -> u64
 
 /// The first seven octets of the key of the labels before the base's. `None`: the owner doesn't lie
 /// at or below the base.
-fn front_key(base: &Name, owner: &Name) -> Option<u64>
+fn front_key(base: &Name, owner: &NameRef<'_>) -> Option<u64>
     ensures within { IfSome result (λ key. (front : List (List ℕ))
         × (owner.now ≡ front ++ base.now) × (key ≡ first_octets 7 (owner_key front))) }
     ensures short { IfSome result (λ key. key < 2 ^ 56) }

@@ -5,13 +5,11 @@
 mod builder;
 mod entry;
 mod hint;
-mod lend;
 mod offered;
 mod order;
 mod put;
 mod records;
 mod refusal;
-mod same;
 mod sets;
 mod stored;
 mod zone;

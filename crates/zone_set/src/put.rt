@@ -10,14 +10,12 @@ ghost use Rattle.zone_set.specs.Zone.{covered_octets};
 
 use crate::entry::Entry;
 use crate::hint::hint_of;
-use crate::lend::lend;
 use crate::offered::Offered;
 use crate::refusal::Refusal;
-use crate::same::is_same_name;
 use crate::stored::{append, record_at};
 use sorted_chunks::SortedChunks;
 use zone_name::Name;
-use zone_rdata::{Rr, RrRef};
+use zone_rdata::RrRef;
 
 /// How many entries a chunk holds at most.
 pub(crate) const LIMIT: usize = 512;
@@ -33,44 +31,43 @@ pub(crate) fn put(
     entries: &mut SortedChunks<Entry, LIMIT>,
     octets: &mut Vec<u8>,
     base: &Name,
-    rr: &Rr,
+    rr: &RrRef<'_>,
 ) -> Result<bool, Refusal>
-    requires { HoldsEntries base.now rr.now.class octets.old.items (joined entries.old) }
+    requires whole { IsRecord (record_of rr.now) }
+    requires holds { HoldsEntries base.now rr.now.class octets.old.items (joined entries.old) }
     ensures each { AllByRecursion (IsEntry base.now rr.now.class octets.new.items)
         (joined entries.new) }
-    ensures whole { IsRecord rr.now }
     ensures told { IfOk result (λ is_new.
-        IsPut (all_records rr.now.class octets.old.items (joined entries.old)) rr.now is_new
+        IsPut (all_records rr.now.class octets.old.items (joined entries.old)) (record_of rr.now) is_new
         (all_records rr.now.class octets.new.items (joined entries.new))) }
     ensures one_ttl { OnOk result
-        (OtherTtl (all_records rr.now.class octets.old.items (joined entries.old)) rr.now → ⊥) }
+        (OtherTtl (all_records rr.now.class octets.old.items (joined entries.old)) (record_of rr.now) → ⊥) }
     ensures refused { IfErr result
-        (IsSetRefusal (all_records rr.now.class octets.old.items (joined entries.old)) rr.now) }
+        (IsSetRefusal (all_records rr.now.class octets.old.items (joined entries.old)) (record_of rr.now)) }
     ensures same_entries { OnErr result (entries.new ≡ entries.old) }
     ensures unchanged { OnErr result (all_records rr.now.class octets.new.items (joined entries.new)
         ≡ all_records rr.now.class octets.old.items (joined entries.old)) }
 {
-    let hint = hint_of(base, rr.owner(), rr.kind());
-    let rr = lend(rr);
+    let hint = hint_of(base, &rr.owner, rr.kind);
     let held = octets.as_slice();
     let place = entries.place_of(&Offered {
         octets: held,
         hint,
-        rr: &rr,
+        rr,
     });
     // The records of a set stand together, so a neighbour is one of them where any is held.
     let last = entries.last_before(place).copied();
     let first = entries.first_after(place).copied();
-    if is_of_other_ttl(held, last, &rr) {
+    if is_of_other_ttl(held, last, rr) {
         return Err(Refusal::OtherTtl);
     }
-    if is_of_other_ttl(held, first, &rr) {
+    if is_of_other_ttl(held, first, rr) {
         return Err(Refusal::OtherTtl);
     }
-    if is_equal(held, first, &rr) {
+    if is_equal(held, first, rr) {
         return Ok(false);
     }
-    let at = append(octets, &rr)?;
+    let at = append(octets, rr)?;
     entries.insert(place, Entry { hint, at })?;
     Ok(true)
 }
@@ -106,7 +103,7 @@ fn has_other_ttl(held: &RrRef<'_>, rr: &RrRef<'_>) -> bool
     held.ttl != rr.ttl
         && held.kind == rr.kind
         && covered(held) == covered(rr)
-        && is_same_name(&held.owner, &rr.owner)
+        && held.owner.is_same(&rr.owner)
 }
 
 /// The number of RRSIG (RFC 4034 3).

@@ -2,7 +2,7 @@ ghost use Rattle.std.specs.Prelude.{◌≡◌, ◌⊎◌, ◌+◌, ◌-◌, ◌^
 ghost use Rattle.std.specs.List.{AllByRecursion};
 ghost use Rattle.sorted_chunks.specs.Chunks.{joined};
 ghost use Rattle.zone_name.specs.Name.{IsWithin};
-ghost use Rattle.zone_rdata.specs.Record.{Record};
+ghost use Rattle.zone_rdata.specs.Record.{Record, IsRecord};
 ghost use Rattle.zone_set.specs.Builder.{Accepts, Adds, AreTwoSoas, OtherSoa};
 ghost use Rattle.zone_set.specs.Machine.Held.{IsFirstOutside};
 ghost use Rattle.zone_set.specs.Machine.Refusal.{IsOtherClass, IsRefusal};
@@ -14,13 +14,12 @@ use crate::entry::Entry;
 use crate::put::{LIMIT, put};
 use crate::records::Records;
 use crate::refusal::Refusal;
-use crate::same::is_same_name;
 use crate::stored::record_at;
 use sorted_chunks::SortedChunks;
 use std::alloc::Global;
 use std::marker::Model;
 use zone_name::{Name, NameRef};
-use zone_rdata::{Class, Rr, RrRef};
+use zone_rdata::{Class, RrRef};
 
 /// Records that can stand together. Contracts see them in canonical order.
 #[derive(Drop)]
@@ -137,30 +136,31 @@ impl Sets {
     ///
     /// The first reason against it: class, then SOA, then TTL; or want of memory. Nothing is
     /// changed.
-    pub(crate) fn add(&mut self, rr: &Rr) -> Result<(), Refusal>
-        ensures accepted { OnOk result (Accepts self.old rr.now) }
-        ensures taken { OnOk result (Adds self.old rr.now self.new) }
-        ensures refused { IfErr result (IsRefusal self.old rr.now) }
+    pub(crate) fn add(&mut self, rr: &RrRef<'_>) -> Result<(), Refusal>
+        requires { IsRecord (record_of rr.now) }
+        ensures accepted { OnOk result (Accepts self.old (record_of rr.now)) }
+        ensures taken { OnOk result (Adds self.old (record_of rr.now) self.new) }
+        ensures refused { IfErr result (IsRefusal self.old (record_of rr.now)) }
         ensures unchanged { OnErr result (self.new ≡ self.old) }
     {
-        if is_other_class(self.class, rr.class()) {
+        if is_other_class(self.class, rr.class) {
             return Err(Refusal::OtherClass);
         }
         if self.has_other_soa(rr) {
             return Err(Refusal::OtherSoa);
         }
-        settle_base(&mut self.base, &self.entries, rr.owner());
+        settle_base(&mut self.base, &self.entries, &rr.owner);
         let is_new = put(&mut self.entries, &mut self.octets, &self.base, rr)?;
-        self.class = Some(rr.class());
+        self.class = Some(rr.class);
         self.message_len = octets_with(self.message_len, rr, is_new);
         Ok(())
     }
 
     /// Whether the record is an SOA, and another is held.
-    fn has_other_soa(&self, rr: &Rr) -> bool
-        ensures { IsTrue result ↔ OtherSoa self.now rr.now }
+    fn has_other_soa(&self, rr: &RrRef<'_>) -> bool
+        ensures { IsTrue result ↔ OtherSoa self.now (record_of rr.now) }
     {
-        if !rr.kind().is_soa() {
+        if !rr.kind.is_soa() {
             return false;
         }
         // An SOA goes before all else.
@@ -182,11 +182,11 @@ fn is_none_outside(rr: &Option<RrRef<'_>>, apex: &Name) -> bool
 }
 
 /// Where there is no entry, this owner becomes the base.
-fn settle_base(base: &mut Name, entries: &SortedChunks<Entry, LIMIT>, owner: &Name)
+fn settle_base(base: &mut Name, entries: &SortedChunks<Entry, LIMIT>, owner: &NameRef<'_>)
     ensures { (joined entries.now ≡ []) ⊎ (base.new ≡ base.old) }
 {
     if entries.is_empty() {
-        *base = owner.copy();
+        *base = owner.to_name();
     }
 }
 
@@ -201,19 +201,20 @@ fn is_other_class(held: Option<Class>, class: Class) -> bool
 }
 
 /// Whether both are SOA records, and they differ in owner or data.
-fn is_other_soa(first: &RrRef<'_>, rr: &Rr) -> bool
-    ensures { IsTrue result ↔ AreTwoSoas (record_of first.now) rr.now }
+fn is_other_soa(first: &RrRef<'_>, rr: &RrRef<'_>) -> bool
+    ensures { IsTrue result ↔ AreTwoSoas (record_of first.now) (record_of rr.now) }
 {
-    if !rr.kind().is_soa() || !first.kind.is_soa() {
+    if !rr.kind.is_soa() || !first.kind.is_soa() {
         return false;
     }
-    let owner = NameRef::of_wire(rr.owner().wire());
-    !is_same_name(&first.owner, &owner) || first.rdata.octets() != rr.rdata().octets()
+    !first.owner.is_same(&rr.owner) || first.rdata.octets() != rr.rdata.octets()
 }
 
 /// The octets that records take in messages, and those of one more where it is new.
-fn octets_with(octets: u64, rr: &Rr, is_new: bool) -> u64
-    ensures { result ≡ min (octets + (if is_new then message_len rr.now else 0)) (2 ^ 64 - 1) }
+fn octets_with(octets: u64, rr: &RrRef<'_>, is_new: bool) -> u64
+    requires { IsRecord (record_of rr.now) }
+    ensures { result ≡ min (octets + (if is_new then message_len (record_of rr.now) else 0))
+        (2 ^ 64 - 1) }
 {
     if is_new {
         octets.saturating_add(len_in_messages(rr))
@@ -223,11 +224,10 @@ fn octets_with(octets: u64, rr: &Rr, is_new: bool) -> u64
 }
 
 /// The octets that a record takes in messages where no name is compressed (RFC 1035 3.2.1).
-fn len_in_messages(rr: &Rr) -> u64
-    ensures { result ≡ message_len rr.now }
+fn len_in_messages(rr: &RrRef<'_>) -> u64
+    requires { IsRecord (record_of rr.now) }
+    ensures { result ≡ message_len (record_of rr.now) }
 {
-    let owner = rr.owner();
-    owner.known();
     // After the owner type, class, TTL and the length of the data.
-    owner.wire().len() as u64 + 10 + rr.rdata().octets().len() as u64
+    rr.owner.wire().len() as u64 + 10 + rr.rdata.octets().len() as u64
 }

@@ -1,13 +1,12 @@
-use Rattle.std.proofs.Common.{◌≡◌, ℕ, List, [], ◌∷◌, ◌++◌, map, MatchOption, OnErr, Ok, Err, Result, refl, sym, ap, ap₂, ◌∙◌, subst, arith}
-use Rattle.std.specs.List.{All, AllByRecursion}
+use Rattle.std.proofs.Common.{◌≡◌, ℕ, List, [], ◌∷◌, ◌++◌, map, MatchOption, OnErr, Ok, Err, Result, refl, sym, ap, ◌∙◌, subst, arith}
+use Rattle.std.specs.List.{AllByRecursion}
 use Rattle.sorted_chunks.specs.Chunks.{after, before, joined}
 use Rattle.zone_rdata.specs.Record.{Record}
 use Rattle.zone_set.proofs.Between.{copied, equal_held, first_has, last_has, one_ttl, other_first, other_last, Ascends-between, Neighbours, Parts}
 use Rattle.zone_set.proofs.Putting.{all_comparable, each_put, parts_at, was_put}
 use Rattle.zone_set.proofs.Storing.{each_kept, each_linked, records_kept}
 use Rattle.zone_set.specs.Builder.{OtherTtl}
-use Rattle.zone_set.specs.Machine.Held.{all_records, entry_record, HoldsEntries, IsComparable, IsEntry, IsLinked}
-use Rattle.zone_set.specs.Machine.Hint.{hint}
+use Rattle.zone_set.specs.Machine.Held.{all_records, entry_record, HoldsEntries, IsEntry, IsLinked}
 use Rattle.zone_set.specs.Machine.Stored.{stored}
 use Rattle.zone_set.specs.Order.{Ascends}
 use Rattle.zone_rdata.specs.Lent.{record_of}
@@ -16,26 +15,15 @@ use Rattle.zone_set.specs.declared.entry.Entry.{Entry}
 use Rattle.zone_set.proofs.put.put.Goals as goal
 use Rattle.zone_set.proofs.put.put.Goals.{After-copied-first}
 
--- what holds of one record and octets, holds of equal ones
-same_for : (P : Record → List ℕ → Type 0) (r s : Record) (xs ys : List ℕ) → r ≡ s → xs ≡ ys → P r xs → P s ys
-same_for P r s xs ys is are holds = subst (λ t. P t ys) is (subst (λ octs. P r octs) are holds)
-
 pub place_of-place-requires : goal.place_of-place-requires
 place_of-place-requires c = (
   omega arith,
-  same_for (λ s octs. All (IsComparable octs c.hint_of-hint.result s) (joined c.args.entries.now)) c.args.rr.now (record_of c.lend-rr.result) c.args.octets.now.items c.as_slice-held.result.now (sym c.lend-rr.ensures.record) (sym c.as_slice-held.ensures.value)
-      (all_comparable c.args.base.now c.args.octets.now.items c.args.rr.now c.hint_of-hint.result c.lend-rr.ensures.whole (c.hint_of-hint.ensures ∙ ap₂ (hint c.args.base.now) c.owner.ensures c.kind.ensures) (joined c.args.entries.now) c.requires.each),
+  rw c.as_slice-held.ensures.value (all_comparable c.args.base.now c.args.octets.now.items (record_of c.args.rr.now) c.hint_of-hint.result c.requires.whole c.hint_of-hint.ensures (joined c.args.entries.now) c.requires.holds.each),
 )
 
--- what holds of the record that is lent and of the octets that are lent, holds of the record and the octets
-moved : (c : After-copied-first) (P : Record → List ℕ → Type 0) → P (record_of c.lend-rr.result) c.as_slice-held.result.now → P c.args.rr.now c.args.octets.now.items
-moved c P holds = same_for P (record_of c.lend-rr.result) c.args.rr.now c.as_slice-held.result.now c.args.octets.now.items c.lend-rr.ensures.record c.as_slice-held.ensures.value holds
-
-back : (c : After-copied-first) (P : Record → List ℕ → Type 0) → P c.args.rr.now c.args.octets.now.items → P (record_of c.lend-rr.result) c.as_slice-held.result.now
-back c P holds = same_for P c.args.rr.now (record_of c.lend-rr.result) c.args.octets.now.items c.as_slice-held.result.now (sym c.lend-rr.ensures.record) (sym c.as_slice-held.ensures.value) holds
-
-hinted : (c : After-copied-first) → c.hint_of-hint.result ≡ hint c.args.base.now c.args.rr.now.owner c.args.rr.now.kind
-hinted c = c.hint_of-hint.ensures ∙ ap₂ (hint c.args.base.now) c.owner.ensures c.kind.ensures
+-- what holds of the octets that are lent, holds of the octets
+moved : (c : After-copied-first) (P : List ℕ → Type 0) → P c.as_slice-held.result.now → P c.args.octets.now.items
+moved c P holds = subst P c.as_slice-held.ensures.value holds
 
 abbrev first_part : After-copied-first → List Entry
 first_part c = before c.args.entries.now c.place_of-place.result
@@ -44,13 +32,13 @@ abbrev last_part : After-copied-first → List Entry
 last_part c = after c.args.entries.now c.place_of-place.result
 
 abbrev record_for : After-copied-first → Entry → Record
-record_for c = entry_record c.lend-rr.result.class c.as_slice-held.result.now
+record_for c = entry_record c.args.rr.now.class c.as_slice-held.result.now
 
-holds : (c : After-copied-first) → HoldsEntries c.args.base.now c.lend-rr.result.class c.as_slice-held.result.now (joined c.args.entries.now)
-holds c = back c (λ s octs. HoldsEntries c.args.base.now s.class octs (joined c.args.entries.now)) c.requires
+holds : (c : After-copied-first) → HoldsEntries c.args.base.now c.args.rr.now.class c.as_slice-held.result.now (joined c.args.entries.now)
+holds c = rw c.as_slice-held.ensures.value c.requires.holds
 
-parts : (c : After-copied-first) → Parts (all_records c.lend-rr.result.class c.as_slice-held.result.now (joined c.args.entries.now)) (map (record_for c) (first_part c)) (map (record_for c) (last_part c)) (record_of c.lend-rr.result)
-parts c = parts_at c.args.base.now c.as_slice-held.result.now (record_of c.lend-rr.result) (joined c.args.entries.now) (first_part c) (last_part c) (holds c) c.place_of-place.ensures.whole c.place_of-place.ensures.before c.place_of-place.ensures.after
+parts : (c : After-copied-first) → Parts (all_records c.args.rr.now.class c.as_slice-held.result.now (joined c.args.entries.now)) (map (record_for c) (first_part c)) (map (record_for c) (last_part c)) (record_of c.args.rr.now)
+parts c = parts_at c.args.base.now c.as_slice-held.result.now (record_of c.args.rr.now) (joined c.args.entries.now) (first_part c) (last_part c) (holds c) c.place_of-place.ensures.whole c.place_of-place.ensures.before c.place_of-place.ensures.after
 
 last_is : (c : After-copied-first) → MatchOption c.copied-last.result (first_part c ≡ []) (λ e. (front : List Entry) × (first_part c ≡ front ++ e ∷ []))
 last_is c = copied (first_part c ≡ []) (λ e. (front : List Entry) × (first_part c ≡ front ++ e ∷ [])) c.last_before.result c.copied-last.result c.copied-last.ensures c.last_before.ensures
@@ -58,41 +46,41 @@ last_is c = copied (first_part c ≡ []) (λ e. (front : List Entry) × (first_p
 first_is : (c : After-copied-first) → MatchOption c.copied-first.result (last_part c ≡ []) (λ e. (rest : List Entry) × (last_part c ≡ e ∷ rest))
 first_is c = copied (last_part c ≡ []) (λ e. (rest : List Entry) × (last_part c ≡ e ∷ rest)) c.first_after.result c.copied-first.result c.copied-first.ensures c.first_after.ensures
 
-linked : (c : After-copied-first) → AllByRecursion (IsLinked c.lend-rr.result.class c.as_slice-held.result.now) (first_part c ++ last_part c)
-linked c = subst (AllByRecursion (IsLinked c.lend-rr.result.class c.as_slice-held.result.now)) (sym c.place_of-place.ensures.whole) (each_linked c.args.base.now c.lend-rr.result.class c.as_slice-held.result.now (joined c.args.entries.now) (holds c).each)
+linked : (c : After-copied-first) → AllByRecursion (IsLinked c.args.rr.now.class c.as_slice-held.result.now) (first_part c ++ last_part c)
+linked c = subst (AllByRecursion (IsLinked c.args.rr.now.class c.as_slice-held.result.now)) (sym c.place_of-place.ensures.whole) (each_linked c.args.base.now c.args.rr.now.class c.as_slice-held.result.now (joined c.args.entries.now) (holds c).each)
 
 pub is_of_other_ttl-requires : goal.is_of_other_ttl-requires
 is_of_other_ttl-requires c =
     let p = (goal.at.is_of_other_ttl-requires c).After-copied-first in
-    last_has (IsLinked c.lend-rr.result.class c.as_slice-held.result.now) (first_part p) (last_part p) (linked p) c.copied-last.result (last_is p)
+    last_has (IsLinked c.args.rr.now.class c.as_slice-held.result.now) (first_part p) (last_part p) (linked p) c.copied-last.result (last_is p)
 
 pub is_of_other_ttl-requires-2 : goal.is_of_other_ttl-requires-2
 is_of_other_ttl-requires-2 c =
     let p = (goal.at.is_of_other_ttl-requires-2 c).After-copied-first in
-    first_has (IsLinked c.lend-rr.result.class c.as_slice-held.result.now) (first_part p) (last_part p) (linked p) c.copied-first.result (first_is p)
+    first_has (IsLinked c.args.rr.now.class c.as_slice-held.result.now) (first_part p) (last_part p) (linked p) c.copied-first.result (first_is p)
 
 pub is_equal-requires : goal.is_equal-requires
 is_equal-requires c =
     let p = (goal.at.is_equal-requires c).After-copied-first in
-    first_has (IsLinked c.lend-rr.result.class c.as_slice-held.result.now) (first_part p) (last_part p) (linked p) c.copied-first.result (first_is p)
+    first_has (IsLinked c.args.rr.now.class c.as_slice-held.result.now) (first_part p) (last_part p) (linked p) c.copied-first.result (first_is p)
 
 pub returns-then-is_of_other_ttl-clause-refused : goal.returns-then-is_of_other_ttl-clause-refused
 returns-then-is_of_other_ttl-clause-refused c =
     let p = (goal.at.returns-then-is_of_other_ttl-clause-refused c).After-copied-first in
-    moved p (λ s octs. OtherTtl (all_records s.class octs (joined c.args.entries.now)) s)
+    moved p (λ octs. OtherTtl (all_records c.args.rr.now.class octs (joined c.args.entries.now)) (record_of c.args.rr.now))
     (other_last (record_for p) (first_part p) (last_part p) (parts p) c.copied-last.result (last_is p) c.is_of_other_ttl.result c.is_of_other_ttl.ensures c.if-is_of_other_ttl.true)
 
 pub returns-then-is_of_other_ttl-2-clause-refused : goal.returns-then-is_of_other_ttl-2-clause-refused
 returns-then-is_of_other_ttl-2-clause-refused c =
     let p = (goal.at.returns-then-is_of_other_ttl-2-clause-refused c).After-copied-first in
-    moved p (λ s octs. OtherTtl (all_records s.class octs (joined c.args.entries.now)) s)
+    moved p (λ octs. OtherTtl (all_records c.args.rr.now.class octs (joined c.args.entries.now)) (record_of c.args.rr.now))
     (other_first (record_for p) (first_part p) (last_part p) (parts p) c.copied-first.result (first_is p) c.is_of_other_ttl-2.result c.is_of_other_ttl-2.ensures c.if-is_of_other_ttl-2.true)
 
 pub returns-then-is_equal-clause-told : goal.returns-then-is_equal-clause-told
 returns-then-is_equal-clause-told c =
     let p = (goal.at.returns-then-is_equal-clause-told c).After-copied-first in (
       refl,
-      moved p (λ s octs. Has (all_records s.class octs (joined c.args.entries.now)) s)
+      moved p (λ octs. Has (all_records c.args.rr.now.class octs (joined c.args.entries.now)) (record_of c.args.rr.now))
           (equal_held (record_for p) (first_part p) (last_part p) (parts p) c.copied-first.result (first_is p) c.is_equal.result c.is_equal.ensures c.if-is_equal.true),
     )
 
@@ -102,20 +90,20 @@ neighbours c = record { last_is = last_is c; first_is = first_is c }
 pub returns-then-is_equal-clause-one_ttl : goal.returns-then-is_equal-clause-one_ttl
 returns-then-is_equal-clause-one_ttl c =
     let p = (goal.at.returns-then-is_equal-clause-one_ttl c).After-copied-first in
-    moved p (λ s octs. OtherTtl (all_records s.class octs (joined c.args.entries.now)) s → ⊥)
+    moved p (λ octs. OtherTtl (all_records c.args.rr.now.class octs (joined c.args.entries.now)) (record_of c.args.rr.now) → ⊥)
     (one_ttl (record_for p) (first_part p) (last_part p) (parts p) c.copied-last.result c.copied-first.result (neighbours p) c.is_of_other_ttl.result c.is_of_other_ttl-2.result c.is_of_other_ttl.ensures c.if-is_of_other_ttl.false c.is_of_other_ttl-2.ensures c.if-is_of_other_ttl-2.false)
 
 pub returns-clause-one_ttl : goal.returns-clause-one_ttl
 returns-clause-one_ttl c =
     let p = (goal.at.returns-clause-one_ttl c).After-copied-first in
-    moved p (λ s octs. OtherTtl (all_records s.class octs (joined c.args.entries.now)) s → ⊥)
+    moved p (λ octs. OtherTtl (all_records c.args.rr.now.class octs (joined c.args.entries.now)) (record_of c.args.rr.now) → ⊥)
     (one_ttl (record_for p) (first_part p) (last_part p) (parts p) c.copied-last.result c.copied-first.result (neighbours p) c.is_of_other_ttl.result c.is_of_other_ttl-2.result c.is_of_other_ttl.ensures c.if-is_of_other_ttl.false c.is_of_other_ttl-2.ensures c.if-is_of_other_ttl-2.false)
 
 pub returns-in_err-insert-clause-each : goal.returns-in_err-insert-clause-each
 returns-in_err-insert-clause-each c =
     subst (λ octs. AllByRecursion (IsEntry c.args.base.now c.args.rr.now.class octs) (joined c.insert.new.self)) (sym c.in_ok-at.ensures.appended)
-    (subst (λ chunks. AllByRecursion (IsEntry c.args.base.now c.args.rr.now.class (c.args.octets.now.items ++ stored (record_of c.lend-rr.result))) (joined chunks)) (sym c.in_err-insert.ensures.unchanged)
-    (each_kept c.args.rr.now.class c.args.octets.now.items (stored (record_of c.lend-rr.result)) c.args.base.now (joined c.args.entries.now) c.requires.each))
+    (subst (λ chunks. AllByRecursion (IsEntry c.args.base.now c.args.rr.now.class (c.args.octets.now.items ++ stored (record_of c.args.rr.now))) (joined chunks)) (sym c.in_err-insert.ensures.unchanged)
+    (each_kept c.args.rr.now.class c.args.octets.now.items (stored (record_of c.args.rr.now)) c.args.base.now (joined c.args.entries.now) c.requires.holds.each))
 
 on_err : {A E P : Type 0} (r : Result A E) → P → OnErr r P
 on_err (Ok _) holds = tt
@@ -125,20 +113,20 @@ pub returns-in_err-insert-clause-unchanged : goal.returns-in_err-insert-clause-u
 returns-in_err-insert-clause-unchanged c =
     on_err c.from_residual-in_err-insert.result
     (ap (λ octs. all_records c.args.rr.now.class octs (joined c.insert.new.self)) c.in_ok-at.ensures.appended
-    ∙ ap (λ chunks. all_records c.args.rr.now.class (c.args.octets.now.items ++ stored (record_of c.lend-rr.result)) (joined chunks)) c.in_err-insert.ensures.unchanged
-    ∙ records_kept c.args.rr.now.class c.args.octets.now.items (stored (record_of c.lend-rr.result)) c.args.base.now (joined c.args.entries.now) c.requires.each)
+    ∙ ap (λ chunks. all_records c.args.rr.now.class (c.args.octets.now.items ++ stored (record_of c.args.rr.now)) (joined chunks)) c.in_err-insert.ensures.unchanged
+    ∙ records_kept c.args.rr.now.class c.args.octets.now.items (stored (record_of c.args.rr.now)) c.args.base.now (joined c.args.entries.now) c.requires.holds.each)
 
 pub returns-clause-each : goal.returns-clause-each
 returns-clause-each c =
     let p = (goal.at.returns-clause-each c).After-copied-first in
-    each_put c.args.base.now c.args.octets.now.items c.args.rr.now (joined c.args.entries.now) (first_part p) (last_part p) (joined c.insert.new.self) (record { hint = c.hint_of-hint.result; at = c.in_ok-at.at }) c.append.new.octets.items
-    c.requires c.place_of-place.ensures.whole c.lend-rr.ensures.whole c.in_ok-at.ensures.place (c.in_ok-at.ensures.appended ∙ ap (λ s. c.args.octets.now.items ++ stored s) c.lend-rr.ensures.record) c.in_ok-insert.ensures.taken (hinted p)
+    each_put c.args.base.now c.args.octets.now.items (record_of c.args.rr.now) (joined c.args.entries.now) (first_part p) (last_part p) (joined c.insert.new.self) (record { hint = c.hint_of-hint.result; at = c.in_ok-at.at }) c.append.new.octets.items
+    c.requires.holds c.place_of-place.ensures.whole c.requires.whole c.in_ok-at.ensures.place c.in_ok-at.ensures.appended c.in_ok-insert.ensures.taken c.hint_of-hint.ensures
 
 pub returns-clause-told : goal.returns-clause-told
 returns-clause-told c =
     let p = (goal.at.returns-clause-told c).After-copied-first in
     let agree = one_ttl (record_for p) (first_part p) (last_part p) (parts p) c.copied-last.result c.copied-first.result (neighbours p) c.is_of_other_ttl.result c.is_of_other_ttl-2.result c.is_of_other_ttl.ensures c.if-is_of_other_ttl.false c.is_of_other_ttl-2.ensures c.if-is_of_other_ttl-2.false in
-    was_put c.args.base.now c.args.octets.now.items c.args.rr.now (joined c.args.entries.now) (first_part p) (last_part p) (joined c.insert.new.self) (record { hint = c.hint_of-hint.result; at = c.in_ok-at.at }) c.append.new.octets.items
-    c.requires c.place_of-place.ensures.whole c.lend-rr.ensures.whole c.in_ok-at.ensures.place (c.in_ok-at.ensures.appended ∙ ap (λ s. c.args.octets.now.items ++ stored s) c.lend-rr.ensures.record) c.in_ok-insert.ensures.taken
-    (moved p (λ s octs. Ascends (map (entry_record s.class octs) (first_part p) ++ s ∷ map (entry_record s.class octs) (last_part p)))
+    was_put c.args.base.now c.args.octets.now.items (record_of c.args.rr.now) (joined c.args.entries.now) (first_part p) (last_part p) (joined c.insert.new.self) (record { hint = c.hint_of-hint.result; at = c.in_ok-at.at }) c.append.new.octets.items
+    c.requires.holds c.place_of-place.ensures.whole c.requires.whole c.in_ok-at.ensures.place c.in_ok-at.ensures.appended c.in_ok-insert.ensures.taken
+    (moved p (λ octs. Ascends (map (entry_record c.args.rr.now.class octs) (first_part p) ++ record_of c.args.rr.now ∷ map (entry_record c.args.rr.now.class octs) (last_part p)))
     (Ascends-between (record_for p) (first_part p) (last_part p) (parts p) agree c.copied-first.result (first_is p) c.is_equal.result c.is_equal.ensures c.if-is_equal.false))

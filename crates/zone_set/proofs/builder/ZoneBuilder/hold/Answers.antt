@@ -1,8 +1,17 @@
 use Rattle.std.proofs.Common.{subst}
 use Rattle.std.specs.Prelude.{IfErr}
-use Rattle.zone_set.proofs.Adding.{stops_each}
-use Rattle.zone_set.specs.Machine.Refusal.{IsRefusal}
+use Rattle.zone_rdata.specs.declared.record.Placed.{Placed}
+use Rattle.zone_set.proofs.Adding.{stops_add}
+use Rattle.zone_set.specs.Builder.{StopsAdd}
+use Rattle.zone_rdata.specs.Lent.{record_of}
 use Rattle.zone_set.proofs.builder.ZoneBuilder.hold.Goals as goal
+use Rattle.zone_set.proofs.builder.ZoneBuilder.hold.Goals.{in-Ok, in-Err}
 
 pub returns-clause-refused : goal.returns-clause-refused
-returns-clause-refused c = stops_each c.args.self.now c.args.placed.now c.add.result (subst (λ held. IfErr c.add.result (IsRefusal held c.args.placed.now.rr)) c.self.view_is c.add.ensures.refused)
+returns-clause-refused c =
+    let p : Placed = record { rr = record_of c.args.rr.now; place = c.args.place } in
+    subst (λ held. IfErr c.match-add.result (StopsAdd held p)) c.self.view_is
+    (elim c.match-add.branch [
+      | in-Ok w ↦ rw w.result-is tt
+      | in-Err w ↦ rw (w.result-is, w.stop_at.ensures) (stops_add _ p w.in-Err.refusal w.in-Err.ensures.refused)
+    ])

@@ -1,18 +1,20 @@
-use Rattle.std.proofs.Common.{subst, refl, sym, ◌∙◌, ap, Ok}
+use Rattle.std.proofs.Common.{refl, sym, ◌∙◌, ap, Ok}
 use Rattle.zone_set.proofs.Taking.{HasTaken-start, HasTaken-more, StopsTaking-at_end, StopsTaking-refused}
-use Rattle.zone_set.specs.Builder.{StopsAdd}
 use Rattle.zone_set.proofs.builder.ZoneBuilder.take_all.Goals as goal
 
 pub loop-placed-init : goal.loop-placed-init
 loop-placed-init g c = (HasTaken-start _ _, refl)
 
 pub loop-placed-preserved : goal.loop-placed-preserved
-loop-placed-preserved g c =
-    (HasTaken-more _ _ _ _ c.loop-placed.invariant.0 c.in-Ok-Some.placed _ _ (sym c.next.ensures.answer ∙ c.in-Ok-Some.is ∙ ap Ok c.in-Ok-Some.field-0-is) c.next.ensures.left c.in-Ok.ensures.accepted c.in-Ok.ensures.taken, c.next.ensures.beside ∙ c.loop-placed.invariant.1)
+loop-placed-preserved g c = (
+  HasTaken-more _ _ _ _ c.loop-placed.invariant.0 c.in-Ok-Some.placed _ _ (sym c.next.ensures.answer ∙ c.in-Ok-Some.is ∙ ap Ok c.in-Ok-Some.field-0-is) c.next.ensures.left
+      (rw c.lend.ensures.record at c.in-Ok.ensures.accepted) (rw c.lend.ensures.record at c.in-Ok.ensures.taken),
+  c.next.ensures.beside ∙ c.loop-placed.invariant.1,
+)
 
 pub returns-in-Err-clause-stopped : goal.returns-in-Err-clause-stopped
 returns-in-Err-clause-stopped g c = StopsTaking-at_end _ _ _ _ c.loop-placed.invariant.0 _ _ (sym c.next.ensures.answer ∙ c.in-Err.is) c.next.ensures.left
 
 pub returns-in-Err-hold-clause-stopped : goal.returns-in-Err-hold-clause-stopped
 returns-in-Err-hold-clause-stopped g c =
-    StopsTaking-refused _ _ _ _ c.loop-placed.invariant.0 c.in-Ok-Some.placed _ _ _ (sym c.next.ensures.answer ∙ c.in-Ok-Some.is ∙ ap Ok c.in-Ok-Some.field-0-is) c.next.ensures.left (subst (StopsAdd _ c.in-Ok-Some.placed) (sym c.stop_at.ensures) c.in-Err-hold.ensures.refused) c.in-Err-hold.ensures.unchanged
+    StopsTaking-refused _ _ _ _ c.loop-placed.invariant.0 c.in-Ok-Some.placed _ _ _ (sym c.next.ensures.answer ∙ c.in-Ok-Some.is ∙ ap Ok c.in-Ok-Some.field-0-is) c.next.ensures.left (rw c.lend.ensures.record at c.in-Err-hold.ensures.refused) c.in-Err-hold.ensures.unchanged

@@ -9,5 +9,5 @@ pub returns-in-Some : goal.returns-in-Some
 returns-in-Some c =
     let parts = sym c.iter.ensures.records ∙ c.in-Some.ensures.steps in
     let compatible = subst AreCompatible parts c.iter.ensures.compatible in
-    subst (λ held. (c.is_other_soa.result ≡ true) ↔ OtherSoa held c.args.rr.now) (sym parts)
-    (decides_other c.is_other_soa.result c.is_other_soa.ensures.0 c.is_other_soa.ensures.1 (other_soa (record_of c.in-Some.first) _ compatible c.args.rr.now) (one_soa (record_of c.in-Some.first) _ compatible c.args.rr.now))
+    subst (λ held. (c.is_other_soa.result ≡ true) ↔ OtherSoa held (record_of c.args.rr.now)) (sym parts)
+    (decides_other c.is_other_soa.result c.is_other_soa.ensures.0 c.is_other_soa.ensures.1 (other_soa (record_of c.in-Some.first) _ compatible (record_of c.args.rr.now)) (one_soa (record_of c.in-Some.first) _ compatible (record_of c.args.rr.now)))
