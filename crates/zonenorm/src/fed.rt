@@ -7,12 +7,12 @@ ghost use Rattle.zone_set.specs.Builder.{leaves};
 ghost use Rattle.zonenorm.specs.Input.{InputForm, input_of, InputReads};
 ghost use Rattle.zonenorm.specs.Machine.Input.{Decides};
 
-use zone_rdata::{RrSource, Stop};
+use zone_rdata::{LendingSource, Stop};
 use zone_text::TextSource;
 use zone_wire::TransferSource;
 
 /// A source of records that is fed an input in pieces.
-pub(crate) trait FedSource: RrSource {
+pub(crate) trait FedSource: LendingSource {
     /// What it holds besides what is pending.
     ghost Held: { Type 0 };
 

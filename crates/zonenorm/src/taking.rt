@@ -58,7 +58,7 @@ impl Taking {
             return Ok(());
         }
         source.feed(piece)?;
-        match self.builder.take_all(source) {
+        match self.builder.take_lent(source) {
             Ok(()) => Ok(()),
             Err(Stop::Refused(fault, place)) => {
                 self.refusal = Some((fault, place));
@@ -98,7 +98,7 @@ impl Taking {
             Some((fault, place)) => Err(Stop::Refused(fault, place)),
             None => {
                 source.finish()?;
-                builder.take_all(source)?;
+                builder.take_lent(source)?;
                 builder.finish()
             }
         }

@@ -10,13 +10,13 @@ returns-then-is_some-clause-taken g c = λ form octets taken.
 
 pub returns-in-Ok-clause-taken : goal.returns-in-Ok-clause-taken
 returns-in-Ok-clause-taken g c = λ form octets taken.
-    taken_more _ g.S.FedSource.Stands form _ (g.S.RrSource.pending c.feed.new.self) _ _ (g.S.FedSource.held c.feed.new.self) _ c.args.self.now.builder c.take_all.new.self octets c.args.piece.now c.args.self.now.refusal
+    taken_more _ g.S.FedSource.Stands form _ (g.S.RrSource.pending c.feed.new.self) _ _ (g.S.FedSource.held c.feed.new.self) _ c.args.self.now.builder c.take_lent.new.self octets c.args.piece.now c.args.self.now.refusal
     (is_none_of c.args.self.now.refusal (sym c.is_some.ensures ∙ c.if-is_some.false))
-    (λ given. c.in_ok-feed.ensures.stands form octets given) (g.met.S.FedSource.gives form) c.args.self.now.refusal refl c.in-Ok.ensures.taken (g.met.S.FedSource.keeps _ _ c.take_all.ensures.beside) taken
+    (λ given. c.in_ok-feed.ensures.stands form octets given) (g.met.S.FedSource.gives form) c.args.self.now.refusal refl c.in-Ok.ensures.taken (g.met.S.FedSource.keeps _ _ c.take_lent.ensures.beside) taken
 
 pub returns-in-Err-Refused-clause-taken : goal.returns-in-Err-Refused-clause-taken
 returns-in-Err-Refused-clause-taken g c = λ form octets taken.
-    taken_refused _ g.S.FedSource.Stands form _ (g.S.RrSource.pending c.feed.new.self) (g.S.RrSource.pending c.take_all.new.source) _ (g.S.FedSource.held c.feed.new.self) (g.S.FedSource.held c.take_all.new.source) c.args.self.now.builder c.take_all.new.self octets c.args.piece.now c.args.self.now.refusal
+    taken_refused _ g.S.FedSource.Stands form _ (g.S.RrSource.pending c.feed.new.self) (g.S.RrSource.pending c.take_lent.new.source) _ (g.S.FedSource.held c.feed.new.self) (g.S.FedSource.held c.take_lent.new.source) c.args.self.now.builder c.take_lent.new.self octets c.args.piece.now c.args.self.now.refusal
     (is_none_of c.args.self.now.refusal (sym c.is_some.ensures ∙ c.if-is_some.false))
     (λ given. c.in_ok-feed.ensures.stands form octets given) g.S.FedSource.finished (g.met.S.FedSource.decides form) c.in_ok-feed.ensures.open c.in-Err-Refused.fault c.in-Err-Refused.place
-    (subst (StopsTaking c.args.self.now.builder (g.S.RrSource.pending c.feed.new.self) c.take_all.new.self (g.S.RrSource.pending c.take_all.new.source)) c.in-Err-Refused.field-0-is c.in-Err-Refused.ensures.stopped) taken
+    (subst (StopsTaking c.args.self.now.builder (g.S.RrSource.pending c.feed.new.self) c.take_lent.new.self (g.S.RrSource.pending c.take_lent.new.source)) c.in-Err-Refused.field-0-is c.in-Err-Refused.ensures.stopped) taken
