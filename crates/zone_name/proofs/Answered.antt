@@ -9,10 +9,10 @@ use Rattle.zone_name.specs.Name.{folded_label, folded_octet, wire, IsLabel, IsNa
 use Rattle.zone_name.specs.Spelling.{Written, plain, escaped, decimal, text_of, octet_of, IsUnit, is_dot, IsWrittenLabel, AreWrittenLabels, written_text, written_octets, dotted, parted, named, Writes, root, at_origin, absolute, relative, Spells, FaultAt, empty_label, long_label, bad_escape, IsRelative, SpellingFault, within, unfounded, long_name}
 use Rattle.zone_name.specs.declared.fault.NameFault.{NameFault}
 use Rattle.zone_name.specs.declared.fault.NameFault.TheVariants.{EmptyLabel, NameTooLong, RelativeName}
-use Rattle.zone_name.specs.declared.reading.NameForm.{NameForm}
-use Rattle.zone_name.specs.declared.reading.NameForm.TheVariants.{Root, Origin, Labels}
+use Rattle.zone_name.specs.declared.reading.NameShape.{NameShape}
+use Rattle.zone_name.specs.declared.reading.NameShape.TheVariants.{Root, Origin, Labels}
 use Rattle.zone_name.specs.Machine.LabelWalk.{reading, sized, under_origin}
-use Rattle.zone_name.specs.Machine.Seen.{HasForm}
+use Rattle.zone_name.specs.Machine.Seen.{HasShape}
 use Rattle.zone_name.proofs.Spelled.{AreShort, Says, reading-says}
 use Rattle.zone_name.proofs.Only.{reading-dotted, reading-parted, reading-fault}
 use Rattle.zone_name.proofs.Pushing.{AllByRecursion-append, AllByRecursion-front, AllByRecursion-back, IsLabel-folded, sized-name, sized-long}
@@ -22,17 +22,17 @@ abbrev ShortLabels : List (List ℕ) → Type 0
 ShortLabels labels = AllByRecursion (λ label. length label ≤ 63) labels
 
 -- what a text of this form is under an origin
-abbrev pub answered : Option (List (List ℕ)) → List ℕ → NameForm → Result (List (List ℕ)) NameFault
+abbrev pub answered : Option (List (List ℕ)) → List ℕ → NameShape → Result (List (List ℕ)) NameFault
 answered origin text Root = sized []
 answered None text Origin = Err RelativeName
 answered (Some above) text Origin = sized above
 answered origin text Labels = under_origin origin (reading text)
 
 -- each text has a form
-pub form_at : (text : List ℕ) → (form : NameForm) × HasForm text form
+pub form_at : (text : List ℕ) → (form : NameShape) × HasShape text form
 form_at text = by (pointwise nat_eq text (codes ".")) (pointwise nat_eq text (codes "@")) refl refl
   where
-    by : (is_dot is_at : Bool) → pointwise nat_eq text (codes ".") ≡ is_dot → pointwise nat_eq text (codes "@") ≡ is_at → (form : NameForm) × HasForm text form
+    by : (is_dot is_at : Bool) → pointwise nat_eq text (codes ".") ≡ is_dot → pointwise nat_eq text (codes "@") ≡ is_at → (form : NameShape) × HasShape text form
     by true is_at e f = (Root, (bytes_decides text (codes ".")).0 e)
     by false true e f = (Origin, (bytes_decides text (codes "@")).0 f)
     by false false e f = (Labels, (λ h. false≢true (sym e ∙ (bytes_decides text (codes ".")).1 h), λ h. false≢true (sym f ∙ (bytes_decides text (codes "@")).1 h)))
@@ -85,7 +85,7 @@ marks_differ : codes "." ≡ codes "@" → ⊥
 marks_differ e = false≢true (sym (ap (λ t. nat_eq (get_or t 0 0) 46) e))
 
 -- a text that writes labels is answered by them, where they fit
-writes_answered : (origin : Option (List (List ℕ))) (text : List ℕ) (labels : List (List ℕ)) (form : NameForm) → HasForm text form → Writes origin text labels → ShortLabels labels → answered origin text form ≡ sized labels
+writes_answered : (origin : Option (List (List ℕ))) (text : List ℕ) (labels : List (List ℕ)) (form : NameShape) → HasShape text form → Writes origin text labels → ShortLabels labels → answered origin text form ≡ sized labels
 writes_answered origin text labels Root dot (root e l) short = ap sized (sym l)
 writes_answered origin text labels Root dot (at_origin e o) short = absurd (marks_differ (sym dot ∙ e))
 writes_answered origin text labels Root dot (absolute written are e l) short =
@@ -104,7 +104,7 @@ writes_answered origin text labels Labels other (relative written above are n e 
     ap (λ t. under_origin t (reading text)) o ∙ ap (under_origin (Some above)) (relative_reads text written above labels are e l short) ∙ ap sized (sym l)
 
 -- the name that a text spells is its answer
-pub answered-only : (origin : Option (List (List ℕ))) (text : List ℕ) (form : NameForm) (name : List (List ℕ)) → HasForm text form → Spells origin text name → answered origin text form ≡ Ok name
+pub answered-only : (origin : Option (List (List ℕ))) (text : List ℕ) (form : NameShape) (name : List (List ℕ)) → HasShape text form → Spells origin text name → answered origin text form ≡ Ok name
 answered-only origin text form name has spells = writes_answered origin text name form has spells.written (short_name name spells.name.each) ∙ sized-name name spells.name.short
 
 -- an origin that is a name is the answer of an `@`
@@ -119,19 +119,19 @@ faultless_dot text fault dot (empty_label before rest r ends first other) e = ot
 faultless_dot text fault dot (long_label before open_label w rest r full is) e = let d = sym (ap reading dot ∙ reading_dot) ∙ e in absurd (cc)
 faultless_dot text fault dot (bad_escape before open_label rest r bad) e = let d = sym (ap reading dot ∙ reading_dot) ∙ e in absurd (cc)
 
-within_answered : (origin : Option (List (List ℕ))) (text : List ℕ) (form : NameForm) (fault : NameFault) → HasForm text form → FaultAt text fault → answered origin text form ≡ Err fault
+within_answered : (origin : Option (List (List ℕ))) (text : List ℕ) (form : NameShape) (fault : NameFault) → HasShape text form → FaultAt text fault → answered origin text form ≡ Err fault
 within_answered origin text Root fault dot at = absurd (faultless_dot text fault dot at (reading-fault text fault at))
 within_answered origin text Origin fault is at = absurd (err_not_ok fault ((64 ∷ []) ∷ [], false) (sym (reading-fault text fault at) ∙ ap reading is ∙ reading_at))
 within_answered origin text Labels fault other at = ap (under_origin origin) (reading-fault text fault at)
 
-relative_answered : (text : List ℕ) (form : NameForm) → HasForm text form → IsRelative text → answered None text form ≡ Err RelativeName
+relative_answered : (text : List ℕ) (form : NameShape) → HasShape text form → IsRelative text → answered None text form ≡ Err RelativeName
 relative_answered text Root dot is =
     absurd (err_not_ok EmptyLabel (named is.0, false) (sym (ap reading dot ∙ reading_dot) ∙ ap reading is.3 ∙ reading-parted is.0 is.1 is.2))
 relative_answered text Origin at is = refl
 relative_answered text Labels other is = ap (under_origin None) (ap reading is.3 ∙ reading-parted is.0 is.1 is.2)
 
 -- the first fault of a text is its answer
-pub answered-fault : (origin : Option (List (List ℕ))) (text : List ℕ) (form : NameForm) (fault : NameFault) → HasForm text form → SpellingFault origin text fault → answered origin text form ≡ Err fault
+pub answered-fault : (origin : Option (List (List ℕ))) (text : List ℕ) (form : NameShape) (fault : NameFault) → HasShape text form → SpellingFault origin text fault → answered origin text form ≡ Err fault
 answered-fault origin text form fault has (within f at) = within_answered origin text form f has at
 answered-fault origin text form fault has (unfounded none is) = ap (λ t. answered t text form) none ∙ relative_answered text form has is
 answered-fault origin text form fault has (long_name labels writes short long) = writes_answered origin text labels form has writes short ∙ sized-long labels long
@@ -257,7 +257,7 @@ one_by origin text (Err first) found fault = inr (first, fault)
 pub Spells-or-FirstFault : (origin : Option (List (List ℕ))) (text : List ℕ) → IfSome origin IsName → AreOctets text → OneOf origin text
 Spells-or-FirstFault origin text known octets = let form = form_at text in by form.0 form.1
   where
-    by : (form : NameForm) → HasForm text form → OneOf origin text
+    by : (form : NameShape) → HasShape text form → OneOf origin text
     by Root dot = inl ([], record { written = root dot refl; name = record { each = tt; short = omega arith } })
     by Origin at = one_at_origin origin text at known
     by Labels other =

@@ -6,7 +6,7 @@ ghost use Rattle.zone_name.specs.Spelling.{Spells, SpellingFault};
 use crate::fault::NameFault;
 use crate::labels::Labels;
 use crate::lent::NameRef;
-use crate::reading::{NameForm, form_of, replace};
+use crate::reading::{NameShape, replace, shape_of};
 use arrayvec::ArrayVec;
 use std::marker::Model;
 
@@ -67,12 +67,12 @@ impl Name {
         ensures err { OnErr result (self.new ≡ []) }
     {
         known_origin(origin);
-        match form_of(text) {
-            NameForm::Root => {
+        match shape_of(text) {
+            NameShape::Root => {
                 self.hold(b"\0");
                 Ok(())
             }
-            NameForm::Origin => match origin {
+            NameShape::Origin => match origin {
                 Some(origin) => {
                     self.hold(origin.wire());
                     Ok(())
@@ -82,7 +82,7 @@ impl Name {
                     Err(NameFault::RelativeName)
                 }
             },
-            NameForm::Labels => replace(&mut self.octets, text, origin),
+            NameShape::Labels => replace(&mut self.octets, text, origin),
         }
     }
 

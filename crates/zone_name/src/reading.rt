@@ -5,7 +5,7 @@ ghost use Rattle.zone_name.specs.Name.{HoldsName, folded_octet, labels_of};
 ghost use Rattle.zone_name.specs.Spelling.{IsUnit, is_dot, plain};
 ghost use Rattle.zone_name.specs.Machine.LabelWalk.{Collects, reading, under_origin, sized};
 ghost use Rattle.zone_name.specs.Machine.Plain.{WritesLengths};
-ghost use Rattle.zone_name.specs.Machine.Seen.{Closes, EndsLabelAt, HasForm, HoldsUnfolded, IsClosable};
+ghost use Rattle.zone_name.specs.Machine.Seen.{Closes, EndsLabelAt, HasShape, HoldsUnfolded, IsClosable};
 ghost use Rattle.zone_name.specs.Machine.Seen.{IsReadInto, EndsInFault, RefusesLabel, unfolded_labels};
 
 use crate::builder::check_label;
@@ -16,7 +16,7 @@ use arrayvec::ArrayVec;
 
 /// How a name's text is read (RFC 1035 5.1).
 #[derive(Drop)]
-pub(crate) enum NameForm {
+pub(crate) enum NameShape {
     /// A dot alone, which is the root.
     Root,
     /// An `@` alone, which is the origin.
@@ -26,13 +26,13 @@ pub(crate) enum NameForm {
 }
 
 /// How the text is read.
-pub(crate) fn form_of(text: &[u8]) -> NameForm
-    ensures { HasForm text.now result }
+pub(crate) fn shape_of(text: &[u8]) -> NameShape
+    ensures { HasShape text.now result }
 {
     match text {
-        b"." => NameForm::Root,
-        b"@" => NameForm::Origin,
-        _ => NameForm::Labels,
+        b"." => NameShape::Root,
+        b"@" => NameShape::Origin,
+        _ => NameShape::Labels,
     }
 }
 

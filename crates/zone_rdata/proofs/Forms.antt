@@ -6,7 +6,7 @@ use Rattle.zone_rdata.specs.declared.fault.Failing.{Failing}
 use Rattle.zone_rdata.specs.declared.fault.Fault.{Fault}
 use Rattle.zone_rdata.specs.declared.fault.Fault.TheVariants.{BadRdata, BadGeneric}
 use Rattle.zone_rdata.specs.declared.layout.Layout.{Layout}
-use Rattle.zone_rdata.specs.DataFault.{IsFaultFor, IsFormFault, IsWordsFault, no_value, opaque_words}
+use Rattle.zone_rdata.specs.DataFault.{IsFaultFor, IsGenericDataFault, IsWordsFault, no_value, opaque_words}
 use Rattle.zone_rdata.specs.DataFault as faults
 use Rattle.zone_rdata.specs.Fault.{IfFault}
 use Rattle.zone_rdata.specs.Generic.{StatesGeneric}
@@ -18,10 +18,10 @@ use Rattle.zone_rdata.specs.Uncompressed.{IsUncompressed}
 use Rattle.zone_rdata.proofs.Failings.{IfErr-fault}
 
 -- octets in the generic form that are no value of the layout
-pub form_value : {T : Type 0} (laid : Option Layout) (own : Layout) (items : List RawItem) (stated octets : List ℕ) (r : Result T Failing) → laid ≡ Some own → StatesGeneric items stated → octets ≡ stated → IfErr r (IfFault (λ f. (f ≡ BadRdata) × ((canonical : List ℕ) → IsUncompressed (fields_of own) octets canonical → ⊥))) → IfErr r (IfFault (IsFormFault (option_map fields_of laid) items))
+pub form_value : {T : Type 0} (laid : Option Layout) (own : Layout) (items : List RawItem) (stated octets : List ℕ) (r : Result T Failing) → laid ≡ Some own → StatesGeneric items stated → octets ≡ stated → IfErr r (IfFault (λ f. (f ≡ BadRdata) × ((canonical : List ℕ) → IsUncompressed (fields_of own) octets canonical → ⊥))) → IfErr r (IfFault (IsGenericDataFault (option_map fields_of laid) items))
 form_value laid own items stated octets r e form is h =
     let laid_is : option_map fields_of laid ≡ Some (fields_of own) = ap (option_map fields_of) e in
-    IfErr-fault r _ _ (λ fault bad. subst (IsFormFault (option_map fields_of laid) items) (sym bad.0) (no_value (fields_of own) stated laid_is form (λ canonical u. bad.1 canonical (subst (λ o. IsUncompressed (fields_of own) o canonical) (sym is) u)))) h
+    IfErr-fault r _ _ (λ fault bad. subst (IsGenericDataFault (option_map fields_of laid) items) (sym bad.0) (no_value (fields_of own) stated laid_is form (λ canonical u. bad.1 canonical (subst (λ o. IsUncompressed (fields_of own) o canonical) (sym is) u)))) h
 
 not_marked : (items : List RawItem) (b : Bool) → b ≡ false → (IsTrue b ↔ IsGeneric items) → IsGeneric items → ⊥
 not_marked items b plain_items test g = let marked = test.1 g in cc (sym plain_items ∙ marked)

@@ -8,7 +8,7 @@ use Rattle.zone_rdata.specs.declared.fault.Fault.{Fault}
 use Rattle.zone_rdata.specs.declared.fault.Fault.TheVariants.{BadGeneric, BadRdata, RdataTooLong}
 use Rattle.zone_rdata.specs.declared.field.Field.{Field}
 use Rattle.zone_rdata.specs.declared.field.Field.TheVariants.{Strings}
-use Rattle.zone_rdata.specs.DataFault.{FirstFieldFault, IsDataFault, IsFaultFor, in_form, malformed, no_value, opaque_words, too_long, unspelt}
+use Rattle.zone_rdata.specs.DataFault.{FirstFieldFault, IsDataFault, IsFaultFor, in_generic_form, malformed, no_value, opaque_words, too_long, unspelt}
 use Rattle.zone_rdata.specs.Field.{FieldValue, items_after, octets_of, own_items}
 use Rattle.zone_rdata.specs.Generic.{GenericFault, JoinTo, StatesGeneric}
 use Rattle.zone_rdata.specs.Item.{IsGeneric, RawItem, bare, quoted}
@@ -66,10 +66,10 @@ joined_low (quoted text ∷ items) octets h = absurd h
 
 canonical_item : (origin : List (List ℕ)) (row : List Field) (items : List RawItem) (stated : List ℕ) → StatesGeneric items stated → Choice (IsUncompressed row stated) → Outcome origin (Some row) items
 canonical_item origin row items stated form (inl found) = inl (found.0, in_octets (stated, form, found.1))
-canonical_item origin row items stated form (inr none) = inr (BadRdata, in_form BadRdata (no_value row stated refl form none))
+canonical_item origin row items stated form (inr none) = inr (BadRdata, in_generic_form BadRdata (no_value row stated refl form none))
 
 form_by : (origin : List (List ℕ)) (class kind : ℕ) (laid : Option (List Field)) (items : List RawItem) → layout class kind ≡ laid → ((octets : List ℕ) × StatesGeneric items octets) ⊎ ((fault : Fault) × GenericFault items fault) → Outcome origin laid items
-form_by origin class kind laid items e (inr bad) = inr (bad.0, in_form bad.0 (malformed bad.0 bad.1))
+form_by origin class kind laid items e (inr bad) = inr (bad.0, in_generic_form bad.0 (malformed bad.0 bad.1))
 form_by origin class kind None items e (inl found) = inl (found.0, in_octets (found.0, found.1, refl))
 form_by origin class kind (Some row) items e (inl found) = canonical_item origin row items found.0 found.1 (canonical_or_not class kind row found.0 e (joined_low found.1.digits found.0 found.1.joined))
 

@@ -2,7 +2,7 @@
 use Rattle.std.proofs.Common.{List, None, Option, Some, [], ap, arith, inl, inr, length, refl, subst, sym, ℕ, ◌∙◌, ◌∷◌, ◌≡◌, ◌≤◌}
 use Rattle.zone_rdata.specs.declared.fault.Fault.{Fault}
 use Rattle.zone_rdata.specs.declared.field.Field.{Field}
-use Rattle.zone_rdata.specs.DataFault.{FirstFieldFault, IsDataFault, IsFaultFor, IsFormFault, IsWordsFault, in_form, malformed, no_value, opaque_words, too_long, unspelt}
+use Rattle.zone_rdata.specs.DataFault.{FirstFieldFault, IsDataFault, IsFaultFor, IsGenericDataFault, IsWordsFault, in_generic_form, malformed, no_value, opaque_words, too_long, unspelt}
 use Rattle.zone_rdata.specs.Field.{FieldValue, items_after, octets_of, own_items}
 use Rattle.zone_rdata.specs.Generic.{StatesGeneric, GenericFault, no_length, long_length, bad_digits}
 use Rattle.zone_rdata.specs.Item.{RawItem, IsGeneric}
@@ -67,7 +67,7 @@ generic_fault_marks items _ (no_length marked none) = marked
 generic_fault_marks items _ (long_length n digits form over) = (form.item ∷ digits, form.parts)
 generic_fault_marks items _ (bad_digits n digits form short none) = (form.item ∷ digits, form.parts)
 
-form_fault_marks : (laid : Option (List Field)) (items : List RawItem) (fault : Fault) → IsFormFault laid items fault → IsGeneric items
+form_fault_marks : (laid : Option (List Field)) (items : List RawItem) (fault : Fault) → IsGenericDataFault laid items fault → IsGeneric items
 form_fault_marks laid items _ (malformed fault bad) = generic_fault_marks items fault bad
 form_fault_marks laid items _ (no_value row stated e form none) = generic_marks items stated form
 
@@ -80,38 +80,38 @@ for_once names origin laid items a b once (in_octets stated) (in_words row vs e 
 for_once names origin laid items a b once (in_octets h) (in_octets k) =
     once h.0 a b h.2 (subst (λ o. IsCanonicalOf laid o b) (generic-once items k.0 h.0 k.1 h.1) k.2)
 
-form_never : (laid : Option (List Field)) (items : List RawItem) (stated octets : List ℕ) (fault : Fault) → StatesGeneric items stated → IsCanonicalOf laid stated octets → IsFormFault laid items fault → ⊥
+form_never : (laid : Option (List Field)) (items : List RawItem) (stated octets : List ℕ) (fault : Fault) → StatesGeneric items stated → IsCanonicalOf laid stated octets → IsGenericDataFault laid items fault → ⊥
 form_never laid items stated octets _ form canonical (malformed fault bad) = generic-never_both items stated fault form bad
 form_never laid items stated octets _ form canonical (no_value row stated' e form' none) =
     let here : IsCanonicalOf (Some row) stated octets = subst (λ l. IsCanonicalOf l stated octets) e canonical in
     none octets (subst (λ o. IsUncompressed row o octets) (generic-once items stated stated' form form') here)
 
 for_never : NamesOnce → NamesNever → (origin : List (List ℕ)) (laid : Option (List Field)) (items : List RawItem) (octets : List ℕ) (fault : Fault) → StatesFor origin laid items octets → IsFaultFor origin laid items fault → ⊥
-for_never once names origin laid items octets _ (in_words row vs e unmarked h is short) (in_form fault bad) = unmarked (form_fault_marks laid items fault bad)
+for_never once names origin laid items octets _ (in_words row vs e unmarked h is short) (in_generic_form fault bad) = unmarked (form_fault_marks laid items fault bad)
 for_never once names origin laid items octets _ (in_words row vs e unmarked h is short) (faults.in_words row' fault e' unmarked2 bad) =
     let same : row' ≡ row = same_row laid row' row e' e in
     words_never once names origin row items vs fault h (subst (λ o. length o ≤ 65535) is short) (subst (λ r. IsWordsFault origin r items fault) same bad)
 for_never once names origin laid items octets _ (in_words row vs e unmarked h is short) (opaque_words e' unmarked2) = let clash : Some row ≡ None = sym e ∙ e' in cc
-for_never once names origin laid items octets _ (in_octets h) (in_form fault bad) = form_never laid items h.0 octets fault h.1 h.2 bad
+for_never once names origin laid items octets _ (in_octets h) (in_generic_form fault bad) = form_never laid items h.0 octets fault h.1 h.2 bad
 for_never once names origin laid items octets _ (in_octets h) (faults.in_words row fault e unmarked bad) = unmarked (generic_marks items h.0 h.1)
 for_never once names origin laid items octets _ (in_octets h) (opaque_words e unmarked) = unmarked (generic_marks items h.0 h.1)
 
-form_fault_once : (laid : Option (List Field)) (items : List RawItem) (a b : Fault) → IsFormFault laid items a → IsFormFault laid items b → a ≡ b
+form_fault_once : (laid : Option (List Field)) (items : List RawItem) (a b : Fault) → IsGenericDataFault laid items a → IsGenericDataFault laid items b → a ≡ b
 form_fault_once laid items _ _ (malformed fault bad) (malformed fault' bad') = generic_fault-once items fault fault' bad bad'
 form_fault_once laid items _ _ (malformed fault bad) (no_value row stated e form none) = absurd (generic-never_both items stated fault form bad)
 form_fault_once laid items _ _ (no_value row stated e form none) (malformed fault bad) = absurd (generic-never_both items stated fault form bad)
 form_fault_once laid items _ _ (no_value row stated e form none) (no_value _ _ _ _ _) = refl
 
 for_fault_once : NamesNever → NameFaultOnce → (origin : List (List ℕ)) (laid : Option (List Field)) (items : List RawItem) (a b : Fault) → IsFaultFor origin laid items a → IsFaultFor origin laid items b → a ≡ b
-for_fault_once names once origin laid items _ _ (in_form fault bad) (in_form fault' bad') = form_fault_once laid items fault fault' bad bad'
-for_fault_once names once origin laid items _ _ (in_form fault bad) (faults.in_words row fault' e unmarked bad') = absurd (unmarked (form_fault_marks laid items fault bad))
-for_fault_once names once origin laid items _ _ (in_form fault bad) (opaque_words e unmarked) = absurd (unmarked (form_fault_marks laid items fault bad))
-for_fault_once names once origin laid items _ _ (faults.in_words row fault e unmarked bad) (in_form fault' bad') = absurd (unmarked (form_fault_marks laid items fault' bad'))
+for_fault_once names once origin laid items _ _ (in_generic_form fault bad) (in_generic_form fault' bad') = form_fault_once laid items fault fault' bad bad'
+for_fault_once names once origin laid items _ _ (in_generic_form fault bad) (faults.in_words row fault' e unmarked bad') = absurd (unmarked (form_fault_marks laid items fault bad))
+for_fault_once names once origin laid items _ _ (in_generic_form fault bad) (opaque_words e unmarked) = absurd (unmarked (form_fault_marks laid items fault bad))
+for_fault_once names once origin laid items _ _ (faults.in_words row fault e unmarked bad) (in_generic_form fault' bad') = absurd (unmarked (form_fault_marks laid items fault' bad'))
 for_fault_once names once origin laid items _ _ (faults.in_words row fault e unmarked bad) (faults.in_words row' fault' e' unmarked2 bad') =
     let same : row' ≡ row = same_row laid row' row e' e in
     words_fault_once names once origin row items fault fault' bad (subst (λ r. IsWordsFault origin r items fault') same bad')
 for_fault_once names once origin laid items _ _ (faults.in_words row fault e unmarked bad) (opaque_words e' unmarked2) = let clash : Some row ≡ None = sym e ∙ e' in cc
-for_fault_once names once origin laid items _ _ (opaque_words e unmarked) (in_form fault bad) = absurd (unmarked (form_fault_marks laid items fault bad))
+for_fault_once names once origin laid items _ _ (opaque_words e unmarked) (in_generic_form fault bad) = absurd (unmarked (form_fault_marks laid items fault bad))
 for_fault_once names once origin laid items _ _ (opaque_words e unmarked) (faults.in_words row fault e' unmarked2 bad) = let clash : Some row ≡ None = sym e' ∙ e in cc
 for_fault_once names once origin laid items _ _ (opaque_words e unmarked) (opaque_words _ _) = refl
 

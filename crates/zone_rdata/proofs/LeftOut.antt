@@ -9,7 +9,7 @@ use Rattle.zone_name.proofs.Pushing.{AllByRecursion-front}
 use Rattle.zone_rdata.specs.declared.fault.Fault.{Fault}
 use Rattle.zone_rdata.specs.declared.field.Field.{Field}
 use Rattle.zone_rdata.specs.declared.field.Field.TheVariants.{Strings}
-use Rattle.zone_rdata.specs.DataFault.{FirstFieldFault, IsDataFault, IsFaultFor, IsFormFault, IsWordsFault, in_form, malformed, no_value, opaque_words, too_long, unspelt}
+use Rattle.zone_rdata.specs.DataFault.{FirstFieldFault, IsDataFault, IsFaultFor, IsGenericDataFault, IsWordsFault, in_generic_form, malformed, no_value, opaque_words, too_long, unspelt}
 use Rattle.zone_rdata.specs.DataFault as faults
 use Rattle.zone_rdata.specs.Field.{FieldValue, SpellsField, field_octets, octets_of, strings}
 use Rattle.zone_rdata.specs.Fields.Strings.{FirstStringFault, SpellEachString}
@@ -133,7 +133,7 @@ generic_never (a ∷ b ∷ digits) others octets written many h =
     omega (arith, joined_long digits others octets written.1.1 joined, h.short, many)
 generic_never first others octets written many h = omega (arith, many)
 
-form_fault : (laid : Option (List Field)) (first more others : List RawItem) (fault : Fault) → AllByRecursion IsWritten first → 65543 ≤ length first → IsFormFault laid (first ++ others) fault → IsFormFault laid (first ++ more) fault
+form_fault : (laid : Option (List Field)) (first more others : List RawItem) (fault : Fault) → AllByRecursion IsWritten first → 65543 ≤ length first → IsGenericDataFault laid (first ++ others) fault → IsGenericDataFault laid (first ++ more) fault
 form_fault laid first more others _ written many (malformed fault bad) = malformed fault (generic_fault first more others fault written many bad)
 form_fault laid first more others _ written many (no_value fields stated e states none) = absurd (generic_never first others stated written many states)
 
@@ -147,8 +147,8 @@ marked [] more others many h = absurd (omega (arith, many))
 marked (a ∷ first) more others many h = mark_same a _ _ h
 
 fault_for : (origin : List (List ℕ)) (laid : Option (List Field)) (first more others : List RawItem) (fault : Fault) → AreFew laid → AllByRecursion IsWritten first → 65543 ≤ length first → LeavesOut more others → IsFaultFor origin laid (first ++ others) fault → IsFaultFor origin laid (first ++ more) fault
-fault_for origin laid first more others _ few written many out (in_form fault bad) =
-    in_form fault (form_fault laid first more others fault written many bad)
+fault_for origin laid first more others _ few written many out (in_generic_form fault bad) =
+    in_generic_form fault (form_fault laid first more others fault written many bad)
 fault_for origin laid first more others _ few written many out (faults.in_words fields fault e unmarked bad) =
     faults.in_words fields fault e (λ h. unmarked (marked first others more many h)) (words_fault origin fields first more others fault (few fields e) many out bad)
 fault_for origin laid first more others _ few written many out (opaque_words e unmarked) =

@@ -46,3 +46,5 @@ pub mod ItemChoice
 pub mod StatedOctets
 pub mod PrintedWords
 pub mod LeftOut
+pub mod Bytes
+pub mod FedSources

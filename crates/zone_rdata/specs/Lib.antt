@@ -19,7 +19,8 @@ pub mod Spelling
 pub mod Wire
 pub mod DataFault
 pub mod Text
-pub mod Source
+pub mod RrSource
+pub mod FedSource
 pub mod Machine
 pub mod Builder
 pub mod Part

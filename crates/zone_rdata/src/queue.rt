@@ -2,13 +2,13 @@
 ghost use Rattle.std.specs.Prelude.{◌≡◌, ◌≤◌, ◌∷◌, ◌++◌, [], None, OnOk, OnErr, option_map};
 ghost use Rattle.zone_rdata.specs.Lent.{placed_of};
 ghost use Rattle.zone_rdata.specs.Record.{IsRecord, record_with};
-ghost use Rattle.zone_rdata.specs.Source.{first_record, others};
+ghost use Rattle.zone_rdata.specs.RrSource.{first_record, others};
 
 use crate::fault::{Fault, Place, Stop};
 use crate::lent::PlacedRef;
 use crate::rdata::Rdata;
 use crate::record::{MAX_TTL, Placed, Rr};
-use crate::source::{LendingSource, Reading, RrSource};
+use crate::rr_source::{LendingSource, Reading, RrSource, record_or_ending};
 use std::alloc::{AllocError, Global};
 use std::collections::VecDeque;
 use std::marker::Model;
@@ -162,13 +162,7 @@ impl RrSource for PendingRecords {
     ghost pending = { λ r. record { failed = false; records = r.placed; ending = r.ending } };
 
     fn next(&mut self) -> Result<Option<Placed>, Stop> {
-        if let Some(placed) = self.placed.pop() {
-            return Ok(Some(placed));
-        }
-        match &self.ending {
-            None => Ok(None),
-            Some((fault, place)) => Err(Stop::Refused(fault.copy(), *place)),
-        }
+        record_or_ending(self.placed.pop(), &self.ending)
     }
 }
 

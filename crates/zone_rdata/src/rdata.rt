@@ -1,7 +1,7 @@
 ghost use Rattle.std.specs.Prelude.{◌≡◌, ◌++◌, map, IfOk, IfErr, IfSome, OnOk, OnErr, option_map};
 ghost use Rattle.zone_name.specs.Common.{Octets};
 ghost use Rattle.zone_name.specs.Sink.{TakesSome};
-ghost use Rattle.zone_rdata.specs.DataFault.{IsDataFault, IsFaultFor, IsFormFault};
+ghost use Rattle.zone_rdata.specs.DataFault.{IsDataFault, IsFaultFor, IsGenericDataFault};
 ghost use Rattle.zone_rdata.specs.Fault.{IfFault};
 ghost use Rattle.zone_rdata.specs.Item.{IsGeneric, raw};
 ghost use Rattle.zone_rdata.specs.Layout.{StringsLast, fields_of, layout};
@@ -60,7 +60,7 @@ fn octets_in_form(
     ensures found { IfOk result (λ octets.
         StatesInForm (option_map fields_of layout) (map raw items.now) octets.items) }
     ensures fault { IfErr result (IfFault
-        (IsFormFault (option_map fields_of layout) (map raw items.now))) }
+        (IsGenericDataFault (option_map fields_of layout) (map raw items.now))) }
 {
     let stated = octets_of_generic(alloc, items)?;
     match layout {

@@ -7,8 +7,8 @@ use Rattle.zone_text.specs.declared.ended.EndedEntries.{EndedEntries}
 use Rattle.zone_text.specs.declared.scan.ScanState.{ScanState}
 use Rattle.zone_text.specs.declared.scan.Step.TheVariants.{On}
 use Rattle.zone_text.specs.Decided.{FileDecides, undecided}
-use Rattle.zone_text.specs.Defaults.{AreDefaults}
-use Rattle.zone_text.specs.Machine.Feeding.{Follow, IsIntake, ScansTo}
+use Rattle.zone_text.specs.ParserState.{IsStateAfter}
+use Rattle.zone_text.specs.Machine.Feeding.{Follow, IsSplitter, ScansTo}
 use Rattle.zone_text.specs.Machine.Scan.{beginning, scan_of}
 use Rattle.zone_text.specs.Tokens.{Cuts}
 use Rattle.zone_text.proofs.Left.{none_cut}
@@ -36,7 +36,7 @@ pub scans_nothing : (at : ScanState) (unfinished : List ℕ) → at ≡ beginnin
 unfolding scan_of
 scans_nothing at unfinished begins none = rw (begins, none) refl
 
-pub nothing_taken : (ended : EndedEntries) (at : ScanState) (unfinished : List ℕ) → at ≡ beginning → unfinished ≡ [] → 1 ≤ ended.line → IsIntake ended at unfinished
+pub nothing_taken : (ended : EndedEntries) (at : ScanState) (unfinished : List ℕ) → at ≡ beginning → unfinished ≡ [] → 1 ≤ ended.line → IsSplitter ended at unfinished
 nothing_taken ended at unfinished begins none line = record {
   state = scans_nothing at unfinished begins none;
   dropped = λ _ _. none;
@@ -50,12 +50,12 @@ no_tokens = record { whole = refl; each = tt; follow = tt; balanced = refl }
 pub nothing_decided : (origin : Labels) → FileDecides origin [] [] None
 nothing_decided origin = undecided [] (inl no_tokens) (none_cut [] [] no_tokens) (refl, refl)
 
-pub nothing_follows : (origin : Labels) (ended : EndedEntries) (unfinished : List ℕ) → unfinished ≡ [] → ended.decided.placed ≡ [] → ended.decided.ending ≡ None → AreDefaults origin [] ended.defaults → ended.line ≡ 1 → Follow origin ended unfinished [] []
-nothing_follows origin ended unfinished none records ending defaults line = record {
+pub nothing_follows : (origin : Labels) (ended : EndedEntries) (unfinished : List ℕ) → unfinished ≡ [] → ended.decided.placed ≡ [] → ended.decided.ending ≡ None → IsStateAfter origin [] ended.state → ended.line ≡ 1 → Follow origin ended unfinished [] []
+nothing_follows origin ended unfinished none records ending state line = record {
   decided = rw (records, ending) (nothing_decided origin);
   leave = λ _. record {
     octets = record { tokens = []; are = inl no_tokens; whole = sym none };
-    inherited = defaults;
+    inherited = state;
     numbered = line;
   };
 }

@@ -5,17 +5,17 @@ use Rattle.std.proofs.lemmas.Bool.{cond_both, eqb-true, eqb-false, ne_eqb}
 use Rattle.std.proofs.lemmas.List.{append-nil}
 use Rattle.std.proofs.lemmas.List.Sums.{sum_by-cons}
 use Rattle.zone_name.specs.Common.{Labels}
-use Rattle.zone_text.specs.Defaults.{AreDefaults}
+use Rattle.zone_text.specs.ParserState.{IsStateAfter}
 use Rattle.zone_text.specs.Entries.{Entry, entry_of, item_of}
-use Rattle.zone_text.specs.Forms.{no_items, statement_by, statement_of}
+use Rattle.zone_text.specs.Statements.{no_items, statement_by, statement_of}
 use Rattle.zone_text.specs.Tokens.{Token, comment, line_feed, Cuts}
 use Rattle.zone_text.specs.Machine.Blank.{AreBlankLines, IsBlankLine, IsComment, line_feed as fed_line, commented, no_lines, one_line_more}
 use Rattle.zone_text.specs.Machine.Cutting.{before_line_feed}
 use Rattle.zone_text.specs.Machine.EntryReading.{LeavesNoRecord, decides_none}
-use Rattle.zone_text.specs.Machine.Feeding.{Follow, IsIntake, ReadsOctets, ScansTo}
+use Rattle.zone_text.specs.Machine.Feeding.{Follow, IsSplitter, ReadsOctets, ScansTo}
 use Rattle.zone_text.specs.Machine.Scan.{beginning, further, scan_of}
 use Rattle.zone_text.specs.declared.ended.EndedEntries.{EndedEntries}
-use Rattle.zone_text.specs.declared.intake.Intake.{Intake}
+use Rattle.zone_text.specs.declared.splitter.EntrySplitter.{EntrySplitter}
 use Rattle.zone_text.specs.declared.scan.Mode.TheVariants.{Comment}
 use Rattle.zone_text.specs.declared.scan.Scanned.{Scanned}
 use Rattle.zone_text.specs.declared.scan.Step.TheVariants.{Ends}
@@ -114,14 +114,14 @@ comment_alone octets each = record {
 -- ---- what follows
 
 abbrev pub with_line : ℕ → EndedEntries → EndedEntries
-with_line line ended = record { decided = ended.decided; defaults = ended.defaults; line = line }
+with_line line ended = record { decided = ended.decided; state = ended.state; line = line }
 
--- an entry without items states nothing and leaves the defaults
-states_nothing : (origin : Labels) (before : List Entry) (entry : Entry) (old : EndedEntries) → entry.items ≡ [] → AreDefaults origin before old.defaults → LeavesNoRecord origin before entry old.defaults
+-- an entry without items states nothing and leaves the state as it is
+states_nothing : (origin : Labels) (before : List Entry) (entry : Entry) (old : EndedEntries) → entry.items ≡ [] → IsStateAfter origin before old.state → LeavesNoRecord origin before entry old.state
 states_nothing origin before entry old none are =
     let form : statement_of entry ≡ no_items = ap (statement_by entry.first) none in (
       rw form tt,
-      leaves origin before entry no_items old.defaults old.defaults.origin old.defaults.default_ttl form refl refl are (same_origin origin before entry no_items old.defaults.origin form refl are.under) (same_default before entry no_items old.defaults.default_ttl form refl are.default_ttl),
+      leaves origin before entry no_items old.state old.state.origin old.state.default_ttl form refl refl are (same_origin origin before entry no_items old.state.origin form refl are.under) (same_default before entry no_items old.state.default_ttl form refl are.default_ttl),
     )
 
 empty_read : (octets : List ℕ) (old : EndedEntries) → IsEmpty octets → old.decided.ending ≡ None → ReadsOctets octets old (with_line (old.line + 1) old)
@@ -179,14 +179,14 @@ line_shorter line rest (commented after e is) =
 
 -- ---- lines at the front of a piece
 
-pub fed_lines : (old mid new : Intake) (piece rest after : List ℕ) (n : ℕ) → HasFed old mid piece rest → mid.ended.decided.ending ≡ None → mid.unfinished.items ≡ [] → AreBlankLines rest after n → n + length after ≤ length rest → new.ended ≡ with_line (mid.ended.line + n) mid.ended → new.at ≡ mid.at → new.unfinished.items ≡ mid.unfinished.items → HasFed old new piece after
+pub fed_lines : (old mid new : EntrySplitter) (piece rest after : List ℕ) (n : ℕ) → HasFed old mid piece rest → mid.ended.decided.ending ≡ None → mid.unfinished.items ≡ [] → AreBlankLines rest after n → n + length after ≤ length rest → new.ended ≡ with_line (mid.ended.line + n) mid.ended → new.at ≡ mid.at → new.unfinished.items ≡ mid.unfinished.items → HasFed old new piece after
 fed_lines old mid new piece rest after n before none empty are few ended at unfinished =
     let lines = takes_lines rest after n are in
     let len : length rest ≡ length lines.front + length after = ap length lines.whole ∙ length-append lines.front after in
     let line : new.ended.line ≡ mid.ended.line + n = ap (λ (e : EndedEntries). e.line) ended in
     let left : length new.unfinished.items ≡ length mid.unfinished.items = ap length unfinished in
     let follow : FollowsOn mid.ended [] (with_line (mid.ended.line + n) mid.ended) [] lines.front = lines.follow mid.ended none in
-    let is : IsIntake new.ended new.at new.unfinished.items = record {
+    let is : IsSplitter new.ended new.at new.unfinished.items = record {
       state = rw (at, unfinished) (before.is.state);
       dropped = λ found e. unfinished ∙ empty;
       line = omega (arith, line, before.is.line);

@@ -15,7 +15,7 @@ use Rattle.zone_rdata.specs.Table.{classes, number_among}
 use Rattle.zone_rdata.specs.Words.{IsNumbered, IsClassWord, by_mnemonic, by_number}
 use Rattle.zone_rdata.proofs.OneWord.{class_number}
 use Rattle.zone_rdata.proofs.Tables.{each_mnemonic, number_is}
-use Rattle.zone_text.specs.Forms.{begins_with_digit, are_digits, is_class_word}
+use Rattle.zone_text.specs.Statements.{begins_with_digit, are_digits, is_class_word}
 
 all_digits : (text : List ℕ) → 0 < length text → AllByRecursion (λ c. is_digit c ≡ true) text → are_digits text ≡ true
 all_digits [] some each = absurd (omega arith)

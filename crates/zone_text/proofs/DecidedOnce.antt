@@ -9,7 +9,7 @@ use Rattle.zone_text.specs.FileReads.{ReadEach, Ending}
 use Rattle.zone_text.specs.Lasting.{BreaksForGood}
 use Rattle.zone_text.specs.Machine.Lower.{Lower}
 use Rattle.zone_text.specs.Tokens.{Token, text}
-use Rattle.zone_text.specs.Source.{AreUnfinished}
+use Rattle.zone_text.specs.TextSource.{AreUnfinished}
 use Rattle.zone_text.proofs.Begun.{no_tokens, nothing_decided}
 use Rattle.zone_text.proofs.CutAgain.{joined, cut_again, cut_whole, and_last_after}
 use Rattle.zone_text.proofs.Cuttings.{cut_not_broken}

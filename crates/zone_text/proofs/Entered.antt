@@ -4,7 +4,7 @@ use Rattle.zone_rdata.specs.Record.{Record}
 use Rattle.zone_rdata.specs.Spelling.{bare}
 use Rattle.zone_rdata.specs.declared.fault.Fault.{Fault}
 use Rattle.zone_text.specs.Entries.{Entry}
-use Rattle.zone_text.specs.Forms.{Statement, no_items, sets_origin, sets_ttl, includes, unknown, owned, unowned, statement_of, Parts, parts_of, parts_in, parts_after}
+use Rattle.zone_text.specs.Statements.{Statement, no_items, sets_origin, sets_ttl, includes, unknown, owned, unowned, statement_of, Parts, parts_of, parts_in, parts_after}
 use Rattle.zone_text.specs.Inherited.{one_bare}
 use Rattle.zone_text.specs.Records.{EntryStates, StatesNothing}
 use Rattle.zone_text.specs.EntryFault.{OriginFault, DefaultTtlFault, DirectiveFault, OwnerFault, EntryFault, of_directive, of_owner, of_words, of_kind, of_rdata, of_ttl}

@@ -16,7 +16,7 @@ use Rattle.zone_rdata.specs.declared.fault.Fault.{Fault}
 use Rattle.zone_rdata.specs.declared.fault.Fault.TheVariants.{BadTtl, BadClass}
 use Rattle.zone_text.specs.Entries.{Entry}
 use Rattle.zone_text.specs.EntryFault.{IsNameFaultAfter, WordFault, WordsFault}
-use Rattle.zone_text.specs.Forms.{Statement, sets_origin, owned, statement_of, Word, ttl, class, Parts, parts_of, parts_in, parts_after, class_among, word_after, begins_with_digit, is_class_word, ttl_among, unless_stated}
+use Rattle.zone_text.specs.Statements.{Statement, sets_origin, owned, statement_of, Word, ttl, class, Parts, parts_of, parts_in, parts_after, class_among, word_after, begins_with_digit, is_class_word, ttl_among, unless_stated}
 use Rattle.zone_text.specs.Inherited.{IsOrigin, SpellsAfter, IsLastOwner, IsOwner, HasClass, IsTtl, or_else, latest, origin_text, owner_text, class_word}
 use Rattle.zone_text.specs.Machine.Lower.{Lower, Choices}
 use Rattle.zone_text.specs.Outcome.{AllState, AreOctetItems}

@@ -10,10 +10,10 @@ use Rattle.zone_rdata.specs.declared.fault.Place.{Place}
 use Rattle.zone_rdata.specs.declared.fault.Place.TheVariants.{Line}
 use Rattle.zone_rdata.specs.declared.record.Placed.{Placed}
 use Rattle.zone_rdata.specs.declared.queue.PendingRecords.{PendingRecords}
-use Rattle.zone_text.specs.declared.defaults.Defaults.{Defaults}
+use Rattle.zone_text.specs.declared.parser_state.ParserState.{ParserState}
 use Rattle.zone_text.specs.declared.ended.EndedEntries.{EndedEntries}
 use Rattle.zone_text.specs.Entries.{Entry, entry_of}
-use Rattle.zone_text.specs.Defaults.{AreDefaults}
+use Rattle.zone_text.specs.ParserState.{IsStateAfter}
 use Rattle.zone_text.specs.EntryFault.{EntryFault}
 use Rattle.zone_text.specs.File.{states_none, states_one}
 use Rattle.zone_text.specs.FileReads.{stated, refused}
@@ -23,9 +23,9 @@ use Rattle.zone_text.specs.Tokens.{Token, Cuts, text}
 use Rattle.zone_text.proofs.Left.{line_feeds}
 
 -- what octets decide as the entry after others, whatever these are
-abbrev pub DecidesOctets : List ℕ → Place → Defaults → PendingRecords → PendingRecords → Defaults → Type 0
+abbrev pub DecidesOctets : List ℕ → Place → ParserState → PendingRecords → PendingRecords → ParserState → Type 0
 DecidesOctets octets place d old new next =
-    (origin : Labels) (before : List Entry) (line : ℕ) (tokens : List Token) → AreDefaults origin before d → Cuts octets tokens → DecidesEntry origin before (entry_of line tokens) place old new next
+    (origin : Labels) (before : List Entry) (line : ℕ) (tokens : List Token) → IsStateAfter origin before d → Cuts octets tokens → DecidesEntry origin before (entry_of line tokens) place old new next
 
 -- the line after octets
 pub record IsLineAfter (octets : List ℕ) (old new : EndedEntries) : Type 0 where
@@ -42,12 +42,12 @@ line_of : (octets : List ℕ) (old new : EndedEntries) (tokens : List Token) →
 line_of octets old new tokens after cut = after.count ∙ ap (λ t. old.line + line_feeds t) cut.whole
 
 -- what an entry decides is what is read of it
-entry_read : (origin : Labels) (before : List Entry) (tokens : List Token) (octets : List ℕ) (old new : EndedEntries) → old.decided.ending ≡ None → IsLineAfter octets old new → Cuts octets tokens → DecidesEntry origin before (entry_of old.line tokens) (Line old.line) old.decided new.decided new.defaults → ReadsEntry origin before tokens old new
+entry_read : (origin : Labels) (before : List Entry) (tokens : List Token) (octets : List ℕ) (old new : EndedEntries) → old.decided.ending ≡ None → IsLineAfter octets old new → Cuts octets tokens → DecidesEntry origin before (entry_of old.line tokens) (Line old.line) old.decided new.decided new.state → ReadsEntry origin before tokens old new
 entry_read origin before tokens octets old new none after cut (decides_none leaves same) = record {
   others = [];
   read = stated (states_none leaves.0 (refl, ap (λ d. d.ending) same ∙ none));
   records = ap (λ d. d.placed) same ∙ sym (append-nil old.decided.placed);
-  defaults = λ _. leaves.1;
+  state = λ _. leaves.1;
   line = λ _. line_of octets old new tokens after cut;
 }
 entry_read origin before tokens octets old new none after cut (decides_one r states are more same) =
@@ -56,18 +56,18 @@ entry_read origin before tokens octets old new none after cut (decides_one r sta
       others = p ∷ [];
       read = stated (states_one p [] states refl refl (refl, same ∙ none));
       records = more;
-      defaults = λ _. are;
+      state = λ _. are;
       line = λ _. line_of octets old new tokens after cut;
     }
 entry_read origin before tokens octets old new none after cut (decides_fault fault bad same ending) = record {
   others = [];
   read = refused fault bad refl ending;
   records = same ∙ sym (append-nil old.decided.placed);
-  defaults = λ going. absurd (let t : ⊥ = cc in t);
+  state = λ going. absurd (let t : ⊥ = cc in t);
   line = λ going. absurd (let t : ⊥ = cc in t);
 }
 
-pub takes_entry : (octets : List ℕ) (old new : EndedEntries) → DecidesOctets octets (Line old.line) old.defaults old.decided new.decided new.defaults → old.decided.ending ≡ None → IsLineAfter octets old new → ReadsOctets octets old new
+pub takes_entry : (octets : List ℕ) (old new : EndedEntries) → DecidesOctets octets (Line old.line) old.state old.decided new.decided new.state → old.decided.ending ≡ None → IsLineAfter octets old new → ReadsOctets octets old new
 takes_entry octets old new decides none after = record {
   reads = λ origin before tokens are cut. entry_read origin before tokens octets old new none after cut (decides origin before old.line tokens are cut);
   later = omega (arith, after.count);
@@ -75,7 +75,7 @@ takes_entry octets old new decides none after = record {
 }
 
 -- what is refused decides its fault
-pub refused_entry : {T E : Type 0} (result : Result T E) (origin : Labels) (before : List Entry) (entry : Entry) (place : Place) (old new : PendingRecords) (next : Defaults) (failing : Failing) → IfFault (EntryFault origin before entry) failing → OnOk result (DecidesFault failing place old new) → OnOk result (DecidesEntry origin before entry place old new next)
+pub refused_entry : {T E : Type 0} (result : Result T E) (origin : Labels) (before : List Entry) (entry : Entry) (place : Place) (old new : PendingRecords) (next : ParserState) (failing : Failing) → IfFault (EntryFault origin before entry) failing → OnOk result (DecidesFault failing place old new) → OnOk result (DecidesEntry origin before entry place old new next)
 refused_entry (Ok x) origin before entry place old new next (failings.Fault fault) bad refuses = decides_fault fault bad refuses.0 refuses.1
 refused_entry (Ok x) origin before entry place old new next failings.Memory bad refuses = absurd refuses
 refused_entry (Err e) origin before entry place old new next failing bad refuses = tt

@@ -14,7 +14,7 @@ use Rattle.zone_rdata.specs.Minimum.{minimum}
 use Rattle.zone_rdata.specs.Words.{IsClass, IsClassWord, by_mnemonic, by_number, IsKind, IsKindWord, IsWordFault, beyond, for_queries}
 use Rattle.zone_rdata.specs.declared.fault.Fault.TheVariants.{UnknownType, MetaType}
 use Rattle.zone_text.specs.Entries.{Entry}
-use Rattle.zone_text.specs.Forms.{Parts, parts_of, statement_of, Word, begins_with_digit}
+use Rattle.zone_text.specs.Statements.{Parts, parts_of, statement_of, Word, begins_with_digit}
 use Rattle.zone_text.specs.Inherited.{IsOrigin, IsOwner, HasClass, IsTtl}
 use Rattle.zone_text.specs.Records.{HasValue, HasTtl, EntryStates, StatesMinimum}
 use Rattle.zone_text.specs.ExampleEntries.{x, under, ns}

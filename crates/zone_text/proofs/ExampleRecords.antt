@@ -13,7 +13,7 @@ use Rattle.zone_rdata.specs.Fields.Address.{of_ipv4}
 use Rattle.zone_rdata.specs.Spelling.{RawItem, bare, States, in_words}
 use Rattle.zone_rdata.specs.Words.{IsKind, IsKindWord, by_mnemonic}
 use Rattle.zone_text.specs.Entries.{Entry}
-use Rattle.zone_text.specs.Forms.{parts_of, statement_of, Word}
+use Rattle.zone_text.specs.Statements.{parts_of, statement_of, Word}
 use Rattle.zone_text.specs.Inherited.{IsOrigin, IsOwner, HasClass}
 use Rattle.zone_text.specs.Records.{HasValue, HasHead, HasTtl, EntryStates, StatesMinimum}
 use Rattle.zone_text.specs.ExampleEntries.{x, under, ns, soa, address}

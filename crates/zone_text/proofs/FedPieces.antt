@@ -4,42 +4,42 @@ use Rattle.std.proofs.lemmas.List.{append-nil}
 use Rattle.zone_rdata.specs.declared.fault.Fault.{Fault}
 use Rattle.zone_rdata.specs.declared.fault.Place.{Place}
 use Rattle.zone_text.specs.declared.ended.EndedEntries.{EndedEntries}
-use Rattle.zone_text.specs.declared.intake.Intake.{Intake}
+use Rattle.zone_text.specs.declared.splitter.EntrySplitter.{EntrySplitter}
 use Rattle.zone_text.specs.declared.scan.Scanned.{Scanned}
 use Rattle.zone_text.specs.declared.scan.ScanState.{ScanState}
-use Rattle.zone_text.specs.Machine.Feeding.{Follow, IsIntake, ScansTo}
+use Rattle.zone_text.specs.Machine.Feeding.{Follow, IsSplitter, ScansTo}
 use Rattle.zone_text.specs.Machine.Scan.{beginning, scan_of}
 use Rattle.zone_text.proofs.Followed.{follow_fault}
 use Rattle.zone_text.proofs.PartTaken.{FollowsOn}
 use Rattle.zone_text.proofs.Scanned.{stops_at, takes_front, unfinished_depth}
 
 -- so far the beginning of the piece was taken
-pub record HasFed (old new : Intake) (piece rest : List ℕ) : Type 0 where
+pub record HasFed (old new : EntrySplitter) (piece rest : List ℕ) : Type 0 where
   pub front : List ℕ
   pub whole : piece ≡ front ++ rest
-  pub is : IsIntake new.ended new.at new.unfinished.items
+  pub is : IsSplitter new.ended new.at new.unfinished.items
   pub near : new.ended.line + length new.unfinished.items + length rest ≤ old.ended.line + length old.unfinished.items + length piece
   pub settled : (found : Fault × Place) → old.ended.decided.ending ≡ Some found → new ≡ old
   pub follow : FollowsOn old.ended old.unfinished.items new.ended new.unfinished.items front
 
 -- a part more
-pub fed_more : (old mid new : Intake) (piece rest part after : List ℕ) → HasFed old mid piece rest → mid.ended.decided.ending ≡ None → rest ≡ part ++ after → length rest ≡ length part + length after → IsIntake new.ended new.at new.unfinished.items → new.ended.line + length new.unfinished.items ≤ mid.ended.line + length mid.unfinished.items + length part → FollowsOn mid.ended mid.unfinished.items new.ended new.unfinished.items part → HasFed old new piece after
+pub fed_more : (old mid new : EntrySplitter) (piece rest part after : List ℕ) → HasFed old mid piece rest → mid.ended.decided.ending ≡ None → rest ≡ part ++ after → length rest ≡ length part + length after → IsSplitter new.ended new.at new.unfinished.items → new.ended.line + length new.unfinished.items ≤ mid.ended.line + length mid.unfinished.items + length part → FollowsOn mid.ended mid.unfinished.items new.ended new.unfinished.items part → HasFed old new piece after
 fed_more old mid new piece rest part after before none cut len is near follow = record {
   front = before.front ++ part;
   whole = before.whole ∙ ap (λ t. before.front ++ t) cut ∙ sym (append_assoc before.front part after);
   is = is;
   near = omega (arith, before.near, near, len);
-  settled = λ found ending. absurd (let same : mid ≡ old = before.settled found ending in let e : Some found ≡ None = sym ending ∙ ap (λ (s : Intake). s.ended.decided.ending) (sym same) ∙ none in let t : ⊥ = cc in t);
+  settled = λ found ending. absurd (let same : mid ≡ old = before.settled found ending in let e : Some found ≡ None = sym ending ∙ ap (λ (s : EntrySplitter). s.ended.decided.ending) (sym same) ∙ none in let t : ⊥ = cc in t);
   follow = λ origin fed given f. subst (λ t. Follow origin new.ended new.unfinished.items t given) (append_assoc fed before.front part) (follow origin (fed ++ before.front) given (before.follow origin fed given f));
 }
 
 -- all of the piece
-pub fed_all : (old new : Intake) (piece rest : List ℕ) → HasFed old new piece rest → rest ≡ [] → FollowsOn old.ended old.unfinished.items new.ended new.unfinished.items piece
+pub fed_all : (old new : EntrySplitter) (piece rest : List ℕ) → HasFed old new piece rest → rest ≡ [] → FollowsOn old.ended old.unfinished.items new.ended new.unfinished.items piece
 fed_all old new piece rest before none origin fed given f =
     subst (λ t. Follow origin new.ended new.unfinished.items (fed ++ t) given) (sym (append-nil before.front) ∙ ap (λ t. before.front ++ t) (sym none) ∙ sym before.whole) (before.follow origin fed given f)
 
 -- or the beginning of it, after which a fault is decided
-pub fed_fault : (old new : Intake) (piece rest : List ℕ) (found : Fault × Place) → HasFed old new piece rest → new.ended.decided.ending ≡ Some found → FollowsOn old.ended old.unfinished.items new.ended new.unfinished.items piece
+pub fed_fault : (old new : EntrySplitter) (piece rest : List ℕ) (found : Fault × Place) → HasFed old new piece rest → new.ended.decided.ending ≡ Some found → FollowsOn old.ended old.unfinished.items new.ended new.unfinished.items piece
 fed_fault old new piece rest found before ending origin fed given f =
     subst (λ t. Follow origin new.ended new.unfinished.items t given) (append_assoc fed before.front rest ∙ ap (λ t. fed ++ t) (sym before.whole))
     (follow_fault origin new.ended found new.unfinished.items rest (fed ++ before.front) given ending (before.follow origin fed given f))
@@ -52,11 +52,11 @@ takes_part at rest part found is cut =
     ap (scan_of at) same ∙ stops_at at rest ∙ ap (λ (n : ℕ). let f : Scanned = record { taken = n; step = (scan_of at rest).step } in f) (sym len) ∙ ap (λ (f : Scanned). let g : Scanned = record { taken = length part; step = f.step } in g) (sym is)
 
 -- each octet of the unfinished entry opened one parenthesis at the most
-pub depth_within : (ended : EndedEntries) (at : ScanState) (unfinished : List ℕ) → IsIntake ended at unfinished → at.depth ≤ length unfinished
+pub depth_within : (ended : EndedEntries) (at : ScanState) (unfinished : List ℕ) → IsSplitter ended at unfinished → at.depth ≤ length unfinished
 depth_within ended at unfinished is = let h = unfinished_depth beginning at unfinished (ap (λ (f : Scanned). f.step) is.state) in omega (arith, h)
 
 -- where a fault was decided nothing changes
-pub fed_settled : (old new : Intake) (piece rest : List ℕ) → HasFed old new piece rest → IfSome old.ended.decided.ending (λ _. (true ≡ true) × (new ≡ old))
+pub fed_settled : (old new : EntrySplitter) (piece rest : List ℕ) → HasFed old new piece rest → IfSome old.ended.decided.ending (λ _. (true ≡ true) × (new ≡ old))
 fed_settled old new piece rest before = by old.ended.decided.ending before.settled
   where
     by : (ending : Option (Fault × Place)) → ((found : Fault × Place) → ending ≡ Some found → new ≡ old) → IfSome ending (λ _. (true ≡ true) × (new ≡ old))

@@ -16,9 +16,9 @@ use Rattle.zone_text.specs.Machine.Cutting.{before_line_feed}
 use Rattle.zone_text.specs.Machine.ItemLengths.{EndsAt, EndsBefore}
 use Rattle.zone_text.specs.Machine.Kept.{AreKept, Keeps}
 use Rattle.zone_text.specs.Machine.Line.{KeepsItems, IsInside, IsInFront, IsFirstEntry, IsQuoted}
-use Rattle.zone_text.specs.Machine.Feeding.{IsIntake, ReadsOctets}
+use Rattle.zone_text.specs.Machine.Feeding.{IsSplitter, ReadsOctets}
 use Rattle.zone_text.specs.Machine.Scan.{IsOneEntry}
-use Rattle.zone_text.specs.declared.intake.Intake.{Intake}
+use Rattle.zone_text.specs.declared.splitter.EntrySplitter.{EntrySplitter}
 use Rattle.zone_text.proofs.BlankLines.{comment_front}
 use Rattle.zone_text.proofs.PartTaken.{FollowsOn}
 use Rattle.zone_text.proofs.Cuttings.{cuts, is_cut, one_cut, one_token_more, some_octet}
@@ -201,14 +201,14 @@ keeps_items octets part n kept first front tokens cut =
 
 -- ---- the entry at the front of a piece
 
-pub fed_entry : (old mid new : Intake) (piece rest part after : List ℕ) (n : ℕ) (raws : List RawItem) → HasFed old mid piece rest → mid.ended.decided.ending ≡ None → mid.unfinished.items ≡ [] → IsFirstEntry rest n raws → part ≡ take n rest → after ≡ drop n rest → ReadsOctets part mid.ended new.ended → new.at ≡ mid.at → new.unfinished.items ≡ mid.unfinished.items → HasFed old new piece after
+pub fed_entry : (old mid new : EntrySplitter) (piece rest part after : List ℕ) (n : ℕ) (raws : List RawItem) → HasFed old mid piece rest → mid.ended.decided.ending ≡ None → mid.unfinished.items ≡ [] → IsFirstEntry rest n raws → part ≡ take n rest → after ≡ drop n rest → ReadsOctets part mid.ended new.ended → new.at ≡ mid.at → new.unfinished.items ≡ mid.unfinished.items → HasFed old new piece after
 fed_entry old mid new piece rest part after n raws before none empty first front back reads at unfinished =
     let whole : rest ≡ part ++ after = sym (take-append-drop n rest) ∙ ap (λ t. t ++ drop n rest) (sym front) ∙ ap (λ t. part ++ t) (sym back) in
     let len : length rest ≡ length part + length after = ap length whole ∙ length-append part after in
     let left : length new.unfinished.items ≡ length mid.unfinished.items = ap length unfinished in
     let one : IsOneEntry part first.tokens = subst (λ t. IsOneEntry t first.tokens) (sym front) first.one in
     let follow : FollowsOn mid.ended [] new.ended [] part = λ origin fed given f. follow_one origin mid.ended new.ended [] part fed given first.tokens one none reads f in
-    let is : IsIntake new.ended new.at new.unfinished.items = record {
+    let is : IsSplitter new.ended new.at new.unfinished.items = record {
       state = rw (at, unfinished) (before.is.state);
       dropped = λ found e. unfinished ∙ empty;
       line = omega (arith, reads.later, before.is.line);

@@ -16,13 +16,13 @@ use Rattle.zone_text.specs.declared.scan.Step.{Step}
 use Rattle.zone_text.specs.declared.scan.Step.TheVariants.{On, Ends, LostEscape, ClosesNothing}
 use Rattle.zone_text.specs.Tokens.{Token, Cuts, text}
 use Rattle.zone_text.specs.Lasting.{BreaksForGood}
-use Rattle.zone_text.specs.Defaults.{AreDefaults}
+use Rattle.zone_text.specs.ParserState.{IsStateAfter}
 use Rattle.zone_text.specs.Entries.{Entry, cut_from, entry_of, numbered}
 use Rattle.zone_text.specs.FileReads.{ReadEach, FileReads, Ending}
 use Rattle.zone_text.specs.Decided.{FileDecides}
 use Rattle.zone_text.specs.Machine.Scan.{beginning, further, end_fault_of, IsOneEntry}
 use Rattle.zone_text.specs.Machine.Feeding.{ReadsEntry, ReadsOctets, Follow, ScansTo}
-use Rattle.zone_text.specs.Source.{Leave}
+use Rattle.zone_text.specs.TextSource.{FileLeaves}
 use Rattle.zone_text.proofs.CutAgain.{joined}
 use Rattle.zone_text.proofs.Left.{line_feeds, numbered_then, IsSplit, split, whole_after, cut_more, tokens_more, ended_as_before, one_ended}
 use Rattle.zone_text.proofs.Decisions.{ReadsEnded, line_after, reads_so_far, one_entry_more, break_decided, still_undecided, fault_stays, fault_is_read, whole_lines, last_entry, last_broken}
@@ -33,18 +33,18 @@ use Rattle.zone_text.proofs.Scanned.{goes_on, ends_entry, stays_open, loses_esca
 -- the ended entries, the octets after them, what they leave, and the records that they state
 pub record IsRead (origin : Labels) (ended : List (List Token)) (entries : EndedEntries) (unfinished fed : List ℕ) (given : List Placed) : Type 0 where
   pub parts : IsSplit fed ended unfinished
-  pub defaults : AreDefaults origin (reverse (numbered 1 ended)) entries.defaults
+  pub state : IsStateAfter origin (reverse (numbered 1 ended)) entries.state
   pub line : entries.line ≡ line_after ended
   pub read : ReadsEnded origin None ended (given ++ entries.decided.placed) None
 
 pub is_read : (origin : Labels) (entries : EndedEntries) (unfinished fed : List ℕ) (given : List Placed) → entries.decided.ending ≡ None → Follow origin entries unfinished fed given → (ended : List (List Token)) × IsRead origin ended entries unfinished fed given
 is_read origin entries unfinished fed given none follow =
-    let leave : Leave origin fed entries.defaults entries.line unfinished = follow.leave none in
+    let leave : FileLeaves origin fed entries.state entries.line unfinished = follow.leave none in
     let found : FileDecides origin fed (given ++ entries.decided.placed) None = subst (λ e. FileDecides origin fed (given ++ entries.decided.placed) e) none follow.decided in (
       (cut_from zero leave.octets.tokens).ended,
       record {
         parts = split fed leave.octets.tokens unfinished leave.octets.are leave.octets.whole;
-        defaults = leave.inherited;
+        state = leave.inherited;
         line = leave.numbered;
         read = reads_so_far origin fed leave.octets.tokens (given ++ entries.decided.placed) found leave.octets.are;
       },
@@ -75,7 +75,7 @@ follow_on origin entries at unfinished part fed given scanned none follow =
           are = tokens_more fed part ended unfinished is_open.0 is.parts is_open.1;
           whole = whole_after fed part ended unfinished is.parts ∙ ap (λ t. flat_map text t ++ (unfinished ++ part)) (sym same);
         };
-        inherited = subst (λ t. AreDefaults origin (reverse (numbered 1 t)) entries.defaults) (sym same) is.defaults;
+        inherited = subst (λ t. IsStateAfter origin (reverse (numbered 1 t)) entries.state) (sym same) is.state;
         numbered = is.line ∙ ap line_after (sym same);
       };
     }
@@ -97,7 +97,7 @@ line_more ended tokens =
     ∙ omega arith
 
 -- what is left once an entry is ended that isn't refused
-left_over : (origin : Labels) (ended : List (List Token)) (old new : EndedEntries) (unfinished part fed : List ℕ) (given : List Placed) (tokens : List Token) → IsRead origin ended old unfinished fed given → IsOneEntry (unfinished ++ part) tokens → ReadsEntry origin (reverse (numbered 1 ended)) tokens old new → new.decided.ending ≡ None → Leave origin (fed ++ part) new.defaults new.line []
+left_over : (origin : Labels) (ended : List (List Token)) (old new : EndedEntries) (unfinished part fed : List ℕ) (given : List Placed) (tokens : List Token) → IsRead origin ended old unfinished fed given → IsOneEntry (unfinished ++ part) tokens → ReadsEntry origin (reverse (numbered 1 ended)) tokens old new → new.decided.ending ≡ None → FileLeaves origin (fed ++ part) new.state new.line []
 left_over origin ended old new unfinished part fed given tokens is one read none =
     let all : (cut_from zero (joined ended ++ tokens)).ended ≡ ended ++ tokens ∷ [] = one_ended ended tokens is.parts.stays one.ended in
     let octets : fed ++ part ≡ flat_map text (ended ++ tokens ∷ []) ++ [] =
@@ -111,7 +111,7 @@ left_over origin ended old new unfinished part fed given tokens is one read none
         are = inl (cut_more fed part ended unfinished tokens is.parts one.cut);
         whole = octets ∙ ap (λ t. flat_map text t ++ []) (sym all);
       };
-      inherited = subst (λ (t : List Entry). AreDefaults origin t new.defaults) (ap (λ n. entry_of n tokens ∷ reverse (numbered 1 ended)) is.line ∙ sym (numbered_more ended tokens) ∙ ap (λ t. reverse (numbered 1 t)) (sym all)) (read.defaults none);
+      inherited = subst (λ (t : List Entry). IsStateAfter origin t new.state) (ap (λ n. entry_of n tokens ∷ reverse (numbered 1 ended)) is.line ∙ sym (numbered_more ended tokens) ∙ ap (λ t. reverse (numbered 1 t)) (sym all)) (read.state none);
       numbered = read.line none ∙ ap (λ n. n + line_feeds (text tokens)) is.line ∙ sym (line_more ended tokens) ∙ ap line_after (sym all);
     }
 
@@ -120,7 +120,7 @@ follow_one origin old new unfinished part fed given tokens one none reads follow
     let found = is_read origin old unfinished fed given none follow in
     let ended : List (List Token) = found.0 in
     let is : IsRead origin ended old unfinished fed given = found.1 in
-    let read : ReadsEntry origin (reverse (numbered 1 ended)) tokens old new = reads.reads origin (reverse (numbered 1 ended)) tokens is.defaults one.cut in
+    let read : ReadsEntry origin (reverse (numbered 1 ended)) tokens old new = reads.reads origin (reverse (numbered 1 ended)) tokens is.state one.cut in
     let next : ReadEach origin None (reverse (numbered 1 ended)) (entry_of (line_after ended) tokens ∷ []) read.others new.decided.ending = subst (λ n. ReadEach origin None (reverse (numbered 1 ended)) (entry_of n tokens ∷ []) read.others new.decided.ending) is.line read.read in
     let records : (given ++ old.decided.placed) ++ read.others ≡ given ++ new.decided.placed = append_assoc given old.decided.placed read.others ∙ ap (λ t. given ++ t) (sym read.records) in
     record {
@@ -208,7 +208,7 @@ end_of_entry origin old new at c more fed given scanned ends none reads follow =
     let ended : List (List Token) = found.0 in
     let is : IsRead origin ended old (c ∷ more) fed given = found.1 in
     let cut = rw ends at (at_end (c ∷ more) at scanned) in
-    last_read origin ended old new c more fed given cut.0 is cut.1 cut.2 (reads.reads origin (reverse (numbered 1 ended)) cut.0 is.defaults cut.1)
+    last_read origin ended old new c more fed given cut.0 is cut.1 cut.2 (reads.reads origin (reverse (numbered 1 ended)) cut.0 is.state cut.1)
 
 -- octets of which there is one
 pub end_of_some : (origin : Labels) (old new : EndedEntries) (at : ScanState) (unfinished fed : List ℕ) (given : List Placed) → ScansTo beginning unfinished (On at) → (unfinished ≡ [] → ⊥) → end_fault_of at ≡ None → old.decided.ending ≡ None → ReadsOctets unfinished old new → Follow origin old unfinished fed given → Reads origin fed given new

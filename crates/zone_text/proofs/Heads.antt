@@ -1,4 +1,4 @@
--- What a record states before its data, where the defaults are known.
+-- What a record states before its data, where the state is known.
 use Rattle.std.proofs.Common.{◌≡◌, ℕ, List, [], ◌∷◌, drop, map, Option, Some, None, MatchOption, refl, sym, ap, ◌∙◌, subst}
 use Rattle.std.specs.Prelude.{IsSomeAnd, unwrap_or, option_and_then}
 use Rattle.std.proofs.lemmas.List.{drop-map}
@@ -8,21 +8,21 @@ use Rattle.zone_rdata.specs.Words.{IsClassWord, IsKind, IsKindWord, IsWordFault}
 use Rattle.zone_rdata.specs.declared.fault.Fault.{Fault}
 use Rattle.zone_rdata.specs.declared.fault.Fault.TheVariants.{UnknownType}
 use Rattle.zone_rdata.specs.declared.item.Item.{Item}
-use Rattle.zone_text.specs.Defaults.{IsTtlOrNone}
+use Rattle.zone_text.specs.ParserState.{IsTtlOrNone}
 use Rattle.zone_text.specs.Entries.{Entry}
 use Rattle.zone_text.specs.EntryFault.{EntryFault, of_words, of_kind, WordsFault, KindFault}
-use Rattle.zone_text.specs.Forms.{parts_after, class_among, statement_of, Parts, ttl_among}
+use Rattle.zone_text.specs.Statements.{parts_after, class_among, statement_of, Parts, ttl_among}
 use Rattle.zone_text.specs.Inherited.{class_word, latest, or_else, ttl_text}
 use Rattle.zone_text.specs.Machine.EntryReading.{IsRecordEntry}
 use Rattle.zone_text.specs.Machine.WordValues.{AreWordsOf}
 use Rattle.zone_text.specs.Records.{HasHead}
-use Rattle.zone_text.specs.declared.defaults.Defaults.{Defaults}
+use Rattle.zone_text.specs.declared.parser_state.ParserState.{ParserState}
 use Rattle.zone_text.specs.declared.words.Words.{Words}
 
-pub words_refused : (origin : Labels) (before : List Entry) (entry : Entry) (d : Defaults) (name : Labels) (items : List RawItem) (fault : Fault) → IsRecordEntry origin before entry d name items → WordsFault (parts_after [] items).words fault → EntryFault origin before entry fault
+pub words_refused : (origin : Labels) (before : List Entry) (entry : Entry) (d : ParserState) (name : Labels) (items : List RawItem) (fault : Fault) → IsRecordEntry origin before entry d name items → WordsFault (parts_after [] items).words fault → EntryFault origin before entry fault
 words_refused origin before entry d name items fault is bad = of_words name (parts_after [] items) is.owner is.parts bad
 
-kind_refused : (origin : Labels) (before : List Entry) (entry : Entry) (d : Defaults) (name : Labels) (items after : List RawItem) (values : Words) (fault : Fault) → IsRecordEntry origin before entry d name items → AreWordsOf (parts_after [] items) values after → KindFault after fault → EntryFault origin before entry fault
+kind_refused : (origin : Labels) (before : List Entry) (entry : Entry) (d : ParserState) (name : Labels) (items after : List RawItem) (values : Words) (fault : Fault) → IsRecordEntry origin before entry d name items → AreWordsOf (parts_after [] items) values after → KindFault after fault → EntryFault origin before entry fault
 kind_refused origin before entry d name items after values fault is are bad =
     of_kind name (parts_after [] items) is.owner is.parts are.words.each (subst (λ rest. KindFault rest fault) (sym are.rest) bad)
 
@@ -31,11 +31,11 @@ no_bare (bare text ∷ rest) none = absurd (none text rest refl)
 no_bare after none = refl
 
 -- nothing bare stands at the type's place
-pub kind_missing : (origin : Labels) (before : List Entry) (entry : Entry) (d : Defaults) (name : Labels) (items after : List RawItem) (values : Words) → IsRecordEntry origin before entry d name items → AreWordsOf (parts_after [] items) values after → ((text : List ℕ) (rest : List RawItem) → after ≡ bare text ∷ rest → ⊥) → EntryFault origin before entry UnknownType
+pub kind_missing : (origin : Labels) (before : List Entry) (entry : Entry) (d : ParserState) (name : Labels) (items after : List RawItem) (values : Words) → IsRecordEntry origin before entry d name items → AreWordsOf (parts_after [] items) values after → ((text : List ℕ) (rest : List RawItem) → after ≡ bare text ∷ rest → ⊥) → EntryFault origin before entry UnknownType
 kind_missing origin before entry d name items after values is are none = kind_refused origin before entry d name items after values UnknownType is are (no_bare after none)
 
 -- the word at the type's place is none of a type
-pub kind_unknown : (origin : Labels) (before : List Entry) (entry : Entry) (d : Defaults) (name : Labels) (items after more : List RawItem) (values : Words) (word : List ℕ) (fault : Fault) → IsRecordEntry origin before entry d name items → AreWordsOf (parts_after [] items) values after → after ≡ bare word ∷ more → IsWordFault word fault → EntryFault origin before entry fault
+pub kind_unknown : (origin : Labels) (before : List Entry) (entry : Entry) (d : ParserState) (name : Labels) (items after more : List RawItem) (values : Words) (word : List ℕ) (fault : Fault) → IsRecordEntry origin before entry d name items → AreWordsOf (parts_after [] items) values after → after ≡ bare word ∷ more → IsWordFault word fault → EntryFault origin before entry fault
 kind_unknown origin before entry d name items after more values word fault is are front bad =
     kind_refused origin before entry d name items after values fault is are (subst (λ rest. KindFault rest fault) (sym front) bad)
 
@@ -47,20 +47,20 @@ class_last None earlier v inherited number none carried e =
 class_last (Some word) earlier None inherited number own carried e = absurd own
 class_last (Some word) earlier (Some n) inherited number own carried e = rw e own
 
-pub has_head : (origin : Labels) (before : List Entry) (entry : Entry) (d : Defaults) (name : Labels) (items after more : List RawItem) (values : Words) (word : List ℕ) (class kind : ℕ) → IsRecordEntry origin before entry d name items → AreWordsOf (parts_after [] items) values after → after ≡ bare word ∷ more → IsKindWord word kind → IsKind kind → class ≡ unwrap_or values.class d.class → HasHead origin before entry (record { owner = name; class = class; kind = kind; items = more })
+pub has_head : (origin : Labels) (before : List Entry) (entry : Entry) (d : ParserState) (name : Labels) (items after more : List RawItem) (values : Words) (word : List ℕ) (class kind : ℕ) → IsRecordEntry origin before entry d name items → AreWordsOf (parts_after [] items) values after → after ≡ bare word ∷ more → IsKindWord word kind → IsKind kind → class ≡ unwrap_or values.class d.class → HasHead origin before entry (record { owner = name; class = class; kind = kind; items = more })
 has_head origin before entry d name items after more values word class kind is are front named good e = record {
   parts = parts_after [] items;
   word = word;
   split = is.parts;
   owner = is.owner;
   words = are.words.each;
-  class = let own : class_word (statement_of entry) ≡ class_among (parts_after [] items).words = ap (λ (o : Option Parts). option_and_then (λ (parts : Parts). class_among parts.words) o) is.parts in rw own (class_last (class_among (parts_after [] items).words) (latest class_word before) values.class d.class class are.words.class is.defaults.class e);
+  class = let own : class_word (statement_of entry) ≡ class_among (parts_after [] items).words = ap (λ (o : Option Parts). option_and_then (λ (parts : Parts). class_among parts.words) o) is.parts in rw own (class_last (class_among (parts_after [] items).words) (latest class_word before) values.class d.class class are.words.class is.state.class e);
   rest = are.rest ∙ front;
   named = named;
   kind = good;
 }
 
-pub has_own_ttl : (origin : Labels) (before : List Entry) (entry : Entry) (d : Defaults) (name : Labels) (items after : List RawItem) (values : Words) → IsRecordEntry origin before entry d name items → AreWordsOf (parts_after [] items) values after → IsTtlOrNone (ttl_text (statement_of entry)) values.ttl
+pub has_own_ttl : (origin : Labels) (before : List Entry) (entry : Entry) (d : ParserState) (name : Labels) (items after : List RawItem) (values : Words) → IsRecordEntry origin before entry d name items → AreWordsOf (parts_after [] items) values after → IsTtlOrNone (ttl_text (statement_of entry)) values.ttl
 has_own_ttl origin before entry d name items after values is are = subst (λ o. IsTtlOrNone (option_and_then (λ (parts : Parts). ttl_among parts.words) o) values.ttl) (sym is.parts) are.words.ttl
 
 pub after_words : (items rest : List Item) (n : ℕ) (more : List RawItem) → rest ≡ drop n items → map raw rest ≡ more → drop n (map raw items) ≡ more

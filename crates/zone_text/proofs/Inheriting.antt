@@ -1,4 +1,4 @@
--- Running defaults are what the look back over the entries finds: one entry more, and the TTL that
+-- The parser state is what the look back over the entries finds: one entry more, and the TTL that
 -- a record inherits.
 use Rattle.std.proofs.Common.{◌≡◌, ℕ, List, ◌∷◌, Option, Some, None, MatchOption, inl, inr, refl, sym, ap, ◌∙◌, subst}
 use Rattle.std.specs.Option.{option_or}
@@ -6,14 +6,14 @@ use Rattle.std.specs.Prelude.{IsSomeAnd, option_and_then}
 use Rattle.zone_name.specs.Common.{Labels}
 use Rattle.zone_rdata.specs.Minimum.{minimum}
 use Rattle.zone_rdata.specs.Number.{IsTime}
-use Rattle.zone_text.specs.Defaults.{AreDefaults, IsOneOrNone, IsTtlOrNone}
+use Rattle.zone_text.specs.ParserState.{IsStateAfter, IsOneOrNone, IsTtlOrNone}
 use Rattle.zone_text.specs.Entries.{Entry}
-use Rattle.zone_text.specs.Forms.{Statement, sets_origin, sets_ttl, statement_of, Parts, parts_in, parts_of, class_among, ttl_among}
+use Rattle.zone_text.specs.Statements.{Statement, sets_origin, sets_ttl, statement_of, Parts, parts_in, parts_of, class_among, ttl_among}
 use Rattle.zone_text.specs.Inherited.{IsOrigin, IsLastOwner, IsTtl, SpellsAfter, class_word, default_ttl_text, latest, or_else, origin_text, owner_text, stated_ttl, ttl_text}
 use Rattle.zone_text.specs.Machine.EntryReading.{with_owner}
 use Rattle.zone_text.specs.Machine.Lower.{Lower}
 use Rattle.zone_text.specs.Records.{Head, HasHead, HasTtl, IsLastMinimum, StatesData, StatesMinimum}
-use Rattle.zone_text.specs.declared.defaults.Defaults.{Defaults}
+use Rattle.zone_text.specs.declared.parser_state.ParserState.{ParserState}
 use Rattle.zone_text.proofs.EntryOutcome.{states_no_minimum, no_minimum}
 
 -- ---- one entry more
@@ -51,7 +51,7 @@ pub same_owner : (origin : Labels) (before : List Entry) (entry : Entry) (form :
 same_owner origin before entry form owner is none so_far = owner_by origin before (owner_text (statement_of entry)) owner (ap owner_text is ∙ none) so_far
 
 -- a directive or a blank entry leaves what it does not set
-pub leaves : (origin : Labels) (before : List Entry) (entry : Entry) (form : Statement) (d : Defaults) (name : Labels) (seconds : Option ℕ) → statement_of entry ≡ form → parts_in form ≡ None → owner_text form ≡ None → AreDefaults origin before d → IsOrigin origin (entry ∷ before) name → IsTtlOrNone (latest default_ttl_text (entry ∷ before)) seconds → AreDefaults origin (entry ∷ before) (record { origin = name; owner = d.owner; class = d.class; default_ttl = seconds; last_ttl = d.last_ttl; minimum = d.minimum })
+pub leaves : (origin : Labels) (before : List Entry) (entry : Entry) (form : Statement) (d : ParserState) (name : Labels) (seconds : Option ℕ) → statement_of entry ≡ form → parts_in form ≡ None → owner_text form ≡ None → IsStateAfter origin before d → IsOrigin origin (entry ∷ before) name → IsTtlOrNone (latest default_ttl_text (entry ∷ before)) seconds → IsStateAfter origin (entry ∷ before) (record { origin = name; owner = d.owner; class = d.class; default_ttl = seconds; last_ttl = d.last_ttl; minimum = d.minimum })
 leaves origin before entry form d name seconds is no_parts no_owner so_far under default =
     let parts : parts_of entry ≡ None = ap parts_in is ∙ no_parts in
     let word : class_word (statement_of entry) ≡ None = ap (λ (o : Option Parts). option_and_then (λ (parts : Parts). class_among parts.words) o) parts in
@@ -95,7 +95,7 @@ pub next_minimum : Lower → (origin : Labels) (before : List Entry) (entry : En
 next_minimum lower origin before entry head octets own carried has rdata e so_far = minimum_by lower origin before entry head octets own carried has rdata (sym e) so_far
 
 -- what a record leaves, its owner aside
-pub record_leaves : (origin : Labels) (before : List Entry) (entry : Entry) (d next : Defaults) (head : Head) (own : Option ℕ) (owner : Option Labels) → AreDefaults origin before d → HasHead origin before entry head → IsTtlOrNone (ttl_text (statement_of entry)) own → next.origin ≡ d.origin → next.class ≡ head.class → next.default_ttl ≡ d.default_ttl → next.last_ttl ≡ option_or own d.last_ttl → IsOneOrNone (IsLastMinimum origin (entry ∷ before)) next.minimum → IsOneOrNone (IsLastOwner origin (entry ∷ before)) owner → AreDefaults origin (entry ∷ before) (with_owner owner next)
+pub record_leaves : (origin : Labels) (before : List Entry) (entry : Entry) (d next : ParserState) (head : Head) (own : Option ℕ) (owner : Option Labels) → IsStateAfter origin before d → HasHead origin before entry head → IsTtlOrNone (ttl_text (statement_of entry)) own → next.origin ≡ d.origin → next.class ≡ head.class → next.default_ttl ≡ d.default_ttl → next.last_ttl ≡ option_or own d.last_ttl → IsOneOrNone (IsLastMinimum origin (entry ∷ before)) next.minimum → IsOneOrNone (IsLastOwner origin (entry ∷ before)) owner → IsStateAfter origin (entry ∷ before) (with_owner owner next)
 record_leaves origin before entry d next head own owner so_far has own_ttl same_above class_is same_ttl last_is minimum_is owner_is =
     let none = no_directive (statement_of entry) has.parts has.split in
     record {
@@ -114,7 +114,7 @@ or_else_of_three None b c = refl
 or_else_of_three (Some text) b c = refl
 
 -- the TTL that is stated for a record, by itself or before it
-pub ttl_stated : (origin : Labels) (before : List Entry) (entry : Entry) (d : Defaults) (own : Option ℕ) → AreDefaults origin before d → IsTtlOrNone (ttl_text (statement_of entry)) own → IsTtlOrNone (stated_ttl before entry) (option_or (option_or own d.default_ttl) d.last_ttl)
+pub ttl_stated : (origin : Labels) (before : List Entry) (entry : Entry) (d : ParserState) (own : Option ℕ) → IsStateAfter origin before d → IsTtlOrNone (ttl_text (statement_of entry)) own → IsTtlOrNone (stated_ttl before entry) (option_or (option_or own d.default_ttl) d.last_ttl)
 ttl_stated origin before entry d own so_far own_ttl =
     subst (λ o. IsTtlOrNone o (option_or (option_or own d.default_ttl) d.last_ttl)) (or_else_of_three (ttl_text (statement_of entry)) (latest default_ttl_text before) (latest ttl_text before))
     (ttl_or_else (or_else (ttl_text (statement_of entry)) (latest default_ttl_text before)) (latest ttl_text before) (option_or own d.default_ttl) d.last_ttl

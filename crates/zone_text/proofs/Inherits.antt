@@ -6,7 +6,7 @@ use Rattle.zone_rdata.specs.Number.{IsTime}
 use Rattle.zone_rdata.specs.Spelling.{bare, States}
 use Rattle.zone_rdata.specs.Words.{IsClassWord}
 use Rattle.zone_text.specs.Entries.{Entry}
-use Rattle.zone_text.specs.Forms.{Statement, owned, unowned, statement_of}
+use Rattle.zone_text.specs.Statements.{Statement, owned, unowned, statement_of}
 use Rattle.zone_text.specs.Inherited.{IsOrigin, SpellsAfter, IsLastOwner, IsOwner, HasClass, stated_ttl, latest, origin_text, owner_text, class_word}
 use Rattle.zone_text.specs.Records.{Head, HasHead, StatesData, StatesMinimum, IsLastMinimum, HasTtl}
 use Rattle.zone_text.proofs.Once.{match_once}

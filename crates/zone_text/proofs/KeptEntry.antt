@@ -14,14 +14,14 @@ use Rattle.zone_rdata.specs.declared.queue.PendingRecords.{PendingRecords}
 use Rattle.zone_rdata.proofs.LeftOut.{after_item, are_many, at_least, begin_with, fault_of_all, state_none}
 use Rattle.zone_text.specs.Entries.{Entry, entry_of, first_octet, item_of}
 use Rattle.zone_text.specs.EntryFault.{DirectiveFault, EntryFault, KindFault, OwnerFault, WordsFault, of_directive, of_kind, of_owner, of_rdata, of_ttl, of_words}
-use Rattle.zone_text.specs.Forms.{Statement, Parts, Word, begins_with_digit, class, class_among, directive, statement_by, statement_of, includes, is_class_word, owned, parts_after, parts_in, sets_origin, sets_ttl, ttl, ttl_among, unknown, unless_stated, unowned, word_after}
+use Rattle.zone_text.specs.Statements.{Statement, Parts, Word, begins_with_digit, class, class_among, directive, statement_by, statement_of, includes, is_class_word, owned, parts_after, parts_in, sets_origin, sets_ttl, ttl, ttl_among, unknown, unless_stated, unowned, word_after}
 use Rattle.zone_text.specs.Inherited.{IsOwner, class_word, latest, one_bare, or_else}
 use Rattle.zone_rdata.specs.Words.{IsClassWord}
 use Rattle.zone_text.specs.Machine.EntryReading.{DecidesEntry, decides_fault, decides_none, decides_one}
 use Rattle.zone_text.specs.Machine.Kept.{AreKept}
 use Rattle.zone_text.specs.Tokens.{Cuts, Token, is_blank}
 use Rattle.zone_text.specs.Records.{HasHead, HasValue, Head, StatesNothing, EntryStates, head_of}
-use Rattle.zone_text.specs.declared.defaults.Defaults.{Defaults}
+use Rattle.zone_text.specs.declared.parser_state.ParserState.{ParserState}
 use Rattle.zone_text.proofs.Kept.{items_written}
 use Rattle.zone_text.proofs.WordsLeft.{class_kept, class_pushed, parts_by, ttl_kept, ttl_pushed}
 
@@ -266,18 +266,18 @@ record_kept origin before entry kept r long states =
     let found = head_long origin before entry kept (head_of r states.items) long states.head in
     state_none states.rdata.above r.class r.kind found.items states.items r.octets found.long.written found.long.short states.rdata.states
 
-decides_by : (origin : Labels) (before : List Entry) (entry : Entry) (kept : List RawItem) (place : Place) (old new : PendingRecords) (next : Defaults) → Long 65552 entry.items kept → DecidesEntry origin before (with_items entry kept) place old new next → DecidesEntry origin before entry place old new next
+decides_by : (origin : Labels) (before : List Entry) (entry : Entry) (kept : List RawItem) (place : Place) (old new : PendingRecords) (next : ParserState) → Long 65552 entry.items kept → DecidesEntry origin before (with_items entry kept) place old new next → DecidesEntry origin before entry place old new next
 decides_by origin before entry kept place old new next long (decides_none leaves same) = absurd (none_stated origin before (statement_of entry) _ (forms_long entry.first entry.items kept long) leaves.0)
 decides_by origin before entry kept place old new next long (decides_one r states are more same) = absurd (record_kept origin before entry kept r long states)
 decides_by origin before entry kept place old new next long (decides_fault fault bad same ending) = decides_fault fault (fault_kept origin before entry kept fault long bad) same ending
 
 -- what is decided by the items that are kept, is decided by the entry
-pub decides_kept : (origin : Labels) (before : List Entry) (entry : Entry) (kept : List RawItem) (place : Place) (old new : PendingRecords) (next : Defaults) → AllByRecursion IsWritten entry.items → AreKept entry.items kept → DecidesEntry origin before (with_items entry kept) place old new next → DecidesEntry origin before entry place old new next
+pub decides_kept : (origin : Labels) (before : List Entry) (entry : Entry) (kept : List RawItem) (place : Place) (old new : PendingRecords) (next : ParserState) → AllByRecursion IsWritten entry.items → AreKept entry.items kept → DecidesEntry origin before (with_items entry kept) place old new next → DecidesEntry origin before entry place old new next
 decides_kept origin before entry kept place old new next written (inl all) h = subst (λ items. DecidesEntry origin before (with_items entry items) place old new next) all h
 decides_kept origin before entry kept place old new next written (inr short) h = decides_by origin before entry kept place old new next (record { short = short; written = written }) h
 
 -- what an entry of these octets and items decides, an entry decides of whose items these are kept
-pub entry_kept : {T E : Type 0} (result : Result T E) (origin : Labels) (before : List Entry) (line : ℕ) (octets : List ℕ) (tokens : List Token) (kept : List RawItem) (place : Place) (old new : PendingRecords) (next : Defaults) → Cuts octets tokens → AreKept (flat_map item_of tokens) kept → OnOk result (DecidesEntry origin before (record { line = line; first = first_octet octets; items = kept }) place old new next) → OnOk result (DecidesEntry origin before (entry_of line tokens) place old new next)
+pub entry_kept : {T E : Type 0} (result : Result T E) (origin : Labels) (before : List Entry) (line : ℕ) (octets : List ℕ) (tokens : List Token) (kept : List RawItem) (place : Place) (old new : PendingRecords) (next : ParserState) → Cuts octets tokens → AreKept (flat_map item_of tokens) kept → OnOk result (DecidesEntry origin before (record { line = line; first = first_octet octets; items = kept }) place old new next) → OnOk result (DecidesEntry origin before (entry_of line tokens) place old new next)
 entry_kept (Ok x) origin before line octets tokens kept place old new next cut are h =
     decides_kept origin before (entry_of line tokens) kept place old new next (items_written tokens cut.each) are
     (subst (λ t. DecidesEntry origin before (record { line = line; first = first_octet t; items = kept }) place old new next) cut.whole h)

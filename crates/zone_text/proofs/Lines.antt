@@ -8,7 +8,7 @@ use Rattle.zone_rdata.specs.Record.{Record}
 use Rattle.zone_rdata.specs.Spelling.{RawItem}
 use Rattle.zone_rdata.specs.Spelling as raw
 use Rattle.zone_text.specs.Entries.{Cut, in_front_of, cut_from, and_last, Entry, entry_of, numbered, entries_of, item_of}
-use Rattle.zone_text.specs.Forms.{statement_by, statement_of, owned, Word, ttl, class, word_after, Parts, parts_after, parts_of, begins_with_digit, is_class_word}
+use Rattle.zone_text.specs.Statements.{statement_by, statement_of, owned, Word, ttl, class, word_after, Parts, parts_after, parts_of, begins_with_digit, is_class_word}
 use Rattle.zone_text.specs.Inherited.{IsOrigin}
 use Rattle.zone_text.specs.Line.{IsItem, line_of, StatesWhole}
 use Rattle.zone_text.specs.Tokens.{Token, blank, line_feed, bare, quoted, text, is_blank, IsToken, MayFollow, AllFollow, depth_after, Cuts}

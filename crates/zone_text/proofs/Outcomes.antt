@@ -11,7 +11,7 @@ use Rattle.zone_rdata.specs.Words.{IsClass, IsKind, IsKindWord}
 use Rattle.zone_rdata.specs.declared.fault.Fault.{Fault}
 use Rattle.zone_rdata.specs.declared.fault.Fault.TheVariants.{NoTtl, BadTtl}
 use Rattle.zone_text.specs.Entries.{Entry}
-use Rattle.zone_text.specs.Forms.{Statement, owned, unowned, statement_of, Word, ttl, class, Parts}
+use Rattle.zone_text.specs.Statements.{Statement, owned, unowned, statement_of, Word, ttl, class, Parts}
 use Rattle.zone_text.specs.Inherited.{IsOrigin, SpellsAfter, IsOwner, HasClass}
 use Rattle.zone_text.specs.Records.{HasValue, HasTtl}
 use Rattle.zone_text.specs.EntryFault.{IsNameFaultAfter, OwnerFault, WordFault, WordsFault, KindFault, TtlFault, none, long}

@@ -9,7 +9,7 @@ use Rattle.zone_text.specs.declared.ended.EndedEntries.{EndedEntries}
 use Rattle.zone_text.specs.declared.scan.ScanState.{ScanState}
 use Rattle.zone_text.specs.declared.scan.Step.{Step}
 use Rattle.zone_text.specs.declared.scan.Step.TheVariants.{On, Ends, LostEscape, ClosesNothing}
-use Rattle.zone_text.specs.Machine.Feeding.{Follow, IsIntake, ReadsOctets, ScansTo}
+use Rattle.zone_text.specs.Machine.Feeding.{Follow, IsSplitter, ReadsOctets, ScansTo}
 use Rattle.zone_text.specs.Machine.Scan.{beginning}
 use Rattle.zone_text.proofs.Begun.{nothing_taken}
 use Rattle.zone_text.proofs.Followed.{scans_on, follow_on, follow_entry, follow_lost_escape, follow_lost_closing}
@@ -21,7 +21,7 @@ FollowsOn old unfinished new left part =
 
 -- the octets of a part, where no fault is decided
 pub record IsPart (ended : EndedEntries) (at : ScanState) (unfinished part : List ℕ) (step : Step) : Type 0 where
-  pub is : IsIntake ended at unfinished
+  pub is : IsSplitter ended at unfinished
   pub undecided : ended.decided.ending ≡ None
   pub scanned : ScansTo at part step
 
@@ -29,7 +29,7 @@ after : (ended : EndedEntries) (at : ScanState) (unfinished part : List ℕ) (st
 after ended at unfinished part step next is e = scans_on at unfinished part next is.is.state (subst (ScansTo at part) e is.scanned)
 
 -- they lead on
-pub is_on : (ended : EndedEntries) (at next : ScanState) (unfinished part left : List ℕ) (step : Step) → IsPart ended at unfinished part step → step ≡ On next → left ≡ unfinished ++ part → IsIntake ended next left
+pub is_on : (ended : EndedEntries) (at next : ScanState) (unfinished part left : List ℕ) (step : Step) → IsPart ended at unfinished part step → step ≡ On next → left ≡ unfinished ++ part → IsSplitter ended next left
 is_on ended at next unfinished part left step is e more = record {
   state = subst (λ t. ScansTo beginning t (On next)) (sym more) (after ended at unfinished part step (On next) is e);
   dropped = λ found ending. absurd (let none = is.undecided in let t : ⊥ = cc in t);
@@ -41,7 +41,7 @@ follows_on ended at next unfinished part left step is e more origin fed given fo
     subst (λ t. Follow origin ended t (fed ++ part) given) (sym more) (follow_on origin ended next unfinished part fed given (after ended at unfinished part step (On next) is e) is.undecided follow)
 
 -- they end an entry
-pub is_ended : (old mid new : EndedEntries) (at next : ScanState) (unfinished part left : List ℕ) (step : Step) → IsPart old at unfinished part step → ReadsOctets (unfinished ++ part) old mid → new ≡ mid → next ≡ beginning → left ≡ [] → IsIntake new next left
+pub is_ended : (old mid new : EndedEntries) (at next : ScanState) (unfinished part left : List ℕ) (step : Step) → IsPart old at unfinished part step → ReadsOctets (unfinished ++ part) old mid → new ≡ mid → next ≡ beginning → left ≡ [] → IsSplitter new next left
 is_ended old mid new at next unfinished part left step is reads same begins none =
     nothing_taken new next left begins none (let h : new.line ≡ mid.line = ap (λ (s : EndedEntries). s.line) same in omega (arith, is.is.line, reads.later))
 
@@ -55,7 +55,7 @@ pub record IsRefused (fault : Fault) (old new : EndedEntries) : Type 0 where
   pub ending : new.decided.ending ≡ Some (fault, Line old.line)
   pub line : new.line ≡ old.line
 
-pub is_refused : (fault : Fault) (old mid new : EndedEntries) (at next : ScanState) (unfinished part left : List ℕ) (step : Step) → IsPart old at unfinished part step → IsRefused fault old mid → new ≡ mid → next ≡ beginning → left ≡ [] → IsIntake new next left
+pub is_refused : (fault : Fault) (old mid new : EndedEntries) (at next : ScanState) (unfinished part left : List ℕ) (step : Step) → IsPart old at unfinished part step → IsRefused fault old mid → new ≡ mid → next ≡ beginning → left ≡ [] → IsSplitter new next left
 is_refused fault old mid new at next unfinished part left step is refuse same begins none =
     nothing_taken new next left begins none (let h : new.line ≡ mid.line = ap (λ (s : EndedEntries). s.line) same in omega (arith, is.is.line, refuse.line))
 

@@ -1,4 +1,4 @@
--- A record entry whose parts are read after known defaults: what it states, or why it is refused.
+-- A record entry whose parts are read in a known state: what it states, or why it is refused.
 use Rattle.std.proofs.Common.{◌≡◌, ℕ, ◌<◌, List, ◌∷◌, Option, Some, None, MatchOption, refl, sym, ap, ◌∙◌, subst}
 use Rattle.std.specs.Option.{option_or}
 use Rattle.zone_name.specs.Common.{Labels}
@@ -9,23 +9,23 @@ use Rattle.zone_rdata.specs.Record.{Data, Record, IsRecord}
 use Rattle.zone_rdata.specs.Spelling.{States}
 use Rattle.zone_rdata.specs.declared.fault.Fault.{Fault}
 use Rattle.zone_rdata.specs.declared.fault.Fault.TheVariants.{NoOwner, NoTtl, BadTtl}
-use Rattle.zone_text.specs.Defaults.{AreDefaults, IsOneOrNone, IsTtlOrNone}
+use Rattle.zone_text.specs.ParserState.{IsStateAfter, IsOneOrNone, IsTtlOrNone}
 use Rattle.zone_text.specs.Entries.{Entry}
 use Rattle.zone_text.specs.EntryFault.{EntryFault, of_rdata, of_ttl, none, long}
-use Rattle.zone_text.specs.Forms.{owned, statement_of, parts_in}
+use Rattle.zone_text.specs.Statements.{owned, statement_of, parts_in}
 use Rattle.zone_text.specs.Inherited.{IsLastOwner, IsOwner, owner_text, ttl_text}
 use Rattle.zone_text.specs.Machine.EntryReading.{HasOwnerOrNone, IsReadTo, IsRecordEntry, with_owner}
 use Rattle.zone_text.specs.Machine.Lower.{Lower}
 use Rattle.zone_text.specs.Records.{Head, HasHead, HasTtl, IsLastMinimum, StatesData, EntryStates}
-use Rattle.zone_text.specs.declared.defaults.Defaults.{Defaults}
+use Rattle.zone_text.specs.declared.parser_state.ParserState.{ParserState}
 use Rattle.zone_text.proofs.Inheriting.{has_no_ttl, has_ttl, next_minimum, record_leaves, ttl_stated}
 
 -- ---- the owner
 
-owned_entry : (origin : Labels) (before : List Entry) (entry : Entry) (d : Defaults) (held : Option Labels) (name : Labels) (owner : RawItem) (items : List RawItem) → statement_of entry ≡ owned owner items → AreDefaults origin before (with_owner held d) → IsOwner origin before (owned owner items) name → IsRecordEntry origin before entry d name items
+owned_entry : (origin : Labels) (before : List Entry) (entry : Entry) (d : ParserState) (held : Option Labels) (name : Labels) (owner : RawItem) (items : List RawItem) → statement_of entry ≡ owned owner items → IsStateAfter origin before (with_owner held d) → IsOwner origin before (owned owner items) name → IsRecordEntry origin before entry d name items
 owned_entry origin before entry d held name owner items form so_far owns = record {
   held = held;
-  defaults = so_far;
+  state = so_far;
   owner = subst (λ f. IsOwner origin before f name) (sym form) owns;
   parts = ap parts_in form;
 }
@@ -38,27 +38,27 @@ owner_stated : (origin : Labels) (before : List Entry) (entry : Entry) (name : L
 owner_stated origin before entry name owner items form owns = owner_now origin before entry name owner items (ap owner_text form) owns
 
 -- an entry states the owner that became the last one
-pub has_stated_owner : (origin : Labels) (before : List Entry) (entry : Entry) (d : Defaults) (name : Labels) (owner : RawItem) (items : List RawItem) → statement_of entry ≡ owned owner items → AreDefaults origin before d → IsOwner origin before (owned owner items) name → HasOwnerOrNone origin before entry (with_owner (Some name) d) items
+pub has_stated_owner : (origin : Labels) (before : List Entry) (entry : Entry) (d : ParserState) (name : Labels) (owner : RawItem) (items : List RawItem) → statement_of entry ≡ owned owner items → IsStateAfter origin before d → IsOwner origin before (owned owner items) name → HasOwnerOrNone origin before entry (with_owner (Some name) d) items
 has_stated_owner origin before entry d name owner items form so_far owns = (
   owned_entry origin before entry (with_owner (Some name) d) d.owner name owner items form so_far owns,
   owner_stated origin before entry name owner items form owns,
 )
 
-pub no_owner : (origin : Labels) (before : List Entry) (entry : Entry) (d : Defaults) (items : List RawItem) → HasOwnerOrNone origin before entry d items → d.owner ≡ None → EntryFault origin before entry NoOwner
+pub no_owner : (origin : Labels) (before : List Entry) (entry : Entry) (d : ParserState) (items : List RawItem) → HasOwnerOrNone origin before entry d items → d.owner ≡ None → EntryFault origin before entry NoOwner
 no_owner origin before entry d items has e = subst (λ o. MatchOption o (EntryFault origin before entry NoOwner) (λ name. IsRecordEntry origin before entry d name items × IsLastOwner origin (entry ∷ before) name)) e has
 
-pub one_owner : (origin : Labels) (before : List Entry) (entry : Entry) (d : Defaults) (items : List RawItem) (name : Labels) → HasOwnerOrNone origin before entry d items → d.owner ≡ Some name → IsRecordEntry origin before entry d name items × IsLastOwner origin (entry ∷ before) name
+pub one_owner : (origin : Labels) (before : List Entry) (entry : Entry) (d : ParserState) (items : List RawItem) (name : Labels) → HasOwnerOrNone origin before entry d items → d.owner ≡ Some name → IsRecordEntry origin before entry d name items × IsLastOwner origin (entry ∷ before) name
 one_owner origin before entry d items name has e = subst (λ o. MatchOption o (EntryFault origin before entry NoOwner) (λ own. IsRecordEntry origin before entry d own items × IsLastOwner origin (entry ∷ before) own)) e has
 
 -- ---- data and TTL
 
-pub rdata_refused : (origin : Labels) (before : List Entry) (entry : Entry) (d : Defaults) (name : Labels) (items : List RawItem) (head : Head) (fault : Fault) → IsRecordEntry origin before entry d name items → HasHead origin before entry head → IsDataFault d.origin head.class head.kind head.items fault → EntryFault origin before entry fault
-rdata_refused origin before entry d name items head fault is has bad = of_rdata head d.origin has is.defaults.under bad
+pub rdata_refused : (origin : Labels) (before : List Entry) (entry : Entry) (d : ParserState) (name : Labels) (items : List RawItem) (head : Head) (fault : Fault) → IsRecordEntry origin before entry d name items → HasHead origin before entry head → IsDataFault d.origin head.class head.kind head.items fault → EntryFault origin before entry fault
+rdata_refused origin before entry d name items head fault is has bad = of_rdata head d.origin has is.state.under bad
 
-pub read_to : (origin : Labels) (before : List Entry) (entry : Entry) (d : Defaults) (name : Labels) (items : List RawItem) (head : Head) (own : Option ℕ) (rdata : Data) (a stated soa last result found : Option ℕ) → IsRecordEntry origin before entry d name items → HasHead origin before entry head × IsTtlOrNone (ttl_text (statement_of entry)) own → rdata.class ≡ head.class → rdata.kind ≡ head.kind → States d.origin head.class head.kind head.items rdata.octets → a ≡ option_or own d.default_ttl → stated ≡ option_or a d.last_ttl → soa ≡ minimum rdata → last ≡ option_or soa d.minimum → result ≡ option_or stated last → result ≡ found → IsReadTo origin before entry d head own rdata last found
+pub read_to : (origin : Labels) (before : List Entry) (entry : Entry) (d : ParserState) (name : Labels) (items : List RawItem) (head : Head) (own : Option ℕ) (rdata : Data) (a stated soa last result found : Option ℕ) → IsRecordEntry origin before entry d name items → HasHead origin before entry head × IsTtlOrNone (ttl_text (statement_of entry)) own → rdata.class ≡ head.class → rdata.kind ≡ head.kind → States d.origin head.class head.kind head.items rdata.octets → a ≡ option_or own d.default_ttl → stated ≡ option_or a d.last_ttl → soa ≡ minimum rdata → last ≡ option_or soa d.minimum → result ≡ option_or stated last → result ≡ found → IsReadTo origin before entry d head own rdata last found
 read_to origin before entry d name items head own rdata a stated soa last result found is has class kind states first second of_soa least third is_found = record {
   held = is.held;
-  defaults = is.defaults;
+  state = is.state;
   has = has.0;
   own_ttl = has.1;
   class = class;
@@ -68,33 +68,33 @@ read_to origin before entry d name items head own rdata a stated soa last result
   ttl = sym is_found ∙ (third ∙ ap (λ (o : Option ℕ). option_or o last) (second ∙ ap (λ (o : Option ℕ). option_or o d.last_ttl) first));
 }
 
-states_data : (origin : Labels) (before : List Entry) (entry : Entry) (d : Defaults) (head : Head) (own : Option ℕ) (rdata : Data) (last found : Option ℕ) → IsReadTo origin before entry d head own rdata last found → StatesData origin before head rdata.octets
-states_data origin before entry d head own rdata last found is = record { above = d.origin; under = is.defaults.under; states = is.states }
+states_data : (origin : Labels) (before : List Entry) (entry : Entry) (d : ParserState) (head : Head) (own : Option ℕ) (rdata : Data) (last found : Option ℕ) → IsReadTo origin before entry d head own rdata last found → StatesData origin before head rdata.octets
+states_data origin before entry d head own rdata last found is = record { above = d.origin; under = is.state.under; states = is.states }
 
 same_data : (d : Data) (class kind : ℕ) → d.class ≡ class → d.kind ≡ kind → d ≡ record { class = class; kind = kind; octets = d.octets }
 same_data d class kind a b = rw (a, b) refl
 
-last_is : Lower → (origin : Labels) (before : List Entry) (entry : Entry) (d : Defaults) (head : Head) (own : Option ℕ) (rdata : Data) (last found : Option ℕ) → IsReadTo origin before entry d head own rdata last found → IsOneOrNone (IsLastMinimum origin (entry ∷ before)) last
+last_is : Lower → (origin : Labels) (before : List Entry) (entry : Entry) (d : ParserState) (head : Head) (own : Option ℕ) (rdata : Data) (last found : Option ℕ) → IsReadTo origin before entry d head own rdata last found → IsOneOrNone (IsLastMinimum origin (entry ∷ before)) last
 last_is lower origin before entry d head own rdata last found is =
     subst (IsOneOrNone (IsLastMinimum origin (entry ∷ before))) (sym is.least)
-    (next_minimum lower origin before entry head rdata.octets (minimum rdata) d.minimum is.has (states_data origin before entry d head own rdata last found is) (ap minimum (same_data rdata head.class head.kind is.class is.kind)) is.defaults.minimum)
+    (next_minimum lower origin before entry head rdata.octets (minimum rdata) d.minimum is.has (states_data origin before entry d head own rdata last found is) (ap minimum (same_data rdata head.class head.kind is.class is.kind)) is.state.minimum)
 
-pub no_ttl : Lower → (origin : Labels) (before : List Entry) (entry : Entry) (d : Defaults) (head : Head) (own : Option ℕ) (rdata : Data) (last : Option ℕ) → IsReadTo origin before entry d head own rdata last None → EntryFault origin before entry NoTtl
+pub no_ttl : Lower → (origin : Labels) (before : List Entry) (entry : Entry) (d : ParserState) (head : Head) (own : Option ℕ) (rdata : Data) (last : Option ℕ) → IsReadTo origin before entry d head own rdata last None → EntryFault origin before entry NoTtl
 no_ttl lower origin before entry d head own rdata last is =
     of_ttl head rdata.octets is.has (states_data origin before entry d head own rdata last None is)
-    (none (has_no_ttl origin before entry (option_or (option_or own d.default_ttl) d.last_ttl) last (ttl_stated origin before entry (with_owner is.held d) own is.defaults is.own_ttl) (last_is lower origin before entry d head own rdata last None is) (sym is.ttl)))
+    (none (has_no_ttl origin before entry (option_or (option_or own d.default_ttl) d.last_ttl) last (ttl_stated origin before entry (with_owner is.held d) own is.state is.own_ttl) (last_is lower origin before entry d head own rdata last None is) (sym is.ttl)))
 
-ttl_is : Lower → (origin : Labels) (before : List Entry) (entry : Entry) (d : Defaults) (head : Head) (own : Option ℕ) (rdata : Data) (last : Option ℕ) (n : ℕ) → IsReadTo origin before entry d head own rdata last (Some n) → HasTtl origin before entry n
+ttl_is : Lower → (origin : Labels) (before : List Entry) (entry : Entry) (d : ParserState) (head : Head) (own : Option ℕ) (rdata : Data) (last : Option ℕ) (n : ℕ) → IsReadTo origin before entry d head own rdata last (Some n) → HasTtl origin before entry n
 ttl_is lower origin before entry d head own rdata last n is =
-    has_ttl origin before entry (option_or (option_or own d.default_ttl) d.last_ttl) last n (ttl_stated origin before entry (with_owner is.held d) own is.defaults is.own_ttl) (last_is lower origin before entry d head own rdata last (Some n) is) (sym is.ttl)
+    has_ttl origin before entry (option_or (option_or own d.default_ttl) d.last_ttl) last n (ttl_stated origin before entry (with_owner is.held d) own is.state is.own_ttl) (last_is lower origin before entry d head own rdata last (Some n) is) (sym is.ttl)
 
-pub long_ttl : Lower → (origin : Labels) (before : List Entry) (entry : Entry) (d : Defaults) (head : Head) (own : Option ℕ) (rdata : Data) (last : Option ℕ) (n : ℕ) → IsReadTo origin before entry d head own rdata last (Some n) → 2147483647 < n → EntryFault origin before entry BadTtl
+pub long_ttl : Lower → (origin : Labels) (before : List Entry) (entry : Entry) (d : ParserState) (head : Head) (own : Option ℕ) (rdata : Data) (last : Option ℕ) (n : ℕ) → IsReadTo origin before entry d head own rdata last (Some n) → 2147483647 < n → EntryFault origin before entry BadTtl
 long_ttl lower origin before entry d head own rdata last n is over =
     of_ttl head rdata.octets is.has (states_data origin before entry d head own rdata last (Some n) is) (long n (ttl_is lower origin before entry d head own rdata last n is) over)
 
 -- ---- the record
 
-pub states_record : Lower → (origin : Labels) (before : List Entry) (entry : Entry) (d : Defaults) (head : Head) (own : Option ℕ) (rdata : Data) (last : Option ℕ) (n : ℕ) (r : Record) → IsReadTo origin before entry d head own rdata last (Some n) → r ≡ record { owner = head.owner; class = rdata.class; kind = rdata.kind; ttl = n; octets = rdata.octets } → IsRecord r → EntryStates origin before entry r
+pub states_record : Lower → (origin : Labels) (before : List Entry) (entry : Entry) (d : ParserState) (head : Head) (own : Option ℕ) (rdata : Data) (last : Option ℕ) (n : ℕ) (r : Record) → IsReadTo origin before entry d head own rdata last (Some n) → r ≡ record { owner = head.owner; class = rdata.class; kind = rdata.kind; ttl = n; octets = rdata.octets } → IsRecord r → EntryStates origin before entry r
 states_record lower origin before entry d head own rdata last n r is e fits =
     let same : r ≡ record { owner = head.owner; class = head.class; kind = head.kind; ttl = n; octets = rdata.octets } = e ∙ rw (is.class, is.kind) refl in
     subst (EntryStates origin before entry) (sym same) (record {
@@ -105,8 +105,8 @@ states_record lower origin before entry d head own rdata last n r is e fits =
       fits = subst IsRecord same fits;
     })
 
-pub record_left : Lower → (origin : Labels) (before : List Entry) (entry : Entry) (d next : Defaults) (head : Head) (own : Option ℕ) (rdata : Data) (last found : Option ℕ) (owner : Option Labels) → IsReadTo origin before entry d head own rdata last found → next.origin ≡ d.origin → next.class ≡ head.class → next.default_ttl ≡ d.default_ttl → next.last_ttl ≡ option_or own d.last_ttl → next.minimum ≡ last → IsOneOrNone (IsLastOwner origin (entry ∷ before)) owner → AreDefaults origin (entry ∷ before) (with_owner owner next)
+pub record_left : Lower → (origin : Labels) (before : List Entry) (entry : Entry) (d next : ParserState) (head : Head) (own : Option ℕ) (rdata : Data) (last found : Option ℕ) (owner : Option Labels) → IsReadTo origin before entry d head own rdata last found → next.origin ≡ d.origin → next.class ≡ head.class → next.default_ttl ≡ d.default_ttl → next.last_ttl ≡ option_or own d.last_ttl → next.minimum ≡ last → IsOneOrNone (IsLastOwner origin (entry ∷ before)) owner → IsStateAfter origin (entry ∷ before) (with_owner owner next)
 record_left lower origin before entry d next head own rdata last found owner is above class default_ttl last_ttl least owner_is =
-    record_leaves origin before entry (with_owner is.held d) next head own owner is.defaults is.has is.own_ttl above class default_ttl last_ttl
+    record_leaves origin before entry (with_owner is.held d) next head own owner is.state is.has is.own_ttl above class default_ttl last_ttl
     (subst (IsOneOrNone (IsLastMinimum origin (entry ∷ before))) (sym least) (last_is lower origin before entry d head own rdata last found is))
     owner_is

@@ -10,7 +10,7 @@ use Rattle.zone_rdata.specs.Words.{IsClass, IsClassWord}
 use Rattle.zone_rdata.specs.declared.fault.Fault.{Fault}
 use Rattle.zone_rdata.specs.declared.item.Item.{Item}
 use Rattle.zone_text.specs.EntryFault.{WordFault, WordsFault}
-use Rattle.zone_text.specs.Forms.{Word, ttl, class, ttl_among, class_among, Parts, parts_after, word_after, unless_stated, begins_with_digit, is_class_word}
+use Rattle.zone_text.specs.Statements.{Word, ttl, class, ttl_among, class_among, Parts, parts_after, word_after, unless_stated, begins_with_digit, is_class_word}
 use Rattle.zone_text.specs.Inherited.{IsTtl}
 use Rattle.zone_text.specs.Machine.WordValues.{HaveValues, AreWordsOf}
 use Rattle.zone_text.specs.Records.{HasValue}

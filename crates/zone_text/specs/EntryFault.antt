@@ -11,7 +11,7 @@ use Rattle.zone_rdata.specs.Words.{IsClass, IsClassWord, IsWordFault}
 use Rattle.zone_rdata.specs.declared.fault.Fault.{Fault}
 use Rattle.zone_rdata.specs.declared.fault.Fault.TheVariants.{IncludeDirective, UnknownDirective, BadDirective, NoOwner, NoTtl, BadTtl, BadClass, UnknownType}
 use Rattle.zone_text.specs.Entries.{Entry}
-use Rattle.zone_text.specs.Forms.{Statement, sets_origin, sets_ttl, includes, unknown, owned, unowned, statement_of, Word, ttl, class, Parts, parts_of}
+use Rattle.zone_text.specs.Statements.{Statement, sets_origin, sets_ttl, includes, unknown, owned, unowned, statement_of, Word, ttl, class, Parts, parts_of}
 use Rattle.zone_text.specs.Inherited.{IsOrigin, IsLastOwner, IsOwner, IsTtl, one_bare}
 use Rattle.zone_text.specs.Records.{HasValue, Head, HasHead, StatesData, HasTtl}
 

@@ -3,7 +3,7 @@ use Rattle.std.specs.Prelude.{◌≡◌, ℕ, List, [], ◌∷◌}
 use Rattle.zone_name.specs.Common.{Labels}
 use Rattle.zone_rdata.specs.declared.fault.Place.TheVariants.{Line}
 use Rattle.zone_rdata.specs.declared.record.Placed.{Placed}
-use Rattle.zone_text.specs.Forms.{statement_of}
+use Rattle.zone_text.specs.Statements.{statement_of}
 use Rattle.zone_text.specs.Tokens.{Token, Cuts}
 use Rattle.zone_text.specs.Entries.{Entry, entries_of}
 use Rattle.zone_text.specs.Records.{StatesNothing, EntryStates}

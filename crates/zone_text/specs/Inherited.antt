@@ -7,7 +7,7 @@ use Rattle.zone_rdata.specs.Number.{IsTime}
 use Rattle.zone_rdata.specs.Spelling.{RawItem, bare}
 use Rattle.zone_rdata.specs.Words.{IsClassWord}
 use Rattle.zone_text.specs.Entries.{Entry}
-use Rattle.zone_text.specs.Forms.{Statement, sets_origin, sets_ttl, owned, unowned, statement_of, Parts, parts_in, ttl_among, class_among}
+use Rattle.zone_text.specs.Statements.{Statement, sets_origin, sets_ttl, owned, unowned, statement_of, Parts, parts_in, ttl_among, class_among}
 
 abbrev pub or_else : Option (List ℕ) → Option (List ℕ) → Option (List ℕ)
 or_else None other = other

@@ -3,7 +3,7 @@ pub mod Blank
 pub mod Cutting
 pub mod EntryReading
 pub mod Feeding
-pub mod Form
+pub mod Parsed
 pub mod ItemLengths
 pub mod Kept
 pub mod Line

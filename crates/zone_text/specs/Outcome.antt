@@ -6,7 +6,7 @@ use Rattle.zone_rdata.specs.Record.{Record}
 use Rattle.zone_rdata.specs.Spelling.{RawItem}
 use Rattle.zone_rdata.specs.Strings.{item_text}
 use Rattle.zone_text.specs.Entries.{Entry}
-use Rattle.zone_text.specs.Forms.{statement_of}
+use Rattle.zone_text.specs.Statements.{statement_of}
 use Rattle.zone_text.specs.Records.{StatesNothing, EntryStates}
 
 -- each entry states nothing or a record, those before it known, the latest first

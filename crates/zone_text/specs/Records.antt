@@ -8,7 +8,7 @@ use Rattle.zone_rdata.specs.Record.{Record, IsRecord}
 use Rattle.zone_rdata.specs.Spelling.{RawItem, bare, States}
 use Rattle.zone_rdata.specs.Words.{IsClass, IsClassWord, IsKind, IsKindWord}
 use Rattle.zone_text.specs.Entries.{Entry}
-use Rattle.zone_text.specs.Forms.{Statement, no_items, sets_origin, sets_ttl, statement_of, Word, ttl, class, Parts, parts_of}
+use Rattle.zone_text.specs.Statements.{Statement, no_items, sets_origin, sets_ttl, statement_of, Word, ttl, class, Parts, parts_of}
 use Rattle.zone_text.specs.Inherited.{IsOrigin, SpellsAfter, IsOwner, HasClass, stated_ttl, IsTtl}
 
 -- a word before the type that has a value: a TTL of 31 bits, a class that can hold zone data

@@ -6,7 +6,7 @@ ghost use Rattle.zone_text.specs.EntryFault.{DefaultTtlFault};
 ghost use Rattle.zone_text.specs.Inherited.{IsTtl, one_bare};
 ghost use Rattle.zone_text.specs.Machine.EntryReading.{SetsOrigin, SetsTtl, OriginFaultUnder};
 
-use crate::defaults::Defaults;
+use crate::parser_state::ParserState;
 use crate::words::{split_bare, ttl_in};
 use zone_name::Name;
 use zone_rdata::{Cause, Fault, Item, NarrowFault};
@@ -27,7 +27,7 @@ fn one_bare<'t>(items: &[Item<'t>]) -> Result<&'t [u8], NarrowFault>
     }
 }
 
-impl Defaults {
+impl ParserState {
     /// Takes the origin of `$ORIGIN`, whose items these are (RFC 1035 5.1).
     ///
     /// # Errors

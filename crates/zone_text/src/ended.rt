@@ -1,12 +1,12 @@
 //! The entries that were ended, read one by one (RFC 1035 5.1).
 ghost use Rattle.std.specs.Prelude.{◌≡◌, ◌+◌, ◌<◌, ◌≤◌, ◌^◌, ◌==◌, [], count_by, length, map, OnOk, Some, None};
 ghost use Rattle.zone_rdata.specs.Item.{raw};
-ghost use Rattle.zone_text.specs.Defaults.{AreDefaults};
+ghost use Rattle.zone_text.specs.ParserState.{IsStateAfter};
 ghost use Rattle.zone_text.specs.Machine.Feeding.{ReadsOctets};
 ghost use Rattle.zone_text.specs.Machine.Line.{KeepsItems};
 
-use crate::defaults::Defaults;
 use crate::items::cut_items;
+use crate::parser_state::ParserState;
 use std::alloc::{AllocError, Global};
 use zone_name::Name;
 use zone_rdata::{Fault, Item, PendingRecords, Place};
@@ -17,7 +17,7 @@ pub(crate) struct EndedEntries {
     /// Their records that were not given yet, and the fault.
     pub(crate) decided: PendingRecords,
     /// What they leave to the entries after them.
-    pub(crate) defaults: Defaults,
+    pub(crate) state: ParserState,
     /// The line after them.
     pub(crate) line: u64,
 }
@@ -39,12 +39,12 @@ impl EndedEntries {
     pub(crate) fn new(alloc: Global, origin: &Name) -> EndedEntries
         ensures records { result.decided.placed ≡ [] }
         ensures ending { result.decided.ending ≡ None }
-        ensures defaults { AreDefaults origin.now [] result.defaults }
+        ensures state { IsStateAfter origin.now [] result.state }
         ensures line { result.line ≡ 1 }
     {
         EndedEntries {
             decided: PendingRecords::new(alloc),
-            defaults: Defaults::new(origin),
+            state: ParserState::new(origin),
             line: 1,
         }
     }
@@ -78,7 +78,7 @@ impl EndedEntries {
             → OnOk result (ReadsOctets entry.now self.old self.new) }
     {
         let place = Place::Line(self.line);
-        self.defaults
+        self.state
             .read(alloc, entry, items, place, &mut self.decided)?;
         self.line += line_feeds(entry) as u64;
         Ok(())

@@ -3,20 +3,20 @@
 #![tactic(auto)]
 
 mod blank;
-mod defaults;
 mod directive;
 mod ended;
 pub mod examples;
-mod form;
-mod intake;
 mod items;
 pub mod laws;
 mod line;
+mod parsed;
+mod parser_state;
 mod reader;
 mod record;
 mod scan;
-mod source;
+mod splitter;
 mod table;
+mod text_source;
 mod words;
 
 pub use reader::read_file;

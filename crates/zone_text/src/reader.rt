@@ -1,7 +1,7 @@
 ghost use Rattle.std.specs.Prelude.{◌≡◌, IfOk};
 ghost use Rattle.zone_text.specs.FileReads.{FileReads};
 
-use crate::source::TextSource;
+use crate::text_source::TextSource;
 use std::alloc::{AllocError, Global};
 use zone_name::Name;
 use zone_rdata::Reading;

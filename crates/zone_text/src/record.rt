@@ -1,9 +1,9 @@
-ghost use Rattle.zone_text.specs.Forms.{statement_of};
+ghost use Rattle.zone_text.specs.Statements.{statement_of};
 ghost use Rattle.std.specs.Prelude.{◌≡◌, List, map, IfOk, IfErr, OnErr, OnOk};
 ghost use Rattle.zone_name.specs.Common.{Labels};
 ghost use Rattle.zone_rdata.specs.Fault.{IfFault};
 ghost use Rattle.zone_rdata.specs.Item.{raw};
-ghost use Rattle.zone_text.specs.Defaults.{IsTtlOrNone};
+ghost use Rattle.zone_text.specs.ParserState.{IsTtlOrNone};
 ghost use Rattle.zone_text.specs.Entries.{Entry};
 ghost use Rattle.zone_text.specs.EntryFault.{EntryFault};
 ghost use Rattle.zone_text.specs.Inherited.{ttl_text};
@@ -11,8 +11,8 @@ ghost use Rattle.zone_text.specs.Records.{HasHead};
 ghost use Rattle.zone_text.specs.Machine.EntryReading.{DecidesEntry, HasOwnerOrNone, IsRecordEntry};
 ghost use Rattle.zone_text.specs.Machine.EntryReading.{ReadsContents, DecidesFault};
 
-use crate::defaults::Defaults;
 use crate::laws::entry::lower_laws;
+use crate::parser_state::ParserState;
 use crate::words::{split_bare, words_of};
 use std::alloc::{AllocError, Global};
 use zone_rdata::{
@@ -64,7 +64,7 @@ pub(crate) fn refuse(
     }
 }
 
-impl Defaults {
+impl ParserState {
     /// Reads the record of the last owner, and of the items after the owner where it is stated: the
     /// record comes after those that were decided, or the entry's fault after the owner is decided.
     #[inline(never)]

@@ -3,7 +3,7 @@ ghost use Rattle.zone_name.specs.Common.{Octets};
 ghost use Rattle.zone_rdata.specs.Fault.{NoValue};
 ghost use Rattle.zone_rdata.specs.Item.{RawItem, bare, raw};
 ghost use Rattle.zone_text.specs.EntryFault.{WordFault, WordsFault};
-ghost use Rattle.zone_text.specs.Forms.{Word, begins_with_digit, parts_after, word_after};
+ghost use Rattle.zone_text.specs.Statements.{Word, begins_with_digit, parts_after, word_after};
 ghost use Rattle.zone_text.specs.Inherited.{IsTtl};
 ghost use Rattle.zone_text.specs.Machine.WordValues.{AreWordsOf, HaveValues};
 

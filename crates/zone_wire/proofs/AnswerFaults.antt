@@ -3,6 +3,7 @@ use Rattle.std.proofs.Common.{◌≡◌, ◌≢◌, ℕ, ◌+◌, ◌<◌, ◌�
 use Rattle.std.specs.Prelude.{◌==◌, ◌&&◌, ◌⊎◌, not, Option, Some, None, Result, Ok, Err, if◌then◌else◌}
 use Rattle.std.specs.List.{list_any}
 use Rattle.std.proofs.lemmas.Bool.{cond-true, cond-false, and_parts, and_from, and_cases, eqb-true, eq-eqb, not-true, not-false, false_from_ne_true, true_from_ne_false}
+use Rattle.zone_rdata.proofs.Bytes.{Bytes}
 use Rattle.zone_rdata.specs.Record.{Record}
 use Rattle.zone_rdata.specs.Words.{IsClass, IsKind, is_meta}
 use Rattle.zone_rdata.specs.declared.fault.Fault.{Fault}
@@ -21,7 +22,6 @@ use Rattle.zone_wire.proofs.MessageFaults.{err_same, some_same, stops, and_then_
 use Rattle.zone_wire.proofs.ReadAnswers.{each_other, record_shown, agree_parts, records_equal, agreed}
 use Rattle.zone_wire.proofs.ReadRecords.{no_class_parts, record_fits}
 use Rattle.zone_wire.proofs.ReadSections.{no_fault}
-pub use Rattle.zone_wire.proofs.ReadStreams.{Bytes}
 
 -- a test that refuses, or the rest does
 refused_or : {X : Type 0} (test : Bool) (fault other : Fault) (rest : Result X Fault) → (if test then Err fault else rest) ≡ Err other → ((test ≡ true) × (fault ≡ other)) ⊎ ((test ≡ false) × (rest ≡ Err other))

@@ -12,11 +12,11 @@ use Rattle.zone_name.specs.declared.fault.NameFault.{NameFault}
 use Rattle.zone_name.specs.declared.fault.NameFault.TheVariants.{EmptyLabel, LabelTooLong, NameTooLong, BadEscape, RelativeName}
 use Rattle.zone_wire.specs.Name.{label_at}
 use Rattle.zone_wire.specs.Walk.{Spot, Standing, at_root, at_label, at_pointer, at_fault, outset, past_label, past_pointer}
-use Rattle.zone_wire.specs.Machine.Walk.{place_of, walk}
+use Rattle.zone_wire.specs.Machine.Walk.{standing_in, walk}
 use Rattle.zone_wire.specs.Machine.Finding.{Outcome, named, refused, outcome, after_label, after_pointer}
 use Rattle.zone_rdata.specs.declared.fault.Fault.{Fault}
 use Rattle.zone_rdata.specs.declared.fault.Fault.TheVariants.{ShortMessage}
-use Rattle.zone_wire.proofs.Places.{Shows, place_shows}
+use Rattle.zone_wire.proofs.Spots.{Shows, standing_shows}
 use Rattle.zone_wire.proofs.Walking.{outcome_by, outcome_at, outcome_step, label_octets, label_octets-label, label_octets-more, wire-octets}
 
 -- what was met so far, and then what the rest leads to
@@ -69,18 +69,18 @@ record Reaches (message : List ℕ) (offset : ℕ) (spot : Spot) (labels : List 
   enough : steps + suc after ≡ 256
   whole : outcome message (walk message offset) ≡ carried labels end steps spot.pointers (outcome_at message after spot standing)
 
-reaches_by : (message : List ℕ) (offset : ℕ) (spot : Spot) (labels : List (List ℕ)) (end : Option ℕ) (steps : ℕ) (standing : Option Standing) (left : ℕ) → steps + left ≡ 256 → steps ≤ 255 → outcome message (walk message offset) ≡ carried labels end steps spot.pointers (outcome_by left message spot) → place_of message spot ≡ standing → Reaches message offset spot labels end steps standing
+reaches_by : (message : List ℕ) (offset : ℕ) (spot : Spot) (labels : List (List ℕ)) (end : Option ℕ) (steps : ℕ) (standing : Option Standing) (left : ℕ) → steps + left ≡ 256 → steps ≤ 255 → outcome message (walk message offset) ≡ carried labels end steps spot.pointers (outcome_by left message spot) → standing_in message spot ≡ standing → Reaches message offset spot labels end steps standing
 reaches_by message offset spot labels end steps standing zero enough few whole e = absurd (omega arith)
 reaches_by message offset spot labels end steps standing (suc after) enough few whole e = record { after = after; enough = enough; whole = whole ∙ ap (carried labels end steps spot.pointers) (outcome_step message after spot standing e) }
 
-reaches : {message : List ℕ} {offset : ℕ} {spot : Spot} {labels : List (List ℕ)} {end : Option ℕ} {steps : ℕ} (standing : Option Standing) → Carries message offset spot labels end steps → place_of message spot ≡ standing → Reaches message offset spot labels end steps standing
+reaches : {message : List ℕ} {offset : ℕ} {spot : Spot} {labels : List (List ℕ)} {end : Option ℕ} {steps : ℕ} (standing : Option Standing) → Carries message offset spot labels end steps → standing_in message spot ≡ standing → Reaches message offset spot labels end steps standing
 reaches {message} {offset} {spot} {labels} {end} {steps} standing c e = reaches_by message offset spot labels end steps standing c.left c.enough (omega (arith, c.few, c.short, c.pointers)) c.whole e
 
 -- after a label
-pub carries_label : {message : List ℕ} {offset : ℕ} {spot : Spot} {labels : List (List ℕ)} {end : Option ℕ} {steps : ℕ} (size : ℕ) → Carries message offset spot labels end steps → place_of message spot ≡ Some (at_label size) → Carries message offset (past_label spot size) (labels ++ label_at message spot.offset size ∷ []) end (steps + 1)
+pub carries_label : {message : List ℕ} {offset : ℕ} {spot : Spot} {labels : List (List ℕ)} {end : Option ℕ} {steps : ℕ} (size : ℕ) → Carries message offset spot labels end steps → standing_in message spot ≡ Some (at_label size) → Carries message offset (past_label spot size) (labels ++ label_at message spot.offset size ∷ []) end (steps + 1)
 carries_label {message} {offset} {spot} {labels} {end} {steps} size c e =
     let r = reaches (Some (at_label size)) c e in
-    let shows : Shows message spot (Some (at_label size)) = subst (Shows message spot) e (place_shows message spot) in
+    let shows : Shows message spot (Some (at_label size)) = subst (Shows message spot) e (standing_shows message spot) in
     let l = label_at message spot.offset size in
     record {
       few = omega (arith, c.few, shows.0.some);
@@ -93,10 +93,10 @@ carries_label {message} {offset} {spot} {labels} {end} {steps} size c e =
     }
 
 -- where a pointer leads
-pub carries_pointer : {message : List ℕ} {offset : ℕ} {spot : Spot} {labels : List (List ℕ)} {end : Option ℕ} {steps : ℕ} (target : ℕ) → Carries message offset spot labels end steps → place_of message spot ≡ Some (at_pointer target) → Carries message offset (past_pointer spot target) labels (Some (unwrap_or end (spot.offset + 2))) (steps + 1)
+pub carries_pointer : {message : List ℕ} {offset : ℕ} {spot : Spot} {labels : List (List ℕ)} {end : Option ℕ} {steps : ℕ} (target : ℕ) → Carries message offset spot labels end steps → standing_in message spot ≡ Some (at_pointer target) → Carries message offset (past_pointer spot target) labels (Some (unwrap_or end (spot.offset + 2))) (steps + 1)
 carries_pointer {message} {offset} {spot} {labels} {end} {steps} target c e =
     let r = reaches (Some (at_pointer target)) c e in
-    let shows : Shows message spot (Some (at_pointer target)) = subst (Shows message spot) e (place_shows message spot) in
+    let shows : Shows message spot (Some (at_pointer target)) = subst (Shows message spot) e (standing_shows message spot) in
     record {
       few = omega (arith, c.few);
       pointers = omega (arith, shows.1);
@@ -108,7 +108,7 @@ carries_pointer {message} {offset} {spot} {labels} {end} {steps} target c e =
     }
 
 -- at the root
-pub carries_root : {message : List ℕ} {offset : ℕ} {spot : Spot} {labels : List (List ℕ)} {end : Option ℕ} {steps : ℕ} → Carries message offset spot labels end steps → place_of message spot ≡ Some at_root → outcome message (walk message offset) ≡ named (record { labels = labels; end = unwrap_or end (spot.offset + 1); steps = steps + 1; pointers = spot.pointers })
+pub carries_root : {message : List ℕ} {offset : ℕ} {spot : Spot} {labels : List (List ℕ)} {end : Option ℕ} {steps : ℕ} → Carries message offset spot labels end steps → standing_in message spot ≡ Some at_root → outcome message (walk message offset) ≡ named (record { labels = labels; end = unwrap_or end (spot.offset + 1); steps = steps + 1; pointers = spot.pointers })
 carries_root {message} {offset} {spot} {labels} {end} {steps} c e =
     let r = reaches (Some at_root) c e in
     let front : labels ++ [] ≡ labels = append-nil labels in
@@ -116,21 +116,21 @@ carries_root {message} {offset} {spot} {labels} {end} {steps} c e =
     cc (r.whole)
 
 -- at a fault
-pub carries_bad : {message : List ℕ} {offset : ℕ} {spot : Spot} {labels : List (List ℕ)} {end : Option ℕ} {steps : ℕ} (fault : Fault) → Carries message offset spot labels end steps → place_of message spot ≡ Some (at_fault fault) → outcome message (walk message offset) ≡ refused fault (steps + 1)
+pub carries_bad : {message : List ℕ} {offset : ℕ} {spot : Spot} {labels : List (List ℕ)} {end : Option ℕ} {steps : ℕ} (fault : Fault) → Carries message offset spot labels end steps → standing_in message spot ≡ Some (at_fault fault) → outcome message (walk message offset) ≡ refused fault (steps + 1)
 carries_bad fault c e = (reaches (Some (at_fault fault)) c e).whole
 
 -- outside the message
-pub carries_outside : {message : List ℕ} {offset : ℕ} {spot : Spot} {labels : List (List ℕ)} {end : Option ℕ} {steps : ℕ} → Carries message offset spot labels end steps → place_of message spot ≡ None → outcome message (walk message offset) ≡ refused ShortMessage steps
+pub carries_outside : {message : List ℕ} {offset : ℕ} {spot : Spot} {labels : List (List ℕ)} {end : Option ℕ} {steps : ℕ} → Carries message offset spot labels end steps → standing_in message spot ≡ None → outcome message (walk message offset) ≡ refused ShortMessage steps
 carries_outside {steps = steps} c e = (reaches None c e).whole ∙ ap (refused ShortMessage) (omega arith)
 
-pub root_inside : (message : List ℕ) (spot : Spot) → place_of message spot ≡ Some at_root → spot.offset < length message
-root_inside message spot e = (subst (Shows message spot) e (place_shows message spot)).0
+pub root_inside : (message : List ℕ) (spot : Spot) → standing_in message spot ≡ Some at_root → spot.offset < length message
+root_inside message spot e = (subst (Shows message spot) e (standing_shows message spot)).0
 
-pub label_shows : (message : List ℕ) (spot : Spot) (size : ℕ) → place_of message spot ≡ Some (at_label size) → Shows message spot (Some (at_label size))
-label_shows message spot size e = subst (Shows message spot) e (place_shows message spot)
+pub label_shows : (message : List ℕ) (spot : Spot) (size : ℕ) → standing_in message spot ≡ Some (at_label size) → Shows message spot (Some (at_label size))
+label_shows message spot size e = subst (Shows message spot) e (standing_shows message spot)
 
-pub pointer_shows : (message : List ℕ) (spot : Spot) (target : ℕ) → place_of message spot ≡ Some (at_pointer target) → Shows message spot (Some (at_pointer target))
-pointer_shows message spot target e = subst (Shows message spot) e (place_shows message spot)
+pub pointer_shows : (message : List ℕ) (spot : Spot) (target : ℕ) → standing_in message spot ≡ Some (at_pointer target) → Shows message spot (Some (at_pointer target))
+pointer_shows message spot target e = subst (Shows message spot) e (standing_shows message spot)
 
 -- a label that fits a name is pushed
 pub push_fits : (fault : NameFault) (octets : List ℕ) (labels : List (List ℕ)) → IsLabelFault fault → (fault ≡ EmptyLabel → length octets ≡ 0) → (fault ≡ LabelTooLong → 63 < length octets) → (fault ≡ NameTooLong → 255 < length (wire (labels ++ octets ∷ []))) → 0 < length octets → length octets ≤ 63 → label_octets labels + length octets + 2 ≤ 255 → ⊥

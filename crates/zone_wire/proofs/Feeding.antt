@@ -5,32 +5,26 @@ use Rattle.std.specs.Prelude.{get_or, take, drop, Option, Some, None, IfSome, Ma
 use Rattle.std.specs.List.{flat_map}
 use Rattle.std.proofs.lemmas.List.{append-nil, length-map, length-take-le, length-drop, take-append-drop}
 use Rattle.std.proofs.lemmas.List.Concat.{flat_map-append}
+use Rattle.zone_rdata.proofs.Bytes.{Bytes, bytes_append}
+use Rattle.zone_rdata.specs.FedSource.{is_failed, is_finished, SourceState}
 use Rattle.zone_rdata.specs.declared.fault.Fault.{Fault}
 use Rattle.zone_rdata.specs.declared.fault.Place.{Place}
 use Rattle.zone_rdata.specs.declared.fault.Place.TheVariants.{Message}
+use Rattle.zone_rdata.specs.declared.fed.FedStatus.{FedStatus}
+use Rattle.zone_rdata.specs.declared.fed.FedStatus.TheVariants.{Finished}
 use Rattle.zone_rdata.specs.declared.record.Placed.{Placed}
 use Rattle.zone_wire.specs.Answers.{handed_on, is_closed}
 use Rattle.zone_wire.specs.Frames.{IsFramed}
-use Rattle.zone_wire.specs.Machine.Feeding.{IsCut, Going, Follow, is_failed, is_finished}
+use Rattle.zone_wire.specs.Machine.Feeding.{IsCut, Going, Follow}
 use Rattle.zone_wire.specs.Machine.Transferring.{zone_held, IsAfter, ReadsNext, TakesWhole, StopsIn}
 use Rattle.zone_wire.specs.Message.{u16_at}
-use Rattle.zone_wire.specs.Source.{SourceState, Leave, Stands}
+use Rattle.zone_wire.specs.TransferSource.{StandsForStream, StreamKept, StreamLeaves}
 use Rattle.zone_wire.specs.Stream.{octets_in, placed_in, IsReadAfter, AreRead, StreamDecides, StreamReads, StreamEnd}
 use Rattle.zone_wire.specs.Transfer.{StatedMessage, frame}
-use Rattle.zone_wire.specs.declared.intake.Intake.{Intake}
-use Rattle.zone_wire.specs.declared.source.Status.{Status}
-use Rattle.zone_wire.specs.declared.source.Status.TheVariants.{Finished}
+use Rattle.zone_wire.specs.declared.framer.Framer.{Framer}
 use Rattle.zone_wire.specs.declared.transfer.Transfer.{Transfer}
 use Rattle.zone_wire.proofs.Accepting.{all_append}
 use Rattle.zone_wire.proofs.Streams.{one_decision, fault_stays, fault_is_read, some_decision, some_reading}
-
-abbrev pub Bytes : List ℕ → Type 0
-Bytes xs = (i : ℕ) → get_or xs i 0 < 256
-
-pub bytes_append : (xs ys : List ℕ) → Bytes xs → Bytes ys → Bytes (xs ++ ys)
-bytes_append [] ys a b k = b k
-bytes_append (x ∷ xs) ys a b zero = a 0
-bytes_append (x ∷ xs) ys a b (suc k) = bytes_append xs ys (λ i. a (suc i)) b k
 
 -- octets of the length that they begin with are a frame
 pub framed_whole : (whole : List ℕ) → Bytes whole → length whole ≡ 2 + u16_at whole 0 → whole ≡ frame (drop 2 whole)
@@ -151,7 +145,7 @@ ends_after_fault t unfinished fed given some follow = by t.decided.ending some f
         subst (λ xs. StreamReads xs (given ++ t.decided.placed) (Some f)) whole (subst (λ ps. StreamReads (fed ++ []) ps (Some f)) stays.0 (subst (λ o. StreamReads (fed ++ []) later.0 o) stays.1 later.2))
 
 -- a piece of which a front was taken
-pub record FedSoFar (piece rest : List ℕ) (old new : Intake) : Type 0 where
+pub record FedSoFar (piece rest : List ℕ) (old new : Framer) : Type 0 where
   pub front : List ℕ
   pub parts : piece ≡ front ++ rest
   pub cut : IsCut new.unfinished.items
@@ -165,7 +159,7 @@ finishes t unfinished fed given ending going ends follow =
     let g = still_going t unfinished fed given t.decided.ending going follow.state in
     ends_with t unfinished fed given ending g (subst (λ n. StreamEnd (n + 1) (placed_in g.parts) unfinished ending) g.after.count (ends (placed_in g.parts) g.after.among.closed))
 
-pub fed_more : (piece rest : List ℕ) (taken : ℕ) (old mid new : Intake) → Bytes piece → (s : FedSoFar piece rest old mid) → mid.transfer.decided.ending ≡ None → 0 < taken → taken ≤ length rest → IsCut new.unfinished.items → IfSome new.transfer.decided.ending (λ _. new.unfinished.items ≡ []) → new.transfer.messages ≤ mid.transfer.messages + 1
+pub fed_more : (piece rest : List ℕ) (taken : ℕ) (old mid new : Framer) → Bytes piece → (s : FedSoFar piece rest old mid) → mid.transfer.decided.ending ≡ None → 0 < taken → taken ≤ length rest → IsCut new.unfinished.items → IfSome new.transfer.decided.ending (λ _. new.unfinished.items ≡ []) → new.transfer.messages ≤ mid.transfer.messages + 1
     → ((fed : List ℕ) (given : List Placed) → Follow mid.transfer mid.unfinished.items fed given → Follow new.transfer new.unfinished.items (fed ++ take taken rest) given) → FedSoFar piece (drop taken rest) old new
 fed_more piece rest taken old mid new each s going some within cut dropped count follow = record {
   front = s.front ++ take taken rest;
@@ -180,7 +174,7 @@ fed_more piece rest taken old mid new each s going some within cut dropped count
     not_faulted : (ending : Option (Fault × Place)) → old.transfer.decided.ending ≡ ending → IfSome ending (λ _. mid ≡ old) → IfSome ending (λ _. new ≡ old)
     not_faulted None is same = tt
     not_faulted (Some f) is same =
-        let still : old.transfer.decided.ending ≡ None = ap (λ (i : Intake). i.transfer.decided.ending) (sym same) ∙ going in
+        let still : old.transfer.decided.ending ≡ None = ap (λ (i : Framer). i.transfer.decided.ending) (sym same) ∙ going in
         let none : ⊥ = cc in
         absurd none
 
@@ -195,19 +189,15 @@ rest_taken n xs = ap (λ k. take k (drop n xs)) (sym (length-drop n xs)) ∙ tak
 pub all_taken : {X : Type 0} (xs : List X) → take (length xs) xs ≡ xs
 all_taken xs = take_whole xs
 
-pub bytes_back : (front rest : List ℕ) → Bytes (front ++ rest) → Bytes rest
-bytes_back [] rest each i = each i
-bytes_back (x ∷ front) rest each i = bytes_back front rest (λ k. each (suc k)) i
-
 pub empty_of : {X : Type 0} (xs : List X) → length xs ≡ 0 → xs ≡ []
 empty_of [] e = refl
 empty_of (x ∷ xs) e = absurd (omega (arith, e))
 
 -- a source as it holds this
-abbrev pub source_of : Status → ℕ → Transfer → List ℕ → SourceState
+abbrev pub source_of : FedStatus → ℕ → Transfer → List ℕ → SourceState StreamKept
 source_of status count t unfinished = record {
   pending = record { failed = is_failed status; records = t.decided.placed; ending = t.decided.ending };
-  held = record { finished = is_finished status; fed = count; messages = t.messages; id = t.id; zone = zone_held t.zone; opening = t.opening; closed = t.closed; unfinished = unfinished };
+  held = record { finished = is_finished status; fed = count; kept = record { messages = t.messages; id = t.id; zone = zone_held t.zone; opening = t.opening; closed = t.closed }; unfinished = unfinished };
 }
 
 decided_by : (fed unfinished : List ℕ) (parts : List StatedMessage) → IsFramed fed (octets_in parts) unfinished → AreRead [] parts → StreamDecides fed (handed_on (placed_in parts)) None
@@ -221,7 +211,7 @@ decided_by fed unfinished parts framed read = record {
 }
 
 -- what a source stands for before the end of its stream
-pub stands_follow : (status : Status) (count : ℕ) (t : Transfer) (unfinished fed : List ℕ) (given : List Placed) → is_finished status ≡ false → Stands (source_of status count t unfinished) fed given → Follow t unfinished fed given
+pub stands_follow : (status : FedStatus) (count : ℕ) (t : Transfer) (unfinished fed : List ℕ) (given : List Placed) → is_finished status ≡ false → StandsForStream (source_of status count t unfinished) fed given → Follow t unfinished fed given
 stands_follow status count t unfinished fed given going stands = record { octets = stands.octets; state = by t.decided.ending refl }
   where
     by : (ending : Option (Fault × Place)) → t.decided.ending ≡ ending → MatchOption ending (Going t unfinished fed given) (λ e. StreamDecides fed (given ++ t.decided.placed) (Some e))
@@ -237,7 +227,7 @@ stands_follow status count t unfinished fed given going stands = record { octets
         }
     by (Some f) e = subst (λ o. StreamDecides fed (given ++ t.decided.placed) o) e (stands.decided going)
 
-pub follow_stands : (status : Status) (count : ℕ) (t : Transfer) (unfinished fed : List ℕ) (given : List Placed) → is_failed status ≡ false → is_finished status ≡ false → count ≡ length fed → Follow t unfinished fed given → Stands (source_of status count t unfinished) fed given
+pub follow_stands : (status : FedStatus) (count : ℕ) (t : Transfer) (unfinished fed : List ℕ) (given : List Placed) → is_failed status ≡ false → is_finished status ≡ false → count ≡ length fed → Follow t unfinished fed given → StandsForStream (source_of status count t unfinished) fed given
 follow_stands status count t unfinished fed given works going counted follow = record {
   works = works;
   octets = follow.octets;
@@ -251,7 +241,7 @@ follow_stands status count t unfinished fed given works going counted follow = r
     by None g = subst (λ ps. StreamDecides fed ps None) (sym g.handed) (decided_by fed unfinished g.parts g.framed g.read)
     by (Some f) state = state
 
-    leaves : Going t unfinished fed given → Leave fed (source_of status count t unfinished).held
+    leaves : Going t unfinished fed given → StreamLeaves fed (source_of status count t unfinished).held.kept unfinished
     leaves g = record {
       parts = g.parts;
       framed = g.framed;
@@ -263,7 +253,7 @@ follow_stands status count t unfinished fed given works going counted follow = r
       closed = g.after.among.closed;
     }
 
-pub finished_stands : (count : ℕ) (t : Transfer) (unfinished fed : List ℕ) (given : List Placed) → Bytes fed → count ≡ length fed → StreamReads fed (given ++ t.decided.placed) t.decided.ending → Stands (source_of Finished count t unfinished) fed given
+pub finished_stands : (count : ℕ) (t : Transfer) (unfinished fed : List ℕ) (given : List Placed) → Bytes fed → count ≡ length fed → StreamReads fed (given ++ t.decided.placed) t.decided.ending → StandsForStream (source_of Finished count t unfinished) fed given
 finished_stands count t unfinished fed given octets counted reads = record {
   works = refl;
   octets = octets;

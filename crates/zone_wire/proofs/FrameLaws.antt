@@ -4,6 +4,7 @@ use Rattle.std.specs.Prelude.{◌⊎◌, Option, Some, None}
 use Rattle.std.specs.List.{flat_map}
 use Rattle.std.proofs.lemmas.List.{append-nil}
 use Rattle.std.proofs.lemmas.List.Concat.{flat_map-append}
+use Rattle.zone_rdata.proofs.Bytes.{Bytes}
 use Rattle.zone_name.specs.Common.{IsVerdict}
 use Rattle.zone_rdata.specs.declared.fault.Fault.{Fault}
 use Rattle.zone_rdata.specs.declared.fault.Place.{Place}
@@ -14,7 +15,6 @@ use Rattle.zone_wire.specs.Frames.{IsFramed}
 use Rattle.zone_wire.specs.Stream.{octets_in, placed_in, IsReadAfter, AreRead, FaultAfter, StreamDecides}
 use Rattle.zone_wire.specs.Transfer.{StatedMessage, frame}
 use Rattle.zone_wire.proofs.Accepting.{all_append}
-use Rattle.zone_wire.proofs.ReadStreams.{Bytes}
 use Rattle.zone_wire.proofs.GivenMessages.{placed_grow, records_show}
 use Rattle.zone_wire.proofs.OneReading.{FirstRead, first_read, fault_one, one_read, read_not_refused}
 

@@ -3,6 +3,7 @@ use Rattle.std.proofs.Common.{◌≡◌, ℕ, ◌≤◌, List, [], ◌∷◌, �
 use Rattle.std.specs.Prelude.{Option, Some, None, Result, Ok, Err}
 use Rattle.std.specs.List.{AllByRecursion}
 use Rattle.std.proofs.lemmas.List.{append-nil}
+use Rattle.zone_rdata.proofs.Bytes.{Bytes}
 use Rattle.zone_rdata.specs.Record.{Record}
 use Rattle.zone_rdata.specs.declared.fault.Fault.{Fault}
 use Rattle.zone_rdata.specs.declared.fault.Place.TheVariants.{Message}
@@ -16,7 +17,7 @@ use Rattle.zone_wire.proofs.AnswerFaults.{own_faults, own_refuses, own_states, o
 use Rattle.zone_wire.proofs.Answering.{record_is_read}
 use Rattle.zone_wire.proofs.MessageFaults.{err_same, stops, and_then_err}
 use Rattle.zone_wire.proofs.ReadAnswers.{answer_shown}
-use Rattle.zone_wire.proofs.ReadStreams.{Bytes, all_front}
+use Rattle.zone_wire.proofs.ReadStreams.{all_front}
 use Rattle.zone_wire.proofs.Sectioning.{and_then_ok}
 
 -- it stands somewhere

@@ -5,6 +5,7 @@ use Rattle.std.specs.List.{AllByRecursion}
 use Rattle.std.proofs.lemmas.Bool.{cond-true, cond-false, and_parts, and_from, eqb-true, eq-eqb, false_from_ne_true}
 use Rattle.std.proofs.lemmas.List.{append-nil, length-map, map-append}
 use Rattle.std.proofs.lemmas.List.Concat.{flat_map-append}
+use Rattle.zone_rdata.proofs.Bytes.{Bytes}
 use Rattle.zone_rdata.specs.declared.fault.Fault.{Fault}
 use Rattle.zone_rdata.specs.declared.fault.Fault.TheVariants.{IdMismatch, BadQuestion}
 use Rattle.zone_rdata.specs.declared.fault.Place.{Place}
@@ -22,7 +23,6 @@ use Rattle.zone_wire.proofs.AnswerFaults.{agrees_by, agrees_true}
 use Rattle.zone_wire.proofs.GivenAnswers.{each_stands, Give, answers_give, answers_given, fault_given, found}
 use Rattle.zone_wire.proofs.MessageFaults.{err_same, stops, and_then_err, fails, sections_fault, sections_refuse}
 use Rattle.zone_wire.proofs.ReadSections.{leads, passes, ok_same, sections_shown}
-use Rattle.zone_wire.proofs.ReadStreams.{Bytes}
 use Rattle.zone_wire.proofs.Sectioning.{and_then_ok, sections_read}
 
 -- the ID of a message after others

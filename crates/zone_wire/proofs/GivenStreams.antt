@@ -4,6 +4,7 @@ use Rattle.std.specs.Prelude.{Option, Some, None, MatchOption}
 use Rattle.std.specs.List.{flat_map, AllByRecursion}
 use Rattle.std.proofs.lemmas.Bool.{cond-true, cond-false}
 use Rattle.std.proofs.lemmas.List.{append-nil}
+use Rattle.zone_rdata.proofs.Bytes.{Bytes, front_bytes}
 use Rattle.zone_rdata.specs.Record.{IsRecord}
 use Rattle.zone_rdata.specs.declared.fault.Fault.{Fault}
 use Rattle.zone_rdata.specs.declared.fault.Place.{Place}
@@ -17,7 +18,7 @@ use Rattle.zone_wire.specs.Transfer.{StatedMessage, AnswersState, frame}
 use Rattle.zone_wire.proofs.Accepting.{all_append}
 use Rattle.zone_wire.proofs.GivenMessages.{Finds, finds, parts_read, fault_read, records_show}
 use Rattle.zone_wire.proofs.ReadRecords.{handed_fit}
-use Rattle.zone_wire.proofs.ReadStreams.{Bytes, all_front, front_bytes, message_bytes}
+use Rattle.zone_wire.proofs.ReadStreams.{all_front, message_bytes}
 
 -- how a stream ends
 end_shows : (number : ℕ) (placed : List Placed) (rest : List ℕ) → StreamEnd number placed rest (end_fault number placed rest)

@@ -14,7 +14,6 @@ pub mod FrameLaws
 pub mod Frames
 pub mod GivenAnswers
 pub mod GivenMessages
-pub mod GivenRecords
 pub mod GivenStreams
 pub mod GivenTransfers
 pub mod MessageFaults
@@ -23,7 +22,7 @@ pub mod Naming
 pub mod OneFault
 pub mod OneReading
 pub mod Pending
-pub mod Places
+pub mod Spots
 pub mod Progress
 pub mod ReadAnswers
 pub mod ReadFields

@@ -19,7 +19,7 @@ use Rattle.zone_wire.proofs.Answering.{is_soa}
 use Rattle.zone_wire.proofs.ReadFields.{data_shown}
 use Rattle.zone_wire.proofs.ReadSections.{ok_same, leads, passes_on, no_fault}
 use Rattle.zone_wire.proofs.Transfers.{equal_parts}
-use Rattle.zone_wire.proofs.Places.{unequal}
+use Rattle.zone_wire.proofs.Spots.{unequal}
 
 pub each_other : (kind : ℕ) (kinds : List ℕ) → list_any (nat_eq kind) kinds ≡ false → AllByRecursion (λ k. kind ≢ k) kinds
 each_other kind [] e = tt

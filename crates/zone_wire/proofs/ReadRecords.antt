@@ -4,6 +4,7 @@ use Rattle.std.specs.Prelude.{drop, ◌==◌, ◌||◌, ◌⊎◌, Option, Some,
 use Rattle.std.specs.List.{AllByRecursion, filter, list_all, list_any}
 use Rattle.std.proofs.lemmas.Bool.{and_parts, or_cases, or_parts, not-true, false≢true, ltb-false}
 use Rattle.std.proofs.lemmas.List.{append-nil, length-take, length-drop}
+use Rattle.zone_rdata.proofs.Bytes.{Bytes}
 use Rattle.zone_name.specs.Name.{IsName}
 use Rattle.zone_rdata.specs.Field.{FieldValue, strings, field_octets, octets_of, Holds, HoldEach}
 use Rattle.zone_rdata.specs.Layout.{layout, AreLaidOut, IsData}
@@ -20,11 +21,10 @@ use Rattle.zone_wire.specs.Machine.Data.{data_at}
 use Rattle.zone_wire.specs.Message.{u16_at, RecordAt, IsRecordAt}
 use Rattle.zone_wire.specs.Answers.{handed_on}
 use Rattle.zone_wire.specs.Transfer.{octets_between, IsValueAt, AreValuesAt, AreFieldsAt, ttl_of, compressible}
-use Rattle.zone_wire.proofs.Places.{unequal}
+use Rattle.zone_wire.proofs.Spots.{unequal}
 use Rattle.zone_rdata.proofs.Lists.{bytes_each}
 use Rattle.zone_wire.proofs.ReadFields.{data_shown}
 use Rattle.zone_wire.proofs.ReadSections.{ok_same, leads, passes_on}
-use Rattle.zone_wire.proofs.ReadStreams.{Bytes}
 use Rattle.zone_wire.proofs.Walking.{take_each, drop_each}
 
 -- a layout holds no strings, or strings alone

@@ -5,6 +5,7 @@ use Rattle.std.specs.List.{flat_map, AllByRecursion, list_any}
 use Rattle.std.proofs.lemmas.Bool.{and_parts, eqb-true, eq-eqb, or_parts}
 use Rattle.std.proofs.lemmas.List.{append-nil}
 use Rattle.std.proofs.lemmas.List.Concat.{flat_map-append}
+use Rattle.zone_rdata.proofs.Bytes.{Bytes, back_bytes, front_bytes}
 use Rattle.zone_rdata.specs.Record.{Record, IsRecord}
 use Rattle.zone_rdata.specs.declared.fault.Fault.{Fault}
 use Rattle.zone_rdata.specs.declared.fault.Fault.TheVariants.{NoClosingSoa}
@@ -22,9 +23,6 @@ use Rattle.zone_wire.proofs.Accepting.{all_append, octets_of_parts, placed_of_pa
 use Rattle.zone_wire.proofs.Answering.{is_soa}
 use Rattle.zone_wire.proofs.ReadAnswers.{Later, stands_later, opening_agrees, agree_parts, Kept, answers_shown}
 use Rattle.zone_wire.proofs.ReadSections.{ok_same, leads, passes, sections_shown}
-
-abbrev pub Bytes : List ℕ → Type 0
-Bytes octets = (k : ℕ) → get_or octets k 0 < 256
 
 -- a question for a zone
 record AsksIn (zone : ZoneAsked) (q : QuestionAt) : Type 0 where
@@ -264,15 +262,6 @@ ended number placed None [] e = (refl, refl, closed (is_closed placed) e)
     closed : (test : Bool) → (let o : Option (Fault × Place) = if test then None else Some (NoClosingSoa, Message number 0) in o) ≡ None → test ≡ true
     closed true h = refl
     closed false h = cc
-
-pub front_bytes : (xs ys : List ℕ) → Bytes (xs ++ ys) → Bytes xs
-front_bytes [] ys each k = lit< tt
-front_bytes (x ∷ xs) ys each zero = each 0
-front_bytes (x ∷ xs) ys each (suc k) = front_bytes xs ys (λ i. each (suc i)) k
-
-back_bytes : (xs ys : List ℕ) → Bytes (xs ++ ys) → Bytes ys
-back_bytes [] ys each = each
-back_bytes (x ∷ xs) ys each = back_bytes xs ys (λ i. each (suc i))
 
 pub message_bytes : (messages : List (List ℕ)) → Bytes (flat_map frame messages) → AllByRecursion Bytes messages
 message_bytes [] each = tt

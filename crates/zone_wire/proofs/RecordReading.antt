@@ -2,6 +2,7 @@
 use Rattle.std.proofs.Common.{◌≡◌, ℕ, ◌<◌, ◌≤◌, List, length, refl, ap, sym, ◌∙◌, subst, Bool, true, false}
 use Rattle.std.specs.Prelude.{IfOk, IfErr, IsErr, IsErrAnd, Result, Ok, Err, IsTrue, ◌↔◌}
 use Rattle.std.proofs.lemmas.Result.{err_from_is_err_and}
+use Rattle.zone_rdata.proofs.Bytes.{Bytes}
 use Rattle.zone_rdata.specs.declared.fault.Failing.{Failing}
 use Rattle.zone_rdata.specs.declared.fault.Failing.TheVariants as failings
 use Rattle.zone_rdata.specs.declared.fault.Fault.{Fault}
@@ -18,7 +19,6 @@ use Rattle.zone_wire.specs.Machine.DataReading.{IsRead}
 use Rattle.zone_wire.specs.Message.{RecordAt, IsRecordAt}
 use Rattle.zone_wire.specs.Transfer.{IsDataAt, IsReadable, AnswerStates, ttl_of}
 use Rattle.zone_wire.specs.View.{RawRecord}
-use Rattle.zone_wire.proofs.AnswerFaults.{Bytes}
 use Rattle.zone_wire.proofs.DataFaults.{data_faults, data_refuses}
 use Rattle.zone_wire.proofs.Fielding.{data_reads}
 use Rattle.zone_wire.proofs.ReadFields.{data_shown}

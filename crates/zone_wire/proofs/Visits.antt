@@ -4,8 +4,8 @@ use Rattle.std.specs.Prelude.{if◌then◌else◌}
 use Rattle.std.proofs.lemmas.List.Sums.{sum_by-cons}
 use Rattle.zone_wire.specs.Visits.{is_label, is_pointer, labels_in, pointers_in, LeadToLast}
 use Rattle.zone_wire.specs.Walk.{Standing, at_root, at_label, at_pointer, at_fault, Spot, Visit, visit, outset, past_label, past_pointer}
-use Rattle.zone_wire.specs.Machine.Walk.{place_of, walk_on, walk_by, walk}
-use Rattle.zone_wire.proofs.Places.{Shows, place_shows}
+use Rattle.zone_wire.specs.Machine.Walk.{standing_in, walk_on, walk_by, walk}
+use Rattle.zone_wire.proofs.Spots.{Shows, standing_shows}
 
 -- each label takes two octets or more of the 254 that labels can have
 labels_on : (n : ℕ) (message : List ℕ) (spot : Spot) (standing : Option Standing) → Shows message spot standing → spot.octets ≤ 254 → ((next : Spot) → next.octets ≤ 254 → next.octets + 2 * labels_in (walk_by n message next) ≤ 254) → spot.octets + 2 * labels_in (walk_on (walk_by n message) spot standing) ≤ 254
@@ -21,7 +21,7 @@ labels_on n message spot (Some (at_fault fault)) shows short each = omega arith
 labels_by : (n : ℕ) (message : List ℕ) (spot : Spot) → spot.octets ≤ 254 → spot.octets + 2 * labels_in (walk_by n message spot) ≤ 254
 unfolding walk_by
 labels_by zero message spot short = omega arith
-labels_by (suc n) message spot short = labels_on n message spot (place_of message spot) (place_shows message spot) short (λ next. labels_by n message next)
+labels_by (suc n) message spot short = labels_on n message spot (standing_in message spot) (standing_shows message spot) short (λ next. labels_by n message next)
 
 pointers_on : (n : ℕ) (message : List ℕ) (spot : Spot) (standing : Option Standing) → Shows message spot standing → spot.pointers ≤ 128 → ((next : Spot) → next.pointers ≤ 128 → next.pointers + pointers_in (walk_by n message next) ≤ 128) → spot.pointers + pointers_in (walk_on (walk_by n message) spot standing) ≤ 128
 pointers_on n message spot None shows few each = omega arith
@@ -36,7 +36,7 @@ pointers_on n message spot (Some (at_fault fault)) shows few each = omega arith
 pointers_by : (n : ℕ) (message : List ℕ) (spot : Spot) → spot.pointers ≤ 128 → spot.pointers + pointers_in (walk_by n message spot) ≤ 128
 unfolding walk_by
 pointers_by zero message spot few = omega arith
-pointers_by (suc n) message spot few = pointers_on n message spot (place_of message spot) (place_shows message spot) few (λ next. pointers_by n message next)
+pointers_by (suc n) message spot few = pointers_on n message spot (standing_in message spot) (standing_shows message spot) few (λ next. pointers_by n message next)
 
 lead_before : (v : Visit) (visits : List Visit) → is_label v.standing || is_pointer v.standing ≡ true → LeadToLast visits → LeadToLast (v ∷ visits)
 lead_before v [] leads rest = tt
@@ -52,7 +52,7 @@ lead_on n message spot (Some (at_fault fault)) each = tt
 lead_by : (n : ℕ) (message : List ℕ) (spot : Spot) → LeadToLast (walk_by n message spot)
 unfolding walk_by
 lead_by zero message spot = tt
-lead_by (suc n) message spot = lead_on n message spot (place_of message spot) (λ next. lead_by n message next)
+lead_by (suc n) message spot = lead_on n message spot (standing_in message spot) (λ next. lead_by n message next)
 
 pub few_labels : (message : List ℕ) (offset : ℕ) → labels_in (walk message offset) ≤ 127
 unfolding walk

@@ -6,10 +6,10 @@ use Rattle.std.proofs.lemmas.List.{length-map, length-take-le, length-drop}
 use Rattle.zone_name.specs.Name.{IsLabel, folded_octet, with_length, wire}
 use Rattle.zone_wire.specs.Name.{At, root, label, pointer, Found, IsNameAt, label_at}
 use Rattle.zone_wire.specs.Walk.{Spot, Standing, at_root, at_label, at_pointer, at_fault, Visit, ending, visit, outset, past_label, past_pointer}
-use Rattle.zone_wire.specs.Machine.Walk.{place_of, walk_on, walk_by, walk}
+use Rattle.zone_wire.specs.Machine.Walk.{standing_in, walk_on, walk_by, walk}
 use Rattle.zone_wire.specs.Machine.Finding.{Outcome, named, refused, outcome, after_label, after_pointer}
 use Rattle.zone_rdata.specs.declared.fault.Fault.TheVariants.{ShortMessage}
-use Rattle.zone_wire.proofs.Places.{Shows, place_shows, place_root, place_label, place_pointer, fault_inside}
+use Rattle.zone_wire.proofs.Spots.{Shows, standing_shows, standing_root, standing_label, standing_pointer, fault_inside}
 use Rattle.zone_name.proofs.Pushing.{IsLabel-folded}
 use Rattle.zone_rdata.proofs.Lists.{bytes_each}
 
@@ -34,7 +34,7 @@ outcome_on message n spot (Some (at_pointer target)) = refl
 outcome_on message n spot (Some (at_fault fault)) = refl
 
 -- one place more
-pub outcome_step : (message : List ℕ) (n : ℕ) (spot : Spot) (standing : Option Standing) → place_of message spot ≡ standing → outcome_by (suc n) message spot ≡ outcome_at message n spot standing
+pub outcome_step : (message : List ℕ) (n : ℕ) (spot : Spot) (standing : Option Standing) → standing_in message spot ≡ standing → outcome_by (suc n) message spot ≡ outcome_at message n spot standing
 unfolding walk_by outcome_by
 outcome_step message n spot standing e = rw e (outcome_on message n spot standing)
 
@@ -51,17 +51,17 @@ label_octets-more l labels = omega (arith, length-append (with_length l) (flat_m
 -- a name of the relation is what its walk finds
 pub at_walks : {message : List ℕ} {offset bound : ℕ} {labels : List (List ℕ)} {end steps pointers : ℕ} → At message offset bound labels end steps pointers → (n before octets : ℕ) → steps ≤ n → before + pointers ≤ 128 → octets + label_octets labels + 1 ≤ 255 → outcome_by n message (record { offset = offset; bound = bound; pointers = before; octets = octets }) ≡ named (record { labels = labels; end = end; steps = steps; pointers = pointers })
 at_walks (root offset bound inside first) zero before octets enough few short = absurd (omega arith)
-at_walks {message} (root offset bound inside first) (suc n) before octets enough few short = outcome_step message n (record { offset = offset; bound = bound; pointers = before; octets = octets }) (Some at_root) (place_root message (record { offset = offset; bound = bound; pointers = before; octets = octets }) inside first)
+at_walks {message} (root offset bound inside first) (suc n) before octets enough few short = outcome_step message n (record { offset = offset; bound = bound; pointers = before; octets = octets }) (Some at_root) (standing_root message (record { offset = offset; bound = bound; pointers = before; octets = octets }) inside first)
 at_walks (label offset bound size labels end steps pointers here rest) zero before octets enough few short = absurd (omega arith)
 at_walks {message} (label offset bound size labels end steps pointers here rest) (suc n) before octets enough few short =
     let spot : Spot = record { offset = offset; bound = bound; pointers = before; octets = octets } in
     let this = label_at message offset size in
     let room : octets + 1 + size + label_octets labels + 1 ≤ 255 = omega (arith, label_octets-more this labels, label_octets-label message offset size here.inside) in
-    outcome_step message n spot (Some (at_label size)) (place_label message spot size here (omega arith)) ∙ ap (after_label this) (at_walks rest n before (octets + 1 + size) (omega arith) few room)
+    outcome_step message n spot (Some (at_label size)) (standing_label message spot size here (omega arith)) ∙ ap (after_label this) (at_walks rest n before (octets + 1 + size) (omega arith) few room)
 at_walks (pointer offset bound target labels end steps pointers here rest) zero before octets enough few short = absurd (omega arith)
 at_walks {message} (pointer offset bound target labels end steps pointers here rest) (suc n) before octets enough few short =
     let spot : Spot = record { offset = offset; bound = bound; pointers = before; octets = octets } in
-    outcome_step message n spot (Some (at_pointer target)) (place_pointer message spot target here (omega arith)) ∙ ap (after_pointer (offset + 2)) (at_walks rest n (before + 1) octets (omega arith) (omega arith) short)
+    outcome_step message n spot (Some (at_pointer target)) (standing_pointer message spot target here (omega arith)) ∙ ap (after_pointer (offset + 2)) (at_walks rest n (before + 1) octets (omega arith) (omega arith) short)
 
 -- the steps are the labels, the pointers and the root
 pub at_steps : {message : List ℕ} {offset bound : ℕ} {labels : List (List ℕ)} {end steps pointers : ℕ} → At message offset bound labels end steps pointers → steps ≡ length labels + pointers + 1
@@ -167,7 +167,7 @@ found_at message n spot (Some (at_fault fault)) found shows short few finds e = 
 pub finds_by : (n : ℕ) (message : List ℕ) → FindsBy n message
 unfolding outcome_by walk_by outcome
 finds_by zero message spot found short few e = cc
-finds_by (suc n) message spot found short few e = found_at message n spot (place_of message spot) found (place_shows message spot) short few (finds_by n message) (sym (outcome_step message n spot (place_of message spot) refl) ∙ e)
+finds_by (suc n) message spot found short few e = found_at message n spot (standing_in message spot) found (standing_shows message spot) short few (finds_by n message) (sym (outcome_step message n spot (standing_in message spot) refl) ∙ e)
 
 pub drop_each : (n : ℕ) (octets : List ℕ) → ((k : ℕ) → get_or octets k 0 < 256) → (k : ℕ) → get_or (drop n octets) k 0 < 256
 drop_each n octets each k = rw get_or-drop (each (n + k))
@@ -222,7 +222,7 @@ measures_at message n spot (Some (at_fault fault)) m = (refl, refl)
 pub measures : (n : ℕ) (message : List ℕ) (spot : Spot) → Measures (outcome_by n message spot) (walk_by n message spot)
 unfolding walk_by outcome_by outcome ending
 measures zero message spot = (refl, refl)
-measures (suc n) message spot = subst (λ o. Measures o (walk_by (suc n) message spot)) (sym (outcome_step message n spot (place_of message spot) refl)) (measures_at message n spot (place_of message spot) (λ next. measures n message next))
+measures (suc n) message spot = subst (λ o. Measures o (walk_by (suc n) message spot)) (sym (outcome_step message n spot (standing_in message spot) refl)) (measures_at message n spot (standing_in message spot) (λ next. measures n message next))
 
 walk_on_length : (n : ℕ) (message : List ℕ) (spot : Spot) (standing : Option Standing) → ((next : Spot) → length (walk_by n message next) ≤ n) → length (walk_on (walk_by n message) spot standing) ≤ suc n
 walk_on_length n message spot None each = omega arith
@@ -242,13 +242,13 @@ walk_on_inside n message spot (Some (at_fault fault)) shows each = (fault_inside
 pub walk_length : (n : ℕ) (message : List ℕ) (spot : Spot) → length (walk_by n message spot) ≤ n
 unfolding walk_by
 walk_length zero message spot = omega arith
-walk_length (suc n) message spot = walk_on_length n message spot (place_of message spot) (λ next. walk_length n message next)
+walk_length (suc n) message spot = walk_on_length n message spot (standing_in message spot) (λ next. walk_length n message next)
 
 -- each place lies in the message
 pub walk_inside : (n : ℕ) (message : List ℕ) (spot : Spot) → AllByRecursion (λ v. v.offset < length message) (walk_by n message spot)
 unfolding walk_by
 walk_inside zero message spot = tt
-walk_inside (suc n) message spot = walk_on_inside n message spot (place_of message spot) (place_shows message spot) (λ next. walk_inside n message next)
+walk_inside (suc n) message spot = walk_on_inside n message spot (standing_in message spot) (standing_shows message spot) (λ next. walk_inside n message next)
 
 pub walk_is_short : (message : List ℕ) (offset : ℕ) → length (walk message offset) ≤ 256
 unfolding walk

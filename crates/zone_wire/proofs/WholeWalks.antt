@@ -2,10 +2,10 @@
 use Rattle.std.proofs.Common.{◌≡◌, ℕ, zero, suc, ◌+◌, ◌*◌, ◌≤◌, List, [], ◌∷◌, length, refl, ap, sym, ◌∙◌, subst, arith, lit≤}
 use Rattle.std.specs.Prelude.{Option, Some, None}
 use Rattle.zone_wire.specs.Walk.{Spot, Standing, at_root, at_label, at_pointer, at_fault, Visit, outset, past_label, past_pointer, visit, Walks, outside, to_root, to_fault, over_label, by_pointer, IsWalk}
-use Rattle.zone_wire.specs.Machine.Walk.{place_of, walk_on, walk_by, walk}
-use Rattle.zone_wire.proofs.Places.{Shows, place_shows, place_outside, place_root, place_label, place_pointer, place_fault}
+use Rattle.zone_wire.specs.Machine.Walk.{standing_in, walk_on, walk_by, walk}
+use Rattle.zone_wire.proofs.Spots.{Shows, standing_shows, standing_outside, standing_root, standing_label, standing_pointer, standing_fault}
 
-walk_step : (n : ℕ) (message : List ℕ) (spot : Spot) (standing : Option Standing) → place_of message spot ≡ standing → walk_on (walk_by n message) spot standing ≡ walk_by (suc n) message spot
+walk_step : (n : ℕ) (message : List ℕ) (spot : Spot) (standing : Option Standing) → standing_in message spot ≡ standing → walk_on (walk_by n message) spot standing ≡ walk_by (suc n) message spot
 unfolding walk_by
 walk_step n message spot standing e = ap (walk_on (walk_by n message) spot) (sym e)
 
@@ -24,15 +24,15 @@ enough_pointer is shows = record { short = is.short; few = omega (arith, shows.1
 -- a walk from a spot on is the one that is computed
 same : {message : List ℕ} (n : ℕ) {spot : Spot} {visits : List Visit} → Walks message spot visits → IsEnough n spot → visits ≡ walk_by n message spot
 same zero w is = absurd (omega (arith, is.short, is.few, is.enough))
-same {message} (suc n) (outside spot past) is = walk_step n message spot None (place_outside message spot past)
-same {message} (suc n) (to_root spot here first) is = walk_step n message spot (Some at_root) (place_root message spot here first)
-same {message} (suc n) (to_fault spot fault here) is = walk_step n message spot (Some (at_fault fault)) (place_fault message spot fault here)
+same {message} (suc n) (outside spot past) is = walk_step n message spot None (standing_outside message spot past)
+same {message} (suc n) (to_root spot here first) is = walk_step n message spot (Some at_root) (standing_root message spot here first)
+same {message} (suc n) (to_fault spot fault here) is = walk_step n message spot (Some (at_fault fault)) (standing_fault message spot fault here)
 same {message} (suc n) (over_label spot size visits here room rest) is =
     ap (λ (vs : List Visit). visit spot (at_label size) ∷ vs) (same n rest (enough_label {message = message} is (here, room)))
-    ∙ walk_step n message spot (Some (at_label size)) (place_label message spot size here room)
+    ∙ walk_step n message spot (Some (at_label size)) (standing_label message spot size here room)
 same {message} (suc n) (by_pointer spot target visits here few rest) is =
     ap (λ (vs : List Visit). visit spot (at_pointer target) ∷ vs) (same n rest (enough_pointer {message = message} is (here, few)))
-    ∙ walk_step n message spot (Some (at_pointer target)) (place_pointer message spot target here few)
+    ∙ walk_step n message spot (Some (at_pointer target)) (standing_pointer message spot target here few)
 
 module _ (message : List ℕ) where
   abbrev WalksBy : ℕ → Type 0
@@ -47,7 +47,7 @@ module _ (message : List ℕ) where
 
   walks : (n : ℕ) → WalksBy n
   walks zero spot is = absurd (omega (arith, is.short, is.few, is.enough))
-  walks (suc n) spot is = subst (Walks message spot) (walk_step n message spot (place_of message spot) refl) (walks_at n spot (place_of message spot) is (place_shows message spot) (walks n))
+  walks (suc n) spot is = subst (Walks message spot) (walk_step n message spot (standing_in message spot) refl) (walks_at n spot (standing_in message spot) is (standing_shows message spot) (walks n))
 
 enough_256 : (start : ℕ) → IsEnough 256 (outset start)
 enough_256 start = record { short = lit≤ tt; few = lit≤ tt; enough = lit≤ tt }

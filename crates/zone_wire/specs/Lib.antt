@@ -6,7 +6,7 @@ pub mod Frames
 pub mod Message
 pub mod MessageFault
 pub mod Name
-pub mod Source
+pub mod TransferSource
 pub mod Stream
 pub mod Transfer
 pub mod View

@@ -5,7 +5,7 @@ pub mod DataReading
 pub mod Feeding
 pub mod Finding
 pub mod Parsing
-pub mod Place
+pub mod Spot
 pub mod Sections
 pub mod Stream
 pub mod Transferring

@@ -1,10 +1,10 @@
--- The walk along a name in a message: its places, and what stands there (RFC 1035 3.1, 4.1.4).
+-- The walk along a name in a message: its spots, and what stands there (RFC 1035 3.1, 4.1.4).
 use Rattle.std.specs.Prelude.{◌≡◌, ℕ, ◌+◌, ◌<◌, ◌≤◌, ◌⊎◌, List, [], ◌∷◌, length, slice_index, Option, Some, None}
 use Rattle.zone_wire.specs.Name.{target_at, IsLabelAt, IsPointerAt}
 use Rattle.zone_rdata.specs.declared.fault.Fault.{Fault}
 use Rattle.zone_rdata.specs.declared.fault.Fault.TheVariants.{ShortMessage, NameTooLong, ReservedLabel, BadPointer, TooManyPointers}
 
--- what stands at a place of a name: the root, a label of so many octets, a pointer to a target, or
+-- what stands at a spot of a name: the root, a label of so many octets, a pointer to a target, or
 -- a fault
 pub data Standing : Type 0 where
   at_root : Standing
@@ -12,12 +12,12 @@ pub data Standing : Type 0 where
   at_pointer : ℕ → Standing
   at_fault : Fault → Standing
 
--- a place of a walk, and what stands there
+-- a spot of a walk, and what stands there
 pub record Visit : Type 0 where
   pub offset : ℕ
   pub standing : Standing
 
--- A place that is come to: its offset, the offset at which the run of labels began that stands
+-- A spot that is come to: its offset, the offset at which the run of labels began that stands
 -- there, and how many pointers and octets of labels, each with its length, stand before it.
 pub record Spot : Type 0 where
   pub offset : ℕ
@@ -40,7 +40,7 @@ past_pointer spot target =
 abbrev pub visit : Spot → Standing → Visit
 visit spot standing = record { offset = spot.offset; standing = standing }
 
--- The fault at a place: a label or a pointer that isn't whole in the message; a label with which,
+-- The fault at a spot: a label or a pointer that isn't whole in the message; a label with which,
 -- and the root, the name has more than 255 octets; a first octet of 64 to 191; a pointer to the
 -- header, or to the bound or after it; or the 129th pointer.
 pub data FaultHere (message : List ℕ) (spot : Spot) : Fault → Type 0 where
@@ -59,8 +59,8 @@ pub data FaultHere (message : List ℕ) (spot : Spot) : Fault → Type 0 where
   too_many : (target : ℕ) → IsPointerAt message spot.offset spot.bound target
       → 128 ≤ spot.pointers → FaultHere message spot TooManyPointers
 
--- The places from one on, up to the root, to a fault, or to a place outside the message: after a
--- label comes the place after it, and after a pointer the one to which it leads.
+-- The spots from one on, up to the root, to a fault, or to a spot outside the message: after a
+-- label comes the spot after it, and after a pointer the one to which it leads.
 pub data Walks (message : List ℕ) : Spot → List Visit → Type 0 where
   outside : (spot : Spot) → length message ≤ spot.offset → Walks message spot []
   to_root : (spot : Spot) → spot.offset < length message → slice_index message spot.offset ≡ 0
@@ -75,12 +75,12 @@ pub data Walks (message : List ℕ) : Spot → List Visit → Type 0 where
       → Walks message (past_pointer spot target) visits
       → Walks message spot (visit spot (at_pointer target) ∷ visits)
 
--- the places of the name at an offset
+-- the spots of the name at an offset
 abbrev pub IsWalk : List ℕ → ℕ → List Visit → Type 0
 IsWalk message start visits = Walks message (outset start) visits
 
 -- The fault with which a walk ends, none where it ends at the root. One that ends at no fault and
--- no root ends before a place outside the message.
+-- no root ends before a spot outside the message.
 unfoldable pub ending : List Visit → Option Fault
 ending [] = Some ShortMessage
 ending (last ∷ visits) =

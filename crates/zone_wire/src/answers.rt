@@ -3,7 +3,7 @@ ghost use Rattle.zone_wire.specs.Message.{RecordAt, IsRecordAt};
 
 use crate::name::read_name;
 use crate::number::{u16_at, u32_at};
-use crate::place::RECORD_HEAD_LEN;
+use crate::spot::RECORD_HEAD_LEN;
 use std::marker::Model;
 use zone_name::{Name, NameBuilder};
 

@@ -1,7 +1,7 @@
 //! Laws over the definitions alone.
 pub mod frame;
+pub mod given_records;
 pub mod record;
-pub mod source;
 pub mod walk;
 
 ghost use Rattle.std.specs.Prelude.{◌++◌, Some, ◌≡◌, ◌+◌, ◌≤◌, ◌<◌, ℕ, List, length, slice_index, Option, None};

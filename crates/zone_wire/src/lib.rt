@@ -5,18 +5,18 @@
 mod answers;
 mod data;
 pub mod examples;
-mod intake;
+mod framer;
 pub mod laws;
 mod message;
 mod name;
 mod number;
 mod octets;
-mod place;
 mod record;
-mod source;
+mod spot;
 mod structure;
 mod ticks;
 mod transfer;
+mod transfer_source;
 
 pub use answers::{Answers, RawRr};
 pub use message::{Message, Question};

@@ -7,7 +7,7 @@ ghost use Rattle.zone_wire.specs.View.{raw_at, asked};
 use crate::answers::Answers;
 use crate::name::{Decoded, name_at};
 use crate::number::u16_at;
-use crate::place::{ANCOUNT, HEADER_LEN, QDCOUNT};
+use crate::spot::{ANCOUNT, HEADER_LEN, QDCOUNT};
 use crate::structure::answers_start;
 use std::marker::Model;
 use zone_name::Name;

@@ -4,7 +4,7 @@ ghost use Rattle.zone_wire.specs.Machine.Finding.{Says, Tells, outcome};
 ghost use Rattle.zone_wire.specs.Walk.{Visit, IsWalk, NameFault};
 ghost use Rattle.zone_wire.specs.Machine.Walk.{walk};
 
-use crate::place::{Spot, Standing, place_at};
+use crate::spot::{Spot, Standing, look_at};
 use crate::ticks::Ticks;
 use zone_name::{Name, NameBuilder};
 use zone_rdata::{Cause, Fault};
@@ -24,8 +24,8 @@ pub struct Decoded {
 ///
 /// # Errors
 ///
-/// The fault at the first place of the name that has one, and the steps of the walk: one for each
-/// place that was looked at.
+/// The fault at the first spot of the name that has one, and the steps of the walk: one for each
+/// spot that was looked at.
 pub fn name_at(message: &[u8], offset: usize) -> Result<Decoded, (Fault, u16)>
     ensures found { IfOk result
         (λ d. (pointers : ℕ) × IsNameAt message.now offset (found_by d pointers)) }
@@ -71,7 +71,7 @@ pub(crate) fn read_name(
     let mut end = None;
     let mut spot = Spot::outset(offset);
     'places: loop {
-        match place_at(message, spot, &mut ticks) {
+        match look_at(message, spot, &mut ticks) {
             Standing::Outside => return Err((Cause::ShortMessage, ticks.count())),
             Standing::Bad(cause) => return Err((cause, ticks.count())),
             Standing::Root => return Ok((end.unwrap_or(spot.offset + 1), ticks.count())),

@@ -3,12 +3,12 @@ ghost use Rattle.zone_rdata.specs.Cause.{fault_for};
 ghost use Rattle.zone_wire.specs.Machine.Parsing.{IsParsed, name_end_of, part_end_of, run_end_of};
 ghost use Rattle.zone_wire.specs.Machine.Sections.{header_fault, question_at, record_at, questions_from, records_from, sections_of};
 ghost use Rattle.zone_wire.specs.Machine.Finding.{outcome};
-ghost use Rattle.zone_wire.specs.Machine.Place.{end_or_fault, place_or_fault};
+ghost use Rattle.zone_wire.specs.Machine.Spot.{end_or_fault, offset_or_fault};
 ghost use Rattle.zone_wire.specs.Machine.Walk.{walk};
 
 use crate::number::u16_at;
-use crate::place::{
-    ANCOUNT, ARCOUNT, HEADER_LEN, NSCOUNT, QDCOUNT, RECORD_HEAD_LEN, Spot, Standing, place_at,
+use crate::spot::{
+    ANCOUNT, ARCOUNT, HEADER_LEN, NSCOUNT, QDCOUNT, RECORD_HEAD_LEN, Spot, Standing, look_at,
 };
 use crate::ticks::Ticks;
 use zone_rdata::Cause;
@@ -65,7 +65,7 @@ fn walk_to_root(message: &[u8], offset: usize) -> Result<usize, Cause>
     let mut end = None;
     let mut spot = Spot::outset(offset);
     'places: loop {
-        match place_at(message, spot, &mut ticks) {
+        match look_at(message, spot, &mut ticks) {
             Standing::Outside => return Err(Cause::ShortMessage),
             Standing::Bad(cause) => return Err(cause),
             Standing::Root => return Ok(end.unwrap_or(spot.offset + 1)),
@@ -112,7 +112,7 @@ fn record_end(message: &[u8], offset: usize) -> Result<usize, Cause>
 /// The question's fault and the offset at which it begins.
 fn questions_end(message: &[u8], count: u16, offset: usize) -> Result<usize, (Cause, usize)>
     requires { count ≤ 1 }
-    ensures { place_or_fault result ≡ run_end_of (questions_from message.now count offset) }
+    ensures { offset_or_fault result ≡ run_end_of (questions_from message.now count offset) }
 {
     if count == 0 {
         return Ok(offset);
@@ -129,7 +129,7 @@ fn questions_end(message: &[u8], count: u16, offset: usize) -> Result<usize, (Ca
 ///
 /// The first fault and the offset at which its record begins.
 fn records_end(message: &[u8], count: u16, offset: usize) -> Result<usize, (Cause, usize)>
-    ensures { place_or_fault result ≡ run_end_of (records_from message.now count offset) }
+    ensures { offset_or_fault result ≡ run_end_of (records_from message.now count offset) }
 {
     let mut end = offset;
     for _ in 0..count {

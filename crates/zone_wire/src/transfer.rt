@@ -14,8 +14,8 @@ ghost use Rattle.zone_wire.specs.Transfer.{AnswerStates, StatedMessage};
 
 use crate::answers::RawRr;
 use crate::message::Message;
-use crate::place::HEADER_LEN;
 use crate::record::counted_ttl;
+use crate::spot::HEADER_LEN;
 use std::alloc::{AllocError, Global};
 use zone_name::Name;
 use zone_rdata::{

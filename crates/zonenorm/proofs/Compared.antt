@@ -11,7 +11,7 @@ use Rattle.zone_print.specs.Canonical.{canon, line, lines}
 use Rattle.zone_print.specs.Laws.{HasNoFeed, EndsWithItsFeed}
 use Rattle.zone_print.proofs.Feeds.{line_ends_with_feed}
 use Rattle.zonenorm.specs.Compare.{Compares, DifferFirstAt, IsAccepted, IsVerdictOnTexts, line_at, lines_of}
-use Rattle.zonenorm.specs.Input.{InputForm, input_of, InputDenotes}
+use Rattle.zonenorm.specs.Input.{ReadAs, input_of, InputDenotes}
 use Rattle.zonenorm.specs.declared.compare.Verdict.{Verdict}
 
 -- ---- the lines of a text
@@ -128,12 +128,12 @@ other_record records others left right left' right' r s number exact each each' 
 
 -- ---- the zones of known octets
 
-pub compares_zones : (form form' : InputForm) (known known' : Option Octets) (z w : Zone) (verdict : Verdict) → IfSome known (λ octets. InputDenotes (input_of form octets) z) → IfSome known' (λ octets. InputDenotes (input_of form' octets) w) → IsVerdictOnTexts verdict (canon z) (canon w) → IfSome known (λ octets. IfSome known' (λ others. Compares (input_of form octets) (input_of form' others) verdict))
+pub compares_zones : (form form' : ReadAs) (known known' : Option Octets) (z w : Zone) (verdict : Verdict) → IfSome known (λ octets. InputDenotes (input_of form octets) z) → IfSome known' (λ octets. InputDenotes (input_of form' octets) w) → IsVerdictOnTexts verdict (canon z) (canon w) → IfSome known (λ octets. IfSome known' (λ others. Compares (input_of form octets) (input_of form' others) verdict))
 compares_zones form form' None known' z w verdict denotes denotes' judged = tt
 compares_zones form form' (Some octets) None z w verdict denotes denotes' judged = tt
 compares_zones form form' (Some octets) (Some others) z w verdict denotes denotes' judged =
     record { zone = z; denotes = denotes; other = w; other_denotes = denotes'; judged = judged }
 
-pub is_accepted : (form : InputForm) (known : Option Octets) (z : Zone) → IfSome known (λ octets. InputDenotes (input_of form octets) z) → IsAccepted form known
+pub is_accepted : (form : ReadAs) (known : Option Octets) (z : Zone) → IfSome known (λ octets. InputDenotes (input_of form octets) z) → IsAccepted form known
 is_accepted form None z denotes = tt
 is_accepted form (Some octets) z denotes = (z, denotes)

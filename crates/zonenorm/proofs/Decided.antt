@@ -12,9 +12,9 @@ use Rattle.zone_text.specs.FileReads.{FileReads}
 use Rattle.zone_set.specs.Refusal.{AllAccepted, IsFirstRefused}
 use Rattle.zone_wire.specs.Stream.{StreamReads}
 use Rattle.zone_wire.specs.Stream as stream_decides
-use Rattle.zonenorm.specs.Input.{InputForm, as_file, as_transfer, input_of}
+use Rattle.zonenorm.specs.Input.{ReadAs, as_file, as_transfer, input_of}
 use Rattle.zonenorm.specs.Machine.Input.{Decides, IsForm}
-use Rattle.zonenorm.specs.Machine.Taking.{RefusesFront, by_record, by_ending, RefusesRead}
+use Rattle.zonenorm.specs.Machine.Loading.{RefusesFront, by_record, by_ending, RefusesRead}
 use Rattle.zonenorm.specs.Refusal.{RefusesReading, refused, unread}
 use Rattle.zonenorm.proofs.Inputs.{octet_at}
 
@@ -59,7 +59,7 @@ abbrev FaultsStay : Type 0
 FaultsStay = (stream more : List ℕ) (placed other : List Placed) (e : Fault × Place) (late : Ending) → stream_decides.StreamDecides stream placed (Some e) → StreamReads (stream ++ more) other late → (other ≡ placed) × (late ≡ Some e)
 
 module _ (files : FilesAreRead) (files_go : FilesGoOn) (streams : StreamsAreRead) (records_go : RecordsGoOn) (faults : FaultsStay) where
-  refused_whole : (form : InputForm) (front more : List ℕ) (placed : List Placed) (ending : Ending) (fault : Fault) (place : Place) → IsForm form → AllByRecursion (λ c. c < 256) (front ++ more) → Decides (input_of form front) placed ending → RefusesFront placed ending fault place → RefusesRead (input_of form (front ++ more)) fault place
+  refused_whole : (form : ReadAs) (front more : List ℕ) (placed : List Placed) (ending : Ending) (fault : Fault) (place : Place) → IsForm form → AllByRecursion (λ c. c < 256) (front ++ more) → Decides (input_of form front) placed ending → RefusesFront placed ending fault place → RefusesRead (input_of form (front ++ more)) fault place
   refused_whole (as_file origin) front more placed ending fault place name octets decides refuses =
       let (later, (last, reads)) = files origin (front ++ more) name octets in
       let stays = files_go origin front more placed later ending last decides reads in
@@ -79,6 +79,6 @@ module _ (files : FilesAreRead) (files_go : FilesGoOn) (streams : StreamsAreRead
             (records_go front more placed later ending last decides reads, λ e is. let same = faults front more placed later e last (subst (stream_decides.StreamDecides front placed) is decides) reads in (same.0, same.1 ∙ sym is)) refuses;
       }
 
-  pub refused_by_front : (form : InputForm) (octets front more : List ℕ) (placed : List Placed) (ending : Ending) (fault : Fault) (place : Place) → IsForm form → AllByRecursion (λ c. c < 256) octets → octets ≡ front ++ more → Decides (input_of form front) placed ending → RefusesFront placed ending fault place → RefusesRead (input_of form octets) fault place
+  pub refused_by_front : (form : ReadAs) (octets front more : List ℕ) (placed : List Placed) (ending : Ending) (fault : Fault) (place : Place) → IsForm form → AllByRecursion (λ c. c < 256) octets → octets ≡ front ++ more → Decides (input_of form front) placed ending → RefusesFront placed ending fault place → RefusesRead (input_of form octets) fault place
   refused_by_front form octets front more placed ending fault place is each parts decides refuses =
       subst (λ os. RefusesRead (input_of form os) fault place) (sym parts) (refused_whole form front more placed ending fault place is (subst (AllByRecursion (λ c. c < 256)) parts each) decides refuses)

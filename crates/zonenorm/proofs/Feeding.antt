@@ -5,7 +5,8 @@ use Rattle.std.specs.Io.KnownBytes.{Consumes, IsAtEnd}
 use Rattle.std.specs.List.{AllByRecursion}
 use Rattle.zone_name.specs.Common.{Octets}
 use Rattle.zone_rdata.specs.Record.{Record}
-use Rattle.zone_rdata.specs.Source.{Pending}
+use Rattle.zone_rdata.specs.FedSource.{Held}
+use Rattle.zone_rdata.specs.RrSource.{Pending}
 use Rattle.zone_rdata.specs.declared.fault.Fault.{Fault}
 use Rattle.zone_rdata.specs.declared.fault.Fault.TheVariants.{InputTooLong}
 use Rattle.zone_rdata.specs.declared.fault.Place.{Place}
@@ -14,33 +15,33 @@ use Rattle.zone_rdata.specs.declared.fault.Stop.{Stop}
 use Rattle.zone_rdata.specs.declared.fault.Stop.TheVariants.{Refused, Read, Write, Memory}
 use Rattle.zone_rdata.specs.declared.record.Placed.{Placed}
 use Rattle.zone_set.specs.Zone.{Zone}
-use Rattle.zonenorm.specs.Input.{InputForm, as_file, as_transfer, input_of, input_octets, IsInput}
+use Rattle.zonenorm.specs.Input.{ReadAs, as_file, as_transfer, input_of, input_octets, IsInput}
 use Rattle.zonenorm.specs.Machine.Input.{IsForm}
-use Rattle.zonenorm.specs.Machine.Taking.{IsTaken, all_taken, Begins, ReadsZone, ReadsZoneWithin, RefusesRead}
+use Rattle.zonenorm.specs.Machine.Loading.{all_taken, BeginsAs, IsLoadedOf, ReadsZone, ReadsZoneWithin, RefusesRead}
 use Rattle.zonenorm.specs.Normalise.{IsOfBytes, IsOfReading}
 use Rattle.zonenorm.specs.Refusal.{IfRefused, IsRefusalWithin, too_long, reading}
 use Rattle.zonenorm.specs.Stops.{TellsRead}
 
-pub octets_of_input : (form : InputForm) (octets : Octets) → input_octets (input_of form octets) ≡ octets
+pub octets_of_input : (form : ReadAs) (octets : Octets) → input_octets (input_of form octets) ≡ octets
 octets_of_input (as_file origin) octets = refl
 octets_of_input as_transfer octets = refl
 
 -- ---- what is read
 
-pub within : (limit : ℕ) (form : InputForm) (octets : Octets) (z : Zone) → AllByRecursion (λ c. c < 256) octets → length octets ≤ limit → ReadsZone (input_of form octets) z → ReadsZoneWithin limit (input_of form octets) z
+pub within : (limit : ℕ) (form : ReadAs) (octets : Octets) (z : Zone) → AllByRecursion (λ c. c < 256) octets → length octets ≤ limit → ReadsZone (input_of form octets) z → ReadsZoneWithin limit (input_of form octets) z
 within limit form octets z each short reads = record {
   each = subst (AllByRecursion (λ c. c < 256)) (sym (octets_of_input form octets)) each;
   short = subst (λ os. length os ≤ limit) (sym (octets_of_input form octets)) short;
   reads = reads;
 }
 
-pub refused_within : (limit : ℕ) (form : InputForm) (octets : Octets) (stop : Stop) → length octets ≤ limit → IfRefused stop (RefusesRead (input_of form octets)) → IfRefused stop (IsRefusalWithin limit (input_of form octets))
+pub refused_within : (limit : ℕ) (form : ReadAs) (octets : Octets) (stop : Stop) → length octets ≤ limit → IfRefused stop (RefusesRead (input_of form octets)) → IfRefused stop (IsRefusalWithin limit (input_of form octets))
 refused_within limit form octets (Refused fault place) short refuses = reading refuses.placed refuses.ending fault place (subst (λ os. length os ≤ limit) (sym (octets_of_input form octets)) short) refuses.reads refuses.refuses
 refused_within limit form octets Read short refuses = tt
 refused_within limit form octets Write short refuses = tt
 refused_within limit form octets Memory short refuses = tt
 
-pub refused_over : (limit : ℕ) (form : InputForm) (octets : Octets) → limit < length octets → IsRefusalWithin limit (input_of form octets) InputTooLong Whole
+pub refused_over : (limit : ℕ) (form : ReadAs) (octets : Octets) → limit < length octets → IsRefusalWithin limit (input_of form octets) InputTooLong Whole
 refused_over limit form octets long = too_long (subst (λ os. limit < length os) (sym (octets_of_input form octets)) long)
 
 -- ---- a reader that was read to its end gave all its octets
@@ -51,7 +52,7 @@ all_given P (Some all) None given consumed end holds = absurd consumed
 all_given P (Some all) (Some rest) given consumed end holds = subst P (sym (consumed ∙ ap (λ os. given ++ os) end ∙ append-nil given)) holds
 
 -- and one that gave too many has too many
-pub too_many : (limit : ℕ) (form : InputForm) (old new : Option Octets) (given : Octets) → Consumes old new given → limit < length given → IfSome old (λ octets. IsRefusalWithin limit (input_of form octets) InputTooLong Whole)
+pub too_many : (limit : ℕ) (form : ReadAs) (old new : Option Octets) (given : Octets) → Consumes old new given → limit < length given → IfSome old (λ octets. IsRefusalWithin limit (input_of form octets) InputTooLong Whole)
 too_many limit form None new given consumed long = tt
 too_many limit form (Some all) None given consumed long = absurd consumed
 too_many limit form (Some all) (Some rest) given consumed long =
@@ -62,21 +63,21 @@ if_some P Q None imply holds = tt
 if_some P Q (Some octets) imply holds = imply octets holds
 
 -- what a source begins with is taken of no octets
-pub begun : {Held : Type 0} (Stands : InputForm → Pending → Held → Octets → List Placed → Type 0) (form : InputForm) (pending : Pending) (inside : Held) (held : List Record) (refusal : Option (Fault × Place)) → held ≡ [] → refusal ≡ None → Begins (Stands form) pending inside → IsTaken (Stands form pending inside) form pending held refusal []
-begun Stands form pending inside held refusal none unrefused begins = all_taken [] unrefused begins.stands begins.nothing none
+pub begun : {Kept : Type 0} (IsOf : ReadAs → Type 0) (Leave : ReadAs → Octets → Kept → Octets → Type 0) (form : ReadAs) (pending : Pending) (inside : Held Kept) (held : List Record) (refusal : Option (Fault × Place)) → held ≡ [] → refusal ≡ None → BeginsAs IsOf Leave pending inside form → IsLoadedOf IsOf Leave pending inside held refusal form []
+begun IsOf Leave form pending inside held refusal none unrefused begins = all_taken [] unrefused begins.stands begins.nothing none
 
 -- ---- what was read so far
 
 -- The octets that the reader gave, and what was taken of them for each form under which the source
 -- began with nothing
-pub record HasFed (Began : InputForm → Type 0) (Taken : InputForm → Octets → Type 0) (old new : Option Octets) (count fed limit : ℕ) : Type 0 where
+pub record HasFed (Began : ReadAs → Type 0) (Taken : ReadAs → Octets → Type 0) (old new : Option Octets) (count fed limit : ℕ) : Type 0 where
   pub given : Octets
   pub consumed : Consumes old new given
   pub counted : length given ≡ count
   pub each : AllByRecursion (λ c. c < 256) given
   pub few : count ≤ limit + 1
   pub fed_few : fed ≤ count
-  pub taken : (form : InputForm) → Began form → Taken form given
+  pub taken : (form : ReadAs) → Began form → Taken form given
 
 pub nothing_consumed : (known : Option Octets) → Consumes known known []
 nothing_consumed None = tt
@@ -111,6 +112,6 @@ no_octets [] none = refl
 no_octets (c ∷ octets) none = absurd (omega (arith, eqb-true (length (c ∷ octets)) 0 none))
 
 -- octets are an input of a form
-pub is_input : (form : InputForm) (octets : Octets) → IsForm form → AllByRecursion (λ c. c < 256) (input_octets (input_of form octets)) → IsInput (input_of form octets)
+pub is_input : (form : ReadAs) (octets : Octets) → IsForm form → AllByRecursion (λ c. c < 256) (input_octets (input_of form octets)) → IsInput (input_of form octets)
 is_input (as_file origin) octets name each = (name, each)
 is_input as_transfer octets name each = each

@@ -1,10 +1,12 @@
 -- What is taken of an input that a source is fed.
-use Rattle.std.proofs.Common.{◌≡◌, ◌<◌, Bool, true, false, List, [], ◌∷◌, ◌++◌, refl, sym, ap, ◌∙◌, subst, append_assoc, append-nil}
+use Rattle.std.proofs.Common.{◌≡◌, ◌<◌, true, false, List, [], ◌∷◌, ◌++◌, refl, sym, ap, ◌∙◌, subst, append_assoc, append-nil}
 use Rattle.std.specs.Prelude.{Option, Some, None, is_some, Result, Ok, Err, IfOk}
 use Rattle.std.specs.List.{AllByRecursion}
 use Rattle.zone_name.specs.Common.{Octets}
 use Rattle.zone_rdata.specs.Record.{Record}
-use Rattle.zone_rdata.specs.Source.{Pending}
+use Rattle.zone_rdata.proofs.FedSources.{stands_given}
+use Rattle.zone_rdata.specs.FedSource.{Held}
+use Rattle.zone_rdata.specs.RrSource.{Pending}
 use Rattle.zone_rdata.specs.declared.fault.Fault.{Fault}
 use Rattle.zone_rdata.specs.declared.fault.Fault.TheVariants.{NoSoa, OutOfZone}
 use Rattle.zone_rdata.specs.declared.fault.Place.{Place}
@@ -15,9 +17,10 @@ use Rattle.zone_rdata.specs.declared.record.Placed.{Placed}
 use Rattle.zone_set.specs.Builder.{AddsEach, IsRefusedFor, leaves, TakesAll, StopsTaking, failure, memory, refused as refused_record, ending as ending_fault, StopsFinish, no_soa, outside}
 use Rattle.zone_set.specs.Refusal.{IsFirstRefused, records_of}
 use Rattle.zone_set.specs.Zone.{Zone, IsZone}
-use Rattle.zonenorm.specs.Input.{InputForm, input_of, InputReads}
+use Rattle.zonenorm.specs.Input.{ReadAs, input_of, InputReads}
+use Rattle.zonenorm.specs.Machine.Fed.{StandsForInput}
 use Rattle.zonenorm.specs.Machine.Input.{Decides, IsForm}
-use Rattle.zonenorm.specs.Machine.Taking.{IsTaken, all_taken, front_refuses, nothing_pending, RefusesFront, by_record, by_ending, ReadsZone, RefusesRead}
+use Rattle.zonenorm.specs.Machine.Loading.{IsLoaded, all_taken, front_refuses, nothing_pending, RefusesFront, by_record, by_ending, ReadsZone, RefusesRead}
 use Rattle.zonenorm.specs.Normalise.{IsOfBytes}
 use Rattle.zonenorm.specs.Refusal.{RefusesReading, refused, unread, unfinished, IfRefused}
 use Rattle.zonenorm.proofs.Accepted.{IsRefusedFor-same, StopsFinish-same, taken_accepted}
@@ -46,11 +49,11 @@ module _ (given : List Placed) (held : List Record) (pending : Pending) (each : 
   front_refused new rest _ (ending_fault e works is more left) = by_ending e.0 e.1 (taken_accepted (given ++ pending.records) new (AddsEach-append [] held new given pending.records each more)) is
 
 -- taking records stops for no failed read and no failed write
-pub taking_is_of_bytes : (old new : List Record) (pending rest : Pending) (stop : Stop) → StopsTaking old pending new rest stop → IsOfBytes stop
-taking_is_of_bytes old new pending rest _ (failure fails same kept) = tt
-taking_is_of_bytes old new pending rest _ (memory taken others p works parts more left) = tt
-taking_is_of_bytes old new pending rest _ (refused_record taken others p f works parts more left why) = tt
-taking_is_of_bytes old new pending rest _ (ending_fault e works is more left) = tt
+pub loading_is_of_bytes : (old new : List Record) (pending rest : Pending) (stop : Stop) → StopsTaking old pending new rest stop → IsOfBytes stop
+loading_is_of_bytes old new pending rest _ (failure fails same kept) = tt
+loading_is_of_bytes old new pending rest _ (memory taken others p works parts more left) = tt
+loading_is_of_bytes old new pending rest _ (refused_record taken others p f works parts more left why) = tt
+loading_is_of_bytes old new pending rest _ (ending_fault e works is more left) = tt
 
 not_both : {e : Fault × Place} → Some e ≡ None → ⊥
 not_both same = cc
@@ -76,72 +79,75 @@ emptied_nothing pending rest works whole emptied = emptied ∙ ap (λ failed. re
 
 -- ---- a source that is fed
 
-module _ (Beside : Type 0) (Stands : InputForm → Pending → Beside → Octets → List Placed → Type 0) (form : InputForm) where
-  abbrev pub Decided : (Beside → Bool) → Type 0
-  Decided finished = (pending : Pending) (beside : Beside) (octets : Octets) (given : List Placed) → Stands form pending beside octets given → finished beside ≡ false → Decides (input_of form octets) (given ++ pending.records) pending.ending
+module _ {Kept : Type 0} (IsOf : ReadAs → Type 0) (Leave : ReadAs → Octets → Kept → Octets → Type 0) (form : ReadAs) where
+  abbrev Stands : Pending → Held Kept → Octets → List Placed → Type 0
+  Stands = StandsForInput IsOf Leave form
 
-  abbrev pub ReadWhole : (Beside → Bool) → Type 0
-  ReadWhole finished = (pending : Pending) (beside : Beside) (octets : Octets) (given : List Placed) → Stands form pending beside octets given → finished beside ≡ true → InputReads (input_of form octets) (given ++ pending.records) pending.ending
-
-  abbrev pub GivesOn : Type 0
-  GivesOn = (pending : Pending) (beside : Beside) (octets : Octets) (given taken others : List Placed) → Stands form pending beside octets given → pending.records ≡ taken ++ others → Stands form (leaves pending others) beside octets (given ++ taken)
+  -- what is given is pending no more
+  gives_all : (pending : Pending) (held : Held Kept) (octets : Octets) (given : List Placed) → Stands pending held octets given → Stands (leaves pending []) held octets (given ++ pending.records)
+  gives_all pending held octets given stands = record {
+    is = stands.is;
+    stands = stands_given _ _ _ (record { pending = pending; held = held }) (record { pending = leaves pending []; held = held }) pending.records octets given
+        (record { first = sym (append-nil pending.records); works = refl; ending = refl; held = refl })
+        stands.stands;
+  }
 
   -- after a refusal nothing more is taken
-  pub taken_after : (pending : Pending) (beside : Beside) (held : List Record) (refusal : Option (Fault × Place)) (octets piece : Octets) (e : Fault × Place) → refusal ≡ Some e → IsTaken (Stands form pending beside) form pending held refusal octets → IsTaken (Stands form pending beside) form pending held refusal (octets ++ piece)
-  taken_after pending beside held refusal octets piece e is (all_taken given none stands nothing each) = absurd (not_both (sym is ∙ none))
-  taken_after pending beside held refusal octets piece e is (front_refuses front more placed ending fault place at parts decides refuses) =
+  pub taken_after : (pending : Pending) (inside : Held Kept) (held : List Record) (refusal : Option (Fault × Place)) (octets piece : Octets) (e : Fault × Place) → refusal ≡ Some e → IsLoaded (Stands pending inside) form pending held refusal octets → IsLoaded (Stands pending inside) form pending held refusal (octets ++ piece)
+  taken_after pending inside held refusal octets piece e is (all_taken given none stands nothing each) = absurd (not_both (sym is ∙ none))
+  taken_after pending inside held refusal octets piece e is (front_refuses front more placed ending fault place at parts decides refuses) =
       front_refuses front (more ++ piece) placed ending fault place at (ap (λ os. os ++ piece) parts ∙ append_assoc front more piece) decides refuses
 
-  module _ (p0 p1 p2 : Pending) (b0 b1 b2 : Beside) (held new : List Record) (octets piece : Octets) (refusal : Option (Fault × Place)) (none : refusal ≡ None) (fed : (given : List Placed) → Stands form p0 b0 octets given → Stands form p1 b1 (octets ++ piece) given) where
-    pub taken_more : GivesOn → (again : Option (Fault × Place)) → again ≡ refusal → TakesAll held p1 new p2 → b2 ≡ b1 → IsTaken (Stands form p0 b0) form p0 held refusal octets → IsTaken (Stands form p2 b2) form p2 new again (octets ++ piece)
-    taken_more gives again same takes beside (front_refuses front more placed ending f at is parts decided refuses) = absurd (not_both (sym is ∙ none))
-    taken_more gives again same takes beside (all_taken given unrefused stands nothing each) =
+  module _ (p0 p1 p2 : Pending) (b0 b1 b2 : Held Kept) (held new : List Record) (octets piece : Octets) (refusal : Option (Fault × Place)) (none : refusal ≡ None) (fed : (given : List Placed) → Stands p0 b0 octets given → Stands p1 b1 (octets ++ piece) given) where
+    pub taken_more : (again : Option (Fault × Place)) → again ≡ refusal → TakesAll held p1 new p2 → b2 ≡ b1 → IsLoaded (Stands p0 b0) form p0 held refusal octets → IsLoaded (Stands p2 b2) form p2 new again (octets ++ piece)
+    taken_more again same takes beside (front_refuses front more placed ending f at is parts decided refuses) = absurd (not_both (sym is ∙ none))
+    taken_more again same takes beside (all_taken given unrefused stands nothing each) =
         all_taken (given ++ p1.records) (same ∙ none)
-        (subst (λ p. Stands form p b2 (octets ++ piece) (given ++ p1.records)) (sym takes.emptied)
-        (subst (λ b. Stands form (leaves p1 []) b (octets ++ piece) (given ++ p1.records)) (sym beside)
-        (gives p1 b1 (octets ++ piece) given p1.records [] (fed given stands) (sym (append-nil p1.records)))))
+        (subst (λ p. Stands p b2 (octets ++ piece) (given ++ p1.records)) (sym takes.emptied)
+        (subst (λ b. Stands (leaves p1 []) b (octets ++ piece) (given ++ p1.records)) (sym beside)
+        (gives_all p1 b1 (octets ++ piece) given (fed given stands))))
         (emptied_nothing p1 p2 takes.works takes.whole takes.emptied) (AddsEach-append [] held new given p1.records each takes.taken)
 
-    pub taken_refused : (finished : Beside → Bool) → Decided finished → finished b1 ≡ false → (fault : Fault) (place : Place) → StopsTaking held p1 new p2 (Refused fault place) → IsTaken (Stands form p0 b0) form p0 held refusal octets → IsTaken (Stands form p2 b2) form p2 new (Some (fault, place)) (octets ++ piece)
-    taken_refused finished decides going fault place stops (front_refuses front more placed ending f at is parts decided refuses) = absurd (not_both (sym is ∙ none))
-    taken_refused finished decides going fault place stops (all_taken given unrefused stands nothing each) =
+    pub taken_refused : b1.finished ≡ false → (fault : Fault) (place : Place) → StopsTaking held p1 new p2 (Refused fault place) → IsLoaded (Stands p0 b0) form p0 held refusal octets → IsLoaded (Stands p2 b2) form p2 new (Some (fault, place)) (octets ++ piece)
+    taken_refused going fault place stops (front_refuses front more placed ending f at is parts decided refuses) = absurd (not_both (sym is ∙ none))
+    taken_refused going fault place stops (all_taken given unrefused stands nothing each) =
         front_refuses (octets ++ piece) [] (given ++ p1.records) p1.ending fault place refl (sym (append-nil (octets ++ piece)))
-        (decides p1 b1 (octets ++ piece) given (fed given stands) going)
+        ((fed given stands).stands.decided going)
         (front_refused given held p1 each new p2 (Refused fault place) stops)
 
   -- ---- the end of the input
 
-  module _ (p0 p1 : Pending) (b0 b1 : Beside) (held : List Record) (octets : Octets) (refusal : Option (Fault × Place)) (none : refusal ≡ None) (finished : Beside → Bool) (reads : ReadWhole finished) (ended : finished b1 ≡ true) (kept : (given : List Placed) → Stands form p0 b0 octets given → Stands form p1 b1 octets given) where
-    pub zone_read : (new : List Record) (rest : Pending) (z : Zone) → TakesAll held p1 new rest → IsZone z → z.records ≡ new → IsTaken (Stands form p0 b0) form p0 held refusal octets → ReadsZone (input_of form octets) z
+  module _ (p0 p1 : Pending) (b0 b1 : Held Kept) (held : List Record) (octets : Octets) (refusal : Option (Fault × Place)) (none : refusal ≡ None) (ended : b1.finished ≡ true) (kept : (given : List Placed) → Stands p0 b0 octets given → Stands p1 b1 octets given) where
+    pub zone_read : (new : List Record) (rest : Pending) (z : Zone) → TakesAll held p1 new rest → IsZone z → z.records ≡ new → IsLoaded (Stands p0 b0) form p0 held refusal octets → ReadsZone (input_of form octets) z
     zone_read new rest z takes zone records (front_refuses front more placed ending f at is parts decided refuses) = absurd (not_both (sym is ∙ none))
     zone_read new rest z takes zone records (all_taken given unrefused stands nothing each) = record {
       placed = given ++ p1.records;
-      reads = subst (InputReads (input_of form octets) (given ++ p1.records)) takes.whole (reads p1 b1 octets given (kept given stands) ended);
+      reads = subst (InputReads (input_of form octets) (given ++ p1.records)) takes.whole ((kept given stands).stands.read ended);
       same = added_all (given ++ p1.records) new z.records (AddsEach-append [] held new given p1.records each takes.taken) records;
       zone = zone;
     }
 
-    refused_with : (given : List Placed) → Stands form p0 b0 octets given → (stop : Stop) → IfRefused stop (RefusesFront (given ++ p1.records) p1.ending) → IfRefused stop (RefusesRead (input_of form octets))
+    refused_with : (given : List Placed) → Stands p0 b0 octets given → (stop : Stop) → IfRefused stop (RefusesFront (given ++ p1.records) p1.ending) → IfRefused stop (RefusesRead (input_of form octets))
     refused_with given stands (Refused fault place) refuses = record {
       placed = given ++ p1.records;
       ending = p1.ending;
-      reads = reads p1 b1 octets given (kept given stands) ended;
+      reads = (kept given stands).stands.read ended;
       refuses = front_reading (given ++ p1.records) p1.ending fault place refuses;
     }
     refused_with given stands Read refuses = tt
     refused_with given stands Write refuses = tt
     refused_with given stands Memory refuses = tt
 
-    pub taking_refused : (new : List Record) (rest : Pending) (stop : Stop) → StopsTaking held p1 new rest stop → IsTaken (Stands form p0 b0) form p0 held refusal octets → IfRefused stop (RefusesRead (input_of form octets))
-    taking_refused new rest stop stops (front_refuses front more placed ending f at is parts decided refuses) = absurd (not_both (sym is ∙ none))
-    taking_refused new rest stop stops (all_taken given unrefused stands nothing each) = refused_with given stands stop (front_refused given held p1 each new rest stop stops)
+    pub loading_refused : (new : List Record) (rest : Pending) (stop : Stop) → StopsTaking held p1 new rest stop → IsLoaded (Stands p0 b0) form p0 held refusal octets → IfRefused stop (RefusesRead (input_of form octets))
+    loading_refused new rest stop stops (front_refuses front more placed ending f at is parts decided refuses) = absurd (not_both (sym is ∙ none))
+    loading_refused new rest stop stops (all_taken given unrefused stands nothing each) = refused_with given stands stop (front_refused given held p1 each new rest stop stops)
 
-    pub finishing_refused : (new : List Record) (rest : Pending) (stop : Stop) → TakesAll held p1 new rest → StopsFinish new stop → IsTaken (Stands form p0 b0) form p0 held refusal octets → IfRefused stop (RefusesRead (input_of form octets))
+    pub finishing_refused : (new : List Record) (rest : Pending) (stop : Stop) → TakesAll held p1 new rest → StopsFinish new stop → IsLoaded (Stands p0 b0) form p0 held refusal octets → IfRefused stop (RefusesRead (input_of form octets))
     finishing_refused new rest stop takes stops (front_refuses front more placed ending f at is parts decided refuses) = absurd (not_both (sym is ∙ none))
     finishing_refused new rest stop takes stops (all_taken given unrefused stands nothing each) =
         let placed : List Placed = given ++ p1.records in
         let taken : AddsEach [] placed new = AddsEach-append [] held new given p1.records each takes.taken in
-        let is_read : InputReads (input_of form octets) placed p1.ending = reads p1 b1 octets given (kept given stands) ended in
+        let is_read : InputReads (input_of form octets) placed p1.ending = (kept given stands).stands.read ended in
         by placed taken is_read stop (StopsFinish-same new (records_of placed) stop (added_all placed new new taken refl) stops)
       where
         by : (placed : List Placed) → AddsEach [] placed new → InputReads (input_of form octets) placed p1.ending → (s : Stop) → StopsFinish (records_of placed) s → IfRefused s (RefusesRead (input_of form octets))
@@ -150,9 +156,9 @@ module _ (Beside : Type 0) (Stands : InputForm → Pending → Beside → Octets
 
 -- what a front of the input decided
 abbrev pub FrontRefuses : Type 0
-FrontRefuses = (form : InputForm) (octets front more : Octets) (placed : List Placed) (ending : Option (Fault × Place)) (fault : Fault) (place : Place) → IsForm form → AllByRecursion (λ c. c < 256) octets → octets ≡ front ++ more → Decides (input_of form front) placed ending → RefusesFront placed ending fault place → RefusesRead (input_of form octets) fault place
+FrontRefuses = (form : ReadAs) (octets front more : Octets) (placed : List Placed) (ending : Option (Fault × Place)) (fault : Fault) (place : Place) → IsForm form → AllByRecursion (λ c. c < 256) octets → octets ≡ front ++ more → Decides (input_of form front) placed ending → RefusesFront placed ending fault place → RefusesRead (input_of form octets) fault place
 
-pub refused_before : FrontRefuses → (Stands : Octets → List Placed → Type 0) (form : InputForm) (pending : Pending) (held : List Record) (refusal : Option (Fault × Place)) (octets : Octets) (e : Fault × Place) → refusal ≡ Some e → IsForm form → AllByRecursion (λ c. c < 256) octets → IsTaken Stands form pending held refusal octets → RefusesRead (input_of form octets) e.0 e.1
+pub refused_before : FrontRefuses → (Stands : Octets → List Placed → Type 0) (form : ReadAs) (pending : Pending) (held : List Record) (refusal : Option (Fault × Place)) (octets : Octets) (e : Fault × Place) → refusal ≡ Some e → IsForm form → AllByRecursion (λ c. c < 256) octets → IsLoaded Stands form pending held refusal octets → RefusesRead (input_of form octets) e.0 e.1
 refused_before fronts Stands form pending held refusal octets e is name each (all_taken given none stands nothing taken) = absurd (not_both (sym is ∙ none))
 refused_before fronts Stands form pending held refusal octets e is name each (front_refuses front more placed ending fault place at parts decides refuses) =
     let same : (fault, place) ≡ e = some_same (sym at ∙ is) in

@@ -12,7 +12,7 @@ use Rattle.zone_print.specs.Canonical.{canon, text_limit}
 use Rattle.zone_print.specs.Writing.{StopsPush, StopsWrite}
 use Rattle.zone_print.specs.Writing as printing
 use Rattle.zonenorm.specs.Input.{Input, IsInput, InputDenotes, InputReads, InputStates}
-use Rattle.zonenorm.specs.Machine.Taking.{ReadsZoneWithin}
+use Rattle.zonenorm.specs.Machine.Loading.{ReadsZoneWithin}
 use Rattle.zonenorm.specs.Normalise.{IsOfBytes, Normalises, NormalisesTo, WritesNothing, WritesPrefix}
 use Rattle.zonenorm.specs.Refusal.{IfRefused, IsRefusal, reading, too_large}
 use Rattle.zonenorm.specs.Stops.{TellsRead}

@@ -14,10 +14,10 @@ use Rattle.zone_wire.specs.Transfer.{StreamStates}
 use Rattle.zone_set.specs.Zone.{Zone}
 use Rattle.zone_print.specs.Denotes.{DenotesBy}
 
--- the form of an input: a master file under an origin, or a transfer
-pub data InputForm : Type 0 where
-  as_file : Labels → InputForm
-  as_transfer : InputForm
+-- how octets are read: as a master file under an origin, or as a transfer
+pub data ReadAs : Type 0 where
+  as_file : Labels → ReadAs
+  as_transfer : ReadAs
 
 pub data Input : Type 0 where
   file : Labels → List ℕ → Input
@@ -27,8 +27,8 @@ abbrev pub input_octets : Input → List ℕ
 input_octets (file origin octets) = octets
 input_octets (transfer octets) = octets
 
--- octets as an input of a form
-abbrev pub input_of : InputForm → List ℕ → Input
+-- octets as the input that is read so
+abbrev pub input_of : ReadAs → List ℕ → Input
 input_of (as_file origin) octets = file origin octets
 input_of as_transfer octets = transfer octets
 

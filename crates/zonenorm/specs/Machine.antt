@@ -3,5 +3,5 @@ pub mod Calling
 pub mod Fed
 pub mod Input
 pub mod Opened
-pub mod Taking
+pub mod Loading
 pub mod Telling

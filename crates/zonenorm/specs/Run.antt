@@ -10,7 +10,7 @@ use Rattle.zone_print.specs.Canonical.{text_limit}
 use Rattle.zone_print.specs.Writing.{TellsWrite}
 use Rattle.zonenorm.specs.Compare.{Compares, ReadsWholeTo, StopsCompare, TellsReadOf}
 use Rattle.zonenorm.specs.Explain.{Explains, StopsExplain}
-use Rattle.zonenorm.specs.Input.{InputForm, as_file, as_transfer, input_of}
+use Rattle.zonenorm.specs.Input.{ReadAs, as_file, as_transfer, input_of}
 use Rattle.zonenorm.specs.Normalise.{ConsumesAtMost, Normalises, ReadsWhole, WritesNothing, WritesPrefix}
 use Rattle.zonenorm.specs.Refusal.{IfRefused, IsRefusal}
 use Rattle.zonenorm.specs.Stops.{TellsRead}
@@ -22,9 +22,9 @@ use Rattle.zonenorm.specs.declared.order.Order.TheVariants.{Normalise, Explain, 
 use Rattle.zonenorm.specs.declared.order.Source.{Source}
 
 -- the form of an input with this origin: a master file's, none for a transfer
-abbrev pub form_with : Option Labels → InputForm
-form_with None = as_transfer
-form_with (Some origin) = as_file origin
+abbrev pub read_as_with : Option Labels → ReadAs
+read_as_with None = as_transfer
+read_as_with (Some origin) = as_file origin
 
 -- no more than the limit and one octet were read
 abbrev pub ReadsFew : Option (List ℕ) → Option (List ℕ) → Type 0
@@ -70,7 +70,7 @@ pub data TellsLine (line : List ℕ) (status : ℕ) (writer : Device) : ℕ → 
 -- this is the verdict on two inputs of known octets, which were read to their ends
 pub record AreCompared (first second : Source) (input other : Device) (verdict : Verdict) : Type 0 where
   pub compared : IfSome input.old (λ octets. IfSome other.old (λ others.
-      Compares (input_of (form_with first.origin) octets) (input_of (form_with second.origin) others) verdict))
+      Compares (input_of (read_as_with first.origin) octets) (input_of (read_as_with second.origin) others) verdict))
   pub whole : IsAtEnd input.new × IsAtEnd other.new
   pub work : input.works × other.works
 
@@ -78,11 +78,11 @@ pub record AreCompared (first second : Source) (input other : Device) (verdict :
 -- input, or that of the verdict on two.
 pub data CarriesOut (d : Devices) : Order → ℕ → Type 0 where
   normalised : (origin : Option Labels) (count : ℕ)
-      → IfSome d.first.old (λ octets. Normalises (input_of (form_with origin) octets) d.output.old d.output.new count)
+      → IfSome d.first.old (λ octets. Normalises (input_of (read_as_with origin) octets) d.output.old d.output.new count)
       → IsAtEnd d.first.new → d.first.works → IsLeft d.second → d.output.works
       → CarriesOut d (Normalise origin) 0
   explained : (origin : Option Labels) (status : ℕ)
-      → Explains (form_with origin) d.first.old d.output.old d.output.new status
+      → Explains (read_as_with origin) d.first.old d.output.old d.output.new status
       → ReadsWhole text_limit d.first.old d.first.new → d.first.works → IsLeft d.second → d.output.works
       → CarriesOut d (Explain origin) status
   compared : (first second : Source) (verdict : Verdict) → AreCompared first second d.first d.second verdict
@@ -90,7 +90,7 @@ pub data CarriesOut (d : Devices) : Order → ℕ → Type 0 where
       → CarriesOut d (Compare first second) (verdict_status verdict)
 
 -- what normalising leaves where it stops
-pub record StopsNormalise (form : InputForm) (input output : Device) (stop : Stop) : Type 0 where
+pub record StopsNormalise (form : ReadAs) (input output : Device) (stop : Stop) : Type 0 where
   pub nothing : WritesNothing stop output.old output.new
   pub prefix : IfSome input.old (λ octets. WritesPrefix (input_of form octets) output.old output.new)
   pub fault : IfSome input.old (λ octets. IfRefused stop (IsRefusal (input_of form octets)))
@@ -100,14 +100,14 @@ pub record StopsNormalise (form : InputForm) (input output : Device) (stop : Sto
 -- What stopped a run, and what the line on that begins with: of a comparison, the input that stopped it.
 pub data IsStopped (d : Devices) : Order → List ℕ → Stop → Type 0 where
   normalising : (origin : Option Labels) (stop : Stop)
-      → StopsNormalise (form_with origin) d.first d.output stop → IsLeft d.second
+      → StopsNormalise (read_as_with origin) d.first d.output stop → IsLeft d.second
       → IsStopped d (Normalise origin) [] stop
   explaining : (origin : Option Labels) (stop : Stop)
-      → StopsExplain (form_with origin) d.first.old d.output.old d.output.new stop
+      → StopsExplain (read_as_with origin) d.first.old d.output.old d.output.new stop
       → TellsRead d.first.works d.first.failed stop → TellsWrite d.output.works d.output.failed stop → IsLeft d.second
       → IsStopped d (Explain origin) [] stop
   comparing : (first second : Source) (which : Which) (stop : Stop)
-      → StopsCompare (form_with first.origin) (form_with second.origin) d.first.old d.second.old d.second.new which stop
+      → StopsCompare (read_as_with first.origin) (read_as_with second.origin) d.first.old d.second.old d.second.new which stop
       → ReadsWholeTo d.first.old d.first.new d.second.old d.second.new which stop
       → TellsReadOf d.first.works d.first.failed d.second.works d.second.failed which stop → IsLeft d.output
       → IsStopped d (Compare first second) (which_words which) stop

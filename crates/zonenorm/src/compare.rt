@@ -2,7 +2,7 @@ ghost use Rattle.std.specs.Prelude.{◌+◌, ◌≤◌, length, IfOk, IfErr, IfS
 ghost use Rattle.std.specs.Io.KnownBytes.{IsAtEnd};
 ghost use Rattle.zone_print.specs.Canonical.{canon, text_limit};
 ghost use Rattle.zonenorm.specs.Compare.{Compares, IsVerdictOnTexts, ReadsWholeTo, StopsCompare, TellsReadOf};
-ghost use Rattle.zonenorm.specs.Form.{input_form};
+ghost use Rattle.zonenorm.specs.Form.{read_as};
 ghost use Rattle.zonenorm.specs.Input.{input_of};
 ghost use Rattle.zonenorm.specs.Normalise.{ConsumesAtMost};
 
@@ -50,10 +50,10 @@ pub fn compare<R: OctetReader, S: OctetReader>(
 ) -> Result<Verdict, (Which, Stop)>
     ensures compared { IfOk result (λ verdict.
         IfSome (R.remaining first.old) (λ octets. IfSome (S.remaining second.old) (λ others.
-        Compares (input_of (input_form first_form.entry) octets)
-        (input_of (input_form second_form.entry) others) verdict))) }
+        Compares (input_of (read_as first_form.entry) octets)
+        (input_of (read_as second_form.entry) others) verdict))) }
     ensures stopped { IfErr result
-        (λ why. StopsCompare (input_form first_form.entry) (input_form second_form.entry)
+        (λ why. StopsCompare (read_as first_form.entry) (read_as second_form.entry)
         (R.remaining first.old) (S.remaining second.old) (S.remaining second.new) why.0 why.1) }
     ensures few { ConsumesAtMost (text_limit + 1) (R.remaining first.old) (R.remaining first.new) }
     ensures few_of_second { ConsumesAtMost (text_limit + 1) (S.remaining second.old) (S.remaining second.new) }

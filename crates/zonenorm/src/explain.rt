@@ -4,7 +4,7 @@ ghost use Rattle.zone_name.specs.Text.{name_text};
 ghost use Rattle.zone_print.specs.Canonical.{text_limit};
 ghost use Rattle.zone_print.specs.Writing.{TellsWrite};
 ghost use Rattle.zonenorm.specs.Explain.{Explains, StopsExplain};
-ghost use Rattle.zonenorm.specs.Form.{input_form};
+ghost use Rattle.zonenorm.specs.Form.{read_as};
 ghost use Rattle.zonenorm.specs.Normalise.{ReadsWhole};
 ghost use Rattle.zonenorm.specs.Run.{ReadsFew};
 ghost use Rattle.zonenorm.specs.Stops.{TellsRead};
@@ -44,9 +44,9 @@ pub fn explain<R: OctetReader, W: OctetWriter>(
     reader: &mut R,
     writer: &mut W,
 ) -> Result<u8, Stop>
-    ensures explained { IfOk result (Explains (input_form form.entry) (R.remaining reader.old)
+    ensures explained { IfOk result (Explains (read_as form.entry) (R.remaining reader.old)
         (W.contents writer.old) (W.contents writer.new)) }
-    ensures stopped { IfErr result (StopsExplain (input_form form.entry) (R.remaining reader.old)
+    ensures stopped { IfErr result (StopsExplain (read_as form.entry) (R.remaining reader.old)
         (W.contents writer.old) (W.contents writer.new)) }
     ensures few { ReadsFew (R.remaining reader.old) (R.remaining reader.new) }
     ensures whole { OnOk result

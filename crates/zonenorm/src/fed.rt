@@ -1,11 +1,10 @@
-ghost use Rattle.std.specs.Prelude.{◌≡◌, ◌+◌, ◌^◌, ◌<◌, ◌≤◌, ◌++◌, ℕ, Bool, true, false, List, length, IfErr, IfSome, IsOk, OnOk};
+ghost use Rattle.std.specs.Prelude.{◌≡◌, ◌+◌, ◌^◌, ◌<◌, ◌≤◌, ◌++◌, true, false, List, length, IfErr, IfSome, IsOk, OnOk};
 ghost use Rattle.zone_name.specs.Common.{Octets};
-ghost use Rattle.zone_rdata.specs.Source.{Pending};
+ghost use Rattle.zone_rdata.specs.FedSource.{Held};
 ghost use Rattle.zone_rdata.specs.declared.fault.Stop.TheVariants.{Memory};
 ghost use Rattle.zone_rdata.specs.declared.record.Placed.{Placed};
-ghost use Rattle.zone_set.specs.Builder.{leaves};
-ghost use Rattle.zonenorm.specs.Input.{InputForm, input_of, InputReads};
-ghost use Rattle.zonenorm.specs.Machine.Input.{Decides};
+ghost use Rattle.zonenorm.specs.Input.{ReadAs};
+ghost use Rattle.zonenorm.specs.Machine.Fed.{StandsForInput};
 
 use zone_rdata::{LendingSource, Stop};
 use zone_text::TextSource;
@@ -13,20 +12,17 @@ use zone_wire::TransferSource;
 
 /// A source of records that is fed an input in pieces.
 pub(crate) trait FedSource: LendingSource {
+    /// What it keeps of the input.
+    ghost Kept: { Type 0 };
+
     /// What it holds besides what is pending.
-    ghost Held: { Type 0 };
+    ghost held: { Self → Held Kept };
 
-    ghost held: { Self → Held };
+    /// How it reads octets: as a file under an origin, or as a transfer.
+    ghost IsOf: { ReadAs → Type 0 };
 
-    /// That what is pending, and what else the source holds, is what these octets leave, of which
-    /// it gave these records.
-    ghost Stands: { InputForm → Pending → Held → Octets → List Placed → Type 0 };
-
-    /// The octets of all pieces.
-    ghost fed: { Held → ℕ };
-
-    /// Whether the input has ended.
-    ghost finished: { Held → Bool };
+    /// What the octets so far, read so, leave to keep and unfinished.
+    ghost Leave: { ReadAs → Octets → Kept → Octets → Type 0 };
 
     /// Takes the next piece of the input.
     ///
@@ -34,13 +30,13 @@ pub(crate) trait FedSource: LendingSource {
     ///
     /// `Memory`, and the source has failed.
     fn feed(&mut self, piece: &[u8]) -> Result<(), Stop>
-        requires open { finished (held self.old) ≡ false }
-        requires fits { fed (held self.old) + length piece.now + 1 < 2 ^ 64 }
-        ensures stands { OnOk result ((form : InputForm) (octets : Octets) (given : List Placed)
-            → Stands form (Self.pending self.old) (held self.old) octets given
-            → Stands form (Self.pending self.new) (held self.new) (octets ++ piece.now) given) }
-        ensures open { finished (held self.new) ≡ false }
-        ensures fed { fed (held self.new) ≤ fed (held self.old) + length piece.now }
+        requires open { (held self.old).finished ≡ false }
+        requires fits { (held self.old).fed + length piece.now + 1 < 2 ^ 64 }
+        ensures stands { OnOk result ((form : ReadAs) (octets : Octets) (given : List Placed)
+            → StandsForInput IsOf Leave form (Self.pending self.old) (held self.old) octets given
+            → StandsForInput IsOf Leave form (Self.pending self.new) (held self.new) (octets ++ piece.now) given) }
+        ensures open { (held self.new).finished ≡ false }
+        ensures fed { (held self.new).fed ≤ (held self.old).fed + length piece.now }
         ensures decided { (Self.pending self.old).failed ≡ false
             → IfSome (Self.pending self.old).ending (λ _. IsOk result) }
         ensures stopped { IfErr result (λ stop. stop ≡ Memory) };
@@ -51,11 +47,11 @@ pub(crate) trait FedSource: LendingSource {
     ///
     /// `Memory`, and the source has failed.
     fn finish(&mut self) -> Result<(), Stop>
-        requires open { finished (held self.old) ≡ false }
-        ensures stands { OnOk result ((form : InputForm) (octets : Octets) (given : List Placed)
-            → Stands form (Self.pending self.old) (held self.old) octets given
-            → Stands form (Self.pending self.new) (held self.new) octets given) }
-        ensures ended { OnOk result (finished (held self.new) ≡ true) }
+        requires open { (held self.old).finished ≡ false }
+        ensures stands { OnOk result ((form : ReadAs) (octets : Octets) (given : List Placed)
+            → StandsForInput IsOf Leave form (Self.pending self.old) (held self.old) octets given
+            → StandsForInput IsOf Leave form (Self.pending self.new) (held self.new) octets given) }
+        ensures ended { OnOk result ((held self.new).finished ≡ true) }
         ensures decided { (Self.pending self.old).failed ≡ false
             → IfSome (Self.pending self.old).ending (λ _. IsOk result) }
         ensures stopped { IfErr result (λ stop. stop ≡ Memory) };
@@ -63,39 +59,19 @@ pub(crate) trait FedSource: LendingSource {
     /// Giving a record changes nothing else.
     ghost keeps: { (old new : Self) → Self.RrSource.beside new ≡ Self.RrSource.beside old
         → held new ≡ held old };
-
-    /// Before the end, what was given and is pending is what the octets decide.
-    ghost decides: { (form : InputForm) (pending : Pending) (inside : Self.Held) (octets : Octets)
-        (given : List Placed)
-        → Stands form pending inside octets given → finished inside ≡ false
-        → Decides (input_of form octets) (given ++ pending.records) pending.ending };
-
-    /// From the end on, it is what the input is read as.
-    ghost reads: { (form : InputForm) (pending : Pending) (inside : Self.Held) (octets : Octets)
-        (given : List Placed)
-        → Stands form pending inside octets given → finished inside ≡ true
-        → InputReads (input_of form octets) (given ++ pending.records) pending.ending };
-
-    /// What is given is pending no more.
-    ghost gives: { (form : InputForm) (pending : Pending) (inside : Self.Held) (octets : Octets)
-        (given taken others : List Placed)
-        → Stands form pending inside octets given → pending.records ≡ taken ++ others
-        → Stands form (leaves pending others) inside octets (given ++ taken) };
 }
 
 impl FedSource for TextSource {
-    ghost use Rattle.zone_text.specs.Source.{Held};
-    ghost use Rattle.zonenorm.specs.Machine.Fed.{FileStands, file_decides, file_gives, file_reads};
+    ghost use Rattle.zone_text.specs.TextSource.{FileKept};
+    ghost use Rattle.zonenorm.specs.Machine.Fed.{FileLeave, IsFile};
 
-    ghost Held = { Held };
+    ghost Kept = { FileKept };
 
     ghost held = { λ s. s.held };
 
-    ghost Stands = { FileStands };
+    ghost IsOf = { IsFile };
 
-    ghost fed = { λ inside. inside.fed };
-
-    ghost finished = { λ inside. inside.finished };
+    ghost Leave = { FileLeave };
 
     fn feed(&mut self, piece: &[u8]) -> Result<(), Stop> {
         TextSource::feed(self, piece)
@@ -106,27 +82,19 @@ impl FedSource for TextSource {
     }
 
     ghost keeps = { λ old new same. same };
-
-    ghost decides = { file_decides };
-
-    ghost reads = { file_reads };
-
-    ghost gives = { file_gives };
 }
 
 impl FedSource for TransferSource {
-    ghost use Rattle.zone_wire.specs.Source.{Held};
-    ghost use Rattle.zonenorm.specs.Machine.Fed.{TransferStands, transfer_decides, transfer_gives, transfer_reads};
+    ghost use Rattle.zone_wire.specs.TransferSource.{StreamKept};
+    ghost use Rattle.zonenorm.specs.Machine.Fed.{IsTransfer, TransferLeave};
 
-    ghost Held = { Held };
+    ghost Kept = { StreamKept };
 
     ghost held = { λ s. s.held };
 
-    ghost Stands = { TransferStands };
+    ghost IsOf = { IsTransfer };
 
-    ghost fed = { λ inside. inside.fed };
-
-    ghost finished = { λ inside. inside.finished };
+    ghost Leave = { TransferLeave };
 
     fn feed(&mut self, piece: &[u8]) -> Result<(), Stop> {
         TransferSource::feed(self, piece)
@@ -137,10 +105,4 @@ impl FedSource for TransferSource {
     }
 
     ghost keeps = { λ old new same. same };
-
-    ghost decides = { transfer_decides };
-
-    ghost reads = { transfer_reads };
-
-    ghost gives = { transfer_gives };
 }

@@ -1,6 +1,6 @@
 ghost use Rattle.std.specs.Prelude.{◌≡◌};
-ghost use Rattle.zonenorm.specs.Form.{input_form};
-ghost use Rattle.zonenorm.specs.Run.{form_with};
+ghost use Rattle.zonenorm.specs.Form.{read_as};
+ghost use Rattle.zonenorm.specs.Run.{read_as_with};
 
 use zone_name::Name;
 
@@ -17,7 +17,7 @@ pub enum Form<'n> {
 impl<'n> Form<'n> {
     /// A master file with this origin, or a transfer where there is none.
     pub(crate) fn with_origin(origin: &'n Option<Name>) -> Form<'n>
-        ensures { input_form result ≡ form_with origin.now }
+        ensures { read_as result ≡ read_as_with origin.now }
     {
         match origin {
             Some(origin) => Form::File(origin),

@@ -1,13 +1,13 @@
 ghost use Rattle.std.specs.Prelude.{◌≡◌, ◌+◌, ◌^◌, ◌≤◌, ◌<◌, false, [], length, IfOk, IfErr, OnOk};
 ghost use Rattle.std.specs.Io.KnownBytes.{Consumes, IsAtEnd, Keeps};
-ghost use Rattle.zonenorm.specs.Machine.Taking.{BeginsAs, ReadsKnown, RefusesKnown};
+ghost use Rattle.zonenorm.specs.Machine.Loading.{BeginsAs, ReadsKnown, RefusesKnown};
 ghost use Rattle.zonenorm.specs.Normalise.{ConsumesAtMost, IsOfReading, ReadsWhole};
 ghost use Rattle.zonenorm.specs.Refusal.{IfRefused};
 ghost use Rattle.zonenorm.specs.Stops.{IsFailedRead, TellsRead};
 
 use crate::fed::FedSource;
+use crate::loader::ZoneLoader;
 use crate::octets::OctetReader;
-use crate::taking::Taking;
 use std::alloc::{AllocError, Global};
 use zone_rdata::{Fault, Place, Stop};
 use zone_set::Zone;
@@ -30,13 +30,13 @@ pub(crate) fn read_zone<S: FedSource, R: OctetReader>(
     limit: u64,
 ) -> Result<Zone, Stop>
     requires limit { limit + 2 < 2 ^ 64 }
-    requires open { S.finished (S.held source.old) ≡ false }
-    requires unfed { S.fed (S.held source.old) ≡ 0 }
+    requires open { (S.held source.old).finished ≡ false }
+    requires unfed { (S.held source.old).fed ≡ 0 }
     ensures zone { IfOk result (ReadsKnown
-        (BeginsAs S.Stands (S.pending source.old) (S.held source.old)) limit
+        (BeginsAs S.IsOf S.Leave (S.pending source.old) (S.held source.old)) limit
         (R.remaining reader.old)) }
     ensures fault { IfErr result (RefusesKnown
-        (BeginsAs S.Stands (S.pending source.old) (S.held source.old)) limit
+        (BeginsAs S.IsOf S.Leave (S.pending source.old) (S.held source.old)) limit
         (R.remaining reader.old)) }
     ensures stopped { IfErr result IsOfReading }
     ensures whole { OnOk result (IsAtEnd (R.remaining reader.new)) }
@@ -67,14 +67,14 @@ fn read_in_pieces<S: FedSource, R: OctetReader>(
     limit: u64,
 ) -> Result<Zone, Stop>
     requires limit { limit + 2 < 2 ^ 64 }
-    requires open { S.finished (S.held source.old) ≡ false }
-    requires unfed { S.fed (S.held source.old) ≡ 0 }
+    requires open { (S.held source.old).finished ≡ false }
+    requires unfed { (S.held source.old).fed ≡ 0 }
     requires room { 0 < length piece.old }
     ensures zone { IfOk result (ReadsKnown
-        (BeginsAs S.Stands (S.pending source.old) (S.held source.old)) limit
+        (BeginsAs S.IsOf S.Leave (S.pending source.old) (S.held source.old)) limit
         (R.remaining reader.old)) }
     ensures fault { IfErr result (RefusesKnown
-        (BeginsAs S.Stands (S.pending source.old) (S.held source.old)) limit
+        (BeginsAs S.IsOf S.Leave (S.pending source.old) (S.held source.old)) limit
         (R.remaining reader.old)) }
     ensures stopped { IfErr result IsOfReading }
     ensures whole { OnOk result (IsAtEnd (R.remaining reader.new)) }
@@ -85,15 +85,15 @@ fn read_in_pieces<S: FedSource, R: OctetReader>(
         (R.Works reader.old → R.Works reader.new) (R.Works reader.old → R.Failed reader.new)) }
     ensures few { ConsumesAtMost (limit + 1) (R.remaining reader.old) (R.remaining reader.new) }
 {
-    let mut taking = Taking::new(alloc);
+    let mut loader = ZoneLoader::new(alloc);
     let mut count = 0;
     while count <= limit {
         let others = (limit - count).min(piece.len() as u64 - 1) as usize;
         let given = read_piece(reader, &mut piece[..others + 1])?;
         if given.is_empty() {
-            return taking.finish(source);
+            return loader.finish(source);
         }
-        taking.take(source, given)?;
+        loader.take(source, given)?;
         count += given.len() as u64;
     }
     Err(Stop::Refused(Fault::InputTooLong, Place::Whole))

@@ -19,9 +19,9 @@ ghost use Rattle.zonenorm.specs.declared.compare.Verdict.{Verdict};
 ghost use Rattle.zonenorm.specs.declared.compare.Verdict.TheVariants.{Same};
 ghost use Rattle.zonenorm.specs.Compare.{Compares};
 ghost use Rattle.zonenorm.specs.Headline.{DenoteOne, DenotesOnly, IsBoundedWalk, NormalisesOnlyTo};
-ghost use Rattle.zonenorm.specs.Input.{file, Input, InputDenotes, InputForm, input_of, IsInput, InputReads, InputStates};
+ghost use Rattle.zonenorm.specs.Input.{file, Input, InputDenotes, ReadAs, input_of, IsInput, InputReads, InputStates};
 ghost use Rattle.zonenorm.specs.Machine.Input.{Decides, IsForm};
-ghost use Rattle.zonenorm.specs.Machine.Taking.{RefusesFront, RefusesRead};
+ghost use Rattle.zonenorm.specs.Machine.Loading.{RefusesFront, RefusesRead};
 ghost use Rattle.zonenorm.specs.Normalise.{Normalises, NormalisesTo};
 ghost use Rattle.zonenorm.specs.Telling.{records_line, stop_line, verdict_line};
 ghost use Rattle.zonenorm.specs.Refusal.{IsRefusal, IsRefused, RefusesReading};
@@ -105,7 +105,7 @@ pub fn refusal_or_zone()
 
 /// What refuses a prefix of an input refuses the input.
 pub(crate) fn what_is_decided_refuses()
-    ensures { (form : InputForm) (octets front more : Octets) (placed : List Placed)
+    ensures { (form : ReadAs) (octets front more : Octets) (placed : List Placed)
         (ending : Option (Fault × Place)) (fault : Fault) (place : Place)
         → IsForm form → AreOctets octets → octets ≡ front ++ more
         → Decides (input_of form front) placed ending → RefusesFront placed ending fault place

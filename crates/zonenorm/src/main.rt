@@ -14,12 +14,12 @@ mod form;
 mod input;
 pub mod laws;
 mod line;
+mod loader;
 mod octets;
 mod opened;
 mod order;
 mod run;
 mod status;
-mod taking;
 
 pub use compare::{Verdict, Which, compare};
 pub use engine::{normalise, normalise_bytes};

@@ -5,15 +5,15 @@ use Rattle.zone_name.specs.Spelling.{EndsLabel}
 use Rattle.zone_name.specs.Machine.LabelWalk.{Collects, read, reading}
 use Rattle.zone_name.specs.declared.fault.NameFault.{NameFault}
 use Rattle.zone_name.specs.declared.fault.NameFault.TheVariants.{EmptyLabel, LabelTooLong}
-use Rattle.zone_name.specs.declared.reading.NameForm.{NameForm}
-use Rattle.zone_name.specs.declared.reading.NameForm.TheVariants.{Root, Origin, Labels}
+use Rattle.zone_name.specs.declared.reading.NameShape.{NameShape}
+use Rattle.zone_name.specs.declared.reading.NameShape.TheVariants.{Root, Origin, Labels}
 use Rattle.zone_name.specs.declared.reading.Spelled.{Spelled}
 
 -- a dot alone, an `@` alone, or another text
-abbrev pub HasForm : List ℕ → NameForm → Type 0
-HasForm text Root = text ≡ codes "."
-HasForm text Origin = text ≡ codes "@"
-HasForm text Labels = (text ≢ codes ".") × (text ≢ codes "@")
+abbrev pub HasShape : List ℕ → NameShape → Type 0
+HasShape text Root = text ≡ codes "."
+HasShape text Origin = text ≡ codes "@"
+HasShape text Labels = (text ≢ codes ".") × (text ≢ codes "@")
 
 -- the octets of labels, each after its length, with their letters as they are
 abbrev pub HoldsUnfolded : List ℕ → Type 0

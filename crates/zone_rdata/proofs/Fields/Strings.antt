@@ -16,7 +16,7 @@ use Rattle.zone_rdata.specs.Item.{IsGeneric, RawItem}
 use Rattle.zone_rdata.specs.Machine.Appending.{AppendsPrefix, AppendsValue, BeginsWithNone, BeginsWithValue}
 use Rattle.zone_rdata.specs.Machine.Building.{IsReal}
 use Rattle.zone_rdata.specs.Machine.Fronts.{AreWithLengths}
-use Rattle.zone_rdata.specs.Source.{after}
+use Rattle.zone_rdata.specs.RrSource.{after}
 use Rattle.zone_rdata.specs.Strings.{IsString, SpellsString, StringFault}
 use Rattle.zone_rdata.proofs.FieldLaws.{AreLow, AreLowItems, FieldChoice, FieldLaws, FrontChoice, appends_plain, found_front, front_of, low_drop}
 use Rattle.zone_rdata.proofs.Fields.OneString.{low_string}

@@ -1,4 +1,4 @@
--- How an entry is read after others that left defaults.
+-- How an entry is read in the state that others left.
 use Rattle.std.specs.Prelude.{◌≡◌, ℕ, List, [], ◌∷◌, ◌++◌, Option, Some, None, MatchOption}
 use Rattle.std.specs.Option.{option_or}
 use Rattle.zone_name.specs.Common.{Labels}
@@ -13,27 +13,27 @@ use Rattle.zone_rdata.specs.declared.fault.Fault.{Fault}
 use Rattle.zone_rdata.specs.declared.fault.Fault.TheVariants.{BadDirective, NoOwner}
 use Rattle.zone_rdata.specs.declared.fault.Place.{Place}
 use Rattle.zone_rdata.specs.declared.queue.PendingRecords.{PendingRecords}
-use Rattle.zone_text.specs.Defaults.{AreDefaults, IsTtlOrNone}
+use Rattle.zone_text.specs.ParserState.{IsStateAfter, IsTtlOrNone}
 use Rattle.zone_text.specs.Entries.{Entry}
 use Rattle.zone_text.specs.EntryFault.{EntryFault}
-use Rattle.zone_text.specs.Forms.{statement_of, parts_of, parts_after}
+use Rattle.zone_text.specs.Statements.{statement_of, parts_of, parts_after}
 use Rattle.zone_text.specs.Inherited.{IsLastOwner, IsOwner, IsTtl, one_bare, ttl_text}
 use Rattle.zone_text.specs.Records.{Head, HasHead, StatesNothing, EntryStates}
-use Rattle.zone_text.specs.declared.defaults.Defaults.{Defaults}
+use Rattle.zone_text.specs.declared.parser_state.ParserState.{ParserState}
 
 -- an entry that states no record, and what is left to those after it
-abbrev pub LeavesNoRecord : Labels → List Entry → Entry → Defaults → Type 0
+abbrev pub LeavesNoRecord : Labels → List Entry → Entry → ParserState → Type 0
 LeavesNoRecord origin before entry next =
-    StatesNothing origin before (statement_of entry) × AreDefaults origin (entry ∷ before) next
+    StatesNothing origin before (statement_of entry) × IsStateAfter origin (entry ∷ before) next
 
 -- What an entry at a place decides after what was decided, and what is left to those after it:
 -- nothing; the record that it states; or its fault, after which nothing is said of what is left
 pub data DecidesEntry (origin : Labels) (before : List Entry) (entry : Entry) (place : Place)
-    (old new : PendingRecords) (next : Defaults) : Type 0 where
+    (old new : PendingRecords) (next : ParserState) : Type 0 where
   decides_none : LeavesNoRecord origin before entry next → new ≡ old
       → DecidesEntry origin before entry place old new next
   decides_one : (r : Record) → EntryStates origin before entry r
-      → AreDefaults origin (entry ∷ before) next
+      → IsStateAfter origin (entry ∷ before) next
       → new.placed ≡ old.placed ++ (record { rr = r; place = place }) ∷ []
       → new.ending ≡ old.ending → DecidesEntry origin before entry place old new next
   decides_fault : (fault : Fault) → EntryFault origin before entry fault
@@ -46,7 +46,7 @@ DecidesFault (failings.Fault fault) place old new =
     (new.placed ≡ old.placed) × (new.ending ≡ Some (fault, place))
 DecidesFault failings.Memory place old new = ⊥
 
-abbrev pub with_owner : Option Labels → Defaults → Defaults
+abbrev pub with_owner : Option Labels → ParserState → ParserState
 with_owner owner d = record {
   origin = d.origin;
   owner = owner;
@@ -56,27 +56,27 @@ with_owner owner d = record {
   minimum = d.minimum;
 }
 
--- A record entry after others that left defaults, but for the owner, which is the entry's: that
+-- A record entry in the state that others left, but for the owner, which is the entry's: that
 -- owner, and the items after it
-pub record IsRecordEntry (origin : Labels) (before : List Entry) (entry : Entry) (d : Defaults)
+pub record IsRecordEntry (origin : Labels) (before : List Entry) (entry : Entry) (d : ParserState)
     (name : Labels) (items : List RawItem) : Type 0 where
   pub held : Option Labels
-  pub defaults : AreDefaults origin before (with_owner held d)
+  pub state : IsStateAfter origin before (with_owner held d)
   pub owner : IsOwner origin before (statement_of entry) name
   pub parts : parts_of entry ≡ Some (parts_after [] items)
 
 -- the owner of a record entry and of those after it, or the fault that there is none
-abbrev pub HasOwnerOrNone : Labels → List Entry → Entry → Defaults → List RawItem → Type 0
+abbrev pub HasOwnerOrNone : Labels → List Entry → Entry → ParserState → List RawItem → Type 0
 HasOwnerOrNone origin before entry d items =
     MatchOption d.owner (EntryFault origin before entry NoOwner)
     (λ name. IsRecordEntry origin before entry d name items
     × IsLastOwner origin (entry ∷ before) name)
 
 -- a record entry up to its data, and the TTL that is looked for
-pub record IsReadTo (origin : Labels) (before : List Entry) (entry : Entry) (d : Defaults)
+pub record IsReadTo (origin : Labels) (before : List Entry) (entry : Entry) (d : ParserState)
     (head : Head) (own : Option ℕ) (rdata : Data) (last found : Option ℕ) : Type 0 where
   pub held : Option Labels
-  pub defaults : AreDefaults origin before (with_owner held d)
+  pub state : IsStateAfter origin before (with_owner held d)
   pub has : HasHead origin before entry head
   pub own_ttl : IsTtlOrNone (ttl_text (statement_of entry)) own
   pub class : rdata.class ≡ head.class
@@ -86,13 +86,13 @@ pub record IsReadTo (origin : Labels) (before : List Entry) (entry : Entry) (d :
   pub ttl : found ≡ option_or (option_or (option_or own d.default_ttl) d.last_ttl) last
 
 -- a record entry of the owner up to its data and TTL
-pub record ReadsContents (origin : Labels) (before : List Entry) (entry : Entry) (d : Defaults)
+pub record ReadsContents (origin : Labels) (before : List Entry) (entry : Entry) (d : ParserState)
     (name : Labels) (own : Option ℕ) (rdata : Data) (last : Option ℕ) (ttl : ℕ) : Type 0 where
   pub head : Head
   pub named : head.owner ≡ name
   pub read : IsReadTo origin before entry d head own rdata last (Some ttl)
 
-abbrev pub with_origin : Labels → Defaults → Defaults
+abbrev pub with_origin : Labels → ParserState → ParserState
 with_origin origin d = record {
   origin = origin;
   owner = d.owner;
@@ -102,7 +102,7 @@ with_origin origin d = record {
   minimum = d.minimum;
 }
 
-abbrev pub with_default_ttl : Option ℕ → Defaults → Defaults
+abbrev pub with_default_ttl : Option ℕ → ParserState → ParserState
 with_default_ttl seconds d = record {
   origin = d.origin;
   owner = d.owner;
@@ -113,20 +113,20 @@ with_default_ttl seconds d = record {
 }
 
 -- the owner becomes the name that a text spells under the origin
-pub record SetsOwner (text : List ℕ) (d next : Defaults) : Type 0 where
+pub record SetsOwner (text : List ℕ) (d next : ParserState) : Type 0 where
   pub name : Labels
   pub spelled : Spells (Some d.origin) text name
   pub others : next ≡ with_owner (Some name) d
 
 -- `$ORIGIN` has one bare item, the name of which the origin becomes
-pub record SetsOrigin (items : List RawItem) (d next : Defaults) : Type 0 where
+pub record SetsOrigin (items : List RawItem) (d next : ParserState) : Type 0 where
   pub text : List ℕ
   pub item : one_bare items ≡ Some text
   pub spelled : Spells (Some d.origin) text next.origin
   pub others : next ≡ with_origin next.origin d
 
 -- `$TTL` has one bare item, the TTL that the default becomes
-pub record SetsTtl (items : List RawItem) (d next : Defaults) : Type 0 where
+pub record SetsTtl (items : List RawItem) (d next : ParserState) : Type 0 where
   pub text : List ℕ
   pub seconds : ℕ
   pub item : one_bare items ≡ Some text

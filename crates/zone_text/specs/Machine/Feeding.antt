@@ -1,39 +1,39 @@
 -- How the octets that a source is fed are read, entry by entry.
-use Rattle.std.specs.Prelude.{◌≡◌, ℕ, ◌+◌, ◌≤◌, ◌<◌, ◌^◌, List, [], ◌∷◌, ◌++◌, length, count_by, ◌==◌, Bool, true, false, Some, None}
+use Rattle.std.specs.Prelude.{◌≡◌, ℕ, ◌+◌, ◌≤◌, ◌<◌, ◌^◌, List, [], ◌∷◌, ◌++◌, length, count_by, ◌==◌, true, false, Some, None}
 use Rattle.zone_name.specs.Common.{Labels}
+use Rattle.zone_rdata.specs.FedSource.{SourceState, is_failed, is_finished}
 use Rattle.zone_rdata.specs.declared.fault.Fault.{Fault}
 use Rattle.zone_rdata.specs.declared.fault.Place.{Place}
+use Rattle.zone_rdata.specs.declared.fed.FedStatus.{FedStatus}
 use Rattle.zone_rdata.specs.declared.record.Placed.{Placed}
 use Rattle.zone_text.specs.Decided.{FileDecides}
-use Rattle.zone_text.specs.Defaults.{AreDefaults}
+use Rattle.zone_text.specs.ParserState.{IsStateAfter}
 use Rattle.zone_text.specs.Entries.{Entry, entry_of}
 use Rattle.zone_text.specs.FileReads.{FileReads, ReadEach}
 use Rattle.zone_text.specs.Machine.Scan.{beginning, scan_of}
 use Rattle.zone_text.specs.Tokens.{Token, Cuts, text}
-use Rattle.zone_text.specs.Source.{Leave, SourceState}
+use Rattle.zone_text.specs.TextSource.{FileKept, FileLeaves}
 use Rattle.zone_text.specs.declared.ended.EndedEntries.{EndedEntries}
-use Rattle.zone_text.specs.declared.intake.Intake.{Intake}
+use Rattle.zone_text.specs.declared.splitter.EntrySplitter.{EntrySplitter}
 use Rattle.zone_text.specs.declared.scan.ScanState.{ScanState}
 use Rattle.zone_text.specs.declared.scan.Step.{Step}
-use Rattle.zone_text.specs.declared.source.Status.{Status}
-use Rattle.zone_text.specs.declared.source.Status.TheVariants.{Open, Finished, OutOfMemory}
 use Rattle.zone_text.specs.declared.scan.Step.TheVariants.{On}
 
 -- An entry was read after others: the record that it states came after theirs, or its fault was
--- decided. If it is no fault, the defaults and the line are those after the entry.
+-- decided. If it is no fault, the state and the line are those after the entry.
 pub record ReadsEntry (origin : Labels) (before : List Entry) (tokens : List Token)
     (old new : EndedEntries) : Type 0 where
   pub others : List Placed
   pub read : ReadEach origin None before (entry_of old.line tokens ∷ []) others new.decided.ending
   pub records : new.decided.placed ≡ old.decided.placed ++ others
-  pub defaults : new.decided.ending ≡ None
-      → AreDefaults origin (entry_of old.line tokens ∷ before) new.defaults
+  pub state : new.decided.ending ≡ None
+      → IsStateAfter origin (entry_of old.line tokens ∷ before) new.state
   pub line : new.decided.ending ≡ None → new.line ≡ old.line + count_by (λ c. c == 10) (text tokens)
 
 -- octets are read as the entry after others, whatever these are
 pub record ReadsOctets (octets : List ℕ) (old new : EndedEntries) : Type 0 where
   pub reads : (origin : Labels) (before : List Entry) (tokens : List Token)
-      → AreDefaults origin before old.defaults → Cuts octets tokens
+      → IsStateAfter origin before old.state → Cuts octets tokens
       → ReadsEntry origin before tokens old new
   pub later : old.line ≤ new.line
   pub near : new.line ≤ old.line + length octets
@@ -43,48 +43,38 @@ pub record ReadsOctets (octets : List ℕ) (old new : EndedEntries) : Type 0 whe
 pub record Follow (origin : Labels) (ended : EndedEntries) (unfinished : List ℕ) (fed : List ℕ)
     (given : List Placed) : Type 0 where
   pub decided : FileDecides origin fed (given ++ ended.decided.placed) ended.decided.ending
-  pub leave : ended.decided.ending ≡ None → Leave origin fed ended.defaults ended.line unfinished
+  pub leave : ended.decided.ending ≡ None → FileLeaves origin fed ended.state ended.line unfinished
 
 -- the scan of octets took all of them, and they lead there
 abbrev pub ScansTo : ScanState → List ℕ → Step → Type 0
 ScansTo start octets step = scan_of start octets ≡ record { taken = length octets; step = step }
 
 -- the octets of the unfinished entry lead to the state, and are dropped where a fault is decided
-pub record IsIntake (ended : EndedEntries) (at : ScanState) (unfinished : List ℕ) : Type 0 where
+pub record IsSplitter (ended : EndedEntries) (at : ScanState) (unfinished : List ℕ) : Type 0 where
   pub state : ScansTo beginning unfinished (On at)
   pub dropped : (found : Fault × Place) → ended.decided.ending ≡ Some found → unfinished ≡ []
   pub line : 1 ≤ ended.line
 
 -- the line of the unfinished entry and the number of its octets so far, together
-abbrev pub reach : Intake → ℕ
+abbrev pub reach : EntrySplitter → ℕ
 reach s = s.ended.line + length s.unfinished.items
 
 -- what follows from the octets before goes on with these
-abbrev pub FollowOn : Intake → List ℕ → Intake → Type 0
+abbrev pub FollowOn : EntrySplitter → List ℕ → EntrySplitter → Type 0
 FollowOn old part new =
     (origin : Labels) (fed : List ℕ) (given : List Placed)
     → Follow origin old.ended old.unfinished.items fed given
     → Follow origin new.ended new.unfinished.items (fed ++ part) given
 
 -- what is read of a file that ends there
-abbrev pub ReadsAll : Intake → Intake → Type 0
+abbrev pub ReadsAll : EntrySplitter → EntrySplitter → Type 0
 ReadsAll old new =
     (origin : Labels) (fed : List ℕ) (given : List Placed)
     → Follow origin old.ended old.unfinished.items fed given
     → FileReads origin fed (given ++ new.ended.decided.placed) new.ended.decided.ending
 
-abbrev pub is_failed : Status → Bool
-is_failed Open = false
-is_failed Finished = false
-is_failed OutOfMemory = true
-
-abbrev pub is_finished : Status → Bool
-is_finished Open = false
-is_finished Finished = true
-is_finished OutOfMemory = false
-
 -- a source as contracts see it
-abbrev pub state_of : Status → ℕ → EndedEntries → List ℕ → SourceState
+abbrev pub state_of : FedStatus → ℕ → EndedEntries → List ℕ → SourceState FileKept
 state_of status fed ended unfinished = record {
   pending =
       record {
@@ -96,17 +86,16 @@ state_of status fed ended unfinished = record {
       record {
         finished = is_finished status;
         fed = fed;
-        defaults = ended.defaults;
-        line = ended.line;
+        kept = record { state = ended.state; line = ended.line };
         unfinished = unfinished;
       };
 }
 
 -- what a source holds: nothing of the unfinished entry once it has failed or the file has ended,
 -- and numbers that fit
-pub record IsSource (status : Status) (fed : ℕ) (ended : EndedEntries) (at : ScanState)
+pub record IsSource (status : FedStatus) (fed : ℕ) (ended : EndedEntries) (at : ScanState)
     (unfinished : List ℕ) : Type 0 where
-  pub is : is_failed status ≡ false → IsIntake ended at unfinished
+  pub is : is_failed status ≡ false → IsSplitter ended at unfinished
   pub line : is_failed status ≡ false → ended.line + length unfinished ≤ fed + 1
   pub fits : fed + 1 < 2 ^ 64
   pub none_failed : is_failed status ≡ true → unfinished ≡ []

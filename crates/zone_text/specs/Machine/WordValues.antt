@@ -3,8 +3,8 @@ use Rattle.std.specs.Prelude.{◌≡◌, List, None, MatchOption, IsSomeAnd}
 use Rattle.std.specs.List.{AllByRecursion}
 use Rattle.zone_rdata.specs.Spelling.{RawItem}
 use Rattle.zone_rdata.specs.Words.{IsClassWord}
-use Rattle.zone_text.specs.Defaults.{IsTtlOrNone}
-use Rattle.zone_text.specs.Forms.{Word, Parts, ttl_among, class_among}
+use Rattle.zone_text.specs.ParserState.{IsTtlOrNone}
+use Rattle.zone_text.specs.Statements.{Word, Parts, ttl_among, class_among}
 use Rattle.zone_text.specs.Records.{HasValue}
 use Rattle.zone_text.specs.declared.words.Words.{Words}
 

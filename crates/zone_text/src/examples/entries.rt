@@ -2,7 +2,7 @@
 ghost use Rattle.std.specs.Prelude.{◌≡◌, ◌∷◌, [], codes, Some, None};
 ghost use Rattle.zone_rdata.specs.Spelling.{bare};
 ghost use Rattle.zone_text.specs.ExampleEntries.{at_line, ns, TextGives, soa, under, x};
-ghost use Rattle.zone_text.specs.Forms.{class, parts_after, ttl};
+ghost use Rattle.zone_text.specs.Statements.{class, parts_after, ttl};
 
 use zone_rdata::laws::word::kind_word_is_unique;
 

@@ -6,7 +6,7 @@ ghost use Rattle.zone_rdata.specs.Words.{IsClassWord};
 ghost use Rattle.zone_rdata.specs.declared.fault.Fault.{Fault};
 ghost use Rattle.zone_text.specs.Entries.{Entry};
 ghost use Rattle.zone_text.specs.EntryFault.{EntryFault};
-ghost use Rattle.zone_text.specs.Forms.{begins_with_digit, statement_of, is_class_word};
+ghost use Rattle.zone_text.specs.Statements.{begins_with_digit, statement_of, is_class_word};
 ghost use Rattle.zone_text.specs.Machine.Lower.{Choices, Lower};
 ghost use Rattle.zone_text.specs.Outcome.{AllState, AreOctetItems};
 ghost use Rattle.zone_text.specs.Records.{StatesNothing, EntryStates};

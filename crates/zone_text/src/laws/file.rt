@@ -6,7 +6,7 @@ ghost use Rattle.zone_rdata.specs.declared.record.Placed.{Placed};
 ghost use Rattle.zone_text.specs.Decided.{FileDecides, Stays};
 ghost use Rattle.zone_text.specs.File.{FileStates};
 ghost use Rattle.zone_text.specs.FileReads.{FileReads, Ending};
-ghost use Rattle.zone_text.specs.Source.{AreUnfinished};
+ghost use Rattle.zone_text.specs.TextSource.{AreUnfinished};
 
 use crate::laws::entry::{lower_choices, lower_laws};
 

@@ -1,5 +1,7 @@
 -- How the octets that a source is fed are taken, frame by frame.
-use Rattle.std.specs.Prelude.{◌≡◌, ℕ, ◌+◌, ◌^◌, ◌<◌, ◌≤◌, List, [], ◌++◌, length, slice_index, Bool, true, false, Some, IfSome, MatchOption}
+use Rattle.std.specs.Prelude.{◌≡◌, ℕ, ◌+◌, ◌^◌, ◌<◌, ◌≤◌, List, [], ◌++◌, length, slice_index, true, false, Some, IfSome, MatchOption}
+use Rattle.zone_rdata.specs.FedSource.{is_failed, is_finished}
+use Rattle.zone_rdata.specs.declared.fed.FedStatus.{FedStatus}
 use Rattle.zone_rdata.specs.declared.record.Placed.{Placed}
 use Rattle.zone_wire.specs.Answers.{handed_on}
 use Rattle.zone_wire.specs.Frames.{IsFramed}
@@ -7,8 +9,6 @@ use Rattle.zone_wire.specs.Machine.Transferring.{IsAfter}
 use Rattle.zone_wire.specs.Message.{u16_at}
 use Rattle.zone_wire.specs.Stream.{octets_in, placed_in, AreRead, StreamDecides}
 use Rattle.zone_wire.specs.Transfer.{StatedMessage}
-use Rattle.zone_wire.specs.declared.source.Status.{Status}
-use Rattle.zone_wire.specs.declared.source.Status.TheVariants.{Open, Finished, OutOfMemory}
 use Rattle.zone_wire.specs.declared.transfer.Transfer.{Transfer}
 
 -- octets that end inside a frame
@@ -31,19 +31,9 @@ pub record Follow (t : Transfer) (unfinished : List ℕ) (fed : List ℕ)
   pub state : MatchOption t.decided.ending (Going t unfinished fed given)
       (λ e. StreamDecides fed (given ++ t.decided.placed) (Some e))
 
-abbrev pub is_failed : Status → Bool
-is_failed Open = false
-is_failed Finished = false
-is_failed OutOfMemory = true
-
-abbrev pub is_finished : Status → Bool
-is_finished Open = false
-is_finished Finished = true
-is_finished OutOfMemory = false
-
 -- what a source holds: octets of the unfinished frame alone, none of them after a fault, after the
 -- end or once it has failed, and numbers that fit
-pub record IsSource (status : Status) (fed : ℕ) (t : Transfer) (unfinished : List ℕ) : Type 0 where
+pub record IsSource (status : FedStatus) (fed : ℕ) (t : Transfer) (unfinished : List ℕ) : Type 0 where
   pub cut : IsCut unfinished
   pub messages : is_failed status ≡ false → t.messages ≤ fed
   pub fits : fed + 1 < 2 ^ 64

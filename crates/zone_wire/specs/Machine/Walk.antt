@@ -1,4 +1,4 @@
--- The walk along a name in a message, place by place, to its root or its first fault: the list that
+-- The walk along a name in a message, spot by spot, to its root or its first fault: the list that
 -- `IsWalk` holds of.
 use Rattle.std.specs.Prelude.{ℕ, zero, suc, ◌+◌, List, [], ◌∷◌, length, slice_index, nat_le, nat_lt, nat_eq, ◌||◌, if◌then◌else◌, Option, Some, None}
 use Rattle.zone_wire.specs.Name.{target_at}
@@ -21,7 +21,7 @@ pointer_of message spot target =
     else if nat_le 128 spot.pointers then at_fault TooManyPointers
     else at_pointer target
 
--- what stands at a place that lies in the message, by its first octet
+-- what stands at a spot that lies in the message, by its first octet
 abbrev pub standing_at : List ℕ → Spot → Standing
 standing_at message spot =
     let first : ℕ = slice_index message spot.offset in
@@ -30,12 +30,12 @@ standing_at message spot =
     else if nat_lt first 192 then at_fault ReservedLabel
     else pointer_of message spot (target_at message spot.offset)
 
--- what stands at a place, none where it doesn't lie in the message
-unfoldable pub place_of : List ℕ → Spot → Option Standing
-place_of message spot =
+-- what stands at a spot, none where it doesn't lie in the message
+unfoldable pub standing_in : List ℕ → Spot → Option Standing
+standing_in message spot =
     if nat_le (length message) spot.offset then None else Some (standing_at message spot)
 
--- a walk from a place on, where `rest` walks on
+-- a walk from a spot on, where `rest` walks on
 abbrev pub walk_on : (Spot → List Visit) → Spot → Option Standing → List Visit
 walk_on rest spot None = []
 walk_on rest spot (Some at_root) = visit spot at_root ∷ []
@@ -44,12 +44,12 @@ walk_on rest spot (Some (at_pointer target)) =
     visit spot (at_pointer target) ∷ rest (past_pointer spot target)
 walk_on rest spot (Some (at_fault fault)) = visit spot (at_fault fault) ∷ []
 
--- at most n places
+-- at most n spots
 unfoldable pub walk_by : ℕ → List ℕ → Spot → List Visit
 walk_by zero message spot = []
-walk_by (suc n) message spot = walk_on (walk_by n message) spot (place_of message spot)
+walk_by (suc n) message spot = walk_on (walk_by n message) spot (standing_in message spot)
 
--- The places of the name at an offset. 256 are enough for each walk: 127 labels, 128 pointers and
--- the last place.
+-- The spots of the name at an offset. 256 are enough for each walk: 127 labels, 128 pointers and
+-- the last spot.
 unfoldable pub walk : List ℕ → ℕ → List Visit
 walk message offset = walk_by 256 message (outset offset)

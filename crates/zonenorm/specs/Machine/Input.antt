@@ -6,10 +6,10 @@ use Rattle.zone_rdata.specs.declared.fault.Place.{Place}
 use Rattle.zone_rdata.specs.declared.record.Placed.{Placed}
 use Rattle.zone_text.specs.Decided as file_decides
 use Rattle.zone_wire.specs.Stream as stream_decides
-use Rattle.zonenorm.specs.Input.{Input, InputForm, as_file, as_transfer, file, transfer}
+use Rattle.zonenorm.specs.Input.{Input, ReadAs, as_file, as_transfer, file, transfer}
 
 -- the origin of a master file is a name
-abbrev pub IsForm : InputForm → Type 0
+abbrev pub IsForm : ReadAs → Type 0
 IsForm (as_file origin) = IsName origin
 IsForm as_transfer = ⊤
 

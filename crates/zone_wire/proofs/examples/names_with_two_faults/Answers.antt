@@ -1,11 +1,11 @@
 use Rattle.std.proofs.Common.{refl}
 use Rattle.zone_wire.specs.Walk.{ending}
-use Rattle.zone_wire.specs.Machine.Walk.{place_of, walk_by, walk}
+use Rattle.zone_wire.specs.Machine.Walk.{standing_in, walk_by, walk}
 use Rattle.zone_wire.proofs.Computing.{walk_computes}
 use Rattle.zone_wire.proofs.examples.names_with_two_faults.Goals as goal
 
 pub returns : goal.returns
-unfolding place_of walk_by walk ending
+unfolding standing_in walk_by walk ending
 returns c = record {
   outside_and_too_long = walk_computes _ _ _ _ refl refl;
   bad_target_and_too_many = walk_computes _ _ _ _ refl refl;

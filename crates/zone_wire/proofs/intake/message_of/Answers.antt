@@ -1,7 +1,7 @@
 use Rattle.std.proofs.Common.{ap, sym, ◌∙◌, arith}
 use Rattle.zone_wire.specs.Transfer.{frame}
 use Rattle.zone_wire.proofs.Feeding.{framed_whole, rest_taken}
-use Rattle.zone_wire.proofs.intake.message_of.Goals as goal
+use Rattle.zone_wire.proofs.framer.message_of.Goals as goal
 
 pub returns-clause-framed : goal.returns-clause-framed
 returns-clause-framed c = framed_whole c.args.framed.now (λ i. omega (arith, c.type_inv.framed i)) c.requires ∙ ap frame (sym (rest_taken 2 c.args.framed.now))

@@ -8,11 +8,11 @@ use Rattle.zone_wire.proofs.name.read_name.Goals as goal
 pub places-init : goal.places-init
 places-init c = rw (c.outset-spot.ensures, c.new-ticks.ensures, c.requires) (carries_start c.args.message.now c.args.offset)
 
-pub place_at-requires-clause-octets : goal.place_at-requires-clause-octets
-place_at-requires-clause-octets c = let h = c.places.invariant in omega (arith, h.short)
+pub look_at-requires-clause-octets : goal.look_at-requires-clause-octets
+look_at-requires-clause-octets c = let h = c.places.invariant in omega (arith, h.short)
 
-pub place_at-requires-clause-ticks : goal.place_at-requires-clause-ticks
-place_at-requires-clause-ticks c = let h = c.places.invariant in omega (arith, h.few, h.short, h.pointers)
+pub look_at-requires-clause-ticks : goal.look_at-requires-clause-ticks
+look_at-requires-clause-ticks c = let h = c.places.invariant in omega (arith, h.few, h.short, h.pointers)
 
 pub returns-in-Outside : goal.returns-in-Outside
 returns-in-Outside c = carries_outside c.places.invariant (sym c.in-Outside.ensures.place) ∙ ap (refused ShortMessage) (omega (arith, c.count.ensures, c.in-Outside.ensures.ticks))

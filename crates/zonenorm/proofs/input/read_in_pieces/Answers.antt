@@ -1,7 +1,7 @@
 use Rattle.std.proofs.Common.{rules, refl, sym, ◌∙◌, ◌<◌, ◌≤◌, ◌+◌, ◌++◌, [], length, length-append, arith}
 use Rattle.std.proofs.lemmas.Result.{MatchResult-weaker}
 use Rattle.zonenorm.specs.Input.{input_of}
-use Rattle.zonenorm.specs.Machine.Taking.{ReadsZoneWithin}
+use Rattle.zonenorm.specs.Machine.Loading.{ReadsZoneWithin}
 use Rattle.zonenorm.specs.Refusal.{IfRefused, IsRefusalWithin}
 use Rattle.zone_name.proofs.Pushing.{AllByRecursion-append}
 use Rattle.zonenorm.proofs.Feeding.{begun, within, refused_within, all_given, too_many, nothing_consumed, consumed_both, consumed_none, of_reading, tells_no_read, no_octets}
@@ -16,7 +16,7 @@ loop-count-init g c = record {
     each = tt;
     few = search rules;
     fed_few = rw c.requires.unfed (search rules);
-    taken = λ form begins. begun g.S.FedSource.Stands form _ _ _ _ c.new-taking.ensures.holds c.new-taking.ensures.refuses begins;
+    taken = λ form begins. begun g.S.FedSource.IsOf g.S.FedSource.Leave form _ _ _ _ c.new-loader.ensures.holds c.new-loader.ensures.refuses begins;
   };
   works = λ worked. worked;
   going = c.requires.«open»;

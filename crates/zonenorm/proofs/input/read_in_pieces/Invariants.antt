@@ -1,5 +1,5 @@
 use Rattle.std.proofs.Common.{◌≡◌, ◌-◌, ◌+◌, false}
-use Rattle.zonenorm.specs.Machine.Taking.{BeginsAs, IsTakenOf}
+use Rattle.zonenorm.specs.Machine.Loading.{BeginsAs, IsLoadedOf}
 use Rattle.zonenorm.proofs.Feeding.{HasFed}
 use Rattle.zonenorm.proofs.input.read_in_pieces.Given as goal
 
@@ -9,9 +9,9 @@ invariant-loop-count g l =
     let remaining = g.R.OctetReader.remaining in
     let source = l.initial.source in
     record {
-      fed : HasFed (BeginsAs g.S.FedSource.Stands (g.S.RrSource.pending source) (g.S.FedSource.held source)) (IsTakenOf g.S.FedSource.Stands (g.S.RrSource.pending l.source) (g.S.FedSource.held l.source) l.taking.builder l.taking.refusal) (remaining l.initial.reader) (remaining l.reader) l.count (g.S.FedSource.fed (g.S.FedSource.held l.source)) l.limit;
+      fed : HasFed (BeginsAs g.S.FedSource.IsOf g.S.FedSource.Leave (g.S.RrSource.pending source) (g.S.FedSource.held source)) (IsLoadedOf g.S.FedSource.IsOf g.S.FedSource.Leave (g.S.RrSource.pending l.source) (g.S.FedSource.held l.source) l.loader.builder l.loader.refusal) (remaining l.initial.reader) (remaining l.reader) l.count (g.S.FedSource.held l.source).fed l.limit;
       works : g.R.OctetReader.Works l.initial.reader → g.R.OctetReader.Works l.reader;
-      going : g.S.FedSource.finished (g.S.FedSource.held l.source) ≡ false;
+      going : (g.S.FedSource.held l.source).finished ≡ false;
     }
 
 -- the octets that may still come

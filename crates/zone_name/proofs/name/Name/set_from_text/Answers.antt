@@ -5,7 +5,7 @@ use Rattle.zone_name.specs.Name.{HoldsName}
 use Rattle.zone_name.specs.Spelling.{root, unfounded}
 use Rattle.zone_name.specs.declared.fault.NameFault.{NameFault}
 use Rattle.zone_name.specs.declared.fault.NameFault.TheVariants.{RelativeName}
-use Rattle.zone_name.specs.declared.reading.NameForm.TheVariants.{Root, Origin, Labels}
+use Rattle.zone_name.specs.declared.reading.NameShape.TheVariants.{Root, Origin, Labels}
 use Rattle.zone_name.proofs.Answered.{answered, answered-only, answered-origin, decided-found, decided-fault, at-relative}
 use Rattle.zone_name.proofs.Octets.{HoldsName-root, HoldsName-wire, labels_of-root}
 use Rattle.zone_name.proofs.name.Name.set_from_text.Goals as goal

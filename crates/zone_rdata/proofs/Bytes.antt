@@ -1,0 +1,20 @@
+-- Lists of which each element is an octet, by index.
+use Rattle.std.proofs.Common.{ℕ, zero, suc, ◌<◌, List, [], ◌∷◌, ◌++◌, lit<}
+use Rattle.std.specs.Prelude.{slice_index}
+
+abbrev pub Bytes : List ℕ → Type 0
+Bytes xs = (i : ℕ) → slice_index xs i < 256
+
+pub bytes_append : (xs ys : List ℕ) → Bytes xs → Bytes ys → Bytes (xs ++ ys)
+bytes_append [] ys a b k = b k
+bytes_append (x ∷ xs) ys a b zero = a 0
+bytes_append (x ∷ xs) ys a b (suc k) = bytes_append xs ys (λ i. a (suc i)) b k
+
+pub front_bytes : (xs ys : List ℕ) → Bytes (xs ++ ys) → Bytes xs
+front_bytes [] ys each k = lit< tt
+front_bytes (x ∷ xs) ys each zero = each 0
+front_bytes (x ∷ xs) ys each (suc k) = front_bytes xs ys (λ i. each (suc i)) k
+
+pub back_bytes : (xs ys : List ℕ) → Bytes (xs ++ ys) → Bytes ys
+back_bytes [] ys each = each
+back_bytes (x ∷ xs) ys each = back_bytes xs ys (λ i. each (suc i))

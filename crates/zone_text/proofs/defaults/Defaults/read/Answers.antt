@@ -1,8 +1,0 @@
-use Rattle.std.proofs.Common.{sym}
-use Rattle.zone_text.proofs.KeptEntry.{entry_kept}
-use Rattle.zone_text.proofs.defaults.Defaults.read.Goals as goal
-
-pub returns : goal.returns
-returns c origin before line tokens are cut kept =
-    entry_kept _ origin before line c.args.entry.now tokens _ _ _ _ _ cut kept
-    (c.read_form.ensures origin before (record { line = line; first = _; items = _ }) are (sym c.form_of.ensures))

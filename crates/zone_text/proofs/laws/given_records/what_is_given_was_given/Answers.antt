@@ -1,0 +1,5 @@
+use Rattle.zone_rdata.proofs.FedSources.{stands_given}
+use Rattle.zone_text.proofs.laws.given_records.what_is_given_was_given.Goals as goal
+
+pub returns : goal.returns
+returns c = λ origin old new more fed. stands_given _ _ _ old new more fed

@@ -1,0 +1,13 @@
+use Rattle.std.proofs.Common.{◌≡◌, [], length}
+use Rattle.zone_text.proofs.FedPieces.{HasFed}
+use Rattle.zone_text.proofs.splitter.EntrySplitter.feed.Given as goal
+
+abbrev pub decreases-loop-self : goal.decreases-loop-self
+decreases-loop-self l = length l.rest
+
+abbrev pub invariant-loop-self : goal.invariant-loop-self
+invariant-loop-self l =
+    record {
+      fed : HasFed l.fn.self l.self l.piece l.rest;
+      nothing : l.piece ≡ [] → (l.self ≡ l.fn.self) × (l.rest ≡ []);
+    }

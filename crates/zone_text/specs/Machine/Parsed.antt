@@ -1,0 +1,19 @@
+-- The form of an entry as the code holds it.
+use Rattle.std.specs.Prelude.{map}
+use Rattle.zone_rdata.specs.Item.{raw}
+use Rattle.zone_text.specs.Statements.{Statement, no_items, sets_origin, sets_ttl, includes, unknown, owned, unowned}
+use Rattle.zone_text.specs.declared.parsed as code
+use Rattle.zone_text.specs.declared.parsed.Directive.TheVariants as directives
+use Rattle.zone_text.specs.declared.parsed.ParsedEntry.TheVariants as forms
+
+abbrev pub directive_in : code.Directive.Directive → Statement
+directive_in (directives.Origin items) = sets_origin (map raw items.now)
+directive_in (directives.Ttl items) = sets_ttl (map raw items.now)
+directive_in directives.Include = includes
+directive_in directives.Unknown = unknown
+
+abbrev pub statement_in : code.ParsedEntry.ParsedEntry → Statement
+statement_in forms.Blank = no_items
+statement_in (forms.Directive directive) = directive_in directive
+statement_in (forms.Owned owner items) = owned (raw owner) (map raw items.now)
+statement_in (forms.Unowned items) = unowned (map raw items.now)

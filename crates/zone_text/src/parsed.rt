@@ -1,0 +1,74 @@
+ghost use Rattle.std.specs.Prelude.{◌≡◌, bytes_eq, map};
+ghost use Rattle.zone_name.specs.Name.{folded_label};
+ghost use Rattle.zone_rdata.specs.Item.{raw};
+ghost use Rattle.zone_text.specs.Entries.{first_octet};
+ghost use Rattle.zone_text.specs.Statements.{directive, statement_by};
+ghost use Rattle.zone_text.specs.Machine.Parsed.{directive_in, statement_in};
+
+use crate::items::is_blank;
+use zone_rdata::Item;
+
+/// A directive (RFC 1035 5.1; `$TTL` RFC 2308 4).
+#[derive(Drop)]
+pub(crate) enum Directive<'i, 't> {
+    /// `$ORIGIN`, and the items after the word.
+    Origin(&'i [Item<'t>]),
+    /// `$TTL`, and the items after the word.
+    Ttl(&'i [Item<'t>]),
+    /// `$INCLUDE`, which isn't read.
+    Include,
+    /// A directive of another word.
+    Unknown,
+}
+
+/// The form of an entry (RFC 1035 5.1).
+#[derive(Drop)]
+pub(crate) enum ParsedEntry<'i, 't> {
+    /// No items.
+    Blank,
+    /// A directive.
+    Directive(Directive<'i, 't>),
+    /// A record that states its owner, and the items after the owner.
+    Owned(Item<'t>, &'i [Item<'t>]),
+    /// A record that omits its owner.
+    Unowned(&'i [Item<'t>]),
+}
+
+/// Whether two words are equal but for the case of their letters.
+fn is_word(word: &[u8], wanted: &[u8]) -> bool
+    ensures { result ≡ bytes_eq (folded_label word.now) (folded_label wanted.now) }
+{
+    word.eq_ignore_ascii_case(wanted)
+}
+
+/// The directive of a word in any letter case.
+fn directive_of<'i, 't>(word: Item<'t>, items: &'i [Item<'t>]) -> Directive<'i, 't>
+    ensures { directive_in result ≡ directive (raw word.entry) (map raw items.now) }
+{
+    let Item::Bare(word) = word else {
+        return Directive::Unknown;
+    };
+    if is_word(word, b"$origin") {
+        Directive::Origin(items)
+    } else if is_word(word, b"$ttl") {
+        Directive::Ttl(items)
+    } else if is_word(word, b"$include") {
+        Directive::Include
+    } else {
+        Directive::Unknown
+    }
+}
+
+/// The form of an entry with these items.
+pub(crate) fn parse_entry<'i, 't>(entry: &[u8], items: &'i [Item<'t>]) -> ParsedEntry<'i, 't>
+    ensures { statement_in result ≡ statement_by (first_octet entry.now) (map raw items.now) }
+{
+    let [first, rest @ ..] = items else {
+        return ParsedEntry::Blank;
+    };
+    match entry {
+        [b'$', ..] => ParsedEntry::Directive(directive_of(*first, rest)),
+        [octet, ..] if is_blank(*octet) => ParsedEntry::Unowned(items),
+        _ => ParsedEntry::Owned(*first, rest),
+    }
+}

@@ -1,0 +1,168 @@
+ghost use Rattle.std.specs.Prelude.{◌≡◌, ℕ, List, [], map, Some, IfErr, OnOk};
+ghost use Rattle.std.specs.List.{flat_map};
+ghost use Rattle.zone_name.specs.Common.{Labels};
+ghost use Rattle.zone_name.specs.Spelling.{SpellingFault};
+ghost use Rattle.zone_rdata.specs.Item.{raw};
+ghost use Rattle.zone_text.specs.ParserState.{IsStateAfter};
+ghost use Rattle.zone_text.specs.Entries.{Entry, entry_of, item_of};
+ghost use Rattle.zone_text.specs.EntryFault.{EntryFault};
+ghost use Rattle.zone_text.specs.Statements.{statement_of, owned};
+ghost use Rattle.zone_text.specs.Tokens.{Token, Cuts};
+ghost use Rattle.zone_text.specs.Machine.EntryReading.{DecidesEntry, LeavesNoRecord, SetsOwner};
+ghost use Rattle.zone_text.specs.Machine.Parsed.{directive_in, statement_in};
+ghost use Rattle.zone_text.specs.Machine.Kept.{AreKept};
+
+use crate::parsed::{Directive, ParsedEntry, parse_entry};
+use crate::record::refuse;
+use std::alloc::{AllocError, Global};
+use zone_name::{Name, NameFault};
+use zone_rdata::{Cause, Class, Item, NarrowFailing, NarrowFault, PendingRecords, Place};
+
+/// What the entries of a master file leave to those after them (RFC 1035 5.1, RFC 2308 4).
+#[derive(Debug, Drop)]
+pub(crate) struct ParserState {
+    /// The origin of relative names.
+    pub(crate) origin: Name,
+    /// The last owner that a record stated.
+    pub(crate) owner: Option<Name>,
+    /// The last class that a record stated, or IN.
+    pub(crate) class: Class,
+    /// The TTL of the last `$TTL`, in seconds.
+    pub(crate) default_ttl: Option<u32>,
+    /// The last TTL that a record stated, in seconds.
+    pub(crate) last_ttl: Option<u32>,
+    /// The MINIMUM of the last SOA, in seconds.
+    pub(crate) minimum: Option<u32>,
+}
+
+/// IN, the class of the Internet (RFC 1035 3.2.4).
+fn internet() -> Class
+    ensures { result ≡ 1 }
+{
+    Class::from_number(1).unwrap()
+}
+
+impl ParserState {
+    /// What the first entry of a file finds, under the origin that is handed in with the file.
+    pub(crate) fn new(origin: &Name) -> ParserState
+        ensures { IsStateAfter origin.now [] result }
+    {
+        ParserState {
+            origin: origin.copy(),
+            owner: None,
+            class: internet(),
+            default_ttl: None,
+            last_ttl: None,
+            minimum: None,
+        }
+    }
+
+    /// Reads the entry after those before it, and takes what it decides into `decided`: the record
+    /// that it states, with its place; or its first fault; or nothing, as of a blank entry,
+    /// `$ORIGIN` and `$TTL`. The entry is known to be cut into tokens, and these are kept of its
+    /// items. After a fault the state says nothing.
+    // Records and faults hold names, and are wide. So they are written where they go, and not
+    // handed up.
+    pub(crate) fn read<'t>(
+        &mut self,
+        alloc: Global,
+        entry: &'t [u8],
+        items: &[Item<'t>],
+        place: Place,
+        decided: &mut PendingRecords,
+    ) -> Result<(), AllocError>
+        ensures { (origin : Labels) (before : List Entry) (line : ℕ) (tokens : List Token)
+            → IsStateAfter origin before self.old → Cuts entry.now tokens
+            → AreKept (flat_map item_of tokens) (map raw items.now) → OnOk result
+            (DecidesEntry origin before (entry_of line tokens) place decided.old decided.new
+            self.new) }
+    {
+        self.read_parsed(alloc, parse_entry(entry, items), place, decided)
+    }
+
+    /// Reads an entry of this form.
+    fn read_parsed(
+        &mut self,
+        alloc: Global,
+        form: ParsedEntry,
+        place: Place,
+        decided: &mut PendingRecords,
+    ) -> Result<(), AllocError>
+        ensures { (origin : Labels) (before : List Entry) (entry : Entry)
+            → IsStateAfter origin before self.old → statement_of entry ≡ statement_in form.entry
+            → OnOk result
+            (DecidesEntry origin before entry place decided.old decided.new self.new) }
+    {
+        match form {
+            ParsedEntry::Blank => Ok(()),
+            ParsedEntry::Directive(directive) => match self.follow(directive) {
+                Ok(()) => Ok(()),
+                Err(fault) => refuse(NarrowFailing::from(fault), place, decided),
+            },
+            ParsedEntry::Owned(owner, items) => self.read_owned(
+                alloc, owner, items, place, decided,
+            ),
+            ParsedEntry::Unowned(items) => self.read_record(alloc, items, place, decided),
+        }
+    }
+
+    /// Follows a directive, which states no record.
+    #[inline(never)]
+    fn follow(&mut self, directive: Directive) -> Result<(), NarrowFault>
+        ensures found { (origin : Labels) (before : List Entry) (entry : Entry)
+            → IsStateAfter origin before self.old → statement_of entry ≡ directive_in directive.entry
+            → OnOk result (LeavesNoRecord origin before entry self.new) }
+        ensures fault { (origin : Labels) (before : List Entry) (entry : Entry)
+            → IsStateAfter origin before self.old → statement_of entry ≡ directive_in directive.entry
+            → IfErr result (EntryFault origin before entry) }
+    {
+        match directive {
+            Directive::Origin(items) => self.set_origin(items),
+            Directive::Ttl(items) => self.set_default_ttl(items),
+            Directive::Include => Err(NarrowFault::of(Cause::IncludeDirective)),
+            Directive::Unknown => Err(NarrowFault::of(Cause::UnknownDirective)),
+        }
+    }
+
+    /// Reads an entry that states its owner.
+    fn read_owned(
+        &mut self,
+        alloc: Global,
+        owner: Item,
+        items: &[Item],
+        place: Place,
+        decided: &mut PendingRecords,
+    ) -> Result<(), AllocError>
+        ensures { (origin : Labels) (before : List Entry) (entry : Entry)
+            → IsStateAfter origin before self.old → statement_of entry ≡ owned (raw owner.entry)
+            (map raw items.now)
+            → OnOk result
+            (DecidesEntry origin before entry place decided.old decided.new self.new) }
+    {
+        let Item::Bare(text) = owner else {
+            return refuse(NarrowFailing::of(Cause::NoOwner), place, decided);
+        };
+        match self.set_owner(text) {
+            Ok(()) => self.read_record(alloc, items, place, decided),
+            Err(fault) => refuse(NarrowFailing::from(fault), place, decided),
+        }
+    }
+
+    /// Takes the owner that a text spells, in place of the last one.
+    ///
+    /// # Errors
+    ///
+    /// The faults of the name. The owner then says nothing.
+    fn set_owner(&mut self, text: &[u8]) -> Result<(), NameFault>
+        ensures found { OnOk result (SetsOwner text.now self.old self.new) }
+        ensures fault { IfErr result (SpellingFault (Some self.old.origin) text.now) }
+    {
+        match &mut self.owner {
+            Some(owner) => owner.set_from_text(text, Some(&self.origin)),
+            None => {
+                self.owner = Some(Name::from_text(text, Some(&self.origin))?);
+                Ok(())
+            }
+        }
+    }
+}

@@ -1,0 +1,205 @@
+//! A source of the records of a master file that is fed in pieces.
+ghost use Rattle.std.specs.Prelude.{◌≡◌, ◌+◌, ◌<◌, ◌^◌, ◌++◌, ℕ, true, false, [], List, length, IfErr, IfSome, IsOk, OnOk, OnErr};
+ghost use Rattle.zone_name.specs.Common.{Labels};
+ghost use Rattle.zone_rdata.specs.declared.fed.FedStatus.TheVariants.{OutOfMemory};
+
+use crate::splitter::EntrySplitter;
+use std::alloc::Global;
+use std::marker::Model;
+use zone_name::Name;
+use zone_rdata::{FedStatus, LendingSource, Placed, PlacedRef, Reading, RrSource, Stop};
+
+/// The records of a master file (RFC 1035 5.1) that is fed in pieces. It gives a record as soon as
+/// a line feed has ended its entry. Contracts see the records that it has left to give, the fault
+/// after them, and what else it holds.
+///
+/// Once it was refused memory it has failed: every later `feed`, `finish` and `next` answers
+/// `Memory`.
+#[derive(Drop)]
+pub struct TextSource {
+    splitter: EntrySplitter,
+    /// The octets of all pieces that were taken.
+    fed: u64,
+    status: FedStatus,
+}
+
+impl Model for TextSource {
+    ghost use Rattle.zone_text.specs.Machine.Feeding.{IsSource, state_of};
+    ghost use Rattle.zone_rdata.specs.FedSource.{SourceState};
+    ghost use Rattle.zone_text.specs.TextSource.{FileKept};
+
+    ghost Value = { SourceState FileKept };
+
+    ghost view = { λ s. state_of s.status s.fed s.splitter.ended s.splitter.unfinished.items };
+
+    ghost invariant = { λ s.
+        IsSource s.status s.fed s.splitter.ended s.splitter.at s.splitter.unfinished.items };
+}
+
+/// Gives up what is kept: every later call answers `Memory`.
+#[cold]
+fn fail(splitter: &mut EntrySplitter, status: &mut FedStatus) -> Stop
+    ensures memory { result ≡ Stop.Memory }
+    ensures failed { status.new ≡ OutOfMemory }
+    ensures none { splitter.new.unfinished.items ≡ [] }
+{
+    splitter.drop_unfinished();
+    *status = FedStatus::OutOfMemory;
+    Stop::Memory
+}
+
+impl TextSource {
+    ghost use Rattle.zone_rdata.specs.declared.record.Placed.{Placed};
+    ghost use Rattle.zone_rdata.specs.FedSource.{counted};
+    ghost use Rattle.zone_text.specs.TextSource.{StandsForFile};
+
+    /// A source that was fed nothing, under the origin of the file.
+    pub fn new(alloc: Global, origin: &Name) -> TextSource
+        ensures stands { StandsForFile origin.now result [] [] }
+        ensures going { result.held.finished ≡ false }
+        ensures nothing { result.held.unfinished ≡ [] }
+    {
+        TextSource {
+            splitter: EntrySplitter::new(alloc, origin),
+            fed: 0,
+            status: FedStatus::Open,
+        }
+    }
+
+    /// Takes the next piece of the file, of any length. Once a fault is decided a piece is counted
+    /// alone, which takes no memory.
+    ///
+    /// # Errors
+    ///
+    /// `Memory`. The source has failed then, or had failed before.
+    pub fn feed(&mut self, piece: &[u8]) -> Result<(), Stop>
+        requires going { self.old.held.finished ≡ false }
+        requires fits { self.old.held.fed + length piece.now + 1 < 2 ^ 64 }
+        ensures stands { OnOk result ((origin : Labels) (fed : List ℕ) (given : List Placed)
+            → StandsForFile origin self.old fed given → StandsForFile origin self.new (fed ++ piece.now) given) }
+        ensures count { OnOk result (self.new.held.fed ≡ self.old.held.fed + length piece.now) }
+        ensures decided { self.old.pending.failed ≡ false → IfSome self.old.pending.ending
+            (λ _. IsOk result × (self.new ≡ counted (length piece.now) self.old)) }
+        ensures nothing { piece.now ≡ [] → (self.new ≡ self.old)
+            × (self.old.pending.failed ≡ false → IsOk result) }
+        ensures works { OnOk result (self.old.pending.failed ≡ false) }
+        ensures working { OnOk result (self.new.pending.failed ≡ false) }
+        ensures memory { IfErr result (λ stop. stop ≡ Stop.Memory) }
+        ensures failed { OnErr result (self.new.pending.failed ≡ true) }
+        ensures uncounted { OnErr result (self.new.held.fed ≡ self.old.held.fed) }
+        ensures goes_on { self.new.held.finished ≡ false }
+    {
+        if let FedStatus::OutOfMemory = self.status {
+            return Err(Stop::Memory);
+        }
+        match self.splitter.feed(piece) {
+            Ok(()) => {
+                self.fed += piece.len() as u64;
+                Ok(())
+            }
+            Err(_) => Err(fail(&mut self.splitter, &mut self.status)),
+        }
+    }
+
+    /// Takes the end of the file. What the source has still to give is then the rest of what is read
+    /// of the file. It takes no memory where no octets are undecided.
+    ///
+    /// # Errors
+    ///
+    /// `Memory`. The source has failed then, or had failed before.
+    pub fn finish(&mut self) -> Result<(), Stop>
+        requires going { self.old.held.finished ≡ false }
+        ensures stands { OnOk result ((origin : Labels) (fed : List ℕ) (given : List Placed)
+            → StandsForFile origin self.old fed given → StandsForFile origin self.new fed given) }
+        ensures finished { OnOk result (self.new.held.finished ≡ true) }
+        ensures works { OnOk result (self.old.pending.failed ≡ false) }
+        ensures working { OnOk result (self.new.pending.failed ≡ false) }
+        ensures memory { IfErr result (λ stop. stop ≡ Stop.Memory) }
+        ensures failed { OnErr result (self.new.pending.failed ≡ true) }
+        ensures goes_on { OnErr result (self.new.held.finished ≡ false) }
+        ensures decided { self.old.pending.failed ≡ false
+            → IfSome self.old.pending.ending (λ _. IsOk result) }
+        ensures nothing { self.old.pending.failed ≡ false
+            → self.old.held.unfinished ≡ [] → IsOk result }
+        ensures count { self.new.held.fed ≡ self.old.held.fed }
+    {
+        if let FedStatus::OutOfMemory = self.status {
+            return Err(Stop::Memory);
+        }
+        match self.splitter.finish() {
+            Ok(()) => {
+                self.status = FedStatus::Finished;
+                Ok(())
+            }
+            Err(_) => Err(fail(&mut self.splitter, &mut self.status)),
+        }
+    }
+
+    /// Whether `finish` has answered `Ok`.
+    pub fn is_finished(&self) -> bool
+        ensures { result ≡ self.now.held.finished }
+    {
+        matches!(self.status, FedStatus::Finished)
+    }
+
+    /// The number of octets of the file that the source keeps: those after the last line feed that
+    /// ended an entry, and none once a fault is decided, the file has ended or the source has
+    /// failed.
+    pub fn undecided(&self) -> usize
+        ensures held { result ≡ length self.now.held.unfinished }
+        ensures decided { IfSome self.now.pending.ending (λ _. result ≡ 0) }
+        ensures finished { self.now.held.finished ≡ true → result ≡ 0 }
+        ensures failed { self.now.pending.failed ≡ true → result ≡ 0 }
+    {
+        self.splitter.unfinished.len()
+    }
+
+    /// The number of octets of all pieces for which `feed` answered `Ok`.
+    pub fn fed(&self) -> u64
+        ensures { result ≡ self.now.held.fed }
+    {
+        self.fed
+    }
+
+    /// What it has left to give.
+    pub(crate) fn into_reading(self) -> Reading
+        ensures records { result.placed.items ≡ self.pending.records }
+        ensures ending { result.ending ≡ self.pending.ending }
+    {
+        self.splitter.ended.decided.into_reading()
+    }
+}
+
+impl RrSource for TextSource {
+    ghost use Rattle.zone_rdata.specs.FedSource.{Held};
+    ghost use Rattle.zone_text.specs.TextSource.{FileKept};
+
+    ghost Beside = { Held FileKept };
+
+    ghost beside = { λ s. s.held };
+
+    ghost pending = { λ s. s.pending };
+
+    fn next(&mut self) -> Result<Option<Placed>, Stop> {
+        if let FedStatus::OutOfMemory = self.status {
+            return Err(Stop::Memory);
+        }
+        self.splitter.ended.decided.next()
+    }
+}
+
+impl LendingSource for TextSource {
+    fn first(&self) -> Option<PlacedRef<'_>> {
+        if let FedStatus::OutOfMemory = self.status {
+            return None;
+        }
+        self.splitter.ended.decided.first()
+    }
+
+    fn skip(&mut self) {
+        if let FedStatus::OutOfMemory = self.status {
+            return;
+        }
+        self.splitter.ended.decided.skip()
+    }
+}

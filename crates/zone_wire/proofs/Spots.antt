@@ -1,0 +1,161 @@
+-- What stands at a place, read off the octets, and back.
+use Rattle.std.proofs.Common.{◌≡◌, ℕ, zero, suc, ◌+◌, ◌<◌, ◌≤◌, ◌≢◌, ◌||◌, true, false, Bool, nat_eq, nat_le, nat_lt, List, [], ◌∷◌, length, refl, sym, ap, ◌∙◌, inl, inr, arith}
+use Rattle.std.specs.Prelude.{◌⊎◌, slice_index, Option, Some, None, if◌then◌else◌}
+use Rattle.std.proofs.lemmas.Bool.{cond_both, cond-true, cond-false, leb-true, ltb-true, eqb-true, le-leb, lt-ltb, eq-eqb}
+use Rattle.std.proofs.lemmas.Bool.Decides.{nat_tests}
+use Rattle.zone_wire.specs.Name.{target_at, IsLabelAt, IsPointerAt}
+use Rattle.zone_wire.specs.Walk.{Spot, Standing, at_root, at_label, at_pointer, at_fault, FaultHere, cut_label, long_name, reserved, cut_pointer, bad_target, too_many}
+use Rattle.zone_wire.specs.Machine.Walk.{label_of, pointer_of, standing_in}
+use Rattle.zone_rdata.specs.declared.fault.Fault.{Fault}
+use Rattle.zone_rdata.specs.declared.fault.Fault.TheVariants.{BadPointer, TooManyPointers}
+
+-- what the octets at a place are, by what stands there
+abbrev pub Shows : List ℕ → Spot → Option Standing → Type 0
+Shows message spot None = length message ≤ spot.offset
+Shows message spot (Some at_root) = (spot.offset < length message) × (slice_index message spot.offset ≡ 0)
+Shows message spot (Some (at_label size)) = IsLabelAt message spot.offset size × (spot.octets + size + 2 ≤ 255)
+Shows message spot (Some (at_pointer target)) = IsPointerAt message spot.offset spot.bound target × (spot.pointers < 128)
+Shows message spot (Some (at_fault fault)) = FaultHere message spot fault
+
+above : (a b : ℕ) → nat_le a b ≡ false → b < a
+above a b e = grind (arith, nat_tests)
+
+at_least : (a b : ℕ) → nat_lt a b ≡ false → b ≤ a
+at_least a b e = grind (arith, nat_tests)
+
+pub unequal : (a b : ℕ) → nat_eq a b ≡ false → a ≢ b
+unequal a b e = grind (arith, nat_tests)
+
+positive : (a : ℕ) → a ≢ 0 → 0 < a
+positive a h = omega arith
+
+neither : (a b c d : ℕ) → nat_lt a b || nat_le c d ≡ false → (b ≤ a) × (d < c)
+neither a b c d e = grind (arith, nat_tests)
+
+one_of : (a b c d : ℕ) → nat_lt a b || nat_le c d ≡ true → (a < b) ⊎ (c ≤ d)
+one_of a b c d e = by (nat_lt a b) refl e
+  where
+    by : (t : Bool) → nat_lt a b ≡ t → t || nat_le c d ≡ true → (a < b) ⊎ (c ≤ d)
+    by true k e = inl (ltb-true _ _ k)
+    by false k e = inr (leb-true _ _ e)
+
+shows_label : (message : List ℕ) (spot : Spot) → 0 < slice_index message spot.offset → slice_index message spot.offset ≤ 63 → Shows message spot (Some (label_of message spot (slice_index message spot.offset)))
+shows_label message spot some short =
+    cond_both _ _ _ (λ s. Shows message spot (Some s))
+    (λ cut. cut_label some short (leb-true _ _ cut))
+    (λ whole. let is : IsLabelAt message spot.offset (slice_index message spot.offset) = record { first = refl; some = some; short = short; inside = above _ _ whole } in
+    cond_both _ _ _ (λ s. Shows message spot (Some s))
+    (λ long. long_name (slice_index message spot.offset) is (ltb-true _ _ long))
+    (λ room. let both : Shows message spot (Some (at_label (slice_index message spot.offset))) = (is, at_least _ _ room) in both))
+
+shows_pointer : (message : List ℕ) (spot : Spot) → 192 ≤ slice_index message spot.offset → Shows message spot (Some (pointer_of message spot (target_at message spot.offset)))
+shows_pointer message spot first =
+    let target = target_at message spot.offset in
+    cond_both (nat_le (length message) (spot.offset + 1)) _ _ (λ s. Shows message spot (Some s))
+    (λ cut. cut_pointer first (leb-true _ _ cut))
+    (λ whole. cond_both (nat_lt target 12 || nat_le spot.bound target) (at_fault BadPointer) (if nat_le 128 spot.pointers then at_fault TooManyPointers else at_pointer target) (λ s. Shows message spot (Some s))
+    (λ bad. bad_target first (above _ _ whole) (one_of _ _ _ _ bad))
+    (λ good.
+    let both = neither target 12 spot.bound target good in
+    let is : IsPointerAt message spot.offset spot.bound target = record { inside = above _ _ whole; first = first; leads = refl; past_header = both.0; below = both.1 } in
+    cond_both (nat_le 128 spot.pointers) (at_fault TooManyPointers) (at_pointer target) (λ s. Shows message spot (Some s))
+    (λ many. too_many target is (leb-true _ _ many))
+    (λ few. let shows : Shows message spot (Some (at_pointer target)) = (is, above _ _ few) in shows)))
+
+-- what stands at a place shows its octets
+pub standing_shows : (message : List ℕ) (spot : Spot) → Shows message spot (standing_in message spot)
+unfolding standing_in
+standing_shows message spot =
+    cond_both _ _ _ (Shows message spot)
+    (λ e. leb-true _ _ e)
+    (λ e. cond_both _ _ _ (λ s. Shows message spot (Some s))
+    (λ zero_first. let shows : Shows message spot (Some at_root) = (above _ _ e, eqb-true _ _ zero_first) in shows)
+    (λ some. cond_both _ _ _ (λ s. Shows message spot (Some s))
+    (λ short. shows_label message spot (positive _ (unequal _ _ some)) (leb-true _ _ short))
+    (λ long. cond_both _ _ _ (λ s. Shows message spot (Some s))
+    (λ below. reserved (above _ _ long) (ltb-true _ _ below))
+    (λ high. shows_pointer message spot (at_least _ _ high)))))
+
+-- where no octet is, the place lies outside
+pub standing_outside : (message : List ℕ) (spot : Spot) → length message ≤ spot.offset → standing_in message spot ≡ None
+unfolding standing_in
+standing_outside message spot h = cond-true _ _ _ (le-leb _ _ h)
+
+below_length : (a b : ℕ) → a < b → nat_le b a ≡ false
+below_length a b h = grind (arith, nat_tests)
+
+-- an octet of zero is the root
+pub standing_root : (message : List ℕ) (spot : Spot) → spot.offset < length message → slice_index message spot.offset ≡ 0 → standing_in message spot ≡ Some at_root
+unfolding standing_in
+standing_root message spot h e = cond-false _ _ _ (below_length _ _ h) ∙ ap Some (cond-true _ _ _ (eq-eqb _ _ e))
+
+not_zero : (a : ℕ) → 0 < a → nat_eq a 0 ≡ false
+not_zero a h = grind (arith, nat_tests)
+
+not_long : (a : ℕ) → a ≤ 255 → nat_lt 255 a ≡ false
+not_long a h = grind (arith, nat_tests)
+
+high : (a : ℕ) → 192 ≤ a → (nat_eq a 0 ≡ false) × (nat_le a 63 ≡ false) × (nat_lt a 192 ≡ false)
+high a h = (grind (arith, nat_tests), grind (arith, nat_tests), grind (arith, nat_tests))
+
+middle : (a : ℕ) → 64 ≤ a → (nat_eq a 0 ≡ false) × (nat_le a 63 ≡ false)
+middle a h = (grind (arith, nat_tests), grind (arith, nat_tests))
+
+good_target : (a b : ℕ) → 12 ≤ a → a < b → nat_lt a 12 || nat_le b a ≡ false
+good_target a b h k = grind (arith, nat_tests)
+
+bad_test : (a b : ℕ) → (a < 12) ⊎ (b ≤ a) → nat_lt a 12 || nat_le b a ≡ true
+bad_test a b (inl h) = grind (arith, nat_tests)
+bad_test a b (inr h) = grind (arith, nat_tests)
+
+-- where an octet above zero stands, the message goes on
+pub here_of : (message : List ℕ) (i : ℕ) → 0 < slice_index message i → i < length message
+here_of [] i h = absurd (omega (arith, h))
+here_of (c ∷ message) zero h = omega arith
+here_of (c ∷ message) (suc i) h = omega (arith, here_of message i h)
+
+-- a place that lies in the message, by its first octet
+module _ (message : List ℕ) (spot : Spot) where
+  standing_short : 0 < slice_index message spot.offset → slice_index message spot.offset ≤ 63 → standing_in message spot ≡ Some (label_of message spot (slice_index message spot.offset))
+  unfolding standing_in
+  standing_short some short = cond-false _ _ _ (below_length _ _ (here_of message spot.offset some)) ∙ ap Some (cond-false _ _ _ (not_zero _ some) ∙ cond-true _ _ _ (le-leb _ _ short))
+
+  standing_high : 192 ≤ slice_index message spot.offset → standing_in message spot ≡ Some (pointer_of message spot (target_at message spot.offset))
+  unfolding standing_in
+  standing_high h =
+      let first = high _ h in
+      cond-false _ _ _ (below_length _ _ (here_of message spot.offset (omega (arith, h)))) ∙ ap Some (cond-false _ _ _ first.0 ∙ cond-false _ _ _ first.1 ∙ cond-false _ _ _ first.2)
+
+  standing_in_label : (size : ℕ) → IsLabelAt message spot.offset size → standing_in message spot ≡ Some (label_of message spot size)
+  standing_in_label size is = standing_short (rw is.first is.some) (rw is.first is.short) ∙ ap (λ n. Some (label_of message spot n)) is.first
+
+  standing_in_pointer : (target : ℕ) → IsPointerAt message spot.offset spot.bound target → standing_in message spot ≡ Some (pointer_of message spot target)
+  standing_in_pointer target is = standing_high is.first ∙ ap (λ n. Some (pointer_of message spot n)) (sym is.leads)
+
+  -- a label that lies in the message and has room in its name
+  pub standing_label : (size : ℕ) → IsLabelAt message spot.offset size → spot.octets + size + 2 ≤ 255 → standing_in message spot ≡ Some (at_label size)
+  standing_label size is room = standing_in_label size is ∙ ap Some (cond-false _ _ _ (below_length _ _ is.inside) ∙ cond-false _ _ _ (not_long _ room))
+
+  -- a pointer that leads below its bound
+  pub standing_pointer : (target : ℕ) → IsPointerAt message spot.offset spot.bound target → spot.pointers < 128 → standing_in message spot ≡ Some (at_pointer target)
+  standing_pointer target is few = standing_in_pointer target is ∙ ap Some (cond-false _ _ _ (below_length _ _ is.inside) ∙ cond-false _ _ _ (good_target _ _ is.past_header is.below) ∙ cond-false _ _ _ (below_length _ _ few))
+
+  pub standing_fault : (fault : Fault) → FaultHere message spot fault → standing_in message spot ≡ Some (at_fault fault)
+  unfolding standing_in
+  standing_fault _ (cut_label some short cut) = standing_short some short ∙ ap Some (cond-true _ _ _ (le-leb _ _ cut))
+  standing_fault _ (long_name size is long) = standing_in_label size is ∙ ap Some (cond-false _ _ _ (below_length _ _ is.inside) ∙ cond-true _ _ _ (lt-ltb _ _ long))
+  standing_fault _ (reserved low below) =
+      let first = middle _ low in
+      cond-false _ _ _ (below_length _ _ (here_of message spot.offset (omega (arith, low)))) ∙ ap Some (cond-false _ _ _ first.0 ∙ cond-false _ _ _ first.1 ∙ cond-true _ _ _ (lt-ltb _ _ below))
+  standing_fault _ (cut_pointer first cut) = standing_high first ∙ ap Some (cond-true _ _ _ (le-leb _ _ cut))
+  standing_fault _ (bad_target first inside bad) = standing_high first ∙ ap Some (cond-false _ _ _ (below_length _ _ inside) ∙ cond-true _ _ _ (bad_test _ _ bad))
+  standing_fault _ (too_many target is many) = standing_in_pointer target is ∙ ap Some (cond-false _ _ _ (below_length _ _ is.inside) ∙ cond-false _ _ _ (good_target _ _ is.past_header is.below) ∙ cond-true _ _ _ (le-leb _ _ many))
+
+-- a fault stands in the message
+pub fault_inside : (message : List ℕ) (spot : Spot) (fault : Fault) → FaultHere message spot fault → spot.offset < length message
+fault_inside message spot _ (cut_label some short cut) = here_of message spot.offset some
+fault_inside message spot _ (long_name size is long) = omega (arith, is.inside)
+fault_inside message spot _ (reserved low below) = here_of message spot.offset (omega (arith, low))
+fault_inside message spot _ (cut_pointer first cut) = here_of message spot.offset (omega (arith, first))
+fault_inside message spot _ (bad_target first inside bad) = omega (arith, inside)
+fault_inside message spot _ (too_many target is many) = omega (arith, is.inside)

@@ -1,0 +1,14 @@
+use Rattle.std.proofs.Common.{◌≡◌, ◌++◌, true, false, ap, sym, subst}
+use Rattle.std.specs.Prelude.{is_some}
+use Rattle.zone_wire.specs.Stream.{StreamReads}
+use Rattle.zone_wire.proofs.Feeding.{finishes, ends_after_fault}
+use Rattle.zone_wire.proofs.Progress.{none_of}
+use Rattle.zone_wire.proofs.framer.Framer.finish.Goals as goal
+use Rattle.zone_wire.proofs.framer.Framer.finish.Goals.{then-is_none, else-is_none}
+
+pub returns-clause-reads : goal.returns-clause-reads
+returns-clause-reads c = λ fed given follow.
+    subst (λ t. StreamReads fed (given ++ t.decided.placed) t.decided.ending) (sym c.drop_unfinished.ensures.transfer) (elim c.if-is_none.branch [
+      | then-is_none w ↦ subst (λ i. StreamReads fed (given ++ i.transfer.decided.placed) i.transfer.decided.ending) (sym w.self-is) (finishes c.args.self.now.transfer c.args.self.now.unfinished.items fed given w.end-self.result (none_of c.args.self.now.transfer.decided.ending w.if-is_none.ensures) w.end-self.ensures follow)
+      | else-is_none w ↦ subst (λ i. StreamReads fed (given ++ i.transfer.decided.placed) i.transfer.decided.ending) (sym w.self-is) (ends_after_fault c.args.self.now.transfer c.args.self.now.unfinished.items fed given (λ none. let some : is_some c.args.self.now.transfer.decided.ending ≡ true = w.if-is_none.ensures in let not_some : is_some c.args.self.now.transfer.decided.ending ≡ false = ap is_some none in let no : ⊥ = cc in no) follow)
+    ])

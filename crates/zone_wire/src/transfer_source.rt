@@ -1,0 +1,230 @@
+//! A source of the records of a zone transfer that is fed in pieces.
+ghost use Rattle.std.specs.Prelude.{◌≡◌, ◌+◌, ◌<◌, ◌≤◌, ◌^◌, ◌++◌, ℕ, true, false, [], List, None, length, IfErr, IfOk, IfSome, IsOk, OnOk, OnErr};
+ghost use Rattle.zone_wire.specs.Stream.{StreamReads};
+
+use crate::framer::{Framer, cut_len};
+use std::alloc::{AllocError, Global};
+use std::marker::Model;
+use zone_rdata::{FedStatus, LendingSource, Placed, PlacedRef, Reading, RrSource, Stop};
+
+/// The records of a zone transfer (RFC 5936 2.2) that is fed in pieces, as soon as they are
+/// decided: with the octet that ends their message. Contracts see the records that it has left to
+/// give, the fault after them, and what else it holds.
+///
+/// Once it was refused memory it has failed: every later `feed`, `finish` and `next` answers
+/// `Memory`.
+#[derive(Drop)]
+pub struct TransferSource {
+    framer: Framer,
+    /// The octets of all pieces that were taken.
+    fed: u64,
+    status: FedStatus,
+}
+
+impl Model for TransferSource {
+    ghost use Rattle.zone_rdata.specs.FedSource.{SourceState, is_failed, is_finished};
+    ghost use Rattle.zone_wire.specs.Machine.Feeding.{IsSource};
+    ghost use Rattle.zone_wire.specs.Machine.Transferring.{zone_held};
+    ghost use Rattle.zone_wire.specs.TransferSource.{StreamKept};
+
+    ghost Value = { SourceState StreamKept };
+
+    ghost view = { λ s. record {
+      pending = record {
+        failed = is_failed s.status;
+        records = s.framer.transfer.decided.placed;
+        ending = s.framer.transfer.decided.ending;
+      };
+      held = record {
+        finished = is_finished s.status;
+        fed = s.fed;
+        kept = record {
+          messages = s.framer.transfer.messages;
+          id = s.framer.transfer.id;
+          zone = zone_held s.framer.transfer.zone;
+          opening = s.framer.transfer.opening;
+          closed = s.framer.transfer.closed;
+        };
+        unfinished = s.framer.unfinished.items;
+      };
+    } };
+
+    ghost invariant = { λ s. IsSource s.status s.fed s.framer.transfer s.framer.unfinished.items };
+}
+
+impl TransferSource {
+    ghost use Rattle.zone_rdata.specs.declared.record.Placed.{Placed};
+    ghost use Rattle.zone_rdata.specs.FedSource.{counted};
+    ghost use Rattle.zone_wire.specs.TransferSource.{StandsForStream};
+
+    /// A source that was fed nothing.
+    pub fn new(alloc: Global) -> TransferSource
+        ensures stands { StandsForStream result [] [] }
+        ensures records { result.pending.records ≡ [] }
+        ensures undecided { result.pending.ending ≡ None }
+        ensures going { result.held.finished ≡ false }
+        ensures nothing { result.held.unfinished ≡ [] }
+    {
+        TransferSource {
+            framer: Framer::new(alloc),
+            fed: 0,
+            status: FedStatus::Open,
+        }
+    }
+
+    /// Takes the next piece of the stream, of any length. Once a fault is decided a piece is
+    /// counted alone, which takes no memory.
+    ///
+    /// # Errors
+    ///
+    /// Want of memory. The source has failed then, or had failed before.
+    pub fn feed(&mut self, piece: &[u8]) -> Result<(), Stop>
+        requires going { self.old.held.finished ≡ false }
+        requires fits { self.old.held.fed + length piece.now + 1 < 2 ^ 64 }
+        ensures stands { OnOk result ((fed : List ℕ) (given : List Placed)
+            → StandsForStream self.old fed given → StandsForStream self.new (fed ++ piece.now) given) }
+        ensures count { OnOk result (self.new.held.fed ≡ self.old.held.fed + length piece.now) }
+        ensures decided { self.old.pending.failed ≡ false → IfSome self.old.pending.ending
+            (λ _. IsOk result × (self.new ≡ counted (length piece.now) self.old)) }
+        ensures nothing { piece.now ≡ [] → (self.new ≡ self.old)
+            × (self.old.pending.failed ≡ false → IsOk result) }
+        ensures works { OnOk result (self.old.pending.failed ≡ false) }
+        ensures working { OnOk result (self.new.pending.failed ≡ false) }
+        ensures memory { IfErr result (λ stop. stop ≡ Stop.Memory) }
+        ensures failed { OnErr result (self.new.pending.failed ≡ true) }
+        ensures uncounted { OnErr result (self.new.held.fed ≡ self.old.held.fed) }
+        ensures goes_on { self.new.held.finished ≡ false }
+    {
+        if let FedStatus::OutOfMemory = self.status {
+            return Err(Stop::Memory);
+        }
+        match self.framer.feed(piece) {
+            Ok(()) => {
+                self.fed += piece.len() as u64;
+                Ok(())
+            }
+            Err(_) => {
+                self.framer.drop_unfinished();
+                self.status = FedStatus::OutOfMemory;
+                Err(Stop::Memory)
+            }
+        }
+    }
+
+    /// Takes the end of the stream. What the source has still to give is then the rest of what the stream is read as. It
+    /// takes no memory.
+    ///
+    /// # Errors
+    ///
+    /// Want of memory: the source has failed before.
+    pub fn finish(&mut self) -> Result<(), Stop>
+        requires going { self.old.held.finished ≡ false }
+        ensures stands { OnOk result ((fed : List ℕ) (given : List Placed)
+            → StandsForStream self.old fed given → StandsForStream self.new fed given) }
+        ensures finished { OnOk result (self.new.held.finished ≡ true) }
+        ensures works { OnOk result (self.old.pending.failed ≡ false) }
+        ensures working { OnOk result (self.new.pending.failed ≡ false) }
+        ensures memory { IfErr result (λ stop. stop ≡ Stop.Memory) }
+        ensures failed { OnErr result (self.new.pending.failed ≡ true) }
+        ensures goes_on { OnErr result (self.new.held.finished ≡ false) }
+        ensures only { OnErr result (self.old.pending.failed ≡ true) }
+        ensures count { self.new.held.fed ≡ self.old.held.fed }
+    {
+        if let FedStatus::OutOfMemory = self.status {
+            return Err(Stop::Memory);
+        }
+        self.framer.finish();
+        self.status = FedStatus::Finished;
+        Ok(())
+    }
+
+    /// Whether `finish` has answered `Ok`.
+    pub fn is_finished(&self) -> bool
+        ensures { result ≡ self.now.held.finished }
+    {
+        matches!(self.status, FedStatus::Finished)
+    }
+
+    /// The number of octets of the stream that the source keeps, at most 65,536: those after the
+    /// last whole frame, and none once a fault is decided, the stream has ended or the source has
+    /// failed.
+    pub fn undecided(&self) -> usize
+        ensures held { result ≡ length self.now.held.unfinished }
+        ensures few { result ≤ 65536 }
+        ensures decided { IfSome self.now.pending.ending (λ _. result ≡ 0) }
+        ensures finished { self.now.held.finished ≡ true → result ≡ 0 }
+        ensures failed { self.now.pending.failed ≡ true → result ≡ 0 }
+    {
+        cut_len(self.framer.unfinished.as_slice())
+    }
+
+    /// The number of octets of all pieces for which `feed` answered `Ok`.
+    pub fn fed(&self) -> u64
+        ensures { result ≡ self.now.held.fed }
+    {
+        self.fed
+    }
+
+    /// What the source has left to give.
+    fn into_reading(self) -> Reading
+        ensures placed { result.placed.items ≡ self.pending.records }
+        ensures ending { result.ending ≡ self.pending.ending }
+    {
+        let TransferSource { framer, .. } = self;
+        let Framer { transfer, .. } = framer;
+        transfer.into_reading()
+    }
+}
+
+impl RrSource for TransferSource {
+    ghost use Rattle.zone_rdata.specs.FedSource.{Held};
+    ghost use Rattle.zone_wire.specs.TransferSource.{StreamKept};
+
+    ghost Beside = { Held StreamKept };
+
+    ghost beside = { λ s. s.held };
+
+    ghost pending = { λ s. s.pending };
+
+    fn next(&mut self) -> Result<Option<Placed>, Stop> {
+        if let FedStatus::OutOfMemory = self.status {
+            return Err(Stop::Memory);
+        }
+        self.framer.transfer.decided.next()
+    }
+}
+
+impl LendingSource for TransferSource {
+    fn first(&self) -> Option<PlacedRef<'_>> {
+        if let FedStatus::OutOfMemory = self.status {
+            return None;
+        }
+        self.framer.transfer.decided.first()
+    }
+
+    fn skip(&mut self) {
+        if let FedStatus::OutOfMemory = self.status {
+            return;
+        }
+        self.framer.transfer.decided.skip()
+    }
+}
+
+/// What a stream of messages is read as, each after its length (RFC 1035 4.2.2; RFC 5936 2.2, 3):
+/// the records before its first fault, and that fault.
+///
+/// # Errors
+///
+/// Want of memory.
+pub fn read_transfer(alloc: Global, stream: &[u8]) -> Result<Reading, AllocError>
+    ensures { IfOk result (λ reading. StreamReads stream.now reading.placed.items reading.ending) }
+{
+    let mut source = TransferSource::new(alloc);
+    let Ok(()) = source.feed(stream) else {
+        return Err(AllocError);
+    };
+    let Ok(()) = source.finish() else {
+        return Err(AllocError);
+    };
+    Ok(source.into_reading())
+}
