@@ -145,10 +145,10 @@ dot_is rest more c (inl e) is = absurd (omega (arith, ap length e, ap length is)
 dot_is rest more c (inr e) is = let same : e.0 ≡ more = cc (sym e.1 ∙ is) in e.1 ∙ ap (λ t. 46 ∷ t) same
 
 -- a label with its dot
-pub Reads-label : (text : List ℕ) (before after : List (List ℕ)) (is_too_long is_left_out : Bool) (rest label behind more : List ℕ) (c : ℕ) → Reads text before is_too_long rest → EndsLabelAt rest label behind → Closes before label is_left_out after → behind ≡ c ∷ more → Reads text after (is_too_long || is_left_out) more
-Reads-label text before after is_too_long is_left_out rest label behind more c reads at closes is =
+pub Reads-label : (text : List ℕ) (before after : List (List ℕ)) (is_too_long is_left_out : Bool) (rest label following more : List ℕ) (c : ℕ) → Reads text before is_too_long rest → EndsLabelAt rest label following → Closes before label is_left_out after → following ≡ c ∷ more → Reads text after (is_too_long || is_left_out) more
+Reads-label text before after is_too_long is_left_out rest label following more c reads at closes is =
     let reached = at.goes reads.labels reads.fuel reads.enough in
-    let next = dot_step reached.0 reads.labels label behind more reached.1 closes.some (dot_is behind more c at.ends is) in
+    let next = dot_step reached.0 reads.labels label following more reached.1 closes.some (dot_is following more c at.ends is) in
     record {
       labels = reads.labels ++ folded_label label ∷ [];
       collects = joined_collects before after reads.labels label is_too_long is_left_out reads.collects closes.joins;
@@ -158,10 +158,10 @@ Reads-label text before after is_too_long is_left_out rest label behind more c r
     }
 
 -- at the end of the text, in a label
-pub Reads-relative : (text : List ℕ) (before after : List (List ℕ)) (is_too_long is_left_out : Bool) (rest label behind : List ℕ) → Reads text before is_too_long rest → EndsLabelAt rest label behind → Closes before label is_left_out after → behind ≡ [] → (labels : List (List ℕ)) × (reading text ≡ Ok (labels, false)) × Collects after (is_too_long || is_left_out) labels
-Reads-relative text before after is_too_long is_left_out rest label behind reads at closes is =
+pub Reads-relative : (text : List ℕ) (before after : List (List ℕ)) (is_too_long is_left_out : Bool) (rest label following : List ℕ) → Reads text before is_too_long rest → EndsLabelAt rest label following → Closes before label is_left_out after → following ≡ [] → (labels : List (List ℕ)) × (reading text ≡ Ok (labels, false)) × Collects after (is_too_long || is_left_out) labels
+Reads-relative text before after is_too_long is_left_out rest label following reads at closes is =
     let reached = at.goes reads.labels reads.fuel reads.enough in (
       reads.labels ++ folded_label label ∷ [],
-      sym reads.leads ∙ reached.2 ∙ end_step reached.0 reads.labels label behind reached.1 closes.some is,
+      sym reads.leads ∙ reached.2 ∙ end_step reached.0 reads.labels label following reached.1 closes.some is,
       joined_collects before after reads.labels label is_too_long is_left_out reads.collects closes.joins,
     )

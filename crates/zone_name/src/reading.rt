@@ -135,7 +135,7 @@ struct ReadLabel<'t> {
     /// There was no room for it, and it was not kept.
     is_left_out: bool,
     /// What follows it: nothing, or a dot and more.
-    behind: &'t [u8],
+    following: &'t [u8],
 }
 
 /// Puts the label that a text begins with in place, octet by octet.
@@ -148,17 +148,17 @@ fn read_label<'t>(
     requires some { 0 < length text.now }
     requires holds { HoldsUnfolded octets.old.items }
     ensures holds { HoldsUnfolded octets.new.items }
-    ensures ok { IfOk result (λ read. IsClosable text.now read.behind.now (λ label.
+    ensures ok { IfOk result (λ read. IsClosable text.now read.following.now (λ label.
         Closes (unfolded_labels octets.old.items) label read.is_left_out
         (unfolded_labels octets.new.items))) }
     ensures err { IfErr result (EndsInFault text.now) }
 {
     let mut label: ArrayVec<u8, MAX_LABEL_LEN> = ArrayVec::new();
-    let behind = open_label(&mut label, text)?;
+    let following = open_label(&mut label, text)?;
     let is_left_out = close(octets, label.as_slice())?;
     Ok(ReadLabel {
         is_left_out,
-        behind,
+        following,
     })
 }
 
@@ -207,10 +207,10 @@ fn read_labels(octets: &mut ArrayVec<u8, MAX_NAME_LEN>, text: &[u8]) -> Result<S
     while !rest.is_empty() {
         let ReadLabel {
             is_left_out,
-            behind,
+            following,
         } = read_label(octets, rest)?;
         is_too_long |= is_left_out;
-        let Some((_, after)) = behind.split_first() else {
+        let Some((_, after)) = following.split_first() else {
             return Ok(Spelled {
                 is_too_long,
                 is_absolute: false,

@@ -84,12 +84,12 @@ only_part ends text octets (p ∷ []) lacks some each parted value =
 only_part ends text octets (p ∷ q ∷ parts) lacks some each parted value = absurd (not_cut 58 text p.text (parts_text (q ∷ parts)) lacks parted)
 
 -- groups, each with its colon, and what follows them
-pub behind : List AddressPart → List ℕ → List ℕ
-behind [] rest = rest
-behind (p ∷ parts) rest = p.text ++ 58 ∷ behind parts rest
+pub following : List AddressPart → List ℕ → List ℕ
+following [] rest = rest
+following (p ∷ parts) rest = p.text ++ 58 ∷ following parts rest
 
-after_push : (parts : List AddressPart) (p : AddressPart) (rest : List ℕ) → behind (parts ++ p ∷ []) rest ≡ behind parts (p.text ++ 58 ∷ rest)
-unfolding behind
+after_push : (parts : List AddressPart) (p : AddressPart) (rest : List ℕ) → following (parts ++ p ∷ []) rest ≡ following parts (p.text ++ 58 ∷ rest)
+unfolding following
 after_push [] p rest = refl
 after_push (q ∷ parts) p rest = ap (λ t. q.text ++ 58 ∷ t) (after_push parts p rest)
 
@@ -98,8 +98,8 @@ parts_end ends [] p each is = is
 parts_end ends (q ∷ []) p each is = (each.0, is)
 parts_end ends (q ∷ r ∷ parts) p each is = (each.0, parts_end ends (r ∷ parts) p each.1 is)
 
-text_end : (parts : List AddressPart) (p : AddressPart) → parts_text (parts ++ p ∷ []) ≡ behind parts p.text
-unfolding behind
+text_end : (parts : List AddressPart) (p : AddressPart) → parts_text (parts ++ p ∷ []) ≡ following parts p.text
+unfolding following
 text_end (q ∷ r ∷ parts) p = ap (λ t. q.text ++ 58 ∷ t) (text_end (r ∷ parts) p)
 text_end parts p = refl
 
@@ -110,12 +110,12 @@ octets_push parts p = flat_map-append (λ (p : AddressPart). p.octets) parts (p 
 pub record HaveReadParts (ends : Bool) (text rest octets : List ℕ) : Type 0 where
   pub front : List AddressPart
   pub groups : AllByRecursion IsGroup front
-  pub parted : text ≡ behind front rest
+  pub parted : text ≡ following front rest
   pub value : octets ≡ parts_octets front
   pub only : (others : List ℕ) → ArePartsOf ends text others → (more : List ℕ) × (AreSomeParts ends rest more × (others ≡ octets ++ more))
 
 pub parts_started : (ends : Bool) (text : List ℕ) → 0 < length text → HaveReadParts ends text text []
-unfolding behind
+unfolding following
 parts_started ends text some = record {
   front = [];
   groups = tt;
@@ -130,7 +130,7 @@ parts_more ends text rest group after octets added cut is reads =
     record {
       front = reads.front ++ p ∷ [];
       groups = AllByRecursion-append IsGroup reads.front (p ∷ []) reads.groups (is, tt);
-      parted = reads.parted ∙ ap (behind reads.front) cut.parted ∙ sym (after_push reads.front p after);
+      parted = reads.parted ∙ ap (following reads.front) cut.parted ∙ sym (after_push reads.front p after);
       value = ap (λ o. o ++ added) reads.value ∙ sym (octets_push reads.front p);
       only = λ others are.
           let was = reads.only others are in

@@ -155,7 +155,7 @@ appends_plain f octets rest old new count v other held is last grows = record {
     held = held;
     front = take count octets;
     sent = plain_sent f v (take count octets) other held is;
-    parts = sym (take-append-drop count octets) ∙ ap (λ r. take count octets ++ r) (sym grows.behind);
+    parts = sym (take-append-drop count octets) ∙ ap (λ r. take count octets ++ r) (sym grows.following);
     last = last;
   };
   written = grows.written ∙ ap (λ t. old ++ t) is;
@@ -165,7 +165,7 @@ pub found_front : (f : Field) (octets rest new : List ℕ) → AppendsValue f oc
 found_front f octets rest new grows = inl (grows.value, (rest, grows.begins))
 
 pub front_of : (count : ℕ) (octets : List ℕ) → count ≤ length octets → AppendsPrefix count octets (drop count octets) [] (take count octets)
-front_of count octets fits = record { fits = fits; behind = refl; written = refl }
+front_of count octets fits = record { fits = fits; following = refl; written = refl }
 
 -- ---- kinds of a fixed number of octets
 

@@ -26,9 +26,9 @@ read_step origin row items f later left rest octets new read grows =
     let v = grows.appends.value in
     record {
       leads = λ values h.
-          let all = read.leads (v ∷ values) (grows.appends.stated, subst (λ is. SpellEach origin later is values) grows.behind h) in
+          let all = read.leads (v ∷ values) (grows.appends.stated, subst (λ is. SpellEach origin later is values) grows.following h) in
           record { values = all.values; spelt = all.spelt; written = ap (λ o. o ++ octets_of values) grows.appends.written ∙ append_assoc octets (field_octets v) (octets_of values) ∙ all.written };
-      fault = λ fault h. read.fault fault (inr (v, grows.appends.stated, subst (λ is. FirstFieldFault origin later is fault) grows.behind h));
+      fault = λ fault h. read.fault fault (inr (v, grows.appends.stated, subst (λ is. FirstFieldFault origin later is fault) grows.following h));
     }
 
 -- a slice up to the end

@@ -30,10 +30,10 @@ frame_same x y a b e =
     append_same x y a b counts tails
 
 -- octets up to a place, where the number there and so many octets are one with_length
-pub frame_at : (c : ℕ) (behind : List ℕ) → c ≤ length behind → c ∷ behind ≡ with_length (take c behind) ++ drop c behind
-frame_at c behind fits =
-    let count : length (take c behind) ≡ c = omega (arith, length-take c behind) in
-    ap (λ t. c ∷ t) (sym (take-append-drop c behind)) ∙ ap (λ n. n ∷ (take c behind ++ drop c behind)) (sym count)
+pub frame_at : (c : ℕ) (following : List ℕ) → c ≤ length following → c ∷ following ≡ with_length (take c following) ++ drop c following
+frame_at c following fits =
+    let count : length (take c following) ≡ c = omega (arith, length-take c following) in
+    ap (λ t. c ∷ t) (sym (take-append-drop c following)) ∙ ap (λ n. n ∷ (take c following ++ drop c following)) (sym count)
 
 pub frames_push : (many : List (List ℕ)) (x a : List ℕ) → flat_map with_length many ++ (with_length x ++ a) ≡ flat_map with_length (many ++ x ∷ []) ++ a
 frames_push many x a =
@@ -70,22 +70,22 @@ pub record HasCut (octets : List ℕ) (labels : List (List ℕ)) (rest : List �
 pub cut_none : (octets : List ℕ) (labels : List (List ℕ)) → labels ≡ [] → HasCut octets labels octets
 cut_none octets labels e = record { sent = []; folds = sym e; some = tt; parts = refl }
 
-pub cut_more : (octets rest : List ℕ) (labels new : List (List ℕ)) (c : ℕ) (behind label after : List ℕ) → HasCut octets labels rest → rest ≡ c ∷ behind → 0 < c → c ≤ length behind → label ≡ take c behind → after ≡ drop c behind → new ≡ labels ++ folded_label label ∷ [] → HasCut octets new after
-cut_more octets rest labels new c behind label after cut e some fits front back grown =
-    let count : length label ≡ c = omega (arith, length-take c behind, ap length front) in
+pub cut_more : (octets rest : List ℕ) (labels new : List (List ℕ)) (c : ℕ) (following label after : List ℕ) → HasCut octets labels rest → rest ≡ c ∷ following → 0 < c → c ≤ length following → label ≡ take c following → after ≡ drop c following → new ≡ labels ++ folded_label label ∷ [] → HasCut octets new after
+cut_more octets rest labels new c following label after cut e some fits front back grown =
+    let count : length label ≡ c = omega (arith, length-take c following, ap length front) in
     record {
       sent = cut.sent ++ label ∷ [];
       folds = map-append folded_label cut.sent (label ∷ []) ∙ ap (λ t. t ++ folded_label label ∷ []) cut.folds ∙ sym grown;
       some = AllByRecursion-append (λ l. 0 < length l) cut.sent (label ∷ []) cut.some (omega arith, tt);
-      parts = cut.parts ∙ ap (λ t. flat_map with_length cut.sent ++ t) (e ∙ frame_at c behind fits ∙ ap (λ l. with_length l ++ drop c behind) (sym front) ∙ ap (λ t. with_length label ++ t) (sym back)) ∙ frames_push cut.sent label after;
+      parts = cut.parts ∙ ap (λ t. flat_map with_length cut.sent ++ t) (e ∙ frame_at c following fits ∙ ap (λ l. with_length l ++ drop c following) (sym front) ∙ ap (λ t. with_length label ++ t) (sym back)) ∙ frames_push cut.sent label after;
     }
 
-pub cut_name : (octets rest : List ℕ) (labels name : List (List ℕ)) (c : ℕ) (behind : List ℕ) → HasCut octets labels rest → rest ≡ c ∷ behind → c ≡ 0 → name ≡ labels → IsName name → BeginsWithSent octets name behind
-cut_name octets rest labels name c behind cut e nothing same is = record {
+pub cut_name : (octets rest : List ℕ) (labels name : List (List ℕ)) (c : ℕ) (following : List ℕ) → HasCut octets labels rest → rest ≡ c ∷ following → c ≡ 0 → name ≡ labels → IsName name → BeginsWithSent octets name following
+cut_name octets rest labels name c following cut e nothing same is = record {
   is_name = is;
   sent = cut.sent;
   folds = cut.folds ∙ sym same;
-  parts = cut.parts ∙ ap (λ t. flat_map with_length cut.sent ++ t) (e ∙ ap (λ n. n ∷ behind) nothing) ∙ sym (append_assoc (flat_map with_length cut.sent) (0 ∷ []) behind);
+  parts = cut.parts ∙ ap (λ t. flat_map with_length cut.sent ++ t) (e ∙ ap (λ n. n ∷ following) nothing) ∙ sym (append_assoc (flat_map with_length cut.sent) (0 ∷ []) following);
 }
 
 -- a name there goes on from what was cut off
@@ -98,16 +98,16 @@ no_first octets rest labels cut none name tail b =
     omega (arith, ap length next.2, length-append (wire next.0) tail, length-append (flat_map with_length next.0) (0 ∷ []))
 
 -- a label there, where the number isn't 0
-next_label : (more : List (List ℕ)) (tail behind : List ℕ) (c : ℕ) → 0 < c → c ∷ behind ≡ wire more ++ tail → (label : List ℕ) × (others : List (List ℕ)) × (more ≡ label ∷ others) × (length label ≡ c) × (behind ≡ label ++ (wire others ++ tail))
-next_label [] tail behind c some e = absurd (let bad : c ≡ 0 = cc in omega arith)
-next_label (l ∷ others) tail behind c some e =
-    let shape : c ∷ behind ≡ length l ∷ (l ++ (wire others ++ tail)) = e ∙ ap (λ t. t ++ tail) (append_assoc (with_length l) (flat_map with_length others) (0 ∷ [])) ∙ append_assoc (with_length l) (wire others) tail in
+next_label : (more : List (List ℕ)) (tail following : List ℕ) (c : ℕ) → 0 < c → c ∷ following ≡ wire more ++ tail → (label : List ℕ) × (others : List (List ℕ)) × (more ≡ label ∷ others) × (length label ≡ c) × (following ≡ label ++ (wire others ++ tail))
+next_label [] tail following c some e = absurd (let bad : c ≡ 0 = cc in omega arith)
+next_label (l ∷ others) tail following c some e =
+    let shape : c ∷ following ≡ length l ∷ (l ++ (wire others ++ tail)) = e ∙ ap (λ t. t ++ tail) (append_assoc (with_length l) (flat_map with_length others) (0 ∷ [])) ∙ append_assoc (with_length l) (wire others) tail in
     (l, others, refl, (cc), (cc))
 
-pub no_room : (octets rest : List ℕ) (labels : List (List ℕ)) (c : ℕ) (behind : List ℕ) → HasCut octets labels rest → rest ≡ c ∷ behind → 0 < c → length behind < c → (name : List (List ℕ)) (tail : List ℕ) → BeginsWithSent octets name tail → ⊥
-no_room octets rest labels c behind cut e some few name tail b =
+pub no_room : (octets rest : List ℕ) (labels : List (List ℕ)) (c : ℕ) (following : List ℕ) → HasCut octets labels rest → rest ≡ c ∷ following → 0 < c → length following < c → (name : List (List ℕ)) (tail : List ℕ) → BeginsWithSent octets name tail → ⊥
+no_room octets rest labels c following cut e some few name tail b =
     let next = goes_on octets rest tail labels name cut b in
-    let label = next_label next.0 tail behind c some (sym e ∙ next.2) in
+    let label = next_label next.0 tail following c some (sym e ∙ next.2) in
     omega (arith, ap length label.4, length-append label.0 (wire label.1 ++ tail), label.3)
 
 -- what a name there says of the next label
@@ -127,13 +127,13 @@ fits_by before label others name =
       room = omega (arith, name.short, ap (λ t. length (wire t)) whole, length-append (flat_map with_length (folded before ++ folded_label label ∷ folded others)) (0 ∷ []), ap length frames, length-append (flat_map with_length (folded before)) (flat_map with_length (folded_label label ∷ folded others)), length-append (with_length (folded_label label)) (flat_map with_length (folded others)), count, length-append (flat_map with_length (folded before ++ label ∷ [])) (0 ∷ []), ap length mine, length-append (flat_map with_length (folded before)) (flat_map with_length (label ∷ [])), length-append (with_length label) []);
     }
 
-next_fits : (octets rest : List ℕ) (labels : List (List ℕ)) (c : ℕ) (behind : List ℕ) → HasCut octets labels rest → rest ≡ c ∷ behind → 0 < c → c ≤ length behind → (name : List (List ℕ)) (tail : List ℕ) → BeginsWithSent octets name tail → Fits labels (take c behind)
-next_fits octets rest labels c behind cut e some fits name tail b =
+next_fits : (octets rest : List ℕ) (labels : List (List ℕ)) (c : ℕ) (following : List ℕ) → HasCut octets labels rest → rest ≡ c ∷ following → 0 < c → c ≤ length following → (name : List (List ℕ)) (tail : List ℕ) → BeginsWithSent octets name tail → Fits labels (take c following)
+next_fits octets rest labels c following cut e some fits name tail b =
     let next = goes_on octets rest tail labels name cut b in
-    let label = next_label next.0 tail behind c some (sym e ∙ next.2) in
+    let label = next_label next.0 tail following c some (sym e ∙ next.2) in
     let whole : b.sent ≡ cut.sent ++ label.0 ∷ label.1 = next.1 ∙ ap (λ t. cut.sent ++ t) label.2 in
-    let count : length (take c behind) ≡ c = omega (arith, length-take c behind) in
-    let same : take c behind ≡ label.0 = (append_same (take c behind) label.0 (drop c behind) (wire label.1 ++ tail) (count ∙ sym label.3) (take-append-drop c behind ∙ label.4)).0 in
+    let count : length (take c following) ≡ c = omega (arith, length-take c following) in
+    let same : take c following ≡ label.0 = (append_same (take c following) label.0 (drop c following) (wire label.1 ++ tail) (count ∙ sym label.3) (take-append-drop c following ∙ label.4)).0 in
     let is : IsName (folded (cut.sent ++ label.0 ∷ label.1)) = subst IsName (sym b.folds ∙ ap folded whole) b.is_name in
     subst (λ l. Fits labels l) (sym same) (subst (λ ls. Fits ls label.0) cut.folds (fits_by cut.sent label.0 label.1 is))
 
@@ -143,10 +143,10 @@ refused_by LabelTooLong labels label r is only empty long too_long some fits = a
 refused_by NameTooLong labels label r is only empty long too_long some fits = absurd (omega (arith, (too_long.0 is).2, fits.room))
 refused_by fault labels label r is only empty long too_long some fits = only
 
-pub no_label : (octets rest : List ℕ) (labels : List (List ℕ)) (c : ℕ) (behind label : List ℕ) (fault : NameFault) (r : Result (Unit {0}) NameFault) → HasCut octets labels rest → rest ≡ c ∷ behind → 0 < c → c ≤ length behind → label ≡ take c behind → r ≡ Err fault → IsLabelFault fault → ((r ≡ Err EmptyLabel) ↔ (length label ≡ 0)) → ((r ≡ Err LabelTooLong) ↔ (63 < length label)) → ((r ≡ Err NameTooLong) ↔ ((0 < length label) × (length label ≤ 63) × (255 < length (wire (labels ++ label ∷ []))))) → (name : List (List ℕ)) (tail : List ℕ) → BeginsWithSent octets name tail → ⊥
-no_label octets rest labels c behind label fault r cut e some fits same is only empty long too_long name tail b =
-    let count : 0 < length label = omega (arith, length-take c behind, ap length same) in
-    refused_by fault labels label r is only empty long too_long count (subst (λ l. Fits labels l) (sym same) (next_fits octets rest labels c behind cut e some fits name tail b))
+pub no_label : (octets rest : List ℕ) (labels : List (List ℕ)) (c : ℕ) (following label : List ℕ) (fault : NameFault) (r : Result (Unit {0}) NameFault) → HasCut octets labels rest → rest ≡ c ∷ following → 0 < c → c ≤ length following → label ≡ take c following → r ≡ Err fault → IsLabelFault fault → ((r ≡ Err EmptyLabel) ↔ (length label ≡ 0)) → ((r ≡ Err LabelTooLong) ↔ (63 < length label)) → ((r ≡ Err NameTooLong) ↔ ((0 < length label) × (length label ≤ 63) × (255 < length (wire (labels ++ label ∷ []))))) → (name : List (List ℕ)) (tail : List ℕ) → BeginsWithSent octets name tail → ⊥
+no_label octets rest labels c following label fault r cut e some fits same is only empty long too_long name tail b =
+    let count : 0 < length label = omega (arith, length-take c following, ap length same) in
+    refused_by fault labels label r is only empty long too_long count (subst (λ l. Fits labels l) (sym same) (next_fits octets rest labels c following cut e some fits name tail b))
 
 -- ---- a name at the beginning is one name
 pub name_by : (more : List (List ℕ)) (rest tail : List ℕ) → AreSome more → 0 ∷ rest ≡ wire more ++ tail → (more ≡ []) × (rest ≡ tail)

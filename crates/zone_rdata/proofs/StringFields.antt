@@ -65,15 +65,15 @@ first_string (c ∷ octets) some held =
     let count : length text ≡ c = cc whole in
     let tail : text ++ flat_map with_length (strings_of (drop c octets)) ≡ octets = cc whole in
     let each : AllByRecursion IsString (text ∷ strings_of (drop c octets)) = subst (AllByRecursion IsString) next held.each in
-    let behind : drop (length (with_length text)) (c ∷ octets) ≡ drop c octets = ap (λ n. drop n octets) count in
+    let following : drop (length (with_length text)) (c ∷ octets) ≡ drop c octets = ap (λ n. drop n octets) count in
     let rest : flat_map with_length (strings_of (drop c octets)) ≡ drop c octets = sym (drop_at text (flat_map with_length (strings_of (drop c octets))) c count) ∙ ap (drop c) tail in (
       record {
         some = some;
         held = each.0;
         front = ap (λ n. c ∷ take n octets) count ∙ ap (λ n. n ∷ text) (sym count);
       },
-      subst HoldsStrings (sym behind) (record { each = each.1; whole = rest }),
-      next ∙ ap (λ o. text ∷ strings_of o) (sym behind),
+      subst HoldsStrings (sym following) (record { each = each.1; whole = rest }),
+      next ∙ ap (λ o. text ∷ strings_of o) (sym following),
     )
 
 pub no_strings : strings_of [] ≡ []

@@ -11,8 +11,8 @@ use Rattle.zone_rdata.proofs.StringFields.{first_string, no_strings}
 use Rattle.zone_rdata.proofs.Texts.{joined_more}
 
 -- the octets after the first string
-abbrev pub behind : List ℕ → List ℕ
-behind octets = drop (length (with_length (string_at octets))) octets
+abbrev pub following : List ℕ → List ℕ
+following octets = drop (length (with_length (string_at octets))) octets
 
 abbrev pub strings_text : List ℕ → List ℕ
 strings_text octets = join_with_byte 32 (map string_text (strings_of octets))
@@ -21,12 +21,12 @@ strings_text octets = join_with_byte 32 (map string_text (strings_of octets))
 abbrev pub more_text : List ℕ → List ℕ
 more_text octets = flat_map (λ t. 32 ∷ t) (map string_text (strings_of octets))
 
-strings_first : (octets : List ℕ) → 0 < length octets → HoldsStrings octets → strings_text octets ≡ string_text (string_at octets) ++ more_text (behind octets)
+strings_first : (octets : List ℕ) → 0 < length octets → HoldsStrings octets → strings_text octets ≡ string_text (string_at octets) ++ more_text (following octets)
 strings_first octets some held =
     let first = first_string octets some held in
-    ap (λ many. join_with_byte 32 (map string_text many)) first.2 ∙ joined_more (string_text (string_at octets)) (map string_text (strings_of (behind octets)))
+    ap (λ many. join_with_byte 32 (map string_text many)) first.2 ∙ joined_more (string_text (string_at octets)) (map string_text (strings_of (following octets)))
 
-more_first : (octets : List ℕ) → 0 < length octets → HoldsStrings octets → more_text octets ≡ 32 ∷ string_text (string_at octets) ++ more_text (behind octets)
+more_first : (octets : List ℕ) → 0 < length octets → HoldsStrings octets → more_text octets ≡ 32 ∷ string_text (string_at octets) ++ more_text (following octets)
 more_first octets some held = let first = first_string octets some held in ap (λ many. flat_map (λ t. 32 ∷ t) (map string_text many)) first.2
 
 -- strings up to a place are printed, at least one
@@ -34,17 +34,17 @@ pub record HaveQuoted (whole rest text : List ℕ) : Type 0 where
   pub held : HoldsStrings rest
   pub left : strings_text whole ≡ text ++ more_text rest
 
-pub quoted_first : (whole string rest : List ℕ) → 0 < length whole → HoldsStrings whole → string ≡ string_at whole → rest ≡ behind whole → HaveQuoted whole rest (string_text string)
+pub quoted_first : (whole string rest : List ℕ) → 0 < length whole → HoldsStrings whole → string ≡ string_at whole → rest ≡ following whole → HaveQuoted whole rest (string_text string)
 quoted_first whole string rest some held at is = record {
   held = subst HoldsStrings (sym is) (first_string whole some held).1;
-  left = strings_first whole some held ∙ ap (λ s. string_text s ++ more_text (behind whole)) (sym at) ∙ ap (λ r. string_text string ++ more_text r) (sym is);
+  left = strings_first whole some held ∙ ap (λ s. string_text s ++ more_text (following whole)) (sym at) ∙ ap (λ r. string_text string ++ more_text r) (sym is);
 }
 
-pub quoted_more : (whole rest text string after : List ℕ) → 0 < length rest → HaveQuoted whole rest text → string ≡ string_at rest → after ≡ behind rest → HaveQuoted whole after (text ++ 32 ∷ string_text string)
+pub quoted_more : (whole rest text string after : List ℕ) → 0 < length rest → HaveQuoted whole rest text → string ≡ string_at rest → after ≡ following rest → HaveQuoted whole after (text ++ 32 ∷ string_text string)
 quoted_more whole rest text string after some so_far at is = record {
   held = subst HoldsStrings (sym is) (first_string rest some so_far.held).1;
-  left = so_far.left ∙ ap (λ t. text ++ t) (more_first rest some so_far.held) ∙ sym (append_assoc text (32 ∷ string_text (string_at rest)) (more_text (behind rest)))
-      ∙ ap (λ s. (text ++ 32 ∷ string_text s) ++ more_text (behind rest)) (sym at) ∙ ap (λ r. (text ++ 32 ∷ string_text string) ++ more_text r) (sym is);
+  left = so_far.left ∙ ap (λ t. text ++ t) (more_first rest some so_far.held) ∙ sym (append_assoc text (32 ∷ string_text (string_at rest)) (more_text (following rest)))
+      ∙ ap (λ s. (text ++ 32 ∷ string_text s) ++ more_text (following rest)) (sym at) ∙ ap (λ r. (text ++ 32 ∷ string_text string) ++ more_text r) (sym is);
 }
 
 no_more_text : (rest : List ℕ) → length rest ≤ 0 → more_text rest ≡ []

@@ -126,7 +126,7 @@ data_some d h = laid_out_some (layout d.class d.kind) d.octets (row_some d.class
 next_spelt : NamesPrinted → (origin : List (List ℕ)) (f : Field) (row : List Field) (v : FieldValue) (items : List RawItem) (values : List FieldValue) → IsSized f → Holds f v → (f ≡ Strings → items ≡ []) → SpellEach origin row items values → SpellEach origin (f ∷ row) (field_items v ++ items) (v ∷ values)
 next_spelt names origin f row v items values sized h last rest =
     let own = field_printed names origin f v items sized h last in
-    (own.0, subst (λ behind. SpellEach origin row behind values) (sym own.1) rest)
+    (own.0, subst (λ following. SpellEach origin row following values) (sym own.1) rest)
 
 each_spelt : NamesPrinted → (origin : List (List ℕ)) (row : List Field) (values : List FieldValue) → StringsLast row → AllByRecursion IsSized row → HoldEach row values → SpellEach origin row (flat_map field_items values) values
 each_spelt names origin [] [] last sized h = tt

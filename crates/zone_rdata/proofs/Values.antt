@@ -19,19 +19,19 @@ use Rattle.zone_rdata.proofs.Lists.{from_place}
 
 -- what is stated of the first item is spelled by it
 pub first_appended : {X : Type 0} {Stated : X → Type 0} {octets : X → List ℕ} (value : X → FieldValue) (origin : List (List ℕ)) (field f : Field) (first : Item) (items : List Item) (old new : List ℕ) → field ≡ f → Some first ≡ slice_get items 0 → ((rest : List RawItem) → items_after f (raw first ∷ rest) ≡ rest) → ((x : X) (rest : List RawItem) → Stated x → SpellsField origin f (own_items f (raw first ∷ rest)) (value x)) → ((x : X) → octets x ≡ field_octets (value x)) → Appends Stated octets old new → AppendsFirst origin field (map raw items) (map raw (drop 1 items)) old new
-first_appended value origin field f first [] old new which is behind spells own done = absurd cc
-first_appended value origin field f first (item ∷ items) old new which is behind spells own done =
+first_appended value origin field f first [] old new which is following spells own done = absurd cc
+first_appended value origin field f first (item ∷ items) old new which is following spells own done =
     let same : first ≡ item = cc in
     subst (λ g. AppendsFirst origin g (raw item ∷ map raw items) (map raw items) old new) (sym which) (subst (λ i. AppendsFirst origin f (raw i ∷ map raw items) (map raw items) old new) same (record {
       appends = record { value = value done.value; stated = spells done.value (map raw items) done.stated; written = done.written ∙ ap (λ t. old ++ t) (own done.value) };
-      behind = sym (behind (map raw items));
+      following = sym (following (map raw items));
     }))
 
 -- strings are all that is left
 pub all_appended : (origin : List (List ℕ)) (field : Field) (items : List Item) (old new : List ℕ) → field ≡ fields.Strings → Appends (SpellsStrings (map raw items)) (flat_map with_length) old new → AppendsFirst origin field (map raw items) (map raw (drop (length items) items)) old new
 all_appended origin field items old new which h = subst (λ f. AppendsFirst origin f (map raw items) (map raw (drop (length items) items)) old new) (sym which) (record {
   appends = record { value = strings h.value; stated = h.stated; written = h.written };
-  behind = ap (map raw) (drop_all (length items) items (omega arith));
+  following = ap (map raw) (drop_all (length items) items (omega arith));
 })
 
 -- ---- strings, item by item

@@ -169,6 +169,13 @@ pub takes_lines : (octets rest : List ℕ) (n : ℕ) → AreBlankLines octets re
 takes_lines octets _ _ no_lines = takes_none octets
 takes_lines octets _ _ (one_line_more line rest n before is) = takes_line octets line rest n (takes_lines octets line n before) is
 
+-- lines after lines
+pub lines_joined : (octets middle rest : List ℕ) (n more : ℕ) → AreBlankLines octets middle n → AreBlankLines middle rest more → AreBlankLines octets rest (n + more)
+lines_joined octets middle _ n _ before no_lines = let same : n ≡ n + 0 = omega arith in subst (AreBlankLines octets middle) same before
+lines_joined octets middle _ n _ before (one_line_more line rest more others is) =
+    let same : n + more + 1 ≡ n + (more + 1) = omega arith in
+    subst (AreBlankLines octets rest) same (one_line_more line rest (n + more) (lines_joined octets middle line n more before others) is)
+
 -- a line has an octet at least
 pub line_shorter : (line rest : List ℕ) → IsBlankLine line rest → length rest < length line
 line_shorter line rest (fed_line e) = let len = ap length e in omega (arith, len)

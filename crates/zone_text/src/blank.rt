@@ -25,16 +25,26 @@ fn after_comment(octets: &[u8]) -> Option<&[u8]>
     Some(rest)
 }
 
-/// What follows the line at the front, if it is a line feed alone or a comment from its first octet
-/// on, and ended.
-#[inline(always)]
-fn after_blank_line(octets: &[u8]) -> Option<&[u8]>
+/// Takes the empty lines at the front: line feeds alone.
+fn empty_lines(octets: &[u8]) -> BlankLines<'_>
+    ensures are { AreBlankLines octets.now result.rest.now result.count }
+    ensures few { result.count + length result.rest.now ≤ length octets.now }
+{
+    let mut count = 0;
+    let mut rest = octets;
+    while let Some((b'\n', after)) = rest.split_first() {
+        count += 1;
+        rest = after;
+    }
+    BlankLines { count, rest }
+}
+
+/// What follows the line at the front, if it is a comment from its first octet on, and ended.
+fn after_comment_line(octets: &[u8]) -> Option<&[u8]>
     ensures { IfSome result (λ rest. IsBlankLine octets.now rest.now) }
 {
-    let (first, rest) = octets.split_first()?;
-    match *first {
-        b'\n' => Some(rest),
-        b';' => after_comment(rest),
+    match octets.split_first() {
+        Some((b';', comment)) => after_comment(comment),
         _ => None,
     }
 }
@@ -45,11 +55,13 @@ pub(crate) fn blank_lines(octets: &[u8]) -> BlankLines<'_>
     ensures are { AreBlankLines octets.now result.rest.now result.count }
     ensures few { result.count + length result.rest.now ≤ length octets.now }
 {
-    let mut count = 0;
-    let mut rest = octets;
-    while let Some(after) = after_blank_line(rest) {
-        count += 1;
-        rest = after;
+    let mut blank = empty_lines(octets);
+    while let Some(after) = after_comment_line(blank.rest) {
+        let empty = empty_lines(after);
+        blank = BlankLines {
+            count: blank.count + 1 + empty.count,
+            rest: empty.rest,
+        };
     }
-    BlankLines { count, rest }
+    blank
 }

@@ -20,4 +20,4 @@ mod text_source;
 mod words;
 
 pub use reader::read_file;
-pub use source::TextSource;
+pub use text_source::TextSource;

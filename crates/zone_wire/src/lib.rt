@@ -21,4 +21,4 @@ mod transfer_source;
 pub use answers::{Answers, RawRr};
 pub use message::{Message, Question};
 pub use name::{Decoded, name_at};
-pub use source::{TransferSource, read_transfer};
+pub use transfer_source::{TransferSource, read_transfer};

@@ -62,7 +62,7 @@ pub record EndsLabelAt (text label rest : List ℕ) : Type 0 where
   pub goes : Goes text label rest
   pub ends : EndsLabel rest
   pub some : 0 < length label + length rest
-  pub behind : length rest ≤ length text
+  pub following : length rest ≤ length text
 
 -- the same of a label for which something holds
 abbrev pub IsClosable : List ℕ → List ℕ → (List ℕ → Type 0) → Type 0

@@ -100,27 +100,27 @@ abbrev SentChoice : List ℕ → Type 0
 SentChoice octets = ((labels : List (List ℕ)) × ((rest : List ℕ) × BeginsWithSent octets labels rest)) ⊎ ((labels : List (List ℕ)) (rest : List ℕ) → BeginsWithSent octets labels rest → ⊥)
 
 -- a name that ends here has the labels that were cut off
-ended_labels : (octets rest behind tail : List ℕ) (labels own : List (List ℕ)) (c : ℕ) → (cut : HasCut octets labels rest) → rest ≡ c ∷ behind → c ≡ 0 → BeginsWithSent octets own tail → IsName labels
-ended_labels octets rest behind tail labels own c cut e nothing b =
+ended_labels : (octets rest following tail : List ℕ) (labels own : List (List ℕ)) (c : ℕ) → (cut : HasCut octets labels rest) → rest ≡ c ∷ following → c ≡ 0 → BeginsWithSent octets own tail → IsName labels
+ended_labels octets rest following tail labels own c cut e nothing b =
     let next = goes_on octets rest tail labels own cut b in
     let some = folded_some b.sent (subst (AllByRecursion IsLabel) (sym b.folds) b.is_name.each) in
-    let same = name_by next.0 behind tail (AllByRecursion-back (λ l. 0 < length l) cut.sent next.0 (subst AreSome next.1 some)) (sym (e ∙ ap (λ n. n ∷ behind) nothing) ∙ next.2) in
+    let same = name_by next.0 following tail (AllByRecursion-back (λ l. 0 < length l) cut.sent next.0 (subst AreSome next.1 some)) (sym (e ∙ ap (λ n. n ∷ following) nothing) ∙ next.2) in
     let same_labels : own ≡ labels = sym b.folds ∙ ap folded (next.1 ∙ ap (λ t. cut.sent ++ t) same.0 ∙ append-nil cut.sent) ∙ cut.folds in
     subst IsName same_labels b.is_name
 
-root_by : (octets rest behind : List ℕ) (labels : List (List ℕ)) (c : ℕ) → HasCut octets labels rest → rest ≡ c ∷ behind → c ≡ 0 → Decided (IsName labels) → SentChoice octets
-root_by octets rest behind labels c cut e nothing (inl is) = inl (labels, (behind, cut_name octets rest labels labels c behind cut e nothing refl is))
-root_by octets rest behind labels c cut e nothing (inr none) = inr (λ own tail b. none (ended_labels octets rest behind tail labels own c cut e nothing b))
+root_by : (octets rest following : List ℕ) (labels : List (List ℕ)) (c : ℕ) → HasCut octets labels rest → rest ≡ c ∷ following → c ≡ 0 → Decided (IsName labels) → SentChoice octets
+root_by octets rest following labels c cut e nothing (inl is) = inl (labels, (following, cut_name octets rest labels labels c following cut e nothing refl is))
+root_by octets rest following labels c cut e nothing (inr none) = inr (λ own tail b. none (ended_labels octets rest following tail labels own c cut e nothing b))
 
 sent_by : (octets rest : List ℕ) (labels : List (List ℕ)) (fuel : ℕ) → length rest ≤ fuel → HasCut octets labels rest → SentChoice octets
 sent_by octets [] labels fuel enough cut = inr (no_first octets [] labels cut refl)
-sent_by octets (c ∷ behind) labels zero enough cut = absurd (omega arith)
-sent_by octets (c ∷ behind) labels (suc fuel) enough cut = elim (cases_lt 0 c) [
-  | inr nothing ↦ root_by octets (c ∷ behind) behind labels c cut refl (omega arith) (labels_or_not labels)
-  | inl some ↦ elim (cases_lt (length behind) c) [
-    | inl few ↦ inr (no_room octets (c ∷ behind) labels c behind cut refl some few)
+sent_by octets (c ∷ following) labels zero enough cut = absurd (omega arith)
+sent_by octets (c ∷ following) labels (suc fuel) enough cut = elim (cases_lt 0 c) [
+  | inr nothing ↦ root_by octets (c ∷ following) following labels c cut refl (omega arith) (labels_or_not labels)
+  | inl some ↦ elim (cases_lt (length following) c) [
+    | inl few ↦ inr (no_room octets (c ∷ following) labels c following cut refl some few)
     | inr fits ↦
-        sent_by octets (drop c behind) (labels ++ folded_label (take c behind) ∷ []) fuel (omega (arith, length-drop c behind)) (cut_more octets (c ∷ behind) labels (labels ++ folded_label (take c behind) ∷ []) c behind (take c behind) (drop c behind) cut refl some fits refl refl refl)
+        sent_by octets (drop c following) (labels ++ folded_label (take c following) ∷ []) fuel (omega (arith, length-drop c following)) (cut_more octets (c ∷ following) labels (labels ++ folded_label (take c following) ∷ []) c following (take c following) (drop c following) cut refl some fits refl refl refl)
   ]
 ]
 

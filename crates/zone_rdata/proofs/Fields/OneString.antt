@@ -38,26 +38,26 @@ pub first_later : (octets : List ℕ) → 1 ≤ length octets → octets ≡ get
 first_later [] some = absurd (omega arith)
 first_later (c ∷ octets) some = refl
 
-pub low_string : (c : ℕ) (behind : List ℕ) → AreLow (c ∷ behind) → c ≤ length behind → IsString (take c behind)
-low_string c behind low fits = record { short = omega (arith, length-take c behind, low.0); each = low_take c behind low.1 }
+pub low_string : (c : ℕ) (following : List ℕ) → AreLow (c ∷ following) → c ≤ length following → IsString (take c following)
+low_string c following low fits = record { short = omega (arith, length-take c following, low.0); each = low_take c following low.1 }
 
-front_frame : (c : ℕ) (behind : List ℕ) → c ≤ length behind → take (c + 1) (c ∷ behind) ≡ with_length (take c behind)
-front_frame c behind fits = rw add-one (ap (λ n. n ∷ take c behind) (let count : c ≡ length (take c behind) = omega (arith, length-take c behind) in count))
+front_frame : (c : ℕ) (following : List ℕ) → c ≤ length following → take (c + 1) (c ∷ following) ≡ with_length (take c following)
+front_frame c following fits = rw add-one (ap (λ n. n ∷ take c following) (let count : c ≡ length (take c following) = omega (arith, length-take c following) in count))
 
-pub appends_string : (octets rest old new : List ℕ) (c count : ℕ) (behind : List ℕ) → AreLow octets → octets ≡ c ∷ behind → count ≡ c + 1 → AppendsPrefix count octets rest old new → AppendsValue OneString octets rest old new
-appends_string octets rest old new c count behind low e same grows =
-    let fits : c ≤ length behind = omega (arith, grows.fits, ap length e) in
-    let is : take count octets ≡ with_length (take c behind) = ap (λ n. take n octets) same ∙ ap (take (c + 1)) e ∙ front_frame c behind fits in
-    appends_plain OneString octets rest old new count (string (take c behind)) (λ h. cc) (low_string c behind (subst AreLow e low) fits) is (λ h. absurd cc) grows
+pub appends_string : (octets rest old new : List ℕ) (c count : ℕ) (following : List ℕ) → AreLow octets → octets ≡ c ∷ following → count ≡ c + 1 → AppendsPrefix count octets rest old new → AppendsValue OneString octets rest old new
+appends_string octets rest old new c count following low e same grows =
+    let fits : c ≤ length following = omega (arith, grows.fits, ap length e) in
+    let is : take count octets ≡ with_length (take c following) = ap (λ n. take n octets) same ∙ ap (take (c + 1)) e ∙ front_frame c following fits in
+    appends_plain OneString octets rest old new count (string (take c following)) (λ h. cc) (low_string c following (subst AreLow e low) fits) is (λ h. absurd cc) grows
 
 as_string : (octets : List ℕ) (v : FieldValue) (rest : List ℕ) → BeginsWithValue OneString octets v rest → (text : List ℕ) × (octets ≡ with_length text ++ rest)
 as_string octets (string text) rest b = (text, b.parts ∙ ap (λ t. t ++ rest) b.sent)
 as_string octets v rest b = absurd b.held
 
-pub none_string : (octets : List ℕ) (c count : ℕ) (behind : List ℕ) → octets ≡ c ∷ behind → count ≡ c + 1 → length octets < count → BeginsWithNone OneString octets
-none_string octets c count behind e same few v rest b =
+pub none_string : (octets : List ℕ) (c count : ℕ) (following : List ℕ) → octets ≡ c ∷ following → count ≡ c + 1 → length octets < count → BeginsWithNone OneString octets
+none_string octets c count following e same few v rest b =
     let s = as_string octets v rest b in
-    let shape : c ∷ behind ≡ length s.0 ∷ (s.0 ++ rest) = sym e ∙ s.1 in
+    let shape : c ∷ following ≡ length s.0 ∷ (s.0 ++ rest) = sym e ∙ s.1 in
     let first : c ≡ length s.0 = cc in
     omega (arith, ap length e, ap length s.1, length-append s.0 rest)
 
@@ -66,9 +66,9 @@ none_nil octets none v rest b = let s = as_string octets v rest b in omega (arit
 
 front : (octets : List ℕ) → AreLow octets → FrontChoice OneString octets
 front [] low = inr (none_nil [] refl)
-front (c ∷ behind) low = elim (cases_lt (length (c ∷ behind)) (c + 1)) [
-  | inl few ↦ inr (none_string (c ∷ behind) c (c + 1) behind refl refl few)
-  | inr fits ↦ found_front OneString (c ∷ behind) (drop (c + 1) (c ∷ behind)) (take (c + 1) (c ∷ behind)) (appends_string (c ∷ behind) (drop (c + 1) (c ∷ behind)) [] (take (c + 1) (c ∷ behind)) c (c + 1) behind low refl refl (front_of (c + 1) (c ∷ behind) fits))
+front (c ∷ following) low = elim (cases_lt (length (c ∷ following)) (c + 1)) [
+  | inl few ↦ inr (none_string (c ∷ following) c (c + 1) following refl refl few)
+  | inr fits ↦ found_front OneString (c ∷ following) (drop (c + 1) (c ∷ following)) (take (c + 1) (c ∷ following)) (appends_string (c ∷ following) (drop (c + 1) (c ∷ following)) [] (take (c + 1) (c ∷ following)) c (c + 1) following low refl refl (front_of (c + 1) (c ∷ following) fits))
 ]
 
 spelt_or_fault : (origin : List (List ℕ)) (items : List RawItem) → AreLowItems items → FieldChoice origin OneString (take 1 items)

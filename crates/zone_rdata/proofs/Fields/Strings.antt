@@ -54,7 +54,7 @@ back many rest last = ap (λ (r : List ℕ). strings_of (flat_map with_length ma
 pub appends_strings : (octets rest old new : List ℕ) → AreWithLengths octets → AppendsPrefix (length octets) octets rest old new → AppendsValue Strings octets rest old new
 appends_strings octets rest old new framed grows =
     let is : take (length octets) octets ≡ flat_map with_length framed.0 = take_all (length octets) octets (omega arith) ∙ framed.2 in
-    appends_plain Strings octets rest old new (length octets) (strings framed.0) (λ e. cc) framed.1 is (λ e. grows.behind ∙ drop_all (length octets) octets (omega arith)) grows
+    appends_plain Strings octets rest old new (length octets) (strings framed.0) (λ e. cc) framed.1 is (λ e. grows.following ∙ drop_all (length octets) octets (omega arith)) grows
 
 as_strings : (octets : List ℕ) (v : FieldValue) (rest : List ℕ) → BeginsWithValue Strings octets v rest → AreWithLengths octets
 as_strings octets (strings many) rest b = (many, b.held, b.parts ∙ ap (λ r. b.front ++ r) (b.last refl) ∙ append-nil b.front ∙ b.sent)
@@ -72,16 +72,16 @@ pub record Framed (octets rest : List ℕ) : Type 0 where
 pub framed_none : (octets : List ℕ) → AreLow octets → Framed octets octets
 framed_none octets low = record { many = []; each = tt; parts = refl; low = low }
 
-pub framed_more : (octets rest : List ℕ) (c count : ℕ) (behind after : List ℕ) → Framed octets rest → rest ≡ c ∷ behind → count ≡ c → count ≤ length behind → after ≡ drop count behind → Framed octets after
-framed_more octets rest c count behind after so_far e same fits is =
-    let here : rest ≡ count ∷ behind = e ∙ ap (λ n. n ∷ behind) (sym same) in
+pub framed_more : (octets rest : List ℕ) (c count : ℕ) (following after : List ℕ) → Framed octets rest → rest ≡ c ∷ following → count ≡ c → count ≤ length following → after ≡ drop count following → Framed octets after
+framed_more octets rest c count following after so_far e same fits is =
+    let here : rest ≡ count ∷ following = e ∙ ap (λ n. n ∷ following) (sym same) in
     let low = subst AreLow here so_far.low in
-    let text = take count behind in
+    let text = take count following in
     record {
       many = so_far.many ++ text ∷ [];
-      each = AllByRecursion-append IsString so_far.many (text ∷ []) so_far.each (low_string count behind low fits, tt);
-      parts = so_far.parts ∙ ap (λ t. flat_map with_length so_far.many ++ t) (here ∙ frame_at count behind fits ∙ ap (λ t. with_length text ++ t) (sym is)) ∙ frames_push so_far.many text after;
-      low = subst AreLow (sym is) (low_drop count behind low.1);
+      each = AllByRecursion-append IsString so_far.many (text ∷ []) so_far.each (low_string count following low fits, tt);
+      parts = so_far.parts ∙ ap (λ t. flat_map with_length so_far.many ++ t) (here ∙ frame_at count following fits ∙ ap (λ t. with_length text ++ t) (sym is)) ∙ frames_push so_far.many text after;
+      low = subst AreLow (sym is) (low_drop count following low.1);
     }
 
 pub some_frames : (many : List (List ℕ)) → 0 < length (flat_map with_length many) → 0 < length many
@@ -110,23 +110,23 @@ strings_first (x ∷ many) (y ∷ whole) rest e =
     let cut = frame_same x y (flat_map with_length many ++ rest) (flat_map with_length whole) (sym (append_assoc (with_length x) (flat_map with_length many) rest) ∙ e) in
     strings_first many whole rest cut.1
 
-short_by : (more : List (List ℕ)) (c : ℕ) (behind : List ℕ) → c ∷ behind ≡ flat_map with_length more → length behind < c → ⊥
-short_by [] c behind e few = absurd (omega (arith, ap length e))
-short_by (x ∷ more) c behind e few =
+short_by : (more : List (List ℕ)) (c : ℕ) (following : List ℕ) → c ∷ following ≡ flat_map with_length more → length following < c → ⊥
+short_by [] c following e few = absurd (omega (arith, ap length e))
+short_by (x ∷ more) c following e few =
     let first : c ≡ length x = cc in
     omega (arith, ap length e, length-append x (flat_map with_length more))
 
-pub framed_short : (octets rest : List ℕ) (c count : ℕ) (behind : List ℕ) → Framed octets rest → rest ≡ c ∷ behind → count ≡ c → length behind < count → AreWithLengths octets → ⊥
-framed_short octets rest c count behind so_far e same few framed =
+pub framed_short : (octets rest : List ℕ) (c count : ℕ) (following : List ℕ) → Framed octets rest → rest ≡ c ∷ following → count ≡ c → length following < count → AreWithLengths octets → ⊥
+framed_short octets rest c count following so_far e same few framed =
     let next = strings_first so_far.many framed.0 rest (sym so_far.parts ∙ framed.2) in
-    short_by next.0 c behind (sym e ∙ next.1) (omega arith)
+    short_by next.0 c following (sym e ∙ next.1) (omega arith)
 
 framed_by : (octets rest : List ℕ) (fuel : ℕ) → 0 < length octets → length rest ≤ fuel → Framed octets rest → AreWithLengths octets ⊎ (AreWithLengths octets → ⊥)
 framed_by octets [] fuel some enough framed = inl (framed_all octets [] some framed refl)
-framed_by octets (c ∷ behind) zero some enough framed = absurd (omega arith)
-framed_by octets (c ∷ behind) (suc fuel) some enough framed = elim (cases_lt (length behind) c) [
-  | inl few ↦ inr (framed_short octets (c ∷ behind) c c behind framed refl refl few)
-  | inr fits ↦ framed_by octets (drop c behind) fuel some (omega (arith, length-drop c behind)) (framed_more octets (c ∷ behind) c c behind (drop c behind) framed refl refl fits refl)
+framed_by octets (c ∷ following) zero some enough framed = absurd (omega arith)
+framed_by octets (c ∷ following) (suc fuel) some enough framed = elim (cases_lt (length following) c) [
+  | inl few ↦ inr (framed_short octets (c ∷ following) c c following framed refl refl few)
+  | inr fits ↦ framed_by octets (drop c following) fuel some (omega (arith, length-drop c following)) (framed_more octets (c ∷ following) c c following (drop c following) framed refl refl fits refl)
 ]
 
 framed_or_not : (octets : List ℕ) → AreLow octets → AreWithLengths octets ⊎ (AreWithLengths octets → ⊥)

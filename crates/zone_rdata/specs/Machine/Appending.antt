@@ -23,7 +23,7 @@ AppendsField origin field items old new =
 pub record AppendsFirst (origin : Labels) (field : Field) (items rest : List RawItem)
     (old new : List ℕ) : Type 0 where
   pub appends : AppendsField origin field (own_items field items) old new
-  pub behind : rest ≡ items_after field items
+  pub following : rest ≡ items_after field items
 
 -- the octets are those of the values that items spell for fields
 pub record AreSpelt (origin : Labels) (fields : List Field) (items : List RawItem)
@@ -55,5 +55,5 @@ BeginsWithNone field octets =
 -- the first `count` octets are appended; `rest` is what follows them
 pub record AppendsPrefix (count : ℕ) (octets rest old new : List ℕ) : Type 0 where
   pub fits : count ≤ length octets
-  pub behind : rest ≡ drop count octets
+  pub following : rest ≡ drop count octets
   pub written : new ≡ old ++ take count octets

@@ -55,15 +55,15 @@ fn name_at(octets: &[u8]) -> Option<(Name, &[u8])>
     let mut labels = NameBuilder::new();
     let mut rest = octets;
     loop {
-        let (first, behind) = rest.split_first()?;
+        let (first, following) = rest.split_first()?;
         let count = usize::from(*first);
         if count == 0 {
-            return Some((labels.finish(), behind));
+            return Some((labels.finish(), following));
         }
-        if behind.len() < count {
+        if following.len() < count {
             return None;
         }
-        let (label, after) = behind.split_at(count);
+        let (label, after) = following.split_at(count);
         match labels.push_label(label) {
             Ok(()) => rest = after,
             Err(_) => return None,

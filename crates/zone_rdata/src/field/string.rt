@@ -34,6 +34,6 @@ pub(crate) fn split_string(octets: &[u8]) -> (&[u8], &[u8])
     ensures rest { result.1.now ≡ drop (length (with_length (string_at octets.now))) octets.now }
     ensures short { length result.0.now ≤ 255 }
 {
-    let (count, behind) = octets.split_at(1);
-    behind.split_at(usize::from(count[0]))
+    let (count, following) = octets.split_at(1);
+    following.split_at(usize::from(count[0]))
 }

@@ -60,12 +60,12 @@ fn are_strings(octets: &[u8]) -> bool
         return false;
     }
     let mut rest = octets;
-    while let Some((first, behind)) = rest.split_first() {
+    while let Some((first, following)) = rest.split_first() {
         let count = usize::from(*first);
-        if behind.len() < count {
+        if following.len() < count {
             return false;
         }
-        rest = behind.split_at(count).1;
+        rest = following.split_at(count).1;
     }
     true
 }

@@ -19,12 +19,12 @@ loop-rest-init c =
 pub returns-in_default-clause-labels : goal.returns-in_default-clause-labels
 returns-in_default-clause-labels c =
     let read = c.in_ok-is_left_out.ensures.ok in
-    Reads-relative c.args.text.now (unfolded_labels c.loop-rest.octets.items) (unfolded_labels c.read_label.new.octets.items) c.loop-rest.is_too_long c.in_ok-is_left_out.field-0.is_left_out c.loop-rest.rest.now read.0 c.in_ok-is_left_out.field-0.behind.now c.loop-rest.invariant.1 read.1 read.2 (nil_from_length c.in_ok-is_left_out.field-0.behind.now c.in_default.ensures.cases)
+    Reads-relative c.args.text.now (unfolded_labels c.loop-rest.octets.items) (unfolded_labels c.read_label.new.octets.items) c.loop-rest.is_too_long c.in_ok-is_left_out.field-0.is_left_out c.loop-rest.rest.now read.0 c.in_ok-is_left_out.field-0.following.now c.loop-rest.invariant.1 read.1 read.2 (nil_from_length c.in_ok-is_left_out.field-0.following.now c.in_default.ensures.cases)
 
 pub loop-rest-smaller : goal.loop-rest-smaller
-loop-rest-smaller c = omega (arith, c.in_ok-is_left_out.ensures.ok.1.behind, ap length c.in-Some.ensures.cases.0)
+loop-rest-smaller c = omega (arith, c.in_ok-is_left_out.ensures.ok.1.following, ap length c.in-Some.ensures.cases.0)
 
 pub loop-rest-preserved : goal.loop-rest-preserved
 loop-rest-preserved c =
     let read = c.in_ok-is_left_out.ensures.ok in
-    (c.in_ok-is_left_out.ensures.holds, Reads-label c.args.text.now (unfolded_labels c.loop-rest.octets.items) (unfolded_labels c.read_label.new.octets.items) c.loop-rest.is_too_long c.in_ok-is_left_out.field-0.is_left_out c.loop-rest.rest.now read.0 c.in_ok-is_left_out.field-0.behind.now c.in-Some.after.now _ c.loop-rest.invariant.1 read.1 read.2 c.in-Some.ensures.cases.0)
+    (c.in_ok-is_left_out.ensures.holds, Reads-label c.args.text.now (unfolded_labels c.loop-rest.octets.items) (unfolded_labels c.read_label.new.octets.items) c.loop-rest.is_too_long c.in_ok-is_left_out.field-0.is_left_out c.loop-rest.rest.now read.0 c.in_ok-is_left_out.field-0.following.now c.in-Some.after.now _ c.loop-rest.invariant.1 read.1 read.2 c.in-Some.ensures.cases.0)

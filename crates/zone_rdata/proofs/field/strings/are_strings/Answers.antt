@@ -7,8 +7,8 @@ use Rattle.zone_rdata.proofs.field.strings.are_strings.Goals as goal
 pub returns-then-is_empty : goal.returns-then-is_empty
 returns-then-is_empty c = (λ h. absurd (false≢true h), λ framed. absurd (framed_empty c.args.octets.now (grind (arith, nat_tests, c.is_empty.ensures, c.if-is_empty.true)) framed))
 
-pub returns-then-behind-count : goal.returns-then-behind-count
-returns-then-behind-count c = (λ h. absurd (false≢true h), λ framed. absurd (framed_short c.args.octets.now c.loop-first.rest.now c.in-Some.first.now c.from-count.result c.in-Some.behind.now c.loop-first.invariant c.in-Some.ensures.cases.0 c.from-count.ensures c.if-behind-count.true framed))
+pub returns-then-following-count : goal.returns-then-following-count
+returns-then-following-count c = (λ h. absurd (false≢true h), λ framed. absurd (framed_short c.args.octets.now c.loop-first.rest.now c.in-Some.first.now c.from-count.result c.in-Some.following.now c.loop-first.invariant c.in-Some.ensures.cases.0 c.from-count.ensures c.if-following-count.true framed))
 
 pub loop-first-preserved : goal.loop-first-preserved
-loop-first-preserved c = framed_more c.args.octets.now c.loop-first.rest.now c.in-Some.first.now c.from-count.result c.in-Some.behind.now c.split_at.result.1.now c.loop-first.invariant c.in-Some.ensures.cases.0 c.from-count.ensures c.if-behind-count.false c.split_at.ensures.back
+loop-first-preserved c = framed_more c.args.octets.now c.loop-first.rest.now c.in-Some.first.now c.from-count.result c.in-Some.following.now c.split_at.result.1.now c.loop-first.invariant c.in-Some.ensures.cases.0 c.from-count.ensures c.if-following-count.false c.split_at.ensures.back

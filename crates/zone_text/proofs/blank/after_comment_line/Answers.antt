@@ -1,10 +1,10 @@
 use Rattle.std.proofs.Common.{◌∙◌, ap, ◌∷◌, ◌≡◌, List, ℕ, Option, Some, None, IfSome, Bor}
 use Rattle.zone_text.specs.Machine.Blank.{IsBlankLine, IsComment, commented}
-use Rattle.zone_text.proofs.blank.after_blank_line.Goals as goal
+use Rattle.zone_text.proofs.blank.after_comment_line.Goals as goal
 
 if_commented : (octets after : List ℕ) (found : Option (Bor (List ℕ))) → octets ≡ 59 ∷ after → IfSome found (λ rest. IsComment after rest.now) → IfSome found (λ rest. IsBlankLine octets rest.now)
 if_commented octets after None e is = tt
 if_commented octets after (Some rest) e is = commented after e is
 
-pub returns-in-59 : goal.returns-in-59
-returns-in-59 c = if_commented _ _ _ (c.in_ok-first.ensures.cases.0 ∙ ap (λ t. t ∷ c.in_ok-first.rest.now) c.in-59.is) c.after_comment.ensures
+pub returns-in-Some-eq59-default : goal.returns-in-Some-eq59-default
+returns-in-Some-eq59-default c = if_commented _ _ _ (c.in-Some-eq59-default.ensures.cases.0 ∙ ap (λ t. t ∷ c.in-Some-eq59-default.comment.now) c.in-Some-eq59-default.field-0-0-test) c.after_comment.ensures

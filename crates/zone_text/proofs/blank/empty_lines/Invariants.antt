@@ -1,0 +1,12 @@
+use Rattle.std.proofs.Common.{◌≤◌, ◌+◌, length}
+use Rattle.zone_text.specs.Machine.Blank.{AreBlankLines}
+use Rattle.zone_text.proofs.blank.empty_lines.Given as goal
+
+abbrev pub invariant-loop-after : goal.invariant-loop-after
+invariant-loop-after l = record {
+  are : AreBlankLines l.octets l.rest l.count;
+  few : l.count + length l.rest ≤ length l.octets;
+}
+
+abbrev pub decreases-loop-after : goal.decreases-loop-after
+decreases-loop-after l = length l.rest
