@@ -13,11 +13,13 @@ before chunks p = joined (take p.chunk chunks) ++ take p.offset (slice_index_or 
 
 -- what stands from a place on
 abbrev pub after : {X : Type 0} → List (List X) → Position → List X
-after chunks p = drop p.offset (slice_index_or chunks p.chunk []) ++ joined (drop (p.chunk + 1) chunks)
+after chunks p = drop p.offset (slice_index_or chunks p.chunk [])
+    ++ joined (drop (p.chunk + 1) chunks)
 
 -- a place in a chunk or at its end, or the place after all chunks
 abbrev pub IsPlace : {X : Type 0} → List (List X) → Position → Type 0
-IsPlace chunks p = (p.chunk ≤ length chunks) × (p.offset ≤ length (slice_index_or chunks p.chunk []))
+IsPlace chunks p = (p.chunk ≤ length chunks)
+    × (p.offset ≤ length (slice_index_or chunks p.chunk []))
 
 -- not empty, and no longer than the limit
 abbrev pub IsChunk : {X : Type 0} → ℕ → List X → Type 0

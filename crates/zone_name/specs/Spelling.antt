@@ -40,7 +40,8 @@ abbrev pub IsEscape : Written → Type 0
 IsEscape (plain c) = ⊥
 IsEscape (escaped c) = (is_digit c ≡ false) × (c ≢ 10) × (c ≢ 13)
 IsEscape (decimal x y z) =
-    (is_digit x ≡ true) × (is_digit y ≡ true) × (is_digit z ≡ true) × (octet_of (decimal x y z) ≤ 255)
+    (is_digit x ≡ true) × (is_digit y ≡ true) × (is_digit z ≡ true)
+    × (octet_of (decimal x y z) ≤ 255)
 
 -- a written octet where some octets mean something else: an octet by itself that is none of them
 -- and no backslash, or an escape

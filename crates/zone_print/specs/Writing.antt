@@ -13,12 +13,14 @@ pub data StopsPush (limit : ℕ) (text : List ℕ) : Stop → Type 0 where
 
 -- known octets of a writer grew by a proper prefix of the text: a part of it was written, but not all
 abbrev pub AppendsPart : Option (List ℕ) → Option (List ℕ) → List ℕ → Type 0
-AppendsPart old new text = (front rest : List ℕ) × (rest ≢ []) × (text ≡ front ++ rest) × Appends old new front
+AppendsPart old new text = (front rest : List ℕ) × (rest ≢ []) × (text ≡ front ++ rest)
+    × Appends old new front
 
 -- Why a text was not written, and what the writer holds: nothing of a text that is longer than the limit. A text within
 -- it was written in part, but not all of it: memory was refused, or the writer failed.
 pub data StopsWrite (limit : ℕ) (text : List ℕ) (old new : Option (List ℕ)) : Stop → Type 0 where
-  large : limit < length text → Keeps old new → StopsWrite limit text old new (Refused ZoneTooLarge Whole)
+  large : limit < length text → Keeps old new
+      → StopsWrite limit text old new (Refused ZoneTooLarge Whole)
   memory : length text ≤ limit → AppendsPart old new text → StopsWrite limit text old new Memory
   write : length text ≤ limit → AppendsPart old new text → StopsWrite limit text old new Write
 

@@ -56,7 +56,8 @@ pub fn push_zone(alloc: Global, zone: &Zone) -> Result<Vec<u8>, Stop>
 /// `Write` where the writer failed, as one of std does that answers an error or takes no octet; `Memory`. After the last
 /// two a proper prefix of the text was written.
 pub fn write_zone<W: OctetWriter>(alloc: Global, zone: &Zone, writer: &mut W) -> Result<(), Stop>
-    ensures text { OnOk result (Appends (W.contents writer.old) (W.contents writer.new) (canon zone.now)) }
+    ensures text { OnOk result
+        (Appends (W.contents writer.old) (W.contents writer.new) (canon zone.now)) }
     ensures short { OnOk result (length (canon zone.now) ≤ text_limit) }
     ensures stopped { IfErr result
         (StopsWrite text_limit (canon zone.now) (W.contents writer.old) (W.contents writer.new)) }
@@ -134,7 +135,8 @@ pub(crate) fn write_within<W: OctetWriter>(
 ///
 /// `Write` where the writer failed, and `Memory`. A proper prefix of the text was written.
 fn write_lines<W: OctetWriter>(alloc: Global, zone: &Zone, writer: &mut W) -> Result<(), Stop>
-    ensures text { OnOk result (Appends (W.contents writer.old) (W.contents writer.new) (canon zone.now)) }
+    ensures text { OnOk result
+        (Appends (W.contents writer.old) (W.contents writer.new) (canon zone.now)) }
     ensures part { OnErr result
         (AppendsPart (W.contents writer.old) (W.contents writer.new) (canon zone.now)) }
     ensures works { OnOk result (W.Works writer.old → W.Works writer.new) }

@@ -58,8 +58,10 @@ impl<W: Write> OctetWriter for W {
 ///
 /// `Write` where the writer failed. A proper prefix of the octets was written.
 pub fn write_octets<W: OctetWriter>(writer: &mut W, octets: &[u8]) -> Result<(), Stop>
-    ensures written { OnOk result (Appends (W.contents writer.old) (W.contents writer.new) octets.now) }
-    ensures part { OnErr result (AppendsPart (W.contents writer.old) (W.contents writer.new) octets.now) }
+    ensures written { OnOk result
+        (Appends (W.contents writer.old) (W.contents writer.new) octets.now) }
+    ensures part { OnErr result
+        (AppendsPart (W.contents writer.old) (W.contents writer.new) octets.now) }
     ensures works { OnOk result (W.Works writer.old → W.Works writer.new) }
     ensures failed { IfErr result (IsFailedWrite (W.Works writer.old → W.Failed writer.new)) }
 {

@@ -32,7 +32,8 @@ pub data IsWordsFault (origin : Labels) (fields : List Field)
 
 -- why items in the generic form state no data for a layout, if there is one: the form's own fault,
 -- or octets that are not exactly one value
-pub data IsGenericDataFault (laid : Option (List Field)) (items : List RawItem) : Fault → Type 0 where
+pub data IsGenericDataFault (laid : Option (List Field))
+    (items : List RawItem) : Fault → Type 0 where
   malformed : (fault : Fault) → GenericFault items fault → IsGenericDataFault laid items fault
   no_value : (fields : List Field) (stated : List ℕ) → laid ≡ Some fields
       → StatesGeneric items stated → ((octets : List ℕ) → IsUncompressed fields stated octets → ⊥)
@@ -42,7 +43,8 @@ pub data IsGenericDataFault (laid : Option (List Field)) (items : List RawItem) 
 -- words without a layout
 pub data IsFaultFor (origin : Labels) (laid : Option (List Field))
     (items : List RawItem) : Fault → Type 0 where
-  in_generic_form : (fault : Fault) → IsGenericDataFault laid items fault → IsFaultFor origin laid items fault
+  in_generic_form : (fault : Fault) → IsGenericDataFault laid items fault
+      → IsFaultFor origin laid items fault
   in_words : (fields : List Field) (fault : Fault) → laid ≡ Some fields → (IsGeneric items → ⊥)
       → IsWordsFault origin fields items fault → IsFaultFor origin laid items fault
   opaque_words : laid ≡ None → (IsGeneric items → ⊥) → IsFaultFor origin laid items BadGeneric

@@ -114,7 +114,8 @@ IsFieldFault origin field [] fault = fault ≡ BadRdata
 IsFieldFault origin OneString (item ∷ items) fault = StringFault item fault
 IsFieldFault origin field (quoted text ∷ items) fault = fault ≡ BadRdata
 IsFieldFault origin Name (bare text ∷ items) fault = IsNameFault origin text fault
-IsFieldFault origin Serial (bare text ∷ items) fault = NoValue BadNumber (SpellsNumber w32 text) fault
+IsFieldFault origin Serial (bare text ∷ items) fault =
+    NoValue BadNumber (SpellsNumber w32 text) fault
 IsFieldFault origin Time (bare text ∷ items) fault = NoValue BadNumber (SpellsTime text) fault
 IsFieldFault origin U16 (bare text ∷ items) fault = NoValue BadNumber (SpellsNumber w16 text) fault
 IsFieldFault origin (Octets n) (bare text ∷ items) fault = NoValue BadRdata (IsAddress n text) fault

@@ -21,7 +21,8 @@ pub record IsGenericForm (items : List RawItem) (n : ℕ) (digits : List RawItem
 abbrev pub JoinTo : List RawItem → List ℕ → Type 0
 JoinTo [] octets = octets ≡ []
 JoinTo (bare text ∷ items) octets =
-    (front rest : List ℕ) × (decode_of text ≡ Ok front) × (octets ≡ front ++ rest) × JoinTo items rest
+    (front rest : List ℕ) × (decode_of text ≡ Ok front) × (octets ≡ front ++ rest)
+    × JoinTo items rest
 JoinTo (quoted text ∷ items) octets = ⊥
 
 -- the items state the octets in the generic form

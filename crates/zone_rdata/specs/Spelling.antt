@@ -12,7 +12,8 @@ pub use Rattle.zone_rdata.specs.Item.{RawItem, bare, quoted, raw, generic_mark, 
 abbrev pub SpellEach : Labels → List Field → List RawItem → List FieldValue → Type 0
 SpellEach origin [] [] [] = ⊤
 SpellEach origin (f ∷ fields) items (v ∷ values) =
-    SpellsField origin f (own_items f items) v × SpellEach origin fields (items_after f items) values
+    SpellsField origin f (own_items f items) v
+    × SpellEach origin fields (items_after f items) values
 SpellEach origin fields items values = ⊥
 
 -- the canonical octets of octets that stand for data: of the layout's values, or the octets

@@ -38,12 +38,15 @@ pub(crate) fn put(
     ensures each { AllByRecursion (IsEntry base.now rr.now.class octets.new.items)
         (joined entries.new) }
     ensures told { IfOk result (λ is_new.
-        IsPut (all_records rr.now.class octets.old.items (joined entries.old)) (record_of rr.now) is_new
+        IsPut (all_records rr.now.class octets.old.items (joined entries.old))
+        (record_of rr.now) is_new
         (all_records rr.now.class octets.new.items (joined entries.new))) }
     ensures one_ttl { OnOk result
-        (OtherTtl (all_records rr.now.class octets.old.items (joined entries.old)) (record_of rr.now) → ⊥) }
+        (OtherTtl (all_records rr.now.class octets.old.items (joined entries.old))
+        (record_of rr.now) → ⊥) }
     ensures refused { IfErr result
-        (IsSetRefusal (all_records rr.now.class octets.old.items (joined entries.old)) (record_of rr.now)) }
+        (IsSetRefusal (all_records rr.now.class octets.old.items (joined entries.old))
+        (record_of rr.now)) }
     ensures same_entries { OnErr result (entries.new ≡ entries.old) }
     ensures unchanged { OnErr result (all_records rr.now.class octets.new.items (joined entries.new)
         ≡ all_records rr.now.class octets.old.items (joined entries.old)) }

@@ -21,7 +21,7 @@ pub(crate) enum Directive<'i, 't> {
     Unknown,
 }
 
-/// The form of an entry (RFC 1035 5.1).
+/// An entry by what it states (RFC 1035 5.1).
 #[derive(Drop)]
 pub(crate) enum ParsedEntry<'i, 't> {
     /// No items.
@@ -59,7 +59,7 @@ fn directive_of<'i, 't>(word: Item<'t>, items: &'i [Item<'t>]) -> Directive<'i, 
     }
 }
 
-/// The form of an entry with these items.
+/// What an entry with these items states.
 pub(crate) fn parse_entry<'i, 't>(entry: &[u8], items: &'i [Item<'t>]) -> ParsedEntry<'i, 't>
     ensures { statement_in result ≡ statement_by (first_octet entry.now) (map raw items.now) }
 {

@@ -80,20 +80,20 @@ impl ParserState {
         self.read_parsed(alloc, parse_entry(entry, items), place, decided)
     }
 
-    /// Reads an entry of this form.
+    /// Reads an entry that was parsed.
     fn read_parsed(
         &mut self,
         alloc: Global,
-        form: ParsedEntry,
+        parsed: ParsedEntry,
         place: Place,
         decided: &mut PendingRecords,
     ) -> Result<(), AllocError>
         ensures { (origin : Labels) (before : List Entry) (entry : Entry)
-            → IsStateAfter origin before self.old → statement_of entry ≡ statement_in form.entry
+            → IsStateAfter origin before self.old → statement_of entry ≡ statement_in parsed.entry
             → OnOk result
             (DecidesEntry origin before entry place decided.old decided.new self.new) }
     {
-        match form {
+        match parsed {
             ParsedEntry::Blank => Ok(()),
             ParsedEntry::Directive(directive) => match self.follow(directive) {
                 Ok(()) => Ok(()),
@@ -110,10 +110,12 @@ impl ParserState {
     #[inline(never)]
     fn follow(&mut self, directive: Directive) -> Result<(), NarrowFault>
         ensures found { (origin : Labels) (before : List Entry) (entry : Entry)
-            → IsStateAfter origin before self.old → statement_of entry ≡ directive_in directive.entry
+            → IsStateAfter origin before self.old
+            → statement_of entry ≡ directive_in directive.entry
             → OnOk result (LeavesNoRecord origin before entry self.new) }
         ensures fault { (origin : Labels) (before : List Entry) (entry : Entry)
-            → IsStateAfter origin before self.old → statement_of entry ≡ directive_in directive.entry
+            → IsStateAfter origin before self.old
+            → statement_of entry ≡ directive_in directive.entry
             → IfErr result (EntryFault origin before entry) }
     {
         match directive {

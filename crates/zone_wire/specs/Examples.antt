@@ -87,7 +87,8 @@ server_x = record_x 2 (192 ∷ 31 ∷ [])
 -- the SOA again, with a serial, its names being pointers to the first one's
 abbrev pub closing_x : ℕ → List ℕ
 closing_x serial =
-    (192 ∷ 12 ∷ 0 ∷ 6 ∷ 0 ∷ 1 ∷ 0 ∷ 0 ∷ 14 ∷ 16 ∷ 0 ∷ 24 ∷ 192 ∷ 31 ∷ 192 ∷ 35 ∷ []) ++ numbers serial
+    (192 ∷ 12 ∷ 0 ∷ 6 ∷ 0 ∷ 1 ∷ 0 ∷ 0 ∷ 14 ∷ 16 ∷ 0 ∷ 24 ∷ 192 ∷ 31 ∷ 192 ∷ 35 ∷ [])
+    ++ numbers serial
 
 -- the question, the SOA, and an answer as the last part of the message
 abbrev pub ends_with : List ℕ → List ℕ

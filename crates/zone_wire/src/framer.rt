@@ -47,8 +47,10 @@ impl Framer {
         ensures cut { OnOk result (IsCut self.new.unfinished.items) }
         ensures dropped { OnOk result
             (IfSome self.new.transfer.decided.ending (λ _. self.new.unfinished.items ≡ [])) }
-        ensures count { OnOk result (self.new.transfer.messages ≤ self.old.transfer.messages + length piece.now) }
-        ensures decided { IfSome self.old.transfer.decided.ending (λ _. IsOk result × (self.new ≡ self.old)) }
+        ensures count { OnOk result
+            (self.new.transfer.messages ≤ self.old.transfer.messages + length piece.now) }
+        ensures decided { IfSome self.old.transfer.decided.ending (λ _. IsOk result
+            × (self.new ≡ self.old)) }
         ensures nothing { piece.now ≡ [] → IsOk result × (self.new ≡ self.old) }
         ensures follow { OnOk result ((fed : List ℕ) (given : List Placed)
             → Follow self.old.transfer self.old.unfinished.items fed given

@@ -82,7 +82,8 @@ impl TransferSource {
         requires going { self.old.held.finished ≡ false }
         requires fits { self.old.held.fed + length piece.now + 1 < 2 ^ 64 }
         ensures stands { OnOk result ((fed : List ℕ) (given : List Placed)
-            → StandsForStream self.old fed given → StandsForStream self.new (fed ++ piece.now) given) }
+            → StandsForStream self.old fed given
+            → StandsForStream self.new (fed ++ piece.now) given) }
         ensures count { OnOk result (self.new.held.fed ≡ self.old.held.fed + length piece.now) }
         ensures decided { self.old.pending.failed ≡ false → IfSome self.old.pending.ending
             (λ _. IsOk result × (self.new ≡ counted (length piece.now) self.old)) }

@@ -57,18 +57,25 @@ pub record StopsReading (form : ReadAs) (known : Option (List ℕ)) (stop : Stop
 
 -- Which input stopped a comparison, and by what. The first did, and the second, of which these octets were known before
 -- and after, was not read; or the second did, and the first is accepted.
-pub data StopsCompare (form other_form : ReadAs) (first second second' : Option (List ℕ)) : Which → Stop → Type 0 where
-  by_first : (stop : Stop) → StopsReading form first stop → Keeps second second' → StopsCompare form other_form first second second' First stop
-  by_second : (stop : Stop) → IsAccepted form first → StopsReading other_form second stop → StopsCompare form other_form first second second' Second stop
+pub data StopsCompare (form other_form : ReadAs)
+    (first second second' : Option (List ℕ)) : Which → Stop → Type 0 where
+  by_first : (stop : Stop) → StopsReading form first stop → Keeps second second'
+      → StopsCompare form other_form first second second' First stop
+  by_second : (stop : Stop) → IsAccepted form first → StopsReading other_form second stop
+      → StopsCompare form other_form first second second' Second stop
 
 -- how far two readers were read, of octets that are known before and after, where one of them is refused: that one whole,
 -- and the first to its end where it is the second
-abbrev pub ReadsWholeTo : Option (List ℕ) → Option (List ℕ) → Option (List ℕ) → Option (List ℕ) → Which → Stop → Type 0
-ReadsWholeTo first first' second second' First stop = IfRefused stop (λ fault place. ReadsWhole text_limit first first')
+abbrev pub ReadsWholeTo : Option (List ℕ) → Option (List ℕ) → Option (List ℕ) → Option (List ℕ)
+    → Which → Stop → Type 0
+ReadsWholeTo first first' second second' First stop =
+    IfRefused stop (λ fault place. ReadsWhole text_limit first first')
 ReadsWholeTo first first' second second' Second stop =
     IsAtEnd first' × IfRefused stop (λ fault place. ReadsWhole text_limit second second')
 
 -- what a stop by an input tells of the two readers, of each that it works and that it failed
 abbrev pub TellsReadOf : Type 0 → Type 0 → Type 0 → Type 0 → Which → Stop → Type 0
-TellsReadOf works failed other_works other_failed First stop = TellsRead works failed stop × other_works
-TellsReadOf works failed other_works other_failed Second stop = works × TellsRead other_works other_failed stop
+TellsReadOf works failed other_works other_failed First stop = TellsRead works failed stop
+    × other_works
+TellsReadOf works failed other_works other_failed Second stop = works
+    × TellsRead other_works other_failed stop

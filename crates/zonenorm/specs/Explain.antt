@@ -25,7 +25,8 @@ AreRefused form known fault place =
 -- the line that explains known octets, with its status: 0 and how many records their zone has, or 3
 -- and why they are refused
 pub data IsExplanation (form : ReadAs) (known : Option (List ℕ)) : List ℕ → ℕ → Type 0 where
-  accepted : (count : ℕ) → HaveRecords form known count → IsExplanation form known (records_line count) 0
+  accepted : (count : ℕ) → HaveRecords form known count
+      → IsExplanation form known (records_line count) 0
   refused : (fault : Fault) (place : Place) → AreRefused form known fault place
       → IsExplanation form known (refusal_line fault place) 3
 
@@ -36,9 +37,11 @@ Explains form known old new status =
 
 -- What explaining known octets leaves where it stops: nothing written where reading failed or memory was refused, and a
 -- proper prefix of the line where writing failed. A refusal is no stop.
-abbrev pub StopsExplain : ReadAs → Option (List ℕ) → Option (List ℕ) → Option (List ℕ) → Stop → Type 0
+abbrev pub StopsExplain : ReadAs → Option (List ℕ) → Option (List ℕ) → Option (List ℕ) → Stop
+    → Type 0
 StopsExplain form known old new (Refused fault place) = ⊥
 StopsExplain form known old new Read = Keeps old new
 StopsExplain form known old new Write =
-    (line : List ℕ) × (status : ℕ) × IsExplanation form known line status × WritesPartOfLine line old new
+    (line : List ℕ) × (status : ℕ) × IsExplanation form known line status
+    × WritesPartOfLine line old new
 StopsExplain form known old new Memory = Keeps old new

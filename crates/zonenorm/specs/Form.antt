@@ -3,7 +3,7 @@ use Rattle.zonenorm.specs.Input.{ReadAs, as_file, as_transfer}
 use Rattle.zonenorm.specs.declared.form.Form.{Form}
 use Rattle.zonenorm.specs.declared.form.Form.TheVariants.{File, Transfer}
 
--- the form of the input
+-- how the form reads octets
 abbrev pub read_as : Form → ReadAs
 read_as (File origin) = as_file origin.now
 read_as Transfer = as_transfer

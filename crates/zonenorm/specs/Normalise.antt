@@ -55,4 +55,5 @@ ConsumesAtMost most old new = (given : List ℕ) × (length given ≤ most) × C
 
 -- a reader was read whole: to its end, or to one octet over the limit
 abbrev pub ReadsWhole : ℕ → Option (List ℕ) → Option (List ℕ) → Type 0
-ReadsWhole limit old new = IsAtEnd new ⊎ ((given : List ℕ) × (length given ≡ limit + 1) × Consumes old new given)
+ReadsWhole limit old new = IsAtEnd new
+    ⊎ ((given : List ℕ) × (length given ≡ limit + 1) × Consumes old new given)

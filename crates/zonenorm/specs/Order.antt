@@ -32,7 +32,8 @@ compare_app =
 
 -- the program without its name, as `clap` sees it; it has a version to tell
 abbrev pub bare_app : App
-bare_app = let app = new_app (codes "zonenorm") in record app { top = record app.top { no_binary_name = true; has_version = true } }
+bare_app = let app = new_app (codes "zonenorm") in
+    record app { top = record app.top { no_binary_name = true; has_version = true } }
 
 -- the program with its commands
 abbrev pub program_app : App

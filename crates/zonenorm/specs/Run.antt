@@ -21,7 +21,7 @@ use Rattle.zonenorm.specs.declared.order.Order.{Order}
 use Rattle.zonenorm.specs.declared.order.Order.TheVariants.{Normalise, Explain, Compare}
 use Rattle.zonenorm.specs.declared.order.Source.{Source}
 
--- the form of an input with this origin: a master file's, none for a transfer
+-- how octets are read with this origin: as a master file's, and without one as a transfer's
 abbrev pub read_as_with : Option Labels → ReadAs
 read_as_with None = as_transfer
 read_as_with (Some origin) = as_file origin
@@ -65,12 +65,15 @@ IsLeft device = Keeps device.old device.new × device.works
 -- a line was written with this exit status; or the writer failed after a proper prefix of it, and the status is 4
 pub data TellsLine (line : List ℕ) (status : ℕ) (writer : Device) : ℕ → Type 0 where
   whole : WritesLine line writer.old writer.new → writer.works → TellsLine line status writer status
-  part : WritesPartOfLine line writer.old writer.new → writer.failed → TellsLine line status writer 4
+  part : WritesPartOfLine line writer.old writer.new → writer.failed
+      → TellsLine line status writer 4
 
 -- this is the verdict on two inputs of known octets, which were read to their ends
-pub record AreCompared (first second : Source) (input other : Device) (verdict : Verdict) : Type 0 where
+pub record AreCompared (first second : Source) (input other : Device)
+    (verdict : Verdict) : Type 0 where
   pub compared : IfSome input.old (λ octets. IfSome other.old (λ others.
-      Compares (input_of (read_as_with first.origin) octets) (input_of (read_as_with second.origin) others) verdict))
+      Compares (input_of (read_as_with first.origin) octets)
+      (input_of (read_as_with second.origin) others) verdict))
   pub whole : IsAtEnd input.new × IsAtEnd other.new
   pub work : input.works × other.works
 
@@ -78,21 +81,26 @@ pub record AreCompared (first second : Source) (input other : Device) (verdict :
 -- input, or that of the verdict on two.
 pub data CarriesOut (d : Devices) : Order → ℕ → Type 0 where
   normalised : (origin : Option Labels) (count : ℕ)
-      → IfSome d.first.old (λ octets. Normalises (input_of (read_as_with origin) octets) d.output.old d.output.new count)
+      → IfSome d.first.old
+      (λ octets.
+      Normalises (input_of (read_as_with origin) octets) d.output.old d.output.new count)
       → IsAtEnd d.first.new → d.first.works → IsLeft d.second → d.output.works
       → CarriesOut d (Normalise origin) 0
   explained : (origin : Option Labels) (status : ℕ)
       → Explains (read_as_with origin) d.first.old d.output.old d.output.new status
-      → ReadsWhole text_limit d.first.old d.first.new → d.first.works → IsLeft d.second → d.output.works
+      → ReadsWhole text_limit d.first.old d.first.new → d.first.works → IsLeft d.second
+      → d.output.works
       → CarriesOut d (Explain origin) status
-  compared : (first second : Source) (verdict : Verdict) → AreCompared first second d.first d.second verdict
+  compared : (first second : Source) (verdict : Verdict)
+      → AreCompared first second d.first d.second verdict
       → WritesLine (verdict_line verdict) d.output.old d.output.new → d.output.works
       → CarriesOut d (Compare first second) (verdict_status verdict)
 
 -- what normalising leaves where it stops
 pub record StopsNormalise (form : ReadAs) (input output : Device) (stop : Stop) : Type 0 where
   pub nothing : WritesNothing stop output.old output.new
-  pub prefix : IfSome input.old (λ octets. WritesPrefix (input_of form octets) output.old output.new)
+  pub prefix : IfSome input.old
+      (λ octets. WritesPrefix (input_of form octets) output.old output.new)
   pub fault : IfSome input.old (λ octets. IfRefused stop (IsRefusal (input_of form octets)))
   pub whole : IfRefused stop (λ fault place. ReadsWhole text_limit input.old input.new)
   pub works : TellsRead input.works input.failed stop × TellsWrite output.works output.failed stop
@@ -104,14 +112,18 @@ pub data IsStopped (d : Devices) : Order → List ℕ → Stop → Type 0 where
       → IsStopped d (Normalise origin) [] stop
   explaining : (origin : Option Labels) (stop : Stop)
       → StopsExplain (read_as_with origin) d.first.old d.output.old d.output.new stop
-      → TellsRead d.first.works d.first.failed stop → TellsWrite d.output.works d.output.failed stop → IsLeft d.second
+      → TellsRead d.first.works d.first.failed stop → TellsWrite d.output.works d.output.failed stop
+      → IsLeft d.second
       → IsStopped d (Explain origin) [] stop
   comparing : (first second : Source) (which : Which) (stop : Stop)
-      → StopsCompare (read_as_with first.origin) (read_as_with second.origin) d.first.old d.second.old d.second.new which stop
+      → StopsCompare (read_as_with first.origin)
+      (read_as_with second.origin) d.first.old d.second.old d.second.new which stop
       → ReadsWholeTo d.first.old d.first.new d.second.old d.second.new which stop
-      → TellsReadOf d.first.works d.first.failed d.second.works d.second.failed which stop → IsLeft d.output
+      → TellsReadOf d.first.works d.first.failed d.second.works d.second.failed which stop
+      → IsLeft d.output
       → IsStopped d (Compare first second) (which_words which) stop
-  telling : (first second : Source) (verdict : Verdict) → AreCompared first second d.first d.second verdict
+  telling : (first second : Source) (verdict : Verdict)
+      → AreCompared first second d.first d.second verdict
       → WritesPartOfLine (verdict_line verdict) d.output.old d.output.new → d.output.failed
       → IsStopped d (Compare first second) [] Write
 

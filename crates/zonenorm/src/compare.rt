@@ -56,8 +56,10 @@ pub fn compare<R: OctetReader, S: OctetReader>(
         (λ why. StopsCompare (read_as first_form.entry) (read_as second_form.entry)
         (R.remaining first.old) (S.remaining second.old) (S.remaining second.new) why.0 why.1) }
     ensures few { ConsumesAtMost (text_limit + 1) (R.remaining first.old) (R.remaining first.new) }
-    ensures few_of_second { ConsumesAtMost (text_limit + 1) (S.remaining second.old) (S.remaining second.new) }
-    ensures whole { OnOk result (IsAtEnd (R.remaining first.new) × IsAtEnd (S.remaining second.new)) }
+    ensures few_of_second { ConsumesAtMost (text_limit + 1) (S.remaining second.old)
+        (S.remaining second.new) }
+    ensures whole { OnOk result (IsAtEnd (R.remaining first.new)
+        × IsAtEnd (S.remaining second.new)) }
     ensures whole_refused { IfErr result (λ why. ReadsWholeTo (R.remaining first.old)
         (R.remaining first.new) (S.remaining second.old) (S.remaining second.new) why.0 why.1) }
     ensures works { OnOk result ((R.Works first.old → R.Works first.new)

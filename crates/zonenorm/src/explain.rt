@@ -107,7 +107,8 @@ pub(crate) fn refusal_line(alloc: Global, fault: &Fault, place: Place) -> Result
 
 /// The error code or the owner that the fault names. It takes no memory where there is neither.
 fn push_argument(alloc: Global, line: &mut String, fault: &Fault) -> Result<(), AllocError>
-    ensures text { OnOk result (string_bytes line.new ≡ string_bytes line.old ++ argument_of fault.now) }
+    ensures text { OnOk result (string_bytes line.new ≡ string_bytes line.old
+        ++ argument_of fault.now) }
     ensures nothing { argument_of fault.now ≡ [] → IsOk result }
 {
     match fault {
@@ -130,7 +131,8 @@ fn push_place(line: &mut String, place: Place) -> Result<(), AllocError>
 
 /// A space and the canonical spelling of the name, which is ASCII.
 fn push_owner(alloc: Global, line: &mut String, owner: &Name) -> Result<(), AllocError>
-    ensures { OnOk result (string_bytes line.new ≡ string_bytes line.old ++ 32 ∷ name_text owner.now) }
+    ensures { OnOk result (string_bytes line.new ≡ string_bytes line.old
+        ++ 32 ∷ name_text owner.now) }
 {
     owner.known();
     let mut spelling = Vec::new(alloc);

@@ -34,7 +34,8 @@ pub(crate) trait FedSource: LendingSource {
         requires fits { (held self.old).fed + length piece.now + 1 < 2 ^ 64 }
         ensures stands { OnOk result ((form : ReadAs) (octets : Octets) (given : List Placed)
             → StandsForInput IsOf Leave form (Self.pending self.old) (held self.old) octets given
-            → StandsForInput IsOf Leave form (Self.pending self.new) (held self.new) (octets ++ piece.now) given) }
+            → StandsForInput IsOf Leave form (Self.pending self.new) (held self.new) (octets
+            ++ piece.now) given) }
         ensures open { (held self.new).finished ≡ false }
         ensures fed { (held self.new).fed ≤ (held self.old).fed + length piece.now }
         ensures decided { (Self.pending self.old).failed ≡ false

@@ -1,10 +1,10 @@
--- The form of an entry as the code holds it.
+-- What an entry states, as the code holds it.
 use Rattle.std.specs.Prelude.{map}
 use Rattle.zone_rdata.specs.Item.{raw}
 use Rattle.zone_text.specs.Statements.{Statement, no_items, sets_origin, sets_ttl, includes, unknown, owned, unowned}
 use Rattle.zone_text.specs.declared.parsed as code
 use Rattle.zone_text.specs.declared.parsed.Directive.TheVariants as directives
-use Rattle.zone_text.specs.declared.parsed.ParsedEntry.TheVariants as forms
+use Rattle.zone_text.specs.declared.parsed.ParsedEntry.TheVariants as entries
 
 abbrev pub directive_in : code.Directive.Directive → Statement
 directive_in (directives.Origin items) = sets_origin (map raw items.now)
@@ -13,7 +13,7 @@ directive_in directives.Include = includes
 directive_in directives.Unknown = unknown
 
 abbrev pub statement_in : code.ParsedEntry.ParsedEntry → Statement
-statement_in forms.Blank = no_items
-statement_in (forms.Directive directive) = directive_in directive
-statement_in (forms.Owned owner items) = owned (raw owner) (map raw items.now)
-statement_in (forms.Unowned items) = unowned (map raw items.now)
+statement_in entries.Blank = no_items
+statement_in (entries.Directive directive) = directive_in directive
+statement_in (entries.Owned owner items) = owned (raw owner) (map raw items.now)
+statement_in (entries.Unowned items) = unowned (map raw items.now)

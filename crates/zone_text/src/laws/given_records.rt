@@ -21,7 +21,8 @@ pub fn an_answer_is_given()
         (given : List Placed) → new.pending ≡ after old.pending → new.held ≡ old.held
         → answer_of old.pending ≡ Ok (Some r) → StandsForFile origin old fed given
         → StandsForFile origin new fed (given ++ r ∷ []) }
-    ensures none { (origin : Labels) (old new : SourceState FileKept) (fed : List ℕ) (given : List Placed)
+    ensures none { (origin : Labels) (old new : SourceState FileKept) (fed : List ℕ)
+        (given : List Placed)
         → new.pending ≡ after old.pending → new.held ≡ old.held → answer_of old.pending ≡ Ok None
         → StandsForFile origin old fed given → StandsForFile origin new fed given }
     ensures stop { (origin : Labels) (old new : SourceState FileKept) (stop : Stop) (fed : List ℕ)

@@ -33,7 +33,8 @@ pub record Follow (t : Transfer) (unfinished : List ℕ) (fed : List ℕ)
 
 -- what a source holds: octets of the unfinished frame alone, none of them after a fault, after the
 -- end or once it has failed, and numbers that fit
-pub record IsSource (status : FedStatus) (fed : ℕ) (t : Transfer) (unfinished : List ℕ) : Type 0 where
+pub record IsSource (status : FedStatus) (fed : ℕ) (t : Transfer)
+    (unfinished : List ℕ) : Type 0 where
   pub cut : IsCut unfinished
   pub messages : is_failed status ≡ false → t.messages ≤ fed
   pub fits : fed + 1 < 2 ^ 64

@@ -41,5 +41,6 @@ Says (Err e) o = o ≡ refused e.0 e.1
 
 -- the end and the steps of a walk, and the labels that were kept, are what it finds
 abbrev pub Tells : Result (ℕ × ℕ) (Cause × ℕ) → Labels → Outcome → Type 0
-Tells (Ok r) labels o = (pointers : ℕ) × (o ≡ named (record { labels = labels; end = r.0; steps = r.1; pointers = pointers }))
+Tells (Ok r) labels o = (pointers : ℕ)
+    × (o ≡ named (record { labels = labels; end = r.0; steps = r.1; pointers = pointers }))
 Tells (Err e) labels o = o ≡ refused (fault_for e.0) e.1
