@@ -93,9 +93,6 @@ module _ {X : Type 0} where
   pub none_after : (cs : List (List X)) (i j : ℕ) → length (get_or cs i []) ≤ j → length cs ≤ i + 1 → after cs (record { chunk = i; offset = j }) ≡ []
   none_after cs i j end past = after_end cs i j end ∙ ap joined (drop_all (i + 1) cs past)
 
-  pub none_past : (cs : List (List X)) (i j : ℕ) → length cs ≤ i → after cs (record { chunk = i; offset = j }) ≡ []
-  none_past cs i j past = none_after cs i j (let none = ap length (get_or_past cs i [] past) in omega (arith, none)) (omega arith)
-
   pub before_all : (cs : List (List X)) → before cs (record { chunk = length cs; offset = 0 }) ≡ joined cs
   before_all cs = append-nil (joined (take (length cs) cs)) ∙ ap joined (take_all (length cs) cs (omega arith))
 
@@ -117,13 +114,10 @@ module _ {X : Type 0} where
       ∙ ap (λ l. before cs (record { chunk = i; offset = j }) ++ l) (sym (none_after cs i j (omega (arith, end)) (omega (arith, last))))
       ∙ whole_at cs i j (omega (arith, last))
 
-  -- what holds of each element holds of the last, and of none
+  -- what holds of each element holds of the last
   pub at_last : (P : X → Type 0) (front : List X) (x : X) (xs : List X) → xs ≡ front ++ x ∷ [] → All P xs → P x
   at_last P front x xs is all = by front (recursion_from_All P (front ++ x ∷ []) (subst (All P) is all))
     where
       by : (ys : List X) → AllByRecursion P (ys ++ x ∷ []) → P x
       by [] each = each.0
       by (y ∷ ys) each = by ys each.1
-
-  pub all_of_none : (P : X → Type 0) (xs : List X) → xs ≡ [] → All P xs
-  all_of_none P xs none = subst (All P) (sym none) (All-nil P)

@@ -123,9 +123,6 @@ module _ {class : Option ℕ} {base : List (List ℕ)} {octets : List ℕ} {es :
         counts = keeps.counts ∙ ap (λ rs. min (message_octets rs) (2 ^ 64 - 1)) (sym view);
       }
 
-  pub view_unchanged : (now : List ℕ) (fs : List Entry) → fs ≡ es → all_records r.class now fs ≡ all_records r.class octets es → all_records (class_or_none class) now fs ≡ Old
-  view_unchanged now fs is records = sym (same_records class now fs r (λ e. is ∙ keeps.none e) same) ∙ records ∙ same_records class octets es r keeps.none same
-
   module _ (one_soa : OtherSoa Old r → ⊥) (one_ttl : OtherTtl Seen r → ⊥) (whole : IsRecord r) (name : List (List ℕ)) (now : List ℕ) (fs : List Entry) (is_new : Bool) (each : AllByRecursion (IsEntry name r.class now) fs) (told : IsPut Seen r is_new (all_records r.class now fs)) where
     abbrev New : List Record
     New = all_records r.class now fs
@@ -153,7 +150,3 @@ stops_add held p refusal.OtherClass why = fault ClassMismatch why
 stops_add held p refusal.OtherSoa why = fault MultipleSoa why
 stops_add held p refusal.OtherTtl why = fault DifferingTtl why
 stops_add held p refusal.Memory why = memory
-
-pub stops_each : (held : List Record) (p : Placed) (r : Result (Unit {0}) Refusal) → IfErr r (IsRefusal held p.rr) → IfErr r (λ e. StopsAdd held p (stop_for e p.place))
-stops_each held p (Ok _) why = why
-stops_each held p (Err e) why = stops_add held p e why

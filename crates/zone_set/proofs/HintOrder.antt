@@ -153,18 +153,3 @@ module _ (base : List (List ℕ)) (r s : Record) (pr : IsName r.owner) (ps : IsN
   -- a record of a smaller hint is before the other
   pub hint_orders : hint base r.owner r.kind < hint base s.owner s.kind → canonical_cmp r s ≡ Less
   hint_orders h = by_hints (r.kind == 6) (s.kind == 6) _ _ (name_cmp r.owner s.owner) _ (owners_in_order base r.owner s.owner pr ps) h
-
--- of records in order the first has no greater hint
-pub hint_keeps_order : (base : List (List ℕ)) (r s : Record) → IsName r.owner → IsName s.owner → canonical_cmp r s ≡ Less → hint base r.owner r.kind ≤ hint base s.owner s.kind
-hint_keeps_order base r s pr ps before = by (nat_cmp m n) (ranked m n _ refl)
-  where
-    m : ℕ
-    m = hint base r.owner r.kind
-
-    n : ℕ
-    n = hint base s.owner s.kind
-
-    by : (o : Ordering) → MatchOrdering o (m < n) (m ≡ n) (n < m) → m ≤ n
-    by Less h = omega (arith, h)
-    by Equal h = omega (arith, h)
-    by Greater h = let turned : Less ≡ Greater = sym before ∙ canonical_total.antisymm r s ∙ ap ordering_reverse (hint_orders base s r ps pr h) in cc

@@ -1,19 +1,28 @@
 -- A record that is put among entries: where it is sought, what its neighbours tell, and what is held with it.
-use Rattle.std.proofs.Common.{◌≡◌, ℕ, Bool, true, false, List, [], ◌∷◌, ◌++◌, length, map, sym, ap, ◌∙◌, subst, arith}
+use Rattle.std.proofs.Common.{◌≡◌, ◌≢◌, ℕ, Bool, true, false, List, [], ◌∷◌, ◌++◌, length, map, sym, ap, ◌∙◌, subst, arith}
 use Rattle.std.proofs.lemmas.List.Elements.{All-from_recursion, recursion_from_All}
 use Rattle.std.specs.List.{All, AllByRecursion}
 use Rattle.std.specs.List.Sorted.{IsPartitionedBy}
 use Rattle.std.specs.Ordering.{is_lt}
-use Rattle.zone_rdata.specs.Record.{Record, IsRecord}
+use Rattle.zone_rdata.specs.Record.{Record, IsRecord, data_of}
 use Rattle.zone_set.proofs.Adding.{class_of}
 use Rattle.zone_set.proofs.Between.{each_before, map-append, none_before, parted, Parts}
 use Rattle.zone_set.proofs.HintOrder.{hint_orders}
 use Rattle.zone_set.proofs.Storing.{all_with, each_kept, entry_appended, record_appended, records_kept}
-use Rattle.zone_set.specs.Machine.Held.{all_records, entry_record, HoldsEntries, IsComparable, IsEntry, IsPut}
+use Rattle.zone_set.specs.Machine.Held.{all_records, entry_record, HasOtherTtl, HoldsEntries, IsComparable, IsEntry, IsPut}
 use Rattle.zone_set.specs.Machine.Hint.{hint}
 use Rattle.zone_set.specs.Machine.Stored.{stored}
 use Rattle.zone_set.specs.Order.{canonical_cmp, Ascends}
+use Rattle.zone_set.specs.Zone.{covered_octets}
 use Rattle.zone_set.specs.declared.entry.Entry.{Entry}
+
+-- an entry of another hint is of another set, and so of another record
+module _ (octets : List ℕ) (h : ℕ) (r : Record) (e : Entry) (comparable : IsComparable octets h r e) (differ : e.hint ≢ h) where
+  pub other_hint_other_set : HasOtherTtl (entry_record r.class octets e) r → ⊥
+  other_hint_other_set other = differ (comparable.one_set other.0)
+
+  pub other_hint_other_record : entry_record r.class octets e ≡ r → ⊥
+  other_hint_other_record same = differ (comparable.one_set (record { owner = ap (λ s. s.owner) same; kind = ap (λ s. s.kind) same; covers = ap (λ s. covered_octets (data_of s)) same }))
 
 module _ (base : List (List ℕ)) (octets : List ℕ) (r : Record) where
   comparable : (h : ℕ) → IsRecord r → h ≡ hint base r.owner r.kind → (e : Entry) → IsEntry base r.class octets e → IsComparable octets h r e
@@ -23,9 +32,10 @@ module _ (base : List (List ℕ)) (octets : List ℕ) (r : Record) where
         linked = entry.linked;
         before = λ lt. hint_orders base s r entry.linked.whole.owner whole.owner (omega (arith, lt, is, entry.hinted));
         after = λ lt. hint_orders base r s whole.owner entry.linked.whole.owner (omega (arith, lt, is, entry.hinted));
+        one_set = λ one. entry.hinted ∙ (λ i. hint base (one.owner i) (one.kind i)) ∙ sym is;
       }
 
-  each_comparable : (h : ℕ) → IsRecord r → h ≡ hint base r.owner r.kind → (es : List Entry) → AllByRecursion (IsEntry base r.class octets) es → AllByRecursion (IsComparable octets h r) es
+  pub each_comparable : (h : ℕ) → IsRecord r → h ≡ hint base r.owner r.kind → (es : List Entry) → AllByRecursion (IsEntry base r.class octets) es → AllByRecursion (IsComparable octets h r) es
   each_comparable h whole is [] each = tt
   each_comparable h whole is (e ∷ es) each = (comparable h whole is e each.0, each_comparable h whole is es each.1)
 

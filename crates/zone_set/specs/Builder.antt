@@ -1,7 +1,7 @@
 -- What a builder of a zone takes and refuses (RFC 1035 5.2; one TTL in a set: RFC 2181 5.2; the
 -- order of the faults is this project's choice). It holds a set of records, as its one ascending
 -- list.
-use Rattle.std.specs.Prelude.{◌≡◌, ◌≢◌, ℕ, List, [], ◌∷◌, ◌++◌, Some, None, ◌⊎◌, ◌↔◌, true, false}
+use Rattle.std.specs.Prelude.{◌≡◌, ◌≢◌, List, [], ◌∷◌, ◌++◌, Some, None, ◌⊎◌, ◌↔◌, true, false}
 use Rattle.std.specs.declared.cmp.Ordering.TheVariants.{Less}
 use Rattle.zone_name.specs.Common.{Labels}
 use Rattle.zone_name.specs.Name.{IsWithin}

@@ -1,8 +1,9 @@
 ghost use Rattle.std.specs.Prelude.{◌≡◌, ◌==◌, if◌then◌else◌};
-ghost use Rattle.std.specs.Ordering.{ordering_then};
+ghost use Rattle.std.specs.Ordering.{is_lt, ordering_then};
 ghost use Rattle.zone_name.specs.Order.{name_cmp};
 ghost use Rattle.zone_rdata.specs.Order.{data_cmp};
 ghost use Rattle.zone_rdata.specs.Record.{data_of};
+ghost use Rattle.zone_set.specs.Machine.Held.{entry_record, IsLinked};
 ghost use Rattle.zone_set.specs.Order.{canonical_cmp};
 ghost use Rattle.zone_rdata.specs.Lent.{record_of};
 
@@ -21,6 +22,27 @@ pub(crate) struct Offered<'a, 'z> {
     pub(crate) rr: &'a RrRef<'z>,
 }
 
+impl<'a, 'z> Offered<'a, 'z> {
+    /// The record of an entry.
+    pub(crate) fn held(&self, entry: Entry) -> RrRef<'a>
+        requires { IsLinked self.now.rr.now.class self.now.octets.now entry }
+        ensures { record_of result ≡ entry_record self.now.rr.now.class self.now.octets.now entry }
+    {
+        record_at(self.rr.class, self.octets, entry.at)
+    }
+
+    /// Whether the record of an entry is before this one, by their octets. Most comparisons end
+    /// with the hints, so this stands apart from the search.
+    #[inline(never)]
+    fn is_after_record(&self, entry: Entry) -> bool
+        requires { IsLinked self.now.rr.now.class self.now.octets.now entry }
+        ensures { result ≡ is_lt (canonical_cmp
+            (entry_record self.now.rr.now.class self.now.octets.now entry) (record_of self.now.rr.now)) }
+    {
+        canonical_order(&self.held(entry), self.rr).is_lt()
+    }
+}
+
 impl<'a, 'z> Sought<Entry> for Offered<'a, 'z> {
     ghost use Rattle.std.specs.Ordering.{is_lt};
     ghost use Rattle.zone_set.specs.Machine.Held.{entry_record, IsComparable};
@@ -36,8 +58,7 @@ impl<'a, 'z> Sought<Entry> for Offered<'a, 'z> {
         if entry.hint != self.hint {
             return entry.hint < self.hint;
         }
-        let held = record_at(self.rr.class, self.octets, entry.at);
-        canonical_order(&held, self.rr).is_lt()
+        self.is_after_record(*entry)
     }
 }
 

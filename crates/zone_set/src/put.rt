@@ -3,7 +3,7 @@ ghost use Rattle.std.specs.List.{AllByRecursion};
 ghost use Rattle.sorted_chunks.specs.Chunks.{joined};
 ghost use Rattle.zone_rdata.specs.Record.{data_of, IsRecord};
 ghost use Rattle.zone_set.specs.Builder.{OtherTtl};
-ghost use Rattle.zone_set.specs.Machine.Held.{all_records, entry_record, HoldsEntries, HasOtherTtl, IsEntry, IsLinked, IsPut};
+ghost use Rattle.zone_set.specs.Machine.Held.{all_records, entry_record, HoldsEntries, HasOtherTtl, IsComparable, IsEntry, IsPut};
 ghost use Rattle.zone_set.specs.Machine.Refusal.{IsSetRefusal};
 ghost use Rattle.zone_rdata.specs.Lent.{record_of};
 ghost use Rattle.zone_set.specs.Zone.{covered_octets};
@@ -12,7 +12,7 @@ use crate::entry::Entry;
 use crate::hint::hint_of;
 use crate::offered::Offered;
 use crate::refusal::Refusal;
-use crate::stored::{append, record_at};
+use crate::stored::append;
 use sorted_chunks::SortedChunks;
 use zone_name::Name;
 use zone_rdata::RrRef;
@@ -52,22 +52,22 @@ pub(crate) fn put(
         ≡ all_records rr.now.class octets.old.items (joined entries.old)) }
 {
     let hint = hint_of(base, &rr.owner, rr.kind);
-    let held = octets.as_slice();
-    let place = entries.place_of(&Offered {
-        octets: held,
+    let offered = Offered {
+        octets: octets.as_slice(),
         hint,
         rr,
-    });
+    };
+    let place = entries.place_of(&offered);
     // The records of a set stand together, so a neighbour is one of them where any is held.
     let last = entries.last_before(place).copied();
     let first = entries.first_after(place).copied();
-    if is_of_other_ttl(held, last, rr) {
+    if is_of_other_ttl(&offered, last) {
         return Err(Refusal::OtherTtl);
     }
-    if is_of_other_ttl(held, first, rr) {
+    if is_of_other_ttl(&offered, first) {
         return Err(Refusal::OtherTtl);
     }
-    if is_equal(held, first, rr) {
+    if is_equal(&offered, first) {
         return Ok(false);
     }
     let at = append(octets, rr)?;
@@ -75,26 +75,34 @@ pub(crate) fn put(
     Ok(true)
 }
 
-/// Whether there is an entry, and its record is of the same set with another TTL.
-fn is_of_other_ttl(octets: &[u8], entry: Option<Entry>, rr: &RrRef<'_>) -> bool
-    requires { IfSome entry (IsLinked rr.now.class octets.now) }
+/// Whether there is an entry, and its record is of the same set with another TTL. The octets of a
+/// record of another hint aren't looked at.
+#[tactic(auto, using(crate::proofs::Putting::other_hint_other_set))]
+fn is_of_other_ttl(offered: &Offered<'_, '_>, entry: Option<Entry>) -> bool
+    requires { IfSome entry (IsComparable offered.now.octets.now offered.now.hint
+        (record_of offered.now.rr.now)) }
     ensures { MatchOption entry (result ≡ false) (λ e. IsTrue result
-        ↔ HasOtherTtl (entry_record rr.now.class octets.now e) (record_of rr.now)) }
+        ↔ HasOtherTtl (entry_record offered.now.rr.now.class offered.now.octets.now e)
+        (record_of offered.now.rr.now)) }
 {
     match entry {
-        Some(entry) => has_other_ttl(&record_at(rr.class, octets, entry.at), rr),
+        Some(entry) => entry.hint == offered.hint
+            && has_other_ttl(&offered.held(entry), offered.rr),
         None => false,
     }
 }
 
 /// Whether there is an entry, and its record is this one.
-fn is_equal(octets: &[u8], entry: Option<Entry>, rr: &RrRef<'_>) -> bool
-    requires { IfSome entry (IsLinked rr.now.class octets.now) }
+#[tactic(auto, using(crate::proofs::Putting::other_hint_other_record))]
+fn is_equal(offered: &Offered<'_, '_>, entry: Option<Entry>) -> bool
+    requires { IfSome entry (IsComparable offered.now.octets.now offered.now.hint
+        (record_of offered.now.rr.now)) }
     ensures { MatchOption entry (result ≡ false) (λ e. IsTrue result
-        ↔ (entry_record rr.now.class octets.now e ≡ record_of rr.now)) }
+        ↔ (entry_record offered.now.rr.now.class offered.now.octets.now e
+        ≡ record_of offered.now.rr.now)) }
 {
     match entry {
-        Some(entry) => record_at(rr.class, octets, entry.at).is_same(rr),
+        Some(entry) => entry.hint == offered.hint && offered.held(entry).is_same(offered.rr),
         None => false,
     }
 }

@@ -1,4 +1,5 @@
-ghost use Rattle.std.specs.Prelude.{◌≡◌, ◌++◌, length, IfOk, OnOk, OnErr};
+ghost use Rattle.std.specs.Int.{to_be_bytes, w16, w32};
+ghost use Rattle.std.specs.Prelude.{◌≡◌, ◌++◌, ◌∷◌, length, IfOk, OnOk, OnErr};
 ghost use Rattle.zone_rdata.specs.Record.{IsRecord};
 ghost use Rattle.zone_set.specs.Machine.Stored.{record_from, stored, IsStored};
 ghost use Rattle.zone_rdata.specs.Lent.{record_of};
@@ -7,7 +8,7 @@ use std::alloc::AllocError;
 use zone_name::NameRef;
 use zone_rdata::{Class, Kind, RdataRef, RrRef};
 
-/// The octets of a record before its owner: TTL, type and the lengths of owner and data.
+/// How many octets of a record stand before its owner.
 const HEAD_LEN: usize = 9;
 
 /// Appends the octets that keep a record, and answers where they begin.
@@ -25,13 +26,22 @@ pub(crate) fn append(octets: &mut Vec<u8>, rr: &RrRef<'_>) -> Result<usize, Allo
     let at = octets.len();
     let (owner, data) = (rr.owner.wire(), rr.rdata.octets());
     octets.reserve(HEAD_LEN + owner.len() + data.len())?;
-    octets.extend_from_slice(&rr.ttl.to_be_bytes())?;
-    octets.extend_from_slice(&rr.kind.number().to_be_bytes())?;
-    octets.push(owner.len() as u8)?;
-    octets.extend_from_slice(&(data.len() as u16).to_be_bytes())?;
+    let head = head_of(rr.ttl, rr.kind, owner.len() as u8, data.len() as u16);
+    octets.extend_from_slice(&head)?;
     octets.extend_from_slice(owner)?;
     octets.extend_from_slice(data)?;
     Ok(at)
+}
+
+/// The octets of a record before its owner: TTL, type and the lengths of owner and data.
+fn head_of(ttl: u32, kind: Kind, owner_len: u8, data_len: u16) -> [u8; HEAD_LEN]
+    ensures { result ≡ to_be_bytes w32 ttl ++ (to_be_bytes w16 kind
+        ++ (owner_len ∷ to_be_bytes w16 data_len)) }
+{
+    let [t0, t1, t2, t3] = ttl.to_be_bytes();
+    let [k0, k1] = kind.number().to_be_bytes();
+    let [d0, d1] = data_len.to_be_bytes();
+    [t0, t1, t2, t3, k0, k1, owner_len, d0, d1]
 }
 
 /// The record that stands at a place.
@@ -41,26 +51,18 @@ pub(crate) fn record_at<'z>(class: Class, octets: &'z [u8], at: usize) -> RrRef<
     ensures { record_of result ≡ record_from class octets.now at }
 {
     let (_, from) = octets.split_at(at);
-    let Some((ttl, from)) = from.split_first_chunk::<4>() else {
+    let Some((head, from)) = from.split_first_chunk::<HEAD_LEN>() else {
         unreachable!();
     };
-    let Some((kind, from)) = from.split_first_chunk::<2>() else {
-        unreachable!();
-    };
-    let Some((owner_len, from)) = from.split_first() else {
-        unreachable!();
-    };
-    let Some((data_len, from)) = from.split_first_chunk::<2>() else {
-        unreachable!();
-    };
-    let (owner, from) = from.split_at(*owner_len as usize);
-    let (data, _) = from.split_at(u16::from_be_bytes(*data_len) as usize);
-    let kind = Kind::of_judged(u16::from_be_bytes(*kind));
+    let [t0, t1, t2, t3, k0, k1, owner_len, d0, d1] = *head;
+    let (owner, from) = from.split_at(owner_len as usize);
+    let (data, _) = from.split_at(u16::from_be_bytes([d0, d1]) as usize);
+    let kind = Kind::of_judged(u16::from_be_bytes([k0, k1]));
     RrRef {
         owner: NameRef::of_wire(owner),
         class,
         kind,
-        ttl: u32::from_be_bytes(*ttl),
+        ttl: u32::from_be_bytes([t0, t1, t2, t3]),
         rdata: RdataRef::of_octets(class, kind, data),
     }
 }

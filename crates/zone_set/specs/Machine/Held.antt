@@ -36,11 +36,13 @@ pub record IsEntry (base : List (List ℕ)) (class : ℕ) (octets : List ℕ) (e
   pub hinted : e.hint
       ≡ hint base (entry_record class octets e).owner (entry_record class octets e).kind
 
--- an entry that can be compared with a record of a hint: where the hints differ, they decide
+-- an entry that can be compared with a record of a hint: where the hints differ, they decide, and
+-- the records are not of one set
 pub record IsComparable (octets : List ℕ) (hint : ℕ) (r : Record) (e : Entry) : Type 0 where
   pub linked : IsLinked r.class octets e
   pub before : e.hint < hint → canonical_cmp (entry_record r.class octets e) r ≡ Less
   pub after : hint < e.hint → canonical_cmp r (entry_record r.class octets e) ≡ Less
+  pub one_set : InOneSet (entry_record r.class octets e) r → e.hint ≡ hint
 
 -- entries of records that can stand together
 pub record HoldsEntries (base : List (List ℕ)) (class : ℕ) (octets : List ℕ)

@@ -3,10 +3,10 @@ use Rattle.std.specs.List.{AllByRecursion}
 use Rattle.sorted_chunks.specs.Chunks.{after, before, joined}
 use Rattle.zone_rdata.specs.Record.{Record}
 use Rattle.zone_set.proofs.Between.{copied, equal_held, first_has, last_has, one_ttl, other_first, other_last, Ascends-between, Neighbours, Parts}
-use Rattle.zone_set.proofs.Putting.{all_comparable, each_put, parts_at, was_put}
-use Rattle.zone_set.proofs.Storing.{each_kept, each_linked, records_kept}
+use Rattle.zone_set.proofs.Putting.{all_comparable, each_comparable, each_put, parts_at, was_put}
+use Rattle.zone_set.proofs.Storing.{each_kept, records_kept}
 use Rattle.zone_set.specs.Builder.{OtherTtl}
-use Rattle.zone_set.specs.Machine.Held.{all_records, entry_record, HoldsEntries, IsEntry, IsLinked}
+use Rattle.zone_set.specs.Machine.Held.{all_records, entry_record, HoldsEntries, IsComparable, IsEntry}
 use Rattle.zone_set.specs.Machine.Stored.{stored}
 use Rattle.zone_set.specs.Order.{Ascends}
 use Rattle.zone_rdata.specs.Lent.{record_of}
@@ -18,12 +18,12 @@ use Rattle.zone_set.proofs.put.put.Goals.{After-copied-first}
 pub place_of-place-requires : goal.place_of-place-requires
 place_of-place-requires c = (
   omega arith,
-  rw c.as_slice-held.ensures.value (all_comparable c.args.base.now c.args.octets.now.items (record_of c.args.rr.now) c.hint_of-hint.result c.requires.whole c.hint_of-hint.ensures (joined c.args.entries.now) c.requires.holds.each),
+  rw c.as_slice.ensures.value (all_comparable c.args.base.now c.args.octets.now.items (record_of c.args.rr.now) c.hint_of-hint.result c.requires.whole c.hint_of-hint.ensures (joined c.args.entries.now) c.requires.holds.each),
 )
 
 -- what holds of the octets that are lent, holds of the octets
-moved : (c : After-copied-first) (P : List ℕ → Type 0) → P c.as_slice-held.result.now → P c.args.octets.now.items
-moved c P holds = subst P c.as_slice-held.ensures.value holds
+moved : (c : After-copied-first) (P : List ℕ → Type 0) → P c.as_slice.result.now → P c.args.octets.now.items
+moved c P holds = subst P c.as_slice.ensures.value holds
 
 abbrev first_part : After-copied-first → List Entry
 first_part c = before c.args.entries.now c.place_of-place.result
@@ -32,13 +32,13 @@ abbrev last_part : After-copied-first → List Entry
 last_part c = after c.args.entries.now c.place_of-place.result
 
 abbrev record_for : After-copied-first → Entry → Record
-record_for c = entry_record c.args.rr.now.class c.as_slice-held.result.now
+record_for c = entry_record c.args.rr.now.class c.as_slice.result.now
 
-holds : (c : After-copied-first) → HoldsEntries c.args.base.now c.args.rr.now.class c.as_slice-held.result.now (joined c.args.entries.now)
-holds c = rw c.as_slice-held.ensures.value c.requires.holds
+holds : (c : After-copied-first) → HoldsEntries c.args.base.now c.args.rr.now.class c.as_slice.result.now (joined c.args.entries.now)
+holds c = rw c.as_slice.ensures.value c.requires.holds
 
-parts : (c : After-copied-first) → Parts (all_records c.args.rr.now.class c.as_slice-held.result.now (joined c.args.entries.now)) (map (record_for c) (first_part c)) (map (record_for c) (last_part c)) (record_of c.args.rr.now)
-parts c = parts_at c.args.base.now c.as_slice-held.result.now (record_of c.args.rr.now) (joined c.args.entries.now) (first_part c) (last_part c) (holds c) c.place_of-place.ensures.whole c.place_of-place.ensures.before c.place_of-place.ensures.after
+parts : (c : After-copied-first) → Parts (all_records c.args.rr.now.class c.as_slice.result.now (joined c.args.entries.now)) (map (record_for c) (first_part c)) (map (record_for c) (last_part c)) (record_of c.args.rr.now)
+parts c = parts_at c.args.base.now c.as_slice.result.now (record_of c.args.rr.now) (joined c.args.entries.now) (first_part c) (last_part c) (holds c) c.place_of-place.ensures.whole c.place_of-place.ensures.before c.place_of-place.ensures.after
 
 last_is : (c : After-copied-first) → MatchOption c.copied-last.result (first_part c ≡ []) (λ e. (front : List Entry) × (first_part c ≡ front ++ e ∷ []))
 last_is c = copied (first_part c ≡ []) (λ e. (front : List Entry) × (first_part c ≡ front ++ e ∷ [])) c.last_before.result c.copied-last.result c.copied-last.ensures c.last_before.ensures
@@ -46,23 +46,23 @@ last_is c = copied (first_part c ≡ []) (λ e. (front : List Entry) × (first_p
 first_is : (c : After-copied-first) → MatchOption c.copied-first.result (last_part c ≡ []) (λ e. (rest : List Entry) × (last_part c ≡ e ∷ rest))
 first_is c = copied (last_part c ≡ []) (λ e. (rest : List Entry) × (last_part c ≡ e ∷ rest)) c.first_after.result c.copied-first.result c.copied-first.ensures c.first_after.ensures
 
-linked : (c : After-copied-first) → AllByRecursion (IsLinked c.args.rr.now.class c.as_slice-held.result.now) (first_part c ++ last_part c)
-linked c = subst (AllByRecursion (IsLinked c.args.rr.now.class c.as_slice-held.result.now)) (sym c.place_of-place.ensures.whole) (each_linked c.args.base.now c.args.rr.now.class c.as_slice-held.result.now (joined c.args.entries.now) (holds c).each)
+comparable : (c : After-copied-first) → AllByRecursion (IsComparable c.as_slice.result.now c.hint_of-hint.result (record_of c.args.rr.now)) (first_part c ++ last_part c)
+comparable c = subst (AllByRecursion (IsComparable c.as_slice.result.now c.hint_of-hint.result (record_of c.args.rr.now))) (sym c.place_of-place.ensures.whole) (each_comparable c.args.base.now c.as_slice.result.now (record_of c.args.rr.now) c.hint_of-hint.result c.requires.whole c.hint_of-hint.ensures (joined c.args.entries.now) (holds c).each)
 
 pub is_of_other_ttl-requires : goal.is_of_other_ttl-requires
 is_of_other_ttl-requires c =
     let p = (goal.at.is_of_other_ttl-requires c).After-copied-first in
-    last_has (IsLinked c.args.rr.now.class c.as_slice-held.result.now) (first_part p) (last_part p) (linked p) c.copied-last.result (last_is p)
+    last_has (IsComparable c.as_slice.result.now c.hint_of-hint.result (record_of c.args.rr.now)) (first_part p) (last_part p) (comparable p) c.copied-last.result (last_is p)
 
 pub is_of_other_ttl-requires-2 : goal.is_of_other_ttl-requires-2
 is_of_other_ttl-requires-2 c =
     let p = (goal.at.is_of_other_ttl-requires-2 c).After-copied-first in
-    first_has (IsLinked c.args.rr.now.class c.as_slice-held.result.now) (first_part p) (last_part p) (linked p) c.copied-first.result (first_is p)
+    first_has (IsComparable c.as_slice.result.now c.hint_of-hint.result (record_of c.args.rr.now)) (first_part p) (last_part p) (comparable p) c.copied-first.result (first_is p)
 
 pub is_equal-requires : goal.is_equal-requires
 is_equal-requires c =
     let p = (goal.at.is_equal-requires c).After-copied-first in
-    first_has (IsLinked c.args.rr.now.class c.as_slice-held.result.now) (first_part p) (last_part p) (linked p) c.copied-first.result (first_is p)
+    first_has (IsComparable c.as_slice.result.now c.hint_of-hint.result (record_of c.args.rr.now)) (first_part p) (last_part p) (comparable p) c.copied-first.result (first_is p)
 
 pub returns-then-is_of_other_ttl-clause-refused : goal.returns-then-is_of_other_ttl-clause-refused
 returns-then-is_of_other_ttl-clause-refused c =
