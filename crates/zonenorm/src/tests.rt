@@ -1,5 +1,7 @@
 //! What no contract says: worked examples, texts for people, and devices that fail.
 use crate::explain::explain_line;
+use crate::form::Form;
+use crate::normalise_bytes;
 use std::alloc::{AllocError, Global};
 use std::test::Fail;
 use zone_rdata::{Failing, Fault, Stop};
@@ -42,14 +44,18 @@ trait Case {
     fn is_right(&self, alloc: Global) -> Result<bool, Fail>;
 }
 
-/// The index of the first row that gets another answer.
-fn first_wrong<C: Case>(alloc: Global, cases: &[C]) -> Result<Option<usize>, Fail> {
+/// That each row gets the answer that is wanted.
+///
+/// # Errors
+///
+/// The index of the first row that gets another.
+fn check_rows<C: Case>(alloc: Global, cases: &[C]) -> Result<(), Fail> {
     for (at, case) in cases.iter().enumerate() {
         if !case.is_right(alloc)? {
-            return Ok(Some(at));
+            return Err(Fail::new(format_args!("row {at} gets another answer")));
         }
     }
-    Ok(None)
+    Ok(())
 }
 
 /// A row that has a name.
@@ -57,19 +63,40 @@ trait Named: Case {
     fn name(&self) -> &'static str;
 }
 
-/// The name of the first row that gets another answer.
-fn first_wrong_name<C: Named>(alloc: Global, cases: &[C]) -> Result<Option<&'static str>, Fail> {
+/// That each row gets the answer that is wanted.
+///
+/// # Errors
+///
+/// The name of the first row that gets another.
+fn check_named<C: Named>(alloc: Global, cases: &[C]) -> Result<(), Fail> {
     for case in cases {
         if !case.is_right(alloc)? {
-            return Ok(Some(case.name()));
+            return Err(Fail::new(format_args!("{} gets another answer", case.name())));
         }
     }
-    Ok(None)
+    Ok(())
+}
+
+/// That a test finds what is wanted.
+///
+/// # Errors
+///
+/// What was to be found.
+fn check(is_right: bool, wanted: &'static str) -> Result<(), Fail> {
+    if is_right {
+        return Ok(());
+    }
+    Err(Fail::new(format_args!("not so: {wanted}")))
 }
 
 /// The name of a fault.
 fn fault_name(alloc: Global, fault: &Fault) -> Result<String, AllocError> {
     format!(in alloc; "{fault:?}")
+}
+
+/// Whether a fault has this name.
+fn is_fault(alloc: Global, fault: &Fault, name: &str) -> Result<bool, Fail> {
+    Ok(fault_name(alloc, fault)?.as_str() == name)
 }
 
 /// An answer or its fault.
@@ -101,6 +128,14 @@ fn is_explained(alloc: Global, stop: &Stop, front: &str) -> Result<bool, Fail> {
             .strip_prefix(front)
             .is_some_and(|rest| rest.starts_with(": ")),
     )
+}
+
+/// Whether octets are refused, by a stop that is explained so.
+fn is_refused(alloc: Global, form: Form<'_>, octets: &[u8], front: &str) -> Result<bool, Fail> {
+    match normalise_bytes(alloc, form, octets).err() {
+        Some(stop) => is_explained(alloc, &stop, front),
+        None => Ok(false),
+    }
 }
 
 /// Nothing, unless a run told want of memory.

@@ -1,6 +1,6 @@
 //! Records of messages (RFC 1035 4.1.3).
-use crate::tests::notation::message_of;
-use crate::tests::{Case, fault_name, first_wrong, judged};
+use crate::tests::notation::{message_of, push_counted, push_number};
+use crate::tests::{Case, check_rows, is_fault, judged};
 use std::alloc::Global;
 use std::test::Fail;
 use zone_rdata::{Fault, Rr};
@@ -19,15 +19,27 @@ struct Answer(
 impl Answer {
     /// The message: the SOA, the answer, and the SOA again.
     fn message(&self, alloc: Global) -> Result<Vec<u8>, Fail> {
-        let mut message = message_of(alloc, "header 1 8400 1 3 0 0; QUESTION; OPENING")?;
-        message.extend_from_slice(b"\xc0\x0c")?;
-        message.extend_from_slice(&self.1.to_be_bytes())?;
-        message.extend_from_slice(&self.0.to_be_bytes())?;
-        message.extend_from_slice(&self.2.to_be_bytes())?;
-        message.extend_from_slice(&u16::try_from(self.3.len())?.to_be_bytes())?;
-        message.extend_from_slice(self.3)?;
+        let mut message = message_of(alloc, "header 1 8400 1 3 0 0; QUESTION; OPENING; @12")?;
+        self.push(&mut message)?;
         message.extend_from_slice(&message_of(alloc, "CLOSING")?)?;
         Ok(message)
+    }
+
+    /// Appends what follows the owner.
+    fn push(&self, message: &mut Vec<u8>) -> Result<(), Fail> {
+        push_number(message, self.1)?;
+        push_number(message, self.0)?;
+        message.extend_from_slice(&self.2.to_be_bytes())?;
+        push_counted(message, self.3)
+    }
+
+    /// Whether this is the record.
+    fn is(&self, rr: &Rr, ttl: u32, octets: &[u8]) -> bool {
+        rr.owner().wire() == b"\x01x\0".as_slice()
+            && rr.class().number() == self.0
+            && rr.kind().number() == self.1
+            && rr.ttl() == ttl
+            && rr.rdata().octets() == octets
     }
 }
 
@@ -46,14 +58,8 @@ fn record_of(alloc: Global, octets: &[u8]) -> Result<Result<Rr, Fault>, Fail> {
 impl Case for Answer {
     fn is_right(&self, alloc: Global) -> Result<bool, Fail> {
         match (record_of(alloc, &self.message(alloc)?)?, self.4) {
-            (Ok(rr), Ok((ttl, octets))) => Ok(
-                rr.owner().wire() == b"\x01x\0".as_slice()
-                    && rr.class().number() == self.0
-                    && rr.kind().number() == self.1
-                    && rr.ttl() == ttl
-                    && rr.rdata().octets() == octets,
-            ),
-            (Err(fault), Err(name)) => Ok(fault_name(alloc, &fault)?.as_str() == name),
+            (Ok(rr), Ok((ttl, octets))) => Ok(self.is(&rr, ttl, octets)),
+            (Err(fault), Err(name)) => is_fault(alloc, &fault, name),
             _ => Ok(false),
         }
     }
@@ -115,6 +121,5 @@ static ANSWERS: &[Answer] = &[
 
 #[test]
 fn records_of_answers(rt: HostRuntime) -> Result<(), Fail> {
-    assert_eq!(rt; first_wrong(rt.alloc(), ANSWERS)?, None);
-    Ok(())
+    check_rows(rt.alloc(), ANSWERS)
 }

@@ -1,9 +1,10 @@
 //! Readers and writers that fail, and writers that take little at a time.
-use crate::order::{LineFault, Order, order_of};
+use crate::order::Order;
 use crate::run::run;
-use crate::tests::orders::words_of;
+use crate::tests::orders::ordered;
+use crate::tests::runs::is_broken;
 use crate::tests::zones::{reading_of, taken};
-use crate::tests::{Case, first_wrong, had_memory, roomy};
+use crate::tests::{Case, check_rows, had_memory, roomy};
 use std::alloc::{AllocError, Global};
 use std::io;
 use std::io::{ErrorKind, Read, Write};
@@ -24,63 +25,52 @@ fn run_first<R: Read, W: Write>(
     errors: &mut Vec<u8>,
 ) -> Result<u8, Fail> {
     let order = Order::Normalise(Some(Name::from_text(b"x.", None)?));
-    let mut second = Breaking {
-        left: b"",
-        error: ErrorKind::Other,
-    };
+    let mut second = Supply::at_once(b"", BROKEN);
     Ok(run(alloc, &order, reader, &mut second, writer, errors))
 }
 
-/// A reader that answers an error after its octets.
+/// A reader that gives its octets, at most so many a read, and then an error, or the end of its
+/// input where it has none.
 #[derive(Drop)]
-pub(super) struct Breaking {
-    pub(super) left: &'static [u8],
-    pub(super) error: ErrorKind,
-}
-
-impl Read for Breaking {
-    fn read(&mut self, buf: &mut [u8]) -> io::Result<usize> {
-        if self.left.is_empty() {
-            return Err(io::Error::from(self.error));
-        }
-        self.left.read(buf)
-    }
-}
-
-/// A reader that gives its octets one at a time.
-#[derive(Drop)]
-pub(super) struct Sparing {
-    pub(super) left: &'static [u8],
-}
-
-impl Read for Sparing {
-    fn read(&mut self, buf: &mut [u8]) -> io::Result<usize> {
-        let (mut first, rest) = self.left.split_at(self.left.len().min(1));
-        let count = first.read(buf)?;
-        if count > 0 {
-            self.left = rest;
-        }
-        Ok(count)
-    }
-}
-
-/// A reader that gives its octets one at a time, and answers an error after them.
-#[derive(Drop)]
-pub(super) struct Ailing<'o> {
+pub(super) struct Supply<'o> {
     pub(super) left: &'o [u8],
+    pub(super) each: usize,
+    pub(super) error: Option<ErrorKind>,
 }
 
-impl Read for Ailing<'_> {
+/// The error of a reader that fails.
+pub(super) const BROKEN: Option<ErrorKind> = Some(ErrorKind::Other);
+
+impl<'o> Supply<'o> {
+    /// A reader that gives as many octets as a read takes.
+    pub(super) fn at_once(left: &'o [u8], error: Option<ErrorKind>) -> Supply<'o> {
+        Supply {
+            left,
+            each: usize::MAX,
+            error,
+        }
+    }
+
+    /// A reader that gives its octets one at a time.
+    pub(super) fn singly(left: &'o [u8], error: Option<ErrorKind>) -> Supply<'o> {
+        Supply {
+            left,
+            each: 1,
+            error,
+        }
+    }
+}
+
+impl Read for Supply<'_> {
     fn read(&mut self, buf: &mut [u8]) -> io::Result<usize> {
-        if self.left.is_empty() {
-            return Err(ErrorKind::Other.into());
+        match self.error {
+            Some(error) if self.left.is_empty() => return Err(io::Error::from(error)),
+            _ => {}
         }
-        let (mut first, rest) = self.left.split_at(1);
-        let count = first.read(buf)?;
-        if count > 0 {
-            self.left = rest;
-        }
-        Ok(count)
+        let count = self.left.len().min(self.each).min(buf.len());
+        let (mut piece, rest) = self.left.split_at(count);
+        self.left = rest;
+        piece.read(buf)
     }
 }
 
@@ -89,18 +79,12 @@ struct Broken(&'static [u8], ErrorKind);
 
 impl Case for Broken {
     fn is_right(&self, alloc: Global) -> Result<bool, Fail> {
-        let mut reader = Breaking {
-            left: self.0,
-            error: self.1,
-        };
-        let (mut written, mut errors) = (roomy(alloc)?, roomy(alloc)?);
-        let status = run_first(alloc, &mut reader, &mut written, &mut errors)?;
-        had_memory(&errors)?;
-        Ok(status == 4 && written.is_empty() && errors.as_slice() == b"read failed\n".as_slice())
+        let mut reader = Supply::at_once(self.0, Some(self.1));
+        is_broken(alloc, Some(Name::from_text(b"x.", None)?), &mut reader)
     }
 }
 
-static BROKEN: &[Broken] = &[
+static BROKEN_READERS: &[Broken] = &[
     Broken(b"$TTL 1h\n@ ", ErrorKind::Other),
     Broken(b"$TTL 1h\n@ ", ErrorKind::Interrupted),
     Broken(
@@ -114,8 +98,7 @@ static BROKEN: &[Broken] = &[
 
 #[test]
 fn a_failing_reader_is_told(rt: HostRuntime) -> Result<(), Fail> {
-    assert_eq!(rt; first_wrong(rt.alloc(), BROKEN)?, None);
-    Ok(())
+    check_rows(rt.alloc(), BROKEN_READERS)
 }
 
 /// A writer that takes `each` octets a call and `room` in all, and then answers an error or takes
@@ -173,25 +156,35 @@ impl Narrowed {
     fn is_written(&self, alloc: Global) -> Result<bool, Fail> {
         let zone = taken(alloc, reading_of(alloc, FILE)?)?;
         let mut writer = self.writer(alloc)?;
-        let is_answered = match write_zone(alloc, &zone, &mut writer) {
-            Ok(()) => self.is_whole(),
-            Err(Stop::Memory) => return Err(Fail::from("memory")),
-            Err(stop) => !self.is_whole() && matches!(stop, Stop::Write),
-        };
+        let is_answered = self.is_answer(write_zone(alloc, &zone, &mut writer))?;
         Ok(is_answered && writer.taken.as_slice() == self.3)
+    }
+
+    /// Whether `write_zone` should answer so.
+    fn is_answer(&self, answer: Result<(), Stop>) -> Result<bool, Fail> {
+        match answer {
+            Ok(()) => Ok(self.is_whole()),
+            Err(Stop::Memory) => Err(Fail::from("memory")),
+            Err(stop) => Ok(!self.is_whole() && matches!(stop, Stop::Write)),
+        }
+    }
+
+    /// The status of a run, and the line that it tells.
+    fn ending(&self) -> (u8, &'static [u8]) {
+        if self.is_whole() {
+            (0, b"")
+        } else {
+            (4, b"write failed\n")
+        }
     }
 
     /// Whether `run` answers as it should.
     fn is_run(&self, alloc: Global) -> Result<bool, Fail> {
-        let (status, line) = if self.is_whole() {
-            (0, b"".as_slice())
-        } else {
-            (4, b"write failed\n".as_slice())
-        };
         let (mut reader, mut writer, mut errors) = (FILE, self.writer(alloc)?, roomy(alloc)?);
-        let answered = run_first(alloc, &mut reader, &mut writer, &mut errors)?;
+        let status = run_first(alloc, &mut reader, &mut writer, &mut errors)?;
         had_memory(&errors)?;
-        Ok(answered == status && writer.taken.as_slice() == self.3 && errors.as_slice() == line)
+        let is_ended = (status, errors.as_slice()) == self.ending();
+        Ok(is_ended && writer.taken.as_slice() == self.3)
     }
 }
 
@@ -212,8 +205,7 @@ static NARROWED: &[Narrowed] = &[
 
 #[test]
 fn a_narrow_writer_has_a_front(rt: HostRuntime) -> Result<(), Fail> {
-    assert_eq!(rt; first_wrong(rt.alloc(), NARROWED)?, None);
-    Ok(())
+    check_rows(rt.alloc(), NARROWED)
 }
 
 /// The words of a command over inputs of the origin `x.`, what each input gives, and the status and
@@ -226,19 +218,23 @@ struct Mute(
     Option<&'static [u8]>,
 );
 
+impl Mute {
+    /// The status of a run whose other writer takes everything.
+    fn status(&self, alloc: Global, order: &Order, open: &mut Vec<u8>, mute: &mut Narrow) -> u8 {
+        let (mut first, mut second) = (self.1, self.1);
+        match self.3 {
+            Some(_) => run(alloc, order, &mut first, &mut second, mute, open),
+            None => run(alloc, order, &mut first, &mut second, open, mute),
+        }
+    }
+}
+
 impl Case for Mute {
     fn is_right(&self, alloc: Global) -> Result<bool, Fail> {
-        let order = match order_of(alloc, &words_of(alloc, self.0)?) {
-            Ok(order) => order,
-            Err(LineFault::Memory) => return Err(Fail::from("memory")),
-            Err(_) => return Err(Fail::from("no order")),
-        };
-        let (mut first, mut second) = (self.1, self.1);
-        let (mut open, mut mute) = (roomy(alloc)?, Narrow::new(alloc, usize::MAX, 0, true)?);
-        let status = match self.3 {
-            Some(_) => run(alloc, &order, &mut first, &mut second, &mut mute, &mut open),
-            None => run(alloc, &order, &mut first, &mut second, &mut open, &mut mute),
-        };
+        let order = ordered(alloc, self.0)?;
+        let mut open = roomy(alloc)?;
+        let mut mute = Narrow::new(alloc, usize::MAX, 0, true)?;
+        let status = self.status(alloc, &order, &mut open, &mut mute);
         had_memory(&open)?;
         Ok(status == self.2 && mute.taken.is_empty() && open.as_slice() == self.3.unwrap_or(b""))
     }
@@ -259,6 +255,5 @@ static MUTE: &[Mute] = &[
 
 #[test]
 fn what_cannot_be_told_fails(rt: HostRuntime) -> Result<(), Fail> {
-    assert_eq!(rt; first_wrong(rt.alloc(), MUTE)?, None);
-    Ok(())
+    check_rows(rt.alloc(), MUTE)
 }

@@ -4,7 +4,7 @@ use crate::normalise;
 use crate::tests::notation::stream_of;
 use crate::tests::roomy;
 use crate::tests::streams::STREAMS;
-use crate::tests::vectors::{Question, Vector, wrong, wrong_in};
+use crate::tests::vectors::{Question, Vector, check_files, check_table};
 use std::alloc::Global;
 use std::io;
 use std::io::{ErrorKind, Read};
@@ -65,8 +65,7 @@ impl Question for OfFailingReads {
 
 #[test]
 fn files_whose_reads_fail(rt: HostRuntime) -> Result<(), Fail> {
-    assert_eq!(rt; wrong::<OfFailingReads>(rt.alloc())?, None);
-    Ok(())
+    check_files::<OfFailingReads>(rt.alloc())
 }
 
 /// What is answered to a stream of which one read fails.
@@ -80,6 +79,5 @@ impl Question for OfFailingStreams {
 
 #[test]
 fn streams_whose_reads_fail(rt: HostRuntime) -> Result<(), Fail> {
-    assert_eq!(rt; wrong_in::<OfFailingStreams>(rt.alloc(), STREAMS)?, None);
-    Ok(())
+    check_table::<OfFailingStreams>(rt.alloc(), STREAMS)
 }

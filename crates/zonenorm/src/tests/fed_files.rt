@@ -1,8 +1,8 @@
 //! Master files that are fed in pieces, and what is decided when.
 use crate::tests::pieces::{Fed, is_right_in_two, is_right_singly};
 use crate::tests::readings::Given;
-use crate::tests::scripts::{Script, Step, wrong_script};
-use crate::tests::vectors::{Answer, Question, Vector, wrong};
+use crate::tests::scripts::{Script, Step, check_scripts};
+use crate::tests::vectors::{Answer, Question, Vector, check_files};
 use std::alloc::Global;
 use std::test::Fail;
 use zone_rdata::{Place, Reading};
@@ -32,8 +32,7 @@ impl Question for InTwo {
 
 #[test]
 fn files_in_two_pieces(rt: HostRuntime) -> Result<(), Fail> {
-    assert_eq!(rt; wrong::<InTwo>(rt.alloc())?, None);
-    Ok(())
+    check_files::<InTwo>(rt.alloc())
 }
 
 /// What a source gives that is fed the file octet by octet, and so with empty pieces between.
@@ -49,8 +48,7 @@ impl Question for Singly {
 
 #[test]
 fn files_in_single_octets(rt: HostRuntime) -> Result<(), Fail> {
-    assert_eq!(rt; wrong::<Singly>(rt.alloc())?, None);
-    Ok(())
+    check_files::<Singly>(rt.alloc())
 }
 
 static SCRIPTS: &[Script] = &[
@@ -214,6 +212,5 @@ static SCRIPTS: &[Script] = &[
 
 #[test]
 fn files_are_decided(rt: HostRuntime) -> Result<(), Fail> {
-    assert_eq!(rt; wrong_script::<TextSource>(rt.alloc(), SCRIPTS)?, None);
-    Ok(())
+    check_scripts::<TextSource>(rt.alloc(), SCRIPTS)
 }

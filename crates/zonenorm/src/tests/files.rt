@@ -1,6 +1,6 @@
 //! Master files as records, and the first fault (RFC 1035 5.1).
 use crate::tests::readings::{Given, is_read};
-use crate::tests::{Case, Named, first_wrong, first_wrong_name, is_explained};
+use crate::tests::{Case, Named, check_named, check_rows, is_explained};
 use std::alloc::Global;
 use std::test::Fail;
 use zone_name::Name;
@@ -132,9 +132,8 @@ static REFUSED: &[Refused] = &[
 
 #[test]
 fn files_as_records(rt: HostRuntime) -> Result<(), Fail> {
-    assert_eq!(rt; first_wrong(rt.alloc(), FILED)?, None);
-    assert_eq!(rt; first_wrong(rt.alloc(), REFUSED)?, None);
-    Ok(())
+    check_rows(rt.alloc(), FILED)?;
+    check_rows(rt.alloc(), REFUSED)
 }
 
 /// A file under an origin, the records before its first fault, and that fault.
@@ -186,6 +185,5 @@ static READ: &[Read] = &[
 
 #[test]
 fn files_are_read(rt: HostRuntime) -> Result<(), Fail> {
-    assert_eq!(rt; first_wrong_name(rt.alloc(), READ)?, None);
-    Ok(())
+    check_named(rt.alloc(), READ)
 }

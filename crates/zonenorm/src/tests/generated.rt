@@ -2,7 +2,7 @@
 use crate::form::Form;
 use crate::input::read_zone;
 use crate::normalise_bytes;
-use crate::tests::{Case, Named, first_wrong, first_wrong_name, is_explained};
+use crate::tests::{Case, Named, check, check_named, check_rows, is_explained, is_refused};
 use std::alloc::{AllocError, Global};
 use std::io;
 use std::io::Read;
@@ -13,14 +13,14 @@ use zone_text::TextSource;
 /// How many owners a file has.
 const OWNERS: u64 = 1000;
 
-/// Appends the line of an address whose owner is `a` with this number and what follows it.
+/// Appends the line of an address whose owner is `a` with this number and the rest.
 fn push_address(
     alloc: Global,
     file: &mut Vec<u8>,
     number: u64,
-    behind: &str,
+    rest: &str,
 ) -> Result<(), AllocError> {
-    let line = format!(in alloc; "a{number}{behind} A 10.0.0.1\n")?;
+    let line = format!(in alloc; "a{number}{rest} A 10.0.0.1\n")?;
     file.extend_from_slice(line.as_bytes())
 }
 
@@ -80,15 +80,19 @@ fn text_of(alloc: Global, file: &[u8]) -> Result<Vec<u8>, Fail> {
     Ok(normalise_bytes(alloc, Form::File(&origin), file)?)
 }
 
+/// Whether this is the text that a file under the origin `x.` has.
+fn has_text(alloc: Global, file: &[u8], text: &[u8]) -> Result<bool, Fail> {
+    Ok(text_of(alloc, file)?.as_slice() == text)
+}
+
 #[test]
 fn a_thousand_owners_are_sorted(rt: HostRuntime) -> Result<(), Fail> {
     let text = canonical(rt.alloc())?;
-    let descending = text_of(rt.alloc(), &descending(rt.alloc())?)?;
-    let ascending = text_of(rt.alloc(), &ascending(rt.alloc())?)?;
-    assert_eq!(rt; text.len(), 24923);
-    assert!(rt; descending.as_slice() == text.as_slice());
-    assert!(rt; ascending.as_slice() == text.as_slice());
-    Ok(())
+    check(text.len() == 24923, "the text has 24923 octets")?;
+    let is_sorted = has_text(rt.alloc(), &descending(rt.alloc())?, &text)?;
+    check(is_sorted, "owners from the highest down are sorted")?;
+    let is_sorted = has_text(rt.alloc(), &ascending(rt.alloc())?, &text)?;
+    check(is_sorted, "owners from the lowest up are sorted")
 }
 
 /// The SOA and lines of addresses from 10.0.0.0 on, so many lines of so many addresses, each a step after the one before.
@@ -111,7 +115,7 @@ impl Case for ManyData {
         // 1009 is a prime, so each address stands there.
         let drawn = addresses(alloc, self.0, self.0.wrapping_add(self.0 / 3), 1009)?;
         let text = addresses(alloc, self.0, self.0, 1)?;
-        Ok(text_of(alloc, &drawn)?.as_slice() == text.as_slice())
+        has_text(alloc, &drawn, &text)
     }
 }
 
@@ -126,19 +130,19 @@ static MANY_DATA: &[ManyData] = &[
 
 #[test]
 fn sets_of_many_data_are_sorted(rt: HostRuntime) -> Result<(), Fail> {
-    assert_eq!(rt; first_wrong(rt.alloc(), MANY_DATA)?, None);
-    Ok(())
+    check_rows(rt.alloc(), MANY_DATA)
 }
 
 #[test]
 fn a_million_open_parentheses(rt: HostRuntime) -> Result<(), Fail> {
     let mut file = Vec::new(rt.alloc());
     file.resize(1_000_000, b'(')?;
-    let origin = Name::from_text(b"x.", None)?;
-    let answered = normalise_bytes(rt.alloc(), Form::File(&origin), &file);
-    let stop = answered.err().ok_or("accepted")?;
-    assert!(rt; is_explained(rt.alloc(), &stop, "F15 UnbalancedParenthesis at line 1")?);
-    Ok(())
+    let root = Name::root();
+    let front = "F15 UnbalancedParenthesis at line 1";
+    check(
+        is_refused(rt.alloc(), Form::File(&root), &file, front)?,
+        front,
+    )
 }
 
 /// A reader that gives its octets and then line feeds without an end.
@@ -169,18 +173,24 @@ struct Unending {
     limit: u64,
 }
 
+/// Whether a file under the origin `x.` is refused as too long, where it may have so many octets,
+/// which are at most 100,000.
+fn is_too_long(alloc: Global, reader: &mut Endless, limit: u64) -> Result<bool, Fail> {
+    let mut source = TextSource::new(alloc, &Name::from_text(b"x.", None)?);
+    match read_zone(alloc, &mut source, reader, limit.min(100_000)).err() {
+        Some(stop) => is_explained(alloc, &stop, "F45 InputTooLong in the input"),
+        None => Ok(false),
+    }
+}
+
 impl Case for Unending {
     fn is_right(&self, alloc: Global) -> Result<bool, Fail> {
         let mut reader = Endless {
             left: self.front,
             given: 0,
         };
-        let mut source = TextSource::new(alloc, &Name::from_text(b"x.", None)?);
-        let limit = self.limit.min(100_000);
-        let answered = read_zone(alloc, &mut source, &mut reader, limit);
-        let stop = answered.err().ok_or("accepted")?;
-        let is_so = is_explained(alloc, &stop, "F45 InputTooLong in the input")?;
-        Ok(is_so && reader.given == limit.wrapping_add(1))
+        let is_refused = is_too_long(alloc, &mut reader, self.limit)?;
+        Ok(is_refused && reader.given == self.limit.wrapping_add(1))
     }
 }
 
@@ -215,6 +225,5 @@ static UNENDING: &[Unending] = &[
 
 #[test]
 fn endless_inputs_are_too_long(rt: HostRuntime) -> Result<(), Fail> {
-    assert_eq!(rt; first_wrong_name(rt.alloc(), UNENDING)?, None);
-    Ok(())
+    check_named(rt.alloc(), UNENDING)
 }

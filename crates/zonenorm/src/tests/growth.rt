@@ -1,5 +1,6 @@
 //! Where `rt try --test --fail-alloc N` refuses a growth, that call appends nothing and the next
 //! one goes on.
+use crate::tests::check;
 use crate::tests::items::data_of;
 use crate::tests::names::named;
 use std::alloc::{AllocError, Global};
@@ -44,22 +45,39 @@ fn is_whole_or_nothing(alloc: Global, printed: &Printed, text: &[u8]) -> bool {
 #[test]
 fn a_refused_name_appends_nothing(rt: HostRuntime) -> Result<(), Fail> {
     let name = Printed::Name(named(b"a\\046b", b"x.")?);
-    assert!(rt; is_whole_or_nothing(rt.alloc(), &name, b"a\\.b.x."));
-    Ok(())
+    check(
+        is_whole_or_nothing(rt.alloc(), &name, b"a\\.b.x."),
+        "a refused name appends nothing",
+    )
 }
 
 #[test]
 fn a_refused_word_appends_nothing(rt: HostRuntime) -> Result<(), Fail> {
     let class = Printed::Class(Class::from_number(32)?);
-    assert!(rt; is_whole_or_nothing(rt.alloc(), &class, b"CLASS32"));
-    Ok(())
+    check(
+        is_whole_or_nothing(rt.alloc(), &class, b"CLASS32"),
+        "a refused word appends nothing",
+    )
 }
 
 #[test]
 fn a_refused_text_appends_nothing(rt: HostRuntime) -> Result<(), Fail> {
     let service = Printed::Data(data_of(rt.alloc(), "x.", "IN SRV 0 5 5060 h.")??);
-    assert!(rt; is_whole_or_nothing(rt.alloc(), &service, b"0 5 5060 h."));
-    Ok(())
+    check(
+        is_whole_or_nothing(rt.alloc(), &service, b"0 5 5060 h."),
+        "a refused text appends nothing",
+    )
+}
+
+/// Pushes a string of eight octets four times, and counts the octets that are pushed.
+fn push_four(builder: &mut RdataBuilder) -> usize {
+    let mut pushed: usize = 0;
+    for _ in 0..4 {
+        if builder.push_string(b"abcdefgh").is_ok() {
+            pushed = pushed.wrapping_add(9);
+        }
+    }
+    pushed
 }
 
 #[test]
@@ -67,13 +85,10 @@ fn a_refused_part_is_not_pushed(rt: HostRuntime) -> Result<(), Fail> {
     let framed: &[u8] = b"\x08abcdefgh\x08abcdefgh\x08abcdefgh\x08abcdefgh";
     let (class, kind) = (Class::from_number(1)?, Kind::from_number(16)?);
     let mut builder = RdataBuilder::new(rt.alloc(), class, kind);
-    let mut pushed: usize = 0;
-    for _ in 0..4 {
-        if builder.push_string(b"abcdefgh").is_ok() {
-            pushed = pushed.wrapping_add(9);
-        }
-    }
+    let pushed = push_four(&mut builder);
     let strings = builder.finish()?;
-    assert_eq!(rt; framed.get(..pushed), Some(strings.octets()));
-    Ok(())
+    check(
+        framed.get(..pushed) == Some(strings.octets()),
+        "the strings are those that were pushed",
+    )
 }

@@ -1,11 +1,11 @@
 //! Record data: from a line of words to its text, its octets and its order (RFC 1035 3.3, RFC 3597,
 //! RFC 4034 6.3).
-use crate::tests::{Case, fault_name, first_wrong, judged};
+use crate::tests::{Case, check_rows, is_fault, judged};
 use std::alloc::Global;
 use std::cmp::Ordering;
 use std::test::Fail;
 use zone_name::Name;
-use zone_rdata::{Class, Fault, Item, Kind, Rdata};
+use zone_rdata::{Class, Failing, Fault, Item, Kind, Rdata};
 
 /// What data is made of.
 #[derive(Drop)]
@@ -29,17 +29,14 @@ fn item_of(word: &str) -> Item<'_> {
 /// Class, type and items of a line, in which each blank ends a word.
 fn words_of(alloc: Global, line: &str) -> Result<Words<'_>, Fail> {
     let mut words = line.split(' ');
-    let class = words.next().ok_or("no class")?;
-    let kind = words.next().ok_or("no type")?;
+    let class = words.next().unwrap_or("");
+    let class = Class::from_word(class.as_bytes())?.ok_or("no class")?;
+    let kind = Kind::from_word(words.next().unwrap_or("").as_bytes())?;
     let mut items = Vec::new(alloc);
     for word in words {
         items.push(item_of(word))?;
     }
-    Ok(Words {
-        class: Class::from_word(class.as_bytes())?.ok_or("no class")?,
-        kind: Kind::from_word(kind.as_bytes())?,
-        items,
-    })
+    Ok(Words { class, kind, items })
 }
 
 /// The data that a line states under an origin.
@@ -51,6 +48,16 @@ pub(super) fn data_of(
     let origin = Name::from_text(origin.as_bytes(), None)?;
     let Words { class, kind, items } = words_of(alloc, line)?;
     judged(Rdata::from_items(alloc, class, kind, &items, &origin))
+}
+
+/// The data that a line states under an origin, read into a buffer that was used before.
+fn data_in_buffer(alloc: Global, origin: &str, line: &str) -> Result<Result<Rdata, Fault>, Fail> {
+    let origin = Name::from_text(origin.as_bytes(), None)?;
+    let Words { class, kind, items } = words_of(alloc, line)?;
+    let mut buffer = Vec::new(alloc);
+    buffer.extend_from_slice(b"octets of before")?;
+    let read = Rdata::read_items(buffer, class, kind, &items, &origin);
+    judged(read.map_err(Failing::from))
 }
 
 /// The canonical text of data.
@@ -70,7 +77,7 @@ impl Case for Stated {
     fn is_right(&self, alloc: Global) -> Result<bool, Fail> {
         match (data_of(alloc, "x.", self.0)?, self.1) {
             (Ok(data), Ok(text)) => Ok(text_of(alloc, &data)?.as_slice() == text.as_bytes()),
-            (Err(fault), Err(name)) => Ok(fault_name(alloc, &fault)?.as_str() == name),
+            (Err(fault), Err(name)) => is_fault(alloc, &fault, name),
             _ => Ok(false),
         }
     }
@@ -169,11 +176,10 @@ static BAD_GENERIC: &[Stated] = &[
 
 #[test]
 fn data_of_lines(rt: HostRuntime) -> Result<(), Fail> {
-    assert_eq!(rt; first_wrong(rt.alloc(), WORDS)?, None);
-    assert_eq!(rt; first_wrong(rt.alloc(), GENERIC)?, None);
-    assert_eq!(rt; first_wrong(rt.alloc(), BAD_WORDS)?, None);
-    assert_eq!(rt; first_wrong(rt.alloc(), BAD_GENERIC)?, None);
-    Ok(())
+    check_rows(rt.alloc(), WORDS)?;
+    check_rows(rt.alloc(), GENERIC)?;
+    check_rows(rt.alloc(), BAD_WORDS)?;
+    check_rows(rt.alloc(), BAD_GENERIC)
 }
 
 /// A line of class IN, and the text, octets and MINIMUM of the data that it states under an origin.
@@ -185,16 +191,24 @@ struct Held {
     minimum: Option<u32>,
 }
 
-impl Case for Held {
-    fn is_right(&self, alloc: Global) -> Result<bool, Fail> {
-        let data = data_of(alloc, self.origin, self.line)??;
+impl Held {
+    /// Whether this is the data.
+    fn is(&self, alloc: Global, data: &Rdata) -> Result<bool, Fail> {
         Ok(
-            text_of(alloc, &data)?.as_slice() == self.text.as_bytes()
+            text_of(alloc, data)?.as_slice() == self.text.as_bytes()
                 && data.octets() == self.octets
                 && data.soa_minimum() == self.minimum
                 && data.kind().is_soa() == self.minimum.is_some()
                 && data.class().number() == 1,
         )
+    }
+}
+
+impl Case for Held {
+    fn is_right(&self, alloc: Global) -> Result<bool, Fail> {
+        let data = data_of(alloc, self.origin, self.line)??;
+        let read = data_in_buffer(alloc, self.origin, self.line)??;
+        Ok(self.is(alloc, &data)? && self.is(alloc, &read)?)
     }
 }
 
@@ -238,8 +252,7 @@ static HELD: &[Held] = &[
 
 #[test]
 fn data_as_it_is_held(rt: HostRuntime) -> Result<(), Fail> {
-    assert_eq!(rt; first_wrong(rt.alloc(), HELD)?, None);
-    Ok(())
+    check_rows(rt.alloc(), HELD)
 }
 
 /// The order of the data of two lines.
@@ -275,6 +288,5 @@ static COMPARED: &[Compared] = &[
 
 #[test]
 fn data_in_order(rt: HostRuntime) -> Result<(), Fail> {
-    assert_eq!(rt; first_wrong(rt.alloc(), COMPARED)?, None);
-    Ok(())
+    check_rows(rt.alloc(), COMPARED)
 }

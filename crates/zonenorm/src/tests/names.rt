@@ -1,5 +1,5 @@
 //! Names: read from text, built, compared and printed (RFC 1035, RFC 4034, RFC 4343).
-use crate::tests::{Case, first_wrong};
+use crate::tests::{Case, check, check_rows};
 use std::alloc::Global;
 use std::cmp::Ordering;
 use std::test::Fail;
@@ -12,6 +12,15 @@ pub(super) fn named(text: &[u8], origin: &[u8]) -> Result<Name, NameFault> {
     }
     let origin = Name::from_text(origin, None)?;
     Name::from_text(text, Some(&origin))
+}
+
+/// Sets a name to that of a text under an origin; an empty origin is none.
+fn set(name: &mut Name, text: &[u8], origin: &[u8]) -> Result<(), NameFault> {
+    if origin.is_empty() {
+        return name.set_from_text(text, None);
+    }
+    let origin = Name::from_text(origin, None)?;
+    name.set_from_text(text, Some(&origin))
 }
 
 /// A name of 255 octets, the most that a name has.
@@ -30,21 +39,35 @@ struct Spelled {
     spelling: &'static [u8],
 }
 
+impl Spelled {
+    /// Whether another name becomes this one.
+    fn is_set(&self) -> Result<bool, Fail> {
+        let mut name = Name::from_text(b"another.name.", None)?;
+        set(&mut name, self.text, self.origin)?;
+        Ok(name.wire() == self.octets)
+    }
+
+    /// Whether the name is lent from the front of its octets and printed as it is spelled.
+    fn is_lent(&self, alloc: Global, name: &Name) -> Result<bool, Fail> {
+        let (lent, rest) = NameRef::split_front(name.wire());
+        let mut spelling = Vec::new(alloc);
+        lent.print(&mut spelling)?;
+        let is_spelled = spelling.as_slice() == self.spelling;
+        Ok(is_spelled && rest.is_empty() && lent.wire() == self.octets)
+    }
+}
+
 impl Case for Spelled {
     fn is_right(&self, alloc: Global) -> Result<bool, Fail> {
         let name = named(self.text, self.origin)?;
         let mut spelling = Vec::new(alloc);
         name.push_text(&mut spelling)?;
-        let mut lent_spelling = Vec::new(alloc);
-        let (lent, behind) = NameRef::split_front(name.wire());
-        lent.print(&mut lent_spelling)?;
         Ok(
             name.wire() == self.octets
                 && name.copy().wire() == self.octets
                 && spelling.as_slice() == self.spelling
-                && behind.is_empty()
-                && lent.wire() == self.octets
-                && lent_spelling.as_slice() == self.spelling,
+                && self.is_set()?
+                && self.is_lent(alloc, &name)?,
         )
     }
 }
@@ -111,7 +134,10 @@ struct Unspelled(&'static [u8], &'static [u8], NameFault);
 
 impl Case for Unspelled {
     fn is_right(&self, _alloc: Global) -> Result<bool, Fail> {
-        Ok(named(self.0, self.1).err() == Some(self.2))
+        let mut name = Name::from_text(b"another.name.", None)?;
+        let refusal = set(&mut name, self.0, self.1).err();
+        let is_refused = named(self.0, self.1).err() == Some(self.2);
+        Ok(is_refused && refusal == Some(self.2) && name == Name::root())
     }
 }
 
@@ -157,9 +183,8 @@ static UNSPELLED: &[Unspelled] = &[
 
 #[test]
 fn texts_of_names(rt: HostRuntime) -> Result<(), Fail> {
-    assert_eq!(rt; first_wrong(rt.alloc(), SPELLED)?, None);
-    assert_eq!(rt; first_wrong(rt.alloc(), UNSPELLED)?, None);
-    Ok(())
+    check_rows(rt.alloc(), SPELLED)?;
+    check_rows(rt.alloc(), UNSPELLED)
 }
 
 /// What follows a backslash, the octet that its escape stands for, and what follows the escape (RFC
@@ -195,11 +220,37 @@ static WITHIN: &[Within] = &[
     Within(b".", b"x.", false),
 ];
 
+/// Two names, and whether they are the same (RFC 4343).
+struct Same(&'static [u8], &'static [u8], bool);
+
+impl Case for Same {
+    fn is_right(&self, _alloc: Global) -> Result<bool, Fail> {
+        let name = named(self.0, b"")?;
+        let other = named(self.1, b"")?;
+        let (name, _) = NameRef::split_front(name.wire());
+        let (other, _) = NameRef::split_front(other.wire());
+        Ok(name.is_same(&other) == self.2)
+    }
+}
+
+static SAME: &[Same] = &[
+    Same(b"Example.", b"eXAMPLE.", true),
+    Same(b"\\097.example.", b"A.Example.", true),
+    Same(b".", b".", true),
+    Same(b"example.", b".", false),
+    Same(b"a.example.", b"b.example.", false),
+    Same(b"a.b.example.", b"a\\.b.example.", false),
+];
+
 #[test]
 fn escapes_and_names_within(rt: HostRuntime) -> Result<(), Fail> {
-    assert_eq!(rt; first_wrong(rt.alloc(), ESCAPED)?, None);
-    assert_eq!(rt; first_wrong(rt.alloc(), WITHIN)?, None);
-    Ok(())
+    check_rows(rt.alloc(), ESCAPED)?;
+    check_rows(rt.alloc(), WITHIN)
+}
+
+#[test]
+fn names_are_the_same(rt: HostRuntime) -> Result<(), Fail> {
+    check_rows(rt.alloc(), SAME)
 }
 
 /// The example of RFC 4034 6.1, in order.
@@ -230,7 +281,10 @@ fn is_at(name: &Name, at: usize) -> Result<bool, Fail> {
 #[test]
 fn names_are_ordered(rt: HostRuntime) -> Result<(), Fail> {
     for (at, text) in ORDERED.iter().enumerate() {
-        assert!(rt; is_at(&named(text, b"")?, at)?, "at {at}");
+        check(
+            is_at(&named(text, b"")?, at)?,
+            "the order is that of RFC 4034 6.1",
+        )?;
     }
     Ok(())
 }
@@ -302,9 +356,11 @@ static BUILT: &[Built] = &[
 
 #[test]
 fn names_are_built(rt: HostRuntime) -> Result<(), Fail> {
-    assert_eq!(rt; first_wrong(rt.alloc(), BUILT)?, None);
-    assert_eq!(rt; Name::root().wire(), b"\x00".as_slice());
-    Ok(())
+    check_rows(rt.alloc(), BUILT)?;
+    check(
+        Name::root().wire() == b"\x00".as_slice(),
+        "the root is one octet 0",
+    )
 }
 
 /// A fault, and how it is shown.
@@ -327,8 +383,7 @@ static SHOWN: &[Shown] = &[
 
 #[test]
 fn faults_of_names_are_shown(rt: HostRuntime) -> Result<(), Fail> {
-    assert_eq!(rt; first_wrong(rt.alloc(), SHOWN)?, None);
-    Ok(())
+    check_rows(rt.alloc(), SHOWN)
 }
 
 #[test]

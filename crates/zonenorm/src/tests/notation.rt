@@ -28,23 +28,29 @@ fn spelled(part: &'static str) -> &'static str {
     part
 }
 
+/// Types and classes that have a word.
+static CODES: &[(&str, u16)] = &[
+    ("A", 1),
+    ("IN", 1),
+    ("NS", 2),
+    ("CH", 3),
+    ("SOA", 6),
+    ("TXT", 16),
+    ("SRV", 33),
+    ("NAPTR", 35),
+    ("OPT", 41),
+    ("AXFR", 252),
+];
+
 /// The number of a type or class.
 fn code_of(word: &str) -> Result<u16, Fail> {
-    match word {
-        "A" | "IN" => Ok(1),
-        "NS" => Ok(2),
-        "CH" => Ok(3),
-        "SOA" => Ok(6),
-        "TXT" => Ok(16),
-        "SRV" => Ok(33),
-        "NAPTR" => Ok(35),
-        "OPT" => Ok(41),
-        "AXFR" => Ok(252),
-        _ => {
-            let digits = word.trim_start_matches("CLASS").trim_start_matches("TYPE");
-            Ok(digits.parse::<u16>()?)
+    for (name, code) in CODES {
+        if word == *name {
+            return Ok(*code);
         }
     }
+    let digits = word.trim_start_matches("CLASS").trim_start_matches("TYPE");
+    Ok(digits.parse::<u16>()?)
 }
 
 /// The value of a hexadecimal digit.
@@ -76,30 +82,41 @@ fn push_octets(out: &mut Vec<u8>, digits: &str) -> Result<(), Fail> {
     Ok(())
 }
 
+/// Appends a number of 16 bits.
+pub(super) fn push_number(out: &mut Vec<u8>, number: u16) -> Result<(), Fail> {
+    Ok(out.extend_from_slice(&number.to_be_bytes())?)
+}
+
 /// Appends octets after their number.
-fn push_counted(out: &mut Vec<u8>, octets: &[u8]) -> Result<(), Fail> {
-    out.extend_from_slice(&u16::try_from(octets.len())?.to_be_bytes())?;
-    out.extend_from_slice(octets)?;
+pub(super) fn push_counted(out: &mut Vec<u8>, octets: &[u8]) -> Result<(), Fail> {
+    push_number(out, u16::try_from(octets.len())?)?;
+    Ok(out.extend_from_slice(octets)?)
+}
+
+/// Appends a label after its length.
+fn push_label(out: &mut Vec<u8>, label: &str) -> Result<(), Fail> {
+    out.push(u8::try_from(label.len())?)?;
+    Ok(out.extend_from_slice(label.as_bytes())?)
+}
+
+/// Appends the labels of a name, without its end.
+fn push_labels(out: &mut Vec<u8>, labels: &str) -> Result<(), Fail> {
+    for label in labels.split('.') {
+        if !label.is_empty() {
+            push_label(out, label)?;
+        }
+    }
     Ok(())
 }
 
 /// Appends a name: its labels, and then the root or a pointer.
 fn push_name(out: &mut Vec<u8>, name: &str) -> Result<(), Fail> {
-    let (labels, target) = match name.split_once('@') {
-        Some((labels, offset)) => (labels, Some(offset.parse::<u16>()?)),
-        None => (name, None),
+    let Some((labels, offset)) = name.split_once('@') else {
+        push_labels(out, name)?;
+        return Ok(out.push(0)?);
     };
-    for label in labels.split('.') {
-        if !label.is_empty() {
-            out.push(u8::try_from(label.len())?)?;
-            out.extend_from_slice(label.as_bytes())?;
-        }
-    }
-    match target {
-        Some(offset) => out.extend_from_slice(&(0xc000 | offset).to_be_bytes())?,
-        None => out.push(0)?,
-    }
-    Ok(())
+    push_labels(out, labels)?;
+    push_number(out, 0xc000 | offset.parse::<u16>()?)
 }
 
 /// Appends a field: octets, a name, or a number of 16 or of 32 bits.
@@ -111,7 +128,7 @@ fn push_field(out: &mut Vec<u8>, word: &str, is_wide: bool) -> Result<(), Fail> 
     } else if is_wide {
         Ok(out.extend_from_slice(&word.parse::<u32>()?.to_be_bytes())?)
     } else {
-        Ok(out.extend_from_slice(&word.parse::<u16>()?.to_be_bytes())?)
+        push_number(out, word.parse::<u16>()?)
     }
 }
 
@@ -120,21 +137,26 @@ fn push_question(message: &mut Vec<u8>, words: &str) -> Result<(), Fail> {
     let (name, codes) = words.split_once(' ').ok_or("no type")?;
     push_field(message, name, false)?;
     for word in codes.split(' ') {
-        message.extend_from_slice(&code_of(word)?.to_be_bytes())?;
+        push_number(message, code_of(word)?)?;
     }
     Ok(())
 }
 
-/// Appends a record.
+/// Appends type, class and TTL.
+fn push_front(message: &mut Vec<u8>, kind: &str, class: &str, ttl: &str) -> Result<(), Fail> {
+    push_number(message, code_of(kind)?)?;
+    push_number(message, code_of(class)?)?;
+    push_field(message, ttl, true)
+}
+
+/// Appends a record. A word that is missing is empty, which is no name and no number.
 fn push_record(alloc: Global, message: &mut Vec<u8>, words: &str) -> Result<(), Fail> {
     let mut words = words.split(' ');
-    push_field(message, words.next().ok_or("no owner")?, false)?;
-    let ttl = words.next().ok_or("no TTL")?;
-    let class = code_of(words.next().ok_or("no class")?)?;
-    let kind = words.next().ok_or("no type")?;
-    message.extend_from_slice(&code_of(kind)?.to_be_bytes())?;
-    message.extend_from_slice(&class.to_be_bytes())?;
-    push_field(message, ttl, true)?;
+    push_field(message, words.next().unwrap_or(""), false)?;
+    let ttl = words.next().unwrap_or("");
+    let class = words.next().unwrap_or("");
+    let kind = words.next().unwrap_or("");
+    push_front(message, kind, class, ttl)?;
     let mut data = Vec::new(alloc);
     for word in words {
         push_field(&mut data, word, kind == "SOA")?;
@@ -142,15 +164,18 @@ fn push_record(alloc: Global, message: &mut Vec<u8>, words: &str) -> Result<(), 
     push_counted(message, &data)
 }
 
+/// Appends the fields of a header.
+fn push_header(message: &mut Vec<u8>, fields: &str) -> Result<(), Fail> {
+    for field in fields.split(' ') {
+        push_number(message, number_of(field)?)?;
+    }
+    Ok(())
+}
+
 /// Appends a part of a message.
 fn push_part(alloc: Global, message: &mut Vec<u8>, part: &str) -> Result<(), Fail> {
     match part.split_once(' ') {
-        Some(("header", fields)) => {
-            for field in fields.split(' ') {
-                message.extend_from_slice(&number_of(field)?.to_be_bytes())?;
-            }
-            Ok(())
-        }
+        Some(("header", fields)) => push_header(message, fields),
         Some(("question", words)) => push_question(message, words),
         Some(_) => push_record(alloc, message, part),
         None => push_field(message, part, false),
@@ -166,14 +191,19 @@ pub(super) fn message_of(alloc: Global, line: &'static str) -> Result<Vec<u8>, F
     Ok(message)
 }
 
-/// The octets of a stream. A line that begins with `#` is octets outside any message.
+/// Appends a line of a stream. One that begins with `#` is octets outside any message.
+fn push_line(alloc: Global, stream: &mut Vec<u8>, line: &'static str) -> Result<(), Fail> {
+    match line.strip_prefix('#') {
+        Some(digits) => push_octets(stream, digits),
+        None => push_counted(stream, &message_of(alloc, line)?),
+    }
+}
+
+/// The octets of a stream.
 pub(super) fn stream_of(alloc: Global, lines: &'static str) -> Result<Vec<u8>, Fail> {
     let mut stream = Vec::new(alloc);
     for line in lines.lines() {
-        match line.strip_prefix('#') {
-            Some(digits) => push_octets(&mut stream, digits)?,
-            None => push_counted(&mut stream, &message_of(alloc, line)?)?,
-        }
+        push_line(alloc, &mut stream, line)?;
     }
     Ok(stream)
 }

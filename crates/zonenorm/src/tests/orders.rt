@@ -1,6 +1,6 @@
 //! Command lines.
 use crate::order::{LineFault, Order, order_of};
-use crate::tests::{Case, first_wrong};
+use crate::tests::{Case, check_rows};
 use std::alloc::{AllocError, Global};
 use std::test::Fail;
 use zone_name::Name;
@@ -22,12 +22,21 @@ enum Given {
 /// The words after the program's name, and what they give.
 struct Line(&'static [&'static str], Given);
 
-pub(super) fn words_of(alloc: Global, words: &[&str]) -> Result<Vec<String>, AllocError> {
+fn words_of(alloc: Global, words: &[&str]) -> Result<Vec<String>, AllocError> {
     let mut all = Vec::new(alloc);
     for word in words {
         all.push(String::from_str(alloc, word)?)?;
     }
     Ok(all)
+}
+
+/// The order that words give.
+pub(super) fn ordered(alloc: Global, words: &[&str]) -> Result<Order, Fail> {
+    match order_of(alloc, &words_of(alloc, words)?) {
+        Ok(order) => Ok(order),
+        Err(LineFault::Memory) => Err(Fail::from("memory")),
+        Err(_) => Err(Fail::from("no order")),
+    }
 }
 
 /// Whether a fault is the wanted one, with its status and text.
@@ -119,6 +128,5 @@ static LINES: &[Line] = &[
 
 #[test]
 fn command_lines(rt: HostRuntime) -> Result<(), Fail> {
-    assert_eq!(rt; first_wrong(rt.alloc(), LINES)?, None);
-    Ok(())
+    check_rows(rt.alloc(), LINES)
 }

@@ -1,7 +1,7 @@
 //! Whole messages, and the records of their answers (RFC 1035 4.1).
 use crate::tests::notation::message_of;
 use crate::tests::readings::line_of;
-use crate::tests::{Case, Named, fault_name, first_wrong_name, judged};
+use crate::tests::{Case, Named, check_named, is_fault, judged};
 use std::alloc::Global;
 use std::test::Fail;
 use zone_rdata::{Failing, Rr};
@@ -58,9 +58,9 @@ impl Case for Parsed {
             &self.answer,
         ) {
             (Ok(message), Ok(whole)) => Ok(whole.is(&message)),
-            (Err((fault, at)), Err((name, offset))) => {
-                Ok(at == *offset && fault_name(alloc, &fault)?.as_str() == *name)
-            }
+            (Err((fault, at)), Err((name, offset))) => Ok(
+                at == *offset && is_fault(alloc, &fault, name)?,
+            ),
             _ => Ok(false),
         }
     }
@@ -120,8 +120,7 @@ static PARSED: &[Parsed] = &[
 
 #[test]
 fn messages_are_parsed(rt: HostRuntime) -> Result<(), Fail> {
-    assert_eq!(rt; first_wrong_name(rt.alloc(), PARSED)?, None);
-    Ok(())
+    check_named(rt.alloc(), PARSED)
 }
 
 /// A message in notation, the offset of an answer, and the canonical line and the data of its record, or its
@@ -140,7 +139,7 @@ impl Stated {
             (Ok(rr), Ok((line, octets))) => Ok(
                 line_of(alloc, &rr)?.as_slice() == line && rr.rdata().octets() == octets,
             ),
-            (Err(fault), Err(name)) => Ok(fault_name(alloc, &fault)?.as_str() == name),
+            (Err(fault), Err(name)) => is_fault(alloc, &fault, name),
             _ => Ok(false),
         }
     }
@@ -214,6 +213,5 @@ static STATED: &[Stated] = &[
 
 #[test]
 fn answers_state_records(rt: HostRuntime) -> Result<(), Fail> {
-    assert_eq!(rt; first_wrong_name(rt.alloc(), STATED)?, None);
-    Ok(())
+    check_named(rt.alloc(), STATED)
 }

@@ -1,5 +1,5 @@
 //! Inputs that are fed in pieces: however they are cut, the same records and the same fault.
-use crate::tests::fault_name;
+use crate::tests::{fault_name, is_fault};
 use std::alloc::Global;
 use std::test::Fail;
 use zone_name::Name;
@@ -98,7 +98,7 @@ impl<'r> Taken<'r> {
         Ok(
             self.count == self.wanted.placed.len()
                 && *at == place
-                && fault_name(alloc, fault)?.as_str() == fault_name(alloc, wanted)?.as_str(),
+                && is_fault(alloc, fault, fault_name(alloc, wanted)?.as_str())?,
         )
     }
 
@@ -117,6 +117,22 @@ impl<'r> Taken<'r> {
             }
         }
         Ok(false)
+    }
+
+    /// Whether what the source has decided is what it should give once it is fed this piece, and an
+    /// empty one before it where pieces are spaced.
+    fn is_right_after<S: Fed>(
+        &mut self,
+        alloc: Global,
+        source: &mut S,
+        piece: &[u8],
+        is_spaced: bool,
+    ) -> Result<bool, Fail> {
+        if is_spaced {
+            source.hand(b"")?;
+        }
+        source.hand(piece)?;
+        self.is_right(alloc, source)
     }
 
     /// Whether the source, whose input has ended, gives what is left, and nothing after it.
@@ -153,14 +169,9 @@ fn is_right_cut<S: Fed>(
     let mut source = S::begin(alloc, origin);
     let mut taken = Taken { wanted, count: 0 };
     let (first, rest) = octets.split_at(cut.first.min(octets.len()));
-    source.hand(first)?;
-    let mut is_right = taken.is_right(alloc, &mut source)?;
+    let mut is_right = taken.is_right_after(alloc, &mut source, first, false)?;
     for piece in rest.chunks(cut.each.max(1)) {
-        if cut.is_spaced {
-            source.hand(b"")?;
-        }
-        source.hand(piece)?;
-        is_right = is_right && taken.is_right(alloc, &mut source)?;
+        is_right = is_right && taken.is_right_after(alloc, &mut source, piece, cut.is_spaced)?;
     }
     source.end()?;
     Ok(is_right && taken.is_whole(alloc, &mut source)?)

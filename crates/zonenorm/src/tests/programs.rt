@@ -1,13 +1,12 @@
 //! The whole program over readers and writers, from its words to its exit status.
-use crate::order::{LineFault, order_of};
-use crate::run::run;
+use crate::order::Order;
+use crate::tests::devices::{BROKEN, Supply};
 use crate::tests::notation::stream_of;
-use crate::tests::orders::words_of;
+use crate::tests::orders::ordered;
+use crate::tests::runs::ran;
 use crate::tests::streams::{IN_TWO, OTHER_SERIAL, SMALL};
-use crate::tests::{Case, Named, first_wrong_name, had_memory, roomy};
+use crate::tests::{Case, Named, check_named};
 use std::alloc::Global;
-use std::io;
-use std::io::{ErrorKind, Read};
 use std::test::Fail;
 
 /// What an input gives: a text, or a stream in notation, and then its end or an error.
@@ -31,24 +30,12 @@ impl Given {
         }
     }
 
-    fn is_broken(self) -> bool {
-        matches!(self, Given::BrokenText(_) | Given::BrokenStream(_))
-    }
-}
-
-/// A reader of octets that answers an error in place of its end where it is broken.
-#[derive(Drop)]
-struct Supply<'o> {
-    left: &'o [u8],
-    is_broken: bool,
-}
-
-impl Read for Supply<'_> {
-    fn read(&mut self, buf: &mut [u8]) -> io::Result<usize> {
-        if self.left.is_empty() && self.is_broken {
-            return Err(io::Error::from(ErrorKind::Other));
+    /// A reader of these octets, and then of the input's end or error.
+    fn supply(self, left: &[u8]) -> Supply<'_> {
+        match self {
+            Given::Text(_) | Given::Stream(_) => Supply::at_once(left, None),
+            Given::BrokenText(_) | Given::BrokenStream(_) => Supply::at_once(left, BROKEN),
         }
-        self.left.read(buf)
     }
 }
 
@@ -64,37 +51,28 @@ struct Program {
     told: &'static str,
 }
 
+impl Program {
+    /// Whether a run of the order over inputs of these octets does what is wanted.
+    fn is_run(
+        &self,
+        alloc: Global,
+        order: &Order,
+        first: &[u8],
+        second: &[u8],
+    ) -> Result<bool, Fail> {
+        let mut first = self.first.supply(first);
+        let mut second = self.second.supply(second);
+        let ran = ran(alloc, order, &mut first, &mut second)?;
+        Ok(ran.did(self.status, self.output.as_bytes(), self.told.as_bytes()))
+    }
+}
+
 impl Case for Program {
     fn is_right(&self, alloc: Global) -> Result<bool, Fail> {
-        let order = match order_of(alloc, &words_of(alloc, self.words)?) {
-            Ok(order) => order,
-            Err(LineFault::Memory) => return Err(Fail::from("memory")),
-            Err(_) => return Ok(false),
-        };
-        let (first, second) = (self.first.octets(alloc)?, self.second.octets(alloc)?);
-        let mut first = Supply {
-            left: first.as_slice(),
-            is_broken: self.first.is_broken(),
-        };
-        let mut second = Supply {
-            left: second.as_slice(),
-            is_broken: self.second.is_broken(),
-        };
-        let (mut output, mut told) = (roomy(alloc)?, roomy(alloc)?);
-        let status = run(
-            alloc,
-            &order,
-            &mut first,
-            &mut second,
-            &mut output,
-            &mut told,
-        );
-        had_memory(&told)?;
-        Ok(
-            status == self.status
-                && output.as_slice() == self.output.as_bytes()
-                && told.as_slice() == self.told.as_bytes(),
-        )
+        let order = ordered(alloc, self.words)?;
+        let first = self.first.octets(alloc)?;
+        let second = self.second.octets(alloc)?;
+        self.is_run(alloc, &order, &first, &second)
     }
 }
 
@@ -414,19 +392,16 @@ static PROGRAMS: &[Program] = &[
 
 #[test]
 fn comparisons(rt: HostRuntime) -> Result<(), Fail> {
-    assert_eq!(rt; first_wrong_name(rt.alloc(), COMPARISONS)?, None);
-    assert_eq!(rt; first_wrong_name(rt.alloc(), MORE_COMPARISONS)?, None);
-    Ok(())
+    check_named(rt.alloc(), COMPARISONS)?;
+    check_named(rt.alloc(), MORE_COMPARISONS)
 }
 
 #[test]
 fn explanations(rt: HostRuntime) -> Result<(), Fail> {
-    assert_eq!(rt; first_wrong_name(rt.alloc(), EXPLANATIONS)?, None);
-    Ok(())
+    check_named(rt.alloc(), EXPLANATIONS)
 }
 
 #[test]
 fn programs(rt: HostRuntime) -> Result<(), Fail> {
-    assert_eq!(rt; first_wrong_name(rt.alloc(), PROGRAMS)?, None);
-    Ok(())
+    check_named(rt.alloc(), PROGRAMS)
 }

@@ -1,11 +1,11 @@
 //! Records, and a source of them.
 use crate::tests::items::data_of;
 use crate::tests::zones::reading_of;
-use crate::tests::{Case, first_wrong};
+use crate::tests::{Case, check, check_rows};
 use std::alloc::Global;
 use std::test::Fail;
 use zone_name::Name;
-use zone_rdata::{Fault, LendingSource, PendingRecords, Place, Rr, RrSource, Stop};
+use zone_rdata::{Fault, LendingSource, PendingRecords, Place, Placed, Rr, RrSource, Stop};
 
 /// A TTL, and whether a record may have it.
 struct Ttl(u32, bool);
@@ -41,59 +41,101 @@ static TTLS: &[Ttl] = &[Ttl(2147483647, true), Ttl(2147483648, false)];
 
 #[test]
 fn records_of_31_bits(rt: HostRuntime) -> Result<(), Fail> {
-    assert_eq!(rt; first_wrong(rt.alloc(), TTLS)?, None);
-    Ok(())
+    check_rows(rt.alloc(), TTLS)
+}
+
+/// Whether this is refused for its TTL at line 4.
+fn is_bad_ttl(answer: Result<Option<Placed>, Stop>) -> bool {
+    matches!(answer, Err(Stop::Refused(Fault::BadTtl, Place::Line(4))))
 }
 
 #[test]
 fn a_reading_gives_its_fault_again(rt: HostRuntime) -> Result<(), Fail> {
     let mut reading = reading_of(rt.alloc(), b"example. 1 IN NS b.\n")?;
     reading.ending = Some((Fault::BadTtl, Place::Line(4)));
-    assert!(rt; reading.next()?.is_some());
-    for _ in 0..2 {
-        let stop = reading.next().err().ok_or("no fault")?;
-        assert!(rt; matches!(stop, Stop::Refused(Fault::BadTtl, Place::Line(4))));
-    }
-    Ok(())
+    check(reading.next()?.is_some(), "the record is given first")?;
+    let is_refused = is_bad_ttl(reading.next());
+    check(
+        is_refused && is_bad_ttl(reading.next()),
+        "the fault is given twice",
+    )
 }
+
+/// A record that is lent: its owner's octets, its TTL, its data's octets and its line.
+#[derive(Drop)]
+struct Lent(&'static [u8], u32, &'static [u8], u64);
+
+impl Lent {
+    /// Whether a source lends this record first.
+    fn is_first<S: LendingSource>(&self, source: &S) -> bool {
+        source.first().is_some_and(|lent| {
+            lent.rr.owner.wire() == self.0
+                && lent.rr.ttl == self.1
+                && lent.rr.rdata.octets() == self.2
+                && lent.place == Place::Line(self.3)
+        })
+    }
+}
+
+static LENT: &[Lent] = &[
+    Lent(b"\x01a\x00", 1, SERVER, 1),
+    Lent(b"\x01c\x00", 2, b"\x01d\x00", 2),
+];
 
 #[test]
 fn a_reading_lends_its_records(rt: HostRuntime) -> Result<(), Fail> {
     let mut reading = reading_of(rt.alloc(), b"a. 1 IN NS b.\nc. 2 IN NS d.\n")?;
-    let first = reading.first().ok_or("no record")?;
-    assert!(rt; first.rr.owner.wire() == b"\x01a\x00".as_slice() && first.place == Place::Line(1));
-    reading.skip();
-    let second = reading.first().ok_or("no record")?;
-    assert!(rt; second.rr.ttl == 2 && second.rr.rdata.octets() == b"\x01d\x00".as_slice());
-    reading.skip();
-    assert!(rt; reading.first().is_none() && reading.next()?.is_none());
-    Ok(())
+    for lent in LENT {
+        check(lent.is_first(&reading), "a record is lent")?;
+        reading.skip();
+    }
+    let is_empty = reading.first().is_none();
+    check(
+        is_empty && reading.next()?.is_none(),
+        "nothing is left after them",
+    )
+}
+
+/// A queue with the servers of `example.` of the TTLs 1 to 4, and the fault of a TTL after them.
+fn queue_of_four(alloc: Global) -> Result<PendingRecords, Fail> {
+    let owner = Name::from_text(b"example.", None)?;
+    let mut pending = PendingRecords::new(alloc);
+    for ttl in 1..5 {
+        let data = data_of(alloc, "x.", "IN NS b.")??;
+        pending.placed.push(&owner, ttl, data, Place::Line(3))?;
+    }
+    pending.ending = Some((Fault::BadTtl, Place::Line(4)));
+    Ok(pending)
+}
+
+/// Whether a queue lends its first record, and the octets of that are used again once it is skipped.
+fn is_used_again(alloc: Global, pending: &mut PendingRecords) -> bool {
+    let is_lent = Lent(b"\x07example\x00", 1, SERVER, 3).is_first(pending);
+    pending.placed.skip();
+    is_lent && pending.placed.buffer(alloc).as_slice() == SERVER
+}
+
+/// Whether this is the server of `example.` with this TTL.
+fn is_given(placed: Option<Placed>, ttl: u32) -> bool {
+    match placed {
+        Some(placed) => placed.place == Place::Line(3) && is_server(placed.rr, ttl),
+        None => false,
+    }
 }
 
 #[test]
 fn a_queue_gives_what_was_put_in(rt: HostRuntime) -> Result<(), Fail> {
-    let owner = Name::from_text(b"example.", None)?;
-    let mut pending = PendingRecords::new(rt.alloc());
-    for ttl in 1..5 {
-        let data = data_of(rt.alloc(), "x.", "IN NS b.")??;
-        pending.placed.push(&owner, ttl, data, Place::Line(4))?;
-    }
-    pending.ending = Some((Fault::BadTtl, Place::Line(5)));
-    let first = pending.placed.first().ok_or("no record")?;
-    assert!(rt; first.rr.ttl == 1 && first.rr.rdata.octets() == SERVER);
-    pending.placed.skip();
-    assert!(rt; pending.placed.buffer(rt.alloc()).as_slice() == SERVER);
-    let second = pending.placed.pop().ok_or("no record")?;
-    assert!(rt; is_server(second.rr, 2) && second.place == Place::Line(4));
-    let third = pending.next()?.ok_or("no record")?;
-    assert!(rt; is_server(third.rr, 3));
+    let mut pending = queue_of_four(rt.alloc())?;
+    check(
+        is_used_again(rt.alloc(), &mut pending),
+        "the first record is lent",
+    )?;
+    check(
+        is_given(pending.placed.pop(), 2),
+        "the second record is given",
+    )?;
+    check(is_given(pending.next()?, 3), "the third record is given")?;
     let mut rest = pending.into_reading();
-    assert!(rt; rest.next()?.is_some());
-    assert!(rt;
-        matches!(
-            rest.next(),
-            Err(Stop::Refused(Fault::BadTtl, Place::Line(5)))
-        )
-    );
-    Ok(())
+    check(is_given(rest.next()?, 4), "the fourth record is given")?;
+    check(is_bad_ttl(rest.next()), "the fault is given after them")
 }

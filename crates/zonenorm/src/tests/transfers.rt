@@ -1,55 +1,30 @@
 //! Zone transfers: what `normalise` and `normalise_bytes` answer to a stream, and what is read of
 //! it in pieces.
 use crate::form::Form;
+use crate::normalise_bytes;
 use crate::order::Order;
-use crate::run::run;
 use crate::tests::notation::{message_of, stream_of};
 use crate::tests::pieces::{Fed, MOST, is_right_in_two, is_right_singly};
-use crate::tests::readings::{Given, is_read, line_of};
-use crate::tests::runs::{is_broken_anywhere, is_kept, is_wanted};
-use crate::tests::scripts::{Script, Step, wrong_script};
+use crate::tests::readings::{Given, is_read, zeros_line};
+use crate::tests::runs::{is_broken_anywhere, is_kept, is_normalised, is_written, ran};
+use crate::tests::scripts::{Script, Step, check_scripts};
 use crate::tests::streams::{IN_TWO, OTHER_SERIAL, SMALL, STREAMS};
-use crate::tests::vectors::{Answer, Question, Vector, wrong_in};
-use crate::tests::{Case, Named, first_wrong, first_wrong_name, had_memory, is_explained, roomy};
-use crate::{normalise, normalise_bytes};
+use crate::tests::vectors::{Answer, Question, Vector, check_table};
+use crate::tests::{Case, Named, check, check_named, is_refused};
 use std::alloc::Global;
 use std::test::Fail;
 use zone_name::Name;
-use zone_rdata::{Place, RrSource, Stop};
+use zone_rdata::Place;
 use zone_wire::{TransferSource, read_transfer};
-
-/// What `normalise` writes, over a reader of these octets.
-fn written(alloc: Global, octets: &[u8]) -> Result<Result<Vec<u8>, Stop>, Fail> {
-    let (mut reader, mut writer) = (octets, roomy(alloc)?);
-    match normalise(alloc, Form::Transfer, &mut reader, &mut writer) {
-        Ok(_) => Ok(Ok(writer)),
-        Err(stop) if writer.is_empty() => Ok(Err(stop)),
-        Err(_) => Err(Fail::from("a refused stream writes")),
-    }
-}
 
 /// Whether a run over the stream has the status of this answer, writes what it says and tells what
 /// it says.
-fn is_ran(alloc: Global, answer: &Answer, octets: &[u8]) -> Result<bool, Fail> {
-    let mut reader = octets;
-    let (mut output, mut told) = (roomy(alloc)?, roomy(alloc)?);
-    let order = Order::Normalise(None);
-    let mut second = b"".as_slice();
-    let status = run(
-        alloc,
-        &order,
-        &mut reader,
-        &mut second,
-        &mut output,
-        &mut told,
-    );
-    had_memory(&told)?;
+fn is_run(alloc: Global, answer: &Answer, octets: &[u8]) -> Result<bool, Fail> {
+    let (mut reader, mut second) = (octets, b"".as_slice());
+    let ran = ran(alloc, &Order::Normalise(None), &mut reader, &mut second)?;
     match answer {
-        Answer::Text(text) => Ok(status == 0 && output.as_slice() == *text && told.is_empty()),
-        Answer::Refused(front) => {
-            let is_told = told.as_slice().starts_with(front.as_bytes());
-            Ok(status == 3 && output.is_empty() && is_told)
-        }
+        Answer::Text(text) => Ok(ran.did(0, text, b"")),
+        Answer::Refused(front) => Ok(ran.refused(front)),
     }
 }
 
@@ -59,11 +34,10 @@ struct Normalised;
 impl Question for Normalised {
     fn is_answered(alloc: Global, vector: &Vector) -> Result<bool, Fail> {
         let octets = stream_of(alloc, vector.input)?;
-        let answered = normalise_bytes(alloc, Form::Transfer, &octets);
         Ok(
-            is_wanted(alloc, &vector.answer, answered)?
-                && is_wanted(alloc, &vector.answer, written(alloc, &octets)?)?
-                && is_ran(alloc, &vector.answer, &octets)?
+            is_normalised(alloc, Form::Transfer, &octets, &vector.answer)?
+                && is_written(alloc, Form::Transfer, &octets, &vector.answer)?
+                && is_run(alloc, &vector.answer, &octets)?
                 && is_broken_anywhere(alloc, &octets)?
                 && is_kept(alloc, Form::Transfer, &octets, &vector.answer)?,
         )
@@ -72,22 +46,24 @@ impl Question for Normalised {
 
 #[test]
 fn streams_are_normalised(rt: HostRuntime) -> Result<(), Fail> {
-    assert_eq!(rt; wrong_in::<Normalised>(rt.alloc(), STREAMS)?, None);
-    Ok(())
+    check_table::<Normalised>(rt.alloc(), STREAMS)
+}
+
+/// Whether the small transfer with an error code is refused for that.
+fn is_code_told(alloc: Global, code: u8) -> Result<bool, Fail> {
+    let mut stream = stream_of(alloc, SMALL)?;
+    if let Some(flags) = stream.get_mut(5) {
+        *flags = code;
+    }
+    let front = format!(in alloc; "F26 ErrorCode {code} at message 1 offset 0")?;
+    is_refused(alloc, Form::Transfer, &stream, front.as_str())
 }
 
 /// The fault of the small transfer with each error code from 1 to 15 (RFC 1035 4.1.1).
 #[test]
 fn error_codes_are_told(rt: HostRuntime) -> Result<(), Fail> {
-    let mut stream = stream_of(rt.alloc(), SMALL)?;
     for code in 1..16u8 {
-        if let Some(flags) = stream.get_mut(5) {
-            *flags = code;
-        }
-        let answered = normalise_bytes(rt.alloc(), Form::Transfer, &stream);
-        let front = format!(in rt.alloc(); "F26 ErrorCode {code} at message 1 offset 0")?;
-        let stop = answered.err().ok_or("accepted")?;
-        assert!(rt; is_explained(rt.alloc(), &stop, front.as_str())?);
+        check(is_code_told(rt.alloc(), code)?, "an error code is told")?;
     }
     Ok(())
 }
@@ -134,8 +110,7 @@ impl Question for InPieces {
 
 #[test]
 fn streams_in_pieces(rt: HostRuntime) -> Result<(), Fail> {
-    assert_eq!(rt; wrong_in::<InPieces>(rt.alloc(), STREAMS)?, None);
-    Ok(())
+    check_table::<InPieces>(rt.alloc(), STREAMS)
 }
 
 /// A stream, and the refusal of each front of it with so many octets.
@@ -152,9 +127,7 @@ impl Case for Prefixes {
         let octets = stream_of(alloc, self.octets)?;
         for count in self.from..=self.to.min(octets.len()) {
             let (front, _) = octets.split_at(count.min(octets.len()));
-            let answered = normalise_bytes(alloc, Form::Transfer, front);
-            let stop = answered.err().ok_or("accepted")?;
-            if !is_explained(alloc, &stop, self.front)? {
+            if !is_refused(alloc, Form::Transfer, front, self.front)? {
                 return Ok(false);
             }
         }
@@ -194,8 +167,7 @@ static PREFIXES: &[Prefixes] = &[
 
 #[test]
 fn streams_cut_short(rt: HostRuntime) -> Result<(), Fail> {
-    assert_eq!(rt; first_wrong_name(rt.alloc(), PREFIXES)?, None);
-    Ok(())
+    check_named(rt.alloc(), PREFIXES)
 }
 
 /// A stream, the records before its first fault, and that fault.
@@ -250,8 +222,7 @@ static READ: &[Read] = &[
 
 #[test]
 fn streams_are_read(rt: HostRuntime) -> Result<(), Fail> {
-    assert_eq!(rt; first_wrong_name(rt.alloc(), READ)?, None);
-    Ok(())
+    check_named(rt.alloc(), READ)
 }
 
 static SCRIPTS: &[Script] = &[
@@ -311,78 +282,62 @@ static SCRIPTS: &[Script] = &[
             Step::Fed(171),
         ],
     },
+    Script {
+        name: "greatest_frame_is_kept_until_its_last_octet",
+        origin: b".",
+        steps: &[
+            Step::Filled(GREATEST, 65_536),
+            Step::Undecided(65_536),
+            Step::Waits,
+            Step::Feed(b"\0"),
+            Step::Undecided(0),
+            Step::Gives(Given(b"x. 3600 IN SOA n.x. h.x. 1 2 3 4 5", Place::Message(1, 19))),
+            Step::GivesZeros(Place::Message(1, 59)),
+            Step::Waits,
+            Step::Part(CLOSING, 0, 55),
+            Step::Waits,
+            Step::Finish,
+            Step::Waits,
+        ],
+    },
 ];
 
 #[test]
 fn streams_are_decided(rt: HostRuntime) -> Result<(), Fail> {
-    assert_eq!(rt; wrong_script::<TransferSource>(rt.alloc(), SCRIPTS)?, None);
-    Ok(())
+    check_scripts::<TransferSource>(rt.alloc(), SCRIPTS)
 }
 
 /// A message of 65535 octets in its frame, up to the octets of its last record's data, which are
 /// 65464.
-fn greatest_front(alloc: Global) -> Result<Vec<u8>, Fail> {
-    message_of(
-        alloc,
-        "#ffff; header 1 8400 1 2 0 0; QUESTION; OPENING; #c00c02db000100000e10ffb8",
-    )
-}
+const GREATEST: &str = "#ffff; header 1 8400 1 2 0 0; QUESTION; OPENING; #c00c02db000100000e10ffb8";
 
-/// The frame of a message with the closing SOA.
+/// A message with the closing SOA, which has 53 octets.
 const CLOSING: &str = "header 1 8400 0 1 0 0; x. 3600 IN SOA n@12 h@12 1 2 3 4 5";
 
-/// The line of the record of type 731, whose data is so many octets 0.
-fn zeros_line(alloc: Global, count: usize) -> Result<Vec<u8>, Fail> {
-    let mut line = Vec::new(alloc);
-    line.extend_from_slice(format!(in alloc; "x. 3600 IN TYPE731 \\# {count} ")?.as_bytes())?;
-    for _ in 0..count {
-        line.extend_from_slice(b"00")?;
-    }
-    Ok(line)
+/// The stream of the greatest message, whose last record's data is octets 0, and the closing SOA.
+fn greatest_stream(alloc: Global) -> Result<Vec<u8>, Fail> {
+    let mut stream = message_of(alloc, GREATEST)?;
+    stream.resize(65_537, 0)?;
+    stream.extend_from_slice(&stream_of(alloc, CLOSING)?)?;
+    Ok(stream)
+}
+
+/// The canonical text of that stream.
+fn greatest_text(alloc: Global) -> Result<Vec<u8>, Fail> {
+    let mut text = Vec::new(alloc);
+    text.extend_from_slice(b"x. 3600 IN SOA n.x. h.x. 1 2 3 4 5\n")?;
+    text.extend_from_slice(&zeros_line(alloc)?)?;
+    text.push(b'\n')?;
+    Ok(text)
 }
 
 #[test]
 fn the_greatest_message_is_normalised(rt: HostRuntime) -> Result<(), Fail> {
-    let mut stream = greatest_front(rt.alloc())?;
-    stream.resize(65_537, 0)?;
-    stream.extend_from_slice(&stream_of(rt.alloc(), CLOSING)?)?;
-    let text = normalise_bytes(rt.alloc(), Form::Transfer, &stream)?;
-    let zeros = zeros_line(rt.alloc(), 65_464)?;
-    assert_eq!(rt; text.len(), 130_992);
-    assert!(rt; text.starts_with(b"x. 3600 IN SOA n.x. h.x. 1 2 3 4 5\nx. 3600 IN TYPE731 "));
-    assert!(rt; text.as_slice().get(35..130_991) == Some(zeros.as_slice()));
-    Ok(())
-}
-
-/// The first record of the greatest message.
-static FIRST: Given = Given(b"x. 3600 IN SOA n.x. h.x. 1 2 3 4 5", Place::Message(1, 19));
-
-/// Whether the source gives the SOA and the zeros of the greatest message, and then waits.
-fn gives_greatest(alloc: Global, source: &mut TransferSource) -> Result<bool, Fail> {
-    let soa = source.next()?.ok_or("no SOA")?;
-    let zeros = source.next()?.ok_or("no zeros")?;
-    Ok(
-        FIRST.is(alloc, &soa)?
-            && zeros.place == Place::Message(1, 59)
-            && line_of(alloc, &zeros.rr)?.as_slice() == zeros_line(alloc, 65_464)?.as_slice()
-            && source.next()?.is_none(),
+    let stream = greatest_stream(rt.alloc())?;
+    let answered = normalise_bytes(rt.alloc(), Form::Transfer, &stream)?;
+    let text = greatest_text(rt.alloc())?;
+    check(
+        answered.as_slice() == text.as_slice(),
+        "the text is the canonical one",
     )
-}
-
-#[test]
-fn the_greatest_frame_is_kept(rt: HostRuntime) -> Result<(), Fail> {
-    let mut frame = greatest_front(rt.alloc())?;
-    frame.resize(65_536, 0)?;
-    let mut source = TransferSource::new(rt.alloc());
-    source.hand(&frame)?;
-    assert_eq!(rt; source.undecided(), 65_536);
-    assert!(rt; source.next()?.is_none());
-    source.hand(b"\0")?;
-    assert_eq!(rt; source.undecided(), 0);
-    assert!(rt; gives_greatest(rt.alloc(), &mut source)?);
-    source.hand(&stream_of(rt.alloc(), CLOSING)?)?;
-    assert!(rt; source.next()?.is_none());
-    source.end()?;
-    assert!(rt; source.next()?.is_none());
-    Ok(())
 }

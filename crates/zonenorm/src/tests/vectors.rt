@@ -78,42 +78,57 @@ fn vector_of(row: &'static str) -> Option<Vector> {
     })
 }
 
-/// The name of the first vector of a table that gets another answer. `== ` stands before each row.
-pub(super) fn wrong_in<Q: Question>(
-    alloc: Global,
-    table: &'static str,
-) -> Result<Option<&'static str>, Fail> {
-    for row in table.split("== ") {
-        // Nothing stands before the first row.
-        if row.is_empty() {
-            continue;
-        }
-        let vector = vector_of(row).ok_or(row)?;
-        if !Q::is_answered(alloc, &vector)? {
-            return Ok(Some(vector.name));
-        }
+/// That the vector of a row gets its answer.
+///
+/// # Errors
+///
+/// Its name, where it gets another.
+fn check_row<Q: Question>(alloc: Global, row: &'static str) -> Result<(), Fail> {
+    let vector = vector_of(row).ok_or(row)?;
+    if Q::is_answered(alloc, &vector)? {
+        return Ok(());
     }
-    Ok(None)
+    Err(Fail::new(format_args!("{} gets another answer", vector.name)))
 }
 
-/// The name of the first vector of all that gets another answer.
-pub(super) fn wrong<Q: Question>(alloc: Global) -> Result<Option<&'static str>, Fail> {
-    for table in [
-        short_files::FILES,
-        names::FILES,
-        data::FILES,
-        lexing::FILES,
-        directives::FILES,
-        sets::FILES,
-        printing::FILES,
-        services::FILES,
-        groups::FILES,
-        kept::FILES,
-        read_back::FILES,
-    ] {
-        if let Some(name) = wrong_in::<Q>(alloc, table)? {
-            return Ok(Some(name));
+/// That each vector of a table gets its answer. `== ` stands before each row.
+///
+/// # Errors
+///
+/// The name of the first that gets another.
+pub(super) fn check_table<Q: Question>(alloc: Global, table: &'static str) -> Result<(), Fail> {
+    for row in table.split("== ") {
+        // Nothing stands before the first row.
+        if !row.is_empty() {
+            check_row::<Q>(alloc, row)?;
         }
     }
-    Ok(None)
+    Ok(())
+}
+
+/// The tables of master files.
+static TABLES: &[&str] = &[
+    short_files::FILES,
+    names::FILES,
+    data::FILES,
+    lexing::FILES,
+    directives::FILES,
+    sets::FILES,
+    printing::FILES,
+    services::FILES,
+    groups::FILES,
+    kept::FILES,
+    read_back::FILES,
+];
+
+/// That each master file gets its answer.
+///
+/// # Errors
+///
+/// The name of the first that gets another.
+pub(super) fn check_files<Q: Question>(alloc: Global) -> Result<(), Fail> {
+    for table in TABLES {
+        check_table::<Q>(alloc, table)?;
+    }
+    Ok(())
 }

@@ -1,5 +1,5 @@
 //! Uncompressed octets of data, and data that is built part by part (RFC 1035 3.3, RFC 3597 4).
-use crate::tests::{Case, fault_name, first_wrong, judged};
+use crate::tests::{Case, check, check_rows, is_fault, judged};
 use std::alloc::Global;
 use std::test::Fail;
 use zone_name::Name;
@@ -23,7 +23,7 @@ impl Case for Wired {
             (Ok(data), Ok((octets, minimum))) => {
                 Ok(data.octets() == octets && data.soa_minimum() == minimum)
             }
-            (Err(fault), Err(name)) => Ok(fault_name(alloc, &fault)?.as_str() == name),
+            (Err(fault), Err(name)) => is_fault(alloc, &fault, name),
             _ => Ok(false),
         }
     }
@@ -51,8 +51,7 @@ static WIRED: &[Wired] = &[
 
 #[test]
 fn data_of_octets(rt: HostRuntime) -> Result<(), Fail> {
-    assert_eq!(rt; first_wrong(rt.alloc(), WIRED)?, None);
-    Ok(())
+    check_rows(rt.alloc(), WIRED)
 }
 
 #[test]
@@ -60,8 +59,10 @@ fn data_of_too_many_octets(rt: HostRuntime) -> Result<(), Fail> {
     let mut zeros = Vec::new(rt.alloc());
     zeros.resize(65536, 0)?;
     let answer = data_of(rt.alloc(), 731, &zeros)?;
-    assert!(rt; matches!(answer, Err(Fault::RdataTooLong)));
-    Ok(())
+    check(
+        matches!(answer, Err(Fault::RdataTooLong)),
+        "the fault is RdataTooLong",
+    )
 }
 
 /// A part of data.
@@ -95,7 +96,7 @@ fn are_pushed(alloc: Global, builder: &mut RdataBuilder, steps: &[Step]) -> Resu
     for Step(part, refusal) in steps {
         let is_right = match (pushed(builder, part)?, refusal) {
             (Ok(()), None) => true,
-            (Err(fault), Some(name)) => fault_name(alloc, &fault)?.as_str() == *name,
+            (Err(fault), Some(name)) => is_fault(alloc, &fault, name)?,
             _ => false,
         };
         if !is_right {
@@ -105,20 +106,32 @@ fn are_pushed(alloc: Global, builder: &mut RdataBuilder, steps: &[Step]) -> Resu
     Ok(true)
 }
 
+/// A builder of data of this type and class IN, in a buffer that was used before.
+fn builder_of(alloc: Global, kind: u64) -> Result<RdataBuilder, Fail> {
+    let (class, kind) = (Class::from_number(1)?, Kind::from_number(kind)?);
+    let mut buffer = Vec::new(alloc);
+    buffer.extend_from_slice(b"octets of before")?;
+    Ok(RdataBuilder::in_buffer(buffer, class, kind))
+}
+
+/// Whether the builder ends in data of these octets, or in the fault.
+fn is_finished(
+    alloc: Global,
+    builder: RdataBuilder,
+    wanted: Result<&[u8], &str>,
+) -> Result<bool, Fail> {
+    match (builder.finish(), wanted) {
+        (Ok(data), Ok(octets)) => Ok(data.octets() == octets),
+        (Err(fault), Err(name)) => is_fault(alloc, &fault, name),
+        _ => Ok(false),
+    }
+}
+
 impl Case for Built {
     fn is_right(&self, alloc: Global) -> Result<bool, Fail> {
-        let (class, kind) = (Class::from_number(1)?, Kind::from_number(self.0)?);
-        let mut buffer = Vec::new(alloc);
-        buffer.extend_from_slice(b"octets of before")?;
-        let mut builder = RdataBuilder::in_buffer(buffer, class, kind);
+        let mut builder = builder_of(alloc, self.0)?;
         let are_pushed = are_pushed(alloc, &mut builder, self.1)?;
-        match (builder.finish(), self.2) {
-            (Ok(data), Ok(octets)) => Ok(are_pushed && data.octets() == octets),
-            (Err(fault), Err(name)) => {
-                Ok(are_pushed && fault_name(alloc, &fault)?.as_str() == name)
-            }
-            _ => Ok(false),
-        }
+        Ok(are_pushed && is_finished(alloc, builder, self.2)?)
     }
 }
 
@@ -180,6 +193,5 @@ static BUILT: &[Built] = &[
 
 #[test]
 fn data_of_parts(rt: HostRuntime) -> Result<(), Fail> {
-    assert_eq!(rt; first_wrong(rt.alloc(), BUILT)?, None);
-    Ok(())
+    check_rows(rt.alloc(), BUILT)
 }
