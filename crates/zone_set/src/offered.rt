@@ -37,7 +37,8 @@ impl<'a, 'z> Offered<'a, 'z> {
     fn is_after_record(&self, entry: Entry) -> bool
         requires { IsLinked self.now.rr.now.class self.now.octets.now entry }
         ensures { result ≡ is_lt (canonical_cmp
-            (entry_record self.now.rr.now.class self.now.octets.now entry) (record_of self.now.rr.now)) }
+            (entry_record self.now.rr.now.class self.now.octets.now entry)
+            (record_of self.now.rr.now)) }
     {
         canonical_order(&self.held(entry), self.rr).is_lt()
     }

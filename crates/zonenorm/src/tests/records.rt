@@ -109,10 +109,18 @@ fn queue_of_four(alloc: Global) -> Result<PendingRecords, Fail> {
 }
 
 /// Whether a queue lends its first record, and the octets of that are used again once it is skipped.
-fn is_used_again(alloc: Global, pending: &mut PendingRecords) -> bool {
+///
+/// # Errors
+///
+/// No octets were kept, as where memory is wanting.
+fn is_used_again(alloc: Global, pending: &mut PendingRecords) -> Result<bool, Fail> {
     let is_lent = Lent(b"\x07example\x00", 1, SERVER, 3).is_first(pending);
     pending.placed.skip();
-    is_lent && pending.placed.buffer(alloc).as_slice() == SERVER
+    let buffer = pending.placed.buffer(alloc);
+    if buffer.is_empty() {
+        return Err(Fail::from("memory"));
+    }
+    Ok(is_lent && buffer.as_slice() == SERVER)
 }
 
 /// Whether this is the server of `example.` with this TTL.
@@ -127,7 +135,7 @@ fn is_given(placed: Option<Placed>, ttl: u32) -> bool {
 fn a_queue_gives_what_was_put_in(rt: HostRuntime) -> Result<(), Fail> {
     let mut pending = queue_of_four(rt.alloc())?;
     check(
-        is_used_again(rt.alloc(), &mut pending),
+        is_used_again(rt.alloc(), &mut pending)?,
         "the first record is lent",
     )?;
     check(
