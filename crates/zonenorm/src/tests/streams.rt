@@ -7,8 +7,7 @@ pub(super) const SMALL: &str = "header 1 8400 1 3 0 0; QUESTION; OPENING; SERVER
 /// address more.
 pub(super) const IN_TWO: &str = "\
 header 1 8400 1 2 0 1; QUESTION; OPENING; SERVER; . 0 CLASS1232 OPT
-header 1 8400 0 3 0 0; n.x. 3600 IN A #0a000001; @14 3600 IN NS @12; @14 3600 IN SOA @12 h@14 1 2 3
-    4 5
+header 1 8400 0 3 0 0; n.x. 3600 IN A #0a000001; @14 3600 IN NS @12; @14 3600 IN SOA @12 h@14 1 2 3 4 5
 ";
 
 /// The small transfer with another serial in its closing SOA.
@@ -26,8 +25,7 @@ x. 3600 IN NS n.x.
 => F38 NoClosingSoa at message 1 offset 0
 == transfer_in_two_messages
 header 1 8400 1 2 0 1; QUESTION; OPENING; SERVER; . 0 CLASS1232 OPT
-header 1 8400 0 3 0 0; n.x. 3600 IN A #0a000001; @14 3600 IN NS @12; @14 3600 IN SOA @12 h@14 1 2 3
-    4 5
+header 1 8400 0 3 0 0; n.x. 3600 IN A #0a000001; @14 3600 IN NS @12; @14 3600 IN SOA @12 h@14 1 2 3 4 5
 =>
 x. 3600 IN SOA n.x. h.x. 1 2 3 4 5
 x. 3600 IN NS n.x.
@@ -78,8 +76,7 @@ header 1 8400 0 0 0 0
 header 1 8400 1 3 0 0; QUESTION; OPENING; SERVER; @12 2147487248 IN SOA @31 @35 1 2 3 4 5
 => F36 SoaMismatch at message 1 offset 73
 == ttl_with_its_top_bit_set_is_zero
-header 1 8400 1 3 0 0; QUESTION; @12 2147483648 IN SOA n@12 h@12 1 2 3 4 5; @12 0 IN NS @31; @12
-    2147483648 IN SOA @31 @35 1 2 3 4 5
+header 1 8400 1 3 0 0; QUESTION; @12 2147483648 IN SOA n@12 h@12 1 2 3 4 5; @12 0 IN NS @31; @12 2147483648 IN SOA @31 @35 1 2 3 4 5
 =>
 x. 0 IN SOA n.x. h.x. 1 2 3 4 5
 x. 0 IN NS n.x.
@@ -146,8 +143,7 @@ header 1 8400 1 3 0 1; QUESTION; OPENING; SERVER; CLOSING; @31 0 CLASS255 TYPE24
 x. 3600 IN SOA n.x. h.x. 1 2 3 4 5
 x. 3600 IN NS n.x.
 == address_of_another_class_in_a_transfer
-header 1 8400 1 3 0 0; question x. AXFR CH; @12 3600 CH SOA n@12 h@12 1 2 3 4 5; @12 3600 CH A
-    #0a0000; @12 3600 CH SOA @31 @35 1 2 3 4 5
+header 1 8400 1 3 0 0; question x. AXFR CH; @12 3600 CH SOA n@12 h@12 1 2 3 4 5; @12 3600 CH A #0a0000; @12 3600 CH SOA @31 @35 1 2 3 4 5
 =>
 x. 3600 CH SOA n.x. h.x. 1 2 3 4 5
 x. 3600 CH TYPE1 \\# 3 0a0000
