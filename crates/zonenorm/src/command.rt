@@ -19,12 +19,10 @@ zonenorm normalise <ORIGIN> < FILE
 
 /// What stands below the help of the program and of each command.
 const NOTES: &str = "\
-ORIGIN is the origin of a master file, an absolute name as example.com. with the dot at its end,
-    or the word transfer
+ORIGIN is the origin of a master file, an absolute name as example.com. with the dot at its end, or the word transfer
 for a captured TCP stream of a zone transfer (AXFR). A leading hyphen of a name is written \\-
 
-Exit status: 0 the zone is accepted,
-    or both are the same; 1 the zones differ; 2 the command line is wrong; 3 the input
+Exit status: 0 the zone is accepted, or both are the same; 1 the zones differ; 2 the command line is wrong; 3 the input
 is refused, and a line tells why and where; 4 reading, writing or memory failed.";
 
 const ORIGIN: &str = "The file's origin, an absolute name, or the word transfer";
