@@ -1,19 +1,21 @@
 -- A message is judged by itself, and by what messages before it that are alike have in common.
-use Rattle.std.proofs.Common.{◌≡◌, ℕ, ◌+◌, List, [], ◌∷◌, ◌++◌, length, refl, ap, sym, ◌∙◌, subst, append_assoc, length-append}
+use Rattle.std.proofs.Common.{◌≡◌, ℕ, ◌+◌, List, [], ◌∷◌, ◌++◌, length, refl, ap, sym, ◌∙◌, subst, inl, inr, append_assoc, length-append}
 use Rattle.std.specs.Prelude.{◌||◌, Option, Some, None}
-use Rattle.std.specs.List.{flat_map, AllByRecursion, list_any}
+use Rattle.std.specs.List.{AllByRecursion, list_any}
 use Rattle.std.proofs.lemmas.List.{append-nil}
 use Rattle.zone_rdata.specs.Record.{Record}
 use Rattle.zone_rdata.specs.declared.fault.Fault.{Fault}
 use Rattle.zone_rdata.specs.declared.record.Placed.{Placed}
-use Rattle.zone_wire.specs.AnswerFault.{OrderFault, closed, no_soa, other_zone, other_soa, AnswerFault, own, of_order, FirstAnswerFault}
-use Rattle.zone_wire.specs.Answers.{ZoneAsked, zone_of, AgreeWith, is_closed, ComesAfter, opens, follows, ComeInOrder}
+use Rattle.zone_wire.specs.AnswerFault.{OrderFault, AnswersGive, no_more, states, refused}
+use Rattle.zone_wire.specs.Answers.{ZoneAsked, zone_of, AgreeWith, is_closed, ComesAfter}
 use Rattle.zone_wire.specs.Message.{QuestionAt, RecordAt, Sections}
-use Rattle.zone_wire.specs.Stream.{asked_in, placed_in, HasFirstId, AsksIn, AskAfter, IsMessageAfter, IsReadAfter, FaultAfter, of_structure, of_id, of_questions, of_answers, first_id, opening_of, AreAlike}
-use Rattle.zone_wire.specs.Transfer.{StatedMessage, AnswersState}
+use Rattle.zone_wire.specs.Stream.{asked_in, placed_in, HasFirstId, AsksIn, AskAfter, GiveAfter, IsReadAfter, FaultAfter}
+use Rattle.zone_wire.specs.Transfer.{StatedMessage}
+use Rattle.zone_wire.specs.TransferSource.{StreamKept, first_id, opening_of, AreAlike}
 use Rattle.zone_wire.proofs.Accepting.{any_append}
 use Rattle.zone_wire.proofs.Answering.{is_soa}
-use Rattle.zone_wire.proofs.GivenMessages.{asked_grow, placed_grow, sections_grow}
+use Rattle.zone_wire.proofs.Conditions.{unless_same}
+use Rattle.zone_wire.proofs.GivenMessages.{asked_grow, placed_grow}
 
 -- what an answer is judged by besides itself
 record Alike (questions others : List QuestionAt) (before other : List Placed) : Type 0 where
@@ -26,32 +28,24 @@ nothing_too xs [] e h = refl
 nothing_too [] (y ∷ ys) e h = cc
 nothing_too (x ∷ xs) (y ∷ ys) e h = cc
 
--- records that begin with the same one
-record Begins (r : Record) (placed : List Placed) : Type 0 where
-  first : Placed
-  rest : List Placed
-  is : placed ≡ first ∷ rest
-  same : first.rr ≡ r
-
-begins : (r : Record) (placed : List Placed) → Some r ≡ opening_of placed → Begins r placed
-begins r [] e = cc
-begins r (p ∷ placed) e = record { first = p; rest = placed; is = refl; same = (let h : p.rr ≡ r = cc in h) }
-
 stands_alike : (questions others : List QuestionAt) (before other : List Placed) (r : Record) → Alike questions others before other → ComesAfter questions before r → ComesAfter others other r
-stands_alike questions others before other r is (opens e kind agree) =
-    opens (nothing_too before other is.opening e) kind (subst (λ z. AgreeWith z r.owner r.class) (is.zone e) agree)
-stands_alike questions others before other r is (follows opening rest e unclosed same) =
-    let b = begins opening.rr other (ap opening_of (sym e) ∙ is.opening) in
-    follows b.first b.rest b.is (sym is.closing ∙ unclosed) (λ kind. same kind ∙ sym b.same)
+stands_alike questions others [] [] r is comes = (comes.0, subst (λ z. AgreeWith z r.owner r.class) (is.zone refl) comes.1)
+stands_alike questions others [] (y ∷ ys) r is comes = let h = is.opening in cc
+stands_alike questions others (x ∷ xs) [] r is comes = let h = is.opening in cc
+stands_alike questions others (x ∷ xs) (y ∷ ys) r is comes =
+    let same : x.rr ≡ y.rr = (let h = is.opening in cc) in
+    (sym is.closing ∙ comes.0, λ kind. comes.1 kind ∙ same)
 
 order_alike : (questions others : List QuestionAt) (before other : List Placed) (r : Record) (fault : Fault) → Alike questions others before other → OrderFault questions before r fault → OrderFault others other r fault
-order_alike questions others before other r fault is (closed e) = closed (sym is.closing ∙ e)
-order_alike questions others before other r fault is (no_soa e none) = no_soa (nothing_too before other is.opening e) none
-order_alike questions others before other r fault is (other_zone e kind none) =
-    other_zone (nothing_too before other is.opening e) kind (λ agree. none (subst (λ z. AgreeWith z r.owner r.class) (sym (is.zone e)) agree))
-order_alike questions others before other r fault is (other_soa opening rest e unclosed kind differs) =
-    let b = begins opening.rr other (ap opening_of (sym e) ∙ is.opening) in
-    other_soa b.first b.rest b.is (sym is.closing ∙ unclosed) kind (λ same. differs (same ∙ b.same))
+order_alike questions others [] [] r fault is bad =
+    let zone = is.zone refl in
+    unless_same (λ h. h) (λ h. h) (unless_same (subst (λ z. AgreeWith z r.owner r.class) zone) (subst (λ z. AgreeWith z r.owner r.class) (sym zone)) (λ no. no)) bad
+order_alike questions others [] (y ∷ ys) r fault is bad = let h = is.opening in cc
+order_alike questions others (x ∷ xs) [] r fault is bad = let h = is.opening in cc
+order_alike questions others (x ∷ xs) (y ∷ ys) r fault is bad =
+    let same : x.rr ≡ y.rr = (let h = is.opening in cc) in
+    let closing = is.closing in
+    unless_same (λ h. sym closing ∙ h) (λ h. closing ∙ h) (unless_same (λ h kind. h kind ∙ same) (λ h kind. h kind ∙ sym same) (λ no. no)) bad
 
 opening_grows : (before other : List Placed) (p : Placed) → opening_of before ≡ opening_of other → opening_of (before ++ p ∷ []) ≡ opening_of (other ++ p ∷ [])
 opening_grows [] [] p e = refl
@@ -78,14 +72,12 @@ alike_after questions others before other (p ∷ placed) is =
     let rest = alike_after questions others (before ++ p ∷ []) (other ++ p ∷ []) placed (alike_more questions others before other p is) in
     subst (λ x. Alike questions others x (other ++ p ∷ placed)) (append_assoc before (p ∷ []) placed) (subst (Alike questions others ((before ++ p ∷ []) ++ placed)) (append_assoc other (p ∷ []) placed) rest)
 
-in_order_alike : (questions others : List QuestionAt) (before other placed : List Placed) → Alike questions others before other → ComeInOrder questions before placed → ComeInOrder others other placed
-in_order_alike questions others before other [] is order = tt
-in_order_alike questions others before other (p ∷ placed) is order =
-    (stands_alike questions others before other p.rr is order.0, in_order_alike questions others (before ++ p ∷ []) (other ++ p ∷ []) placed (alike_more questions others before other p is) order.1)
-
-answer_alike : (octets : List ℕ) (questions others : List QuestionAt) (before other : List Placed) (a : RecordAt) (fault : Fault) → Alike questions others before other → AnswerFault octets questions before a fault → AnswerFault octets others other a fault
-answer_alike octets questions others before other a fault is (own f) = own f
-answer_alike octets questions others before other a fault is (of_order r states f) = of_order r states (order_alike questions others before other r fault is f)
+give_alike : {number : ℕ} {octets : List ℕ} {questions : List QuestionAt} {before : List Placed} {answers : List RecordAt} {placed : List Placed} {stop : Option (Fault × ℕ)} (others : List QuestionAt) (other : List Placed) → Alike questions others before other → AnswersGive number octets questions before answers placed stop → AnswersGive number octets others other answers placed stop
+give_alike others other is no_more = no_more
+give_alike {questions = questions} {before = before} others other is (states {p = p} s place comes rest) =
+    states s place (stands_alike questions others before other p.rr is comes) (give_alike others (other ++ p ∷ []) (alike_more questions others before other p is) rest)
+give_alike others other is (refused (inl fault)) = refused (inl fault)
+give_alike {questions = questions} {before = before} others other is (refused {fault = fault} (inr bad)) = refused (inr (bad.0, bad.1, order_alike questions others before other bad.0 fault is bad.2))
 
 -- questions more
 zone_more : (asked other more : List QuestionAt) → zone_of asked [] ≡ zone_of other [] → zone_of (asked ++ more) [] ≡ zone_of (other ++ more) []
@@ -96,14 +88,16 @@ zone_more (q ∷ asked) (r ∷ other) more e = e
 
 module _ (before other : List StatedMessage) (is : AreAlike before other) where
   alike_answers : (questions : List QuestionAt) → Alike (asked_in before ++ questions) (asked_in other ++ questions) (placed_in before) (placed_in other)
-  alike_answers questions = record {
-    opening = is.opening;
-    closing = is.closing;
-    zone = λ e. zone_more (asked_in before) (asked_in other) questions (ap (zone_of (asked_in before)) (sym e) ∙ is.zone ∙ ap (zone_of (asked_in other)) (nothing_too (placed_in before) (placed_in other) is.opening e));
-  }
+  alike_answers questions =
+      let opening = ap (λ (k : StreamKept). k.opening) is in
+      record {
+        opening = opening;
+        closing = ap (λ (k : StreamKept). k.closed) is;
+        zone = λ e. zone_more (asked_in before) (asked_in other) questions (ap (zone_of (asked_in before)) (sym e) ∙ ap (λ (k : StreamKept). k.zone) is ∙ ap (zone_of (asked_in other)) (nothing_too (placed_in before) (placed_in other) opening e));
+      }
 
   id_alike : (s : Sections) → HasFirstId before s → HasFirstId other s
-  id_alike s has = by before other is.id has
+  id_alike s has = by before other (ap (λ (k : StreamKept). k.id) is) has
     where
       by : (xs ys : List StatedMessage) → first_id xs ≡ first_id ys → HasFirstId xs s → HasFirstId ys s
       by xs [] e h = tt
@@ -111,40 +105,23 @@ module _ (before other : List StatedMessage) (is : AreAlike before other) where
       by (x ∷ xs) (y ∷ ys) e h = let same : x.sections.id ≡ y.sections.id = cc in h ∙ same
 
   asks_alike : (s : Sections) → AskAfter before s → AskAfter other s
-  asks_alike s asks = subst (λ z. AllByRecursion (AsksIn z) s.questions) is.zone asks
+  asks_alike s asks = subst (λ (k : StreamKept). AllByRecursion (AsksIn k.zone) s.questions) is asks
 
-  message_alike : (octets : List ℕ) (s : Sections) → IsMessageAfter before octets s → IsMessageAfter other octets s
-  message_alike octets s m = record { message = m.message; same_id = id_alike s m.same_id; asks = asks_alike s m.asks }
+  give_after : (octets : List ℕ) (s : Sections) (placed : List Placed) (stop : Option (Fault × ℕ)) → GiveAfter before octets s placed stop → GiveAfter other octets s placed stop
+  give_after octets s placed stop give =
+      let questions = asked_in other ++ s.questions in
+      subst (λ (k : StreamKept). AnswersGive (k.messages + 1) octets questions (placed_in other) s.answers placed stop) is (give_alike questions (placed_in other) (alike_answers s.questions) give)
 
   pub read_alike : (p : StatedMessage) → IsReadAfter before p → IsReadAfter other p
-  read_alike p r = record {
-    message = message_alike p.octets p.sections r.message;
-    stated = subst (λ n. AnswersState (n + 1) p.octets p.sections.answers p.placed) is.count r.stated;
-    order = in_order_alike (asked_in before ++ p.sections.questions) (asked_in other ++ p.sections.questions) (placed_in before) (placed_in other) p.placed (alike_answers p.sections.questions) r.order;
-  }
-
-  first_fault_alike : (octets : List ℕ) (s : Sections) (placed : List Placed) (fault : Fault) (offset : ℕ) → FirstAnswerFault (length before + 1) octets (asked_in before ++ s.questions) (placed_in before) s.answers placed fault offset → FirstAnswerFault (length other + 1) octets (asked_in other ++ s.questions) (placed_in other) s.answers placed fault offset
-  first_fault_alike octets s placed fault offset f =
-      let alike = alike_answers s.questions in
-      record {
-        front = f.front;
-        answer = f.answer;
-        rest = f.rest;
-        parts = f.parts;
-        stated = subst (λ n. AnswersState (n + 1) octets f.front placed) is.count f.stated;
-        order = in_order_alike (asked_in before ++ s.questions) (asked_in other ++ s.questions) (placed_in before) (placed_in other) placed alike f.order;
-        next = answer_alike octets (asked_in before ++ s.questions) (asked_in other ++ s.questions) (placed_in before ++ placed) (placed_in other ++ placed) f.answer fault (alike_after (asked_in before ++ s.questions) (asked_in other ++ s.questions) (placed_in before) (placed_in other) placed alike) f.next;
-        start = f.start;
-      }
-
-alike_other : (before other : List StatedMessage) → AreAlike before other → AreAlike other before
-alike_other before other is = record { count = sym is.count; id = sym is.id; zone = sym is.zone; opening = sym is.opening; closing = sym is.closing }
+  read_alike p r =
+      let m = r.message in
+      record { message = record { message = m.message; same_id = id_alike p.sections m.same_id; asks = asks_alike p.sections m.asks }; gives = give_after p.octets p.sections p.placed None r.gives }
 
 pub fault_alike : (before other : List StatedMessage) (octets : List ℕ) (here : List Placed) (fault : Fault) (offset : ℕ) → AreAlike before other → FaultAfter before octets here fault offset → FaultAfter other octets here fault offset
-fault_alike before other octets here fault offset is (of_structure f o has) = of_structure f o has
-fault_alike before other octets here fault offset is (of_id s m none) = of_id s m (λ has. none (id_alike other before (alike_other before other is) s has))
-fault_alike before other octets here fault offset is (of_questions s m id none) = of_questions s m (id_alike before other is s id) (λ asks. none (asks_alike other before (alike_other before other is) s asks))
-fault_alike before other octets here fault offset is (of_answers s placed f o m next) = of_answers s placed f o (message_alike before other is octets s m) (first_fault_alike before other is octets s placed f o next)
+fault_alike before other octets here fault offset is (inl bad) = inl bad
+fault_alike before other octets here fault offset is (inr bad) =
+    let s = bad.0 in
+    inr (s, bad.1, unless_same (id_alike before other is s) (id_alike other before (sym is) s) (unless_same (asks_alike before other is s) (asks_alike other before (sym is) s) (give_after before other is octets s here (Some (fault, offset)))) bad.2)
 
 -- the zone stays that which is fixed
 zone_same : (name : List (List ℕ)) (class : ℕ) (z : ZoneAsked) → name ≡ z.name → class ≡ z.class → (let y : ZoneAsked = record { name = name; class = class } in y) ≡ z
@@ -174,20 +151,14 @@ id_grows [] (y ∷ ys) p e = cc
 id_grows (x ∷ xs) [] p e = cc
 id_grows (x ∷ xs) (y ∷ ys) p e = e
 
-asked_more : (before : List StatedMessage) (p : StatedMessage) → asked_in before ++ p.sections.questions ≡ asked_in (before ++ p ∷ [])
-asked_more before p = sym (asked_grow before p.sections) ∙ ap (flat_map (λ (t : Sections). t.questions)) (sections_grow before p)
-
 -- messages that are alike stay so after one more
 pub alike_grows : (before other : List StatedMessage) (p : StatedMessage) → AreAlike before other → IsReadAfter before p → AreAlike (before ++ p ∷ []) (other ++ p ∷ [])
 alike_grows before other p is read =
     let questions = p.sections.questions in
     let records = alike_after (asked_in before ++ questions) (asked_in other ++ questions) (placed_in before) (placed_in other) p.placed (alike_answers before other is questions) in
-    record {
-      count = length-append before (p ∷ []) ∙ ap (λ n. n + 1) is.count ∙ sym (length-append other (p ∷ []));
-      id = id_grows before other p is.id;
-      zone = sym (ap (λ q. zone_of q (placed_in (before ++ p ∷ []))) (asked_more before p)) ∙ sym (ap (zone_of (asked_in before ++ questions)) (placed_grow before p))
-          ∙ zone_grows (asked_in before) (asked_in other) questions (placed_in before) (placed_in other) p.placed (zone_of (asked_in before) (placed_in before)) refl (sym is.zone) read.message.asks
-          ∙ ap (zone_of (asked_in other ++ questions)) (placed_grow other p) ∙ ap (λ q. zone_of q (placed_in (other ++ p ∷ []))) (asked_more other p);
-      opening = sym (ap opening_of (placed_grow before p)) ∙ records.opening ∙ ap opening_of (placed_grow other p);
-      closing = sym (ap is_closed (placed_grow before p)) ∙ records.closing ∙ ap is_closed (placed_grow other p);
-    }
+    let count : length (before ++ p ∷ []) ≡ length (other ++ p ∷ []) = length-append before (p ∷ []) ∙ ap (λ (k : StreamKept). k.messages + 1) is ∙ sym (length-append other (p ∷ [])) in
+    let id = id_grows before other p (ap (λ (k : StreamKept). k.id) is) in
+    let zone = zone_grows (asked_in before) (asked_in other) questions (placed_in before) (placed_in other) p.placed (zone_of (asked_in before) (placed_in before)) refl (sym (ap (λ (k : StreamKept). k.zone) is)) read.message.asks in
+    let opening = records.opening in
+    let closing = records.closing in
+    cc (asked_grow before p, asked_grow other p, placed_grow before p, placed_grow other p)

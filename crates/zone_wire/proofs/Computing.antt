@@ -1,22 +1,25 @@
 -- Names and walks that compute.
-use Rattle.std.proofs.Common.{◌≡◌, ℕ, zero, suc, ◌+◌, ◌<◌, ◌≤◌, ◌++◌, length, nat_le, Bool, true, ◌&&◌, nat_lt, List, [], ◌∷◌, lit<, refl, ap, sym}
+use Rattle.std.proofs.Common.{◌≡◌, ℕ, zero, suc, ◌+◌, ◌<◌, ◌≤◌, ◌++◌, length, nat_le, Bool, true, ◌&&◌, nat_lt, List, [], ◌∷◌, lit<, refl, subst}
 use Rattle.std.specs.Prelude.{get_or, Option}
-use Rattle.std.specs.List.{flat_map, AllByRecursion, list_all}
+use Rattle.std.specs.List.{flat_map, list_all}
+use Rattle.std.specs.Option.{option_or}
 use Rattle.std.proofs.lemmas.Bool.{and_parts, ltb-true, leb-true}
 use Rattle.zone_rdata.specs.declared.fault.Fault.{Fault}
 use Rattle.zone_rdata.specs.declared.fault.Place.{Place}
 use Rattle.zone_wire.specs.Machine.Answers.{Answered}
 use Rattle.zone_wire.specs.Message.{u16_at}
-use Rattle.zone_wire.specs.Machine.Stream.{stream_records, ending_of}
+use Rattle.zone_wire.specs.Machine.Stream.{stream_records}
 use Rattle.zone_wire.specs.Answers.{handed_on}
-use Rattle.zone_wire.specs.Stream.{StreamReads}
+use Rattle.zone_wire.specs.Stream.{end_fault, StreamReads}
+use Rattle.zone_wire.specs.Frames.{IsFramed}
 use Rattle.zone_wire.specs.Transfer.{frame}
 use Rattle.zone_wire.specs.Name.{Found, IsNameAt}
 use Rattle.zone_wire.specs.Machine.Finding.{named, outcome}
 use Rattle.zone_wire.specs.Walk.{ending}
 use Rattle.zone_wire.specs.Machine.Walk.{walk}
 use Rattle.zone_wire.specs.Examples.{after_zeros, WalkEnds}
-use Rattle.zone_wire.proofs.GivenStreams.{stream_shows}
+use Rattle.zone_wire.proofs.Conditions.{all_by}
+use Rattle.zone_wire.proofs.GivenStreams.{stream_decides}
 use Rattle.zone_wire.proofs.Walking.{walk_names}
 use Rattle.zone_wire.proofs.WholeWalks.{walk_is}
 
@@ -37,12 +40,9 @@ name_computes message offset found octets e = walk_names message offset found (o
 pub walk_computes : (octets : List ℕ) (offset : ℕ) (fault : Option Fault) (places : ℕ) → ending (walk (after_zeros octets) offset) ≡ fault → length (walk (after_zeros octets) offset) ≡ places → WalkEnds octets offset fault places
 walk_computes octets offset fault places ends count = record { visits = walk (after_zeros octets) offset; walk = walk_is (after_zeros octets) offset _ refl; ends = ends; count = count }
 
-all_short : (messages : List (List ℕ)) → list_all (λ octets. nat_le (length octets) 65535) messages ≡ true → AllByRecursion (λ octets. length octets ≤ 65535) messages
-all_short [] e = tt
-all_short (octets ∷ messages) e = let parts = and_parts (nat_le (length octets) 65535) (list_all (λ octets. nat_le (length octets) 65535) messages) e in (leb-true (length octets) 65535 parts.0, all_short messages parts.1)
-
 -- what a stream is read as, by computing
-pub reads : (messages : List (List ℕ)) (rest : List ℕ) (answered : Answered (Fault × Place)) → list_all (λ octets. nat_le (length octets) 65535) messages ≡ true → nat_lt (length rest) (2 + u16_at rest 0) ≡ true → all_octets (flat_map frame messages ++ rest) ≡ true → stream_records [] [] messages ≡ answered → StreamReads (flat_map frame messages ++ rest) (handed_on answered.placed) (ending_of (length messages + 1) answered rest)
+pub reads : (messages : List (List ℕ)) (rest : List ℕ) (answered : Answered (Fault × Place)) → list_all (λ octets. nat_le (length octets) 65535) messages ≡ true → nat_lt (length rest) (2 + u16_at rest 0) ≡ true → all_octets (flat_map frame messages ++ rest) ≡ true → stream_records [] messages ≡ answered → StreamReads (flat_map frame messages ++ rest) (handed_on answered.placed) (option_or answered.fault (end_fault (length messages + 1) answered.placed rest))
 reads messages rest answered short cut octets e =
-    stream_shows (flat_map frame messages ++ rest) (octets_below (flat_map frame messages ++ rest) octets) _ _
-    (record { messages = messages; rest = rest; framed = record { whole = refl; short = all_short messages short; cut = ltb-true _ _ cut }; stated = ap (λ a. handed_on a.placed) (sym e); ends = ap (λ a. ending_of (length messages + 1) a rest) (sym e) })
+    let framed : IsFramed (flat_map frame messages ++ rest) messages rest = record { whole = refl; short = all_by (λ octets. length octets ≤ 65535) _ (λ octets. leb-true (length octets) 65535) messages short; cut = ltb-true _ _ cut } in
+    subst (λ (a : Answered (Fault × Place)). StreamReads (flat_map frame messages ++ rest) (handed_on a.placed) (option_or a.fault (end_fault (length messages + 1) a.placed rest))) e
+    (record { first = _; frames = stream_decides _ (octets_below _ octets) messages rest framed; ends = refl })

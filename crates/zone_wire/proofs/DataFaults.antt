@@ -21,7 +21,7 @@ use Rattle.zone_wire.specs.Machine.Walk.{walk}
 use Rattle.zone_wire.specs.Message.{RecordAt}
 use Rattle.zone_wire.specs.Transfer.{octets_between, IsDataAt}
 use Rattle.zone_wire.proofs.Fielding.{value_reads, data_reads}
-use Rattle.zone_wire.proofs.MessageFaults.{err_same, fails, stops, and_then_err, name_refused, name_refuses}
+use Rattle.zone_wire.proofs.MessageFaults.{err_same, fails_test, stops, and_then_err, name_refused, name_refuses}
 use Rattle.zone_wire.proofs.ReadFields.{value_shows, data_shown}
 use Rattle.zone_wire.proofs.ReadSections.{passes}
 use Rattle.zone_wire.proofs.Sectioning.{and_then_ok}
@@ -48,17 +48,17 @@ module _ (octets : List ℕ) (each : (k : ℕ) → get_or octets k 0 < 256) (end
   name_fault : (start : ℕ) (o : Outcome) (fault : Fault) → outcome octets (walk octets start) ≡ o → name_before end o ≡ Err fault → FieldFault octets end Name start fault
   name_fault start (refused f steps) fault is e = inl (name_refused octets start fault steps (is ∙ ap (λ x. refused x steps) (err_same f fault e)))
   name_fault start (named found) fault is e =
-      let f = fails (nat_le found.end end) (name found.labels, found.end) BadRdata fault e in
+      let f = fails_test (nat_le found.end end) (name found.labels, found.end) BadRdata fault e in
       inr (sym f.1, found, walk_names octets start found each is, leb-false _ _ f.0)
 
   no_value : (start : ℕ) (field : Field) (fault : Fault) → value_at octets end start field ≡ Err fault → (past : ℕ) (value : FieldValue) → IsFieldAt octets end field start past value → ⊥
   no_value start field fault e past value h = let is = value_is start past field value h in cc
 
   sized_fault : (start : ℕ) (field : Field) (size : ℕ) (fault : Fault) → sized_before octets end start field size ≡ Err fault → fault ≡ BadRdata
-  sized_fault start field size fault e = sym (fails (nat_le (start + size) end) (field_at field (octets_between octets start (start + size)), start + size) BadRdata fault e).1
+  sized_fault start field size fault e = sym (fails_test (nat_le (start + size) end) (field_at field (octets_between octets start (start + size)), start + size) BadRdata fault e).1
 
   strings_fault : (bs : List ℕ) (fault : Fault) → strings_before end bs ≡ Err fault → fault ≡ BadRdata
-  strings_fault bs fault e = sym (fails (nat_lt 0 (length bs) && pointwise nat_eq (flat_map with_length (strings_of bs)) bs) (strings (strings_of bs), end) BadRdata fault e).1
+  strings_fault bs fault e = sym (fails_test (nat_lt 0 (length bs) && pointwise nat_eq (flat_map with_length (strings_of bs)) bs) (strings (strings_of bs), end) BadRdata fault e).1
 
   -- where a field has no value, this is why
   pub field_faults : (start : ℕ) (field : Field) (fault : Fault) → value_at octets end start field ≡ Err fault → FieldFault octets end field start fault
@@ -94,7 +94,7 @@ module _ (octets : List ℕ) (each : (k : ℕ) → get_or octets k 0 < 256) (end
   -- the first of fields that has no value
   pub values_fault : (fields : List Field) (start : ℕ) (fault : Fault) → values_at octets end start fields ≡ Err fault → FieldsFault octets end fields start fault
   values_fault [] start fault e =
-      let f = fails (start == end) (let vs : List FieldValue = [] in vs) BadRdata fault e in
+      let f = fails_test (start == end) (let vs : List FieldValue = [] in vs) BadRdata fault e in
       (sym f.1, λ same. let yes : (start == end) ≡ true = eq-eqb start end same in let no = f.0 in cc)
   values_fault (field ∷ fields) start fault e =
       elim (stops (value_at octets end start field) _ fault e) [

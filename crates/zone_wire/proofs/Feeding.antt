@@ -1,9 +1,9 @@
 -- What is decided of a stream by one frame more, by octets that end inside a frame, and by the
 -- stream's end.
-use Rattle.std.proofs.Common.{◌≡◌, ℕ, zero, suc, ◌+◌, ◌-◌, ◌*◌, ◌/◌, ◌%◌, ◌<◌, ◌≤◌, List, [], ◌∷◌, ◌++◌, length, refl, ap, sym, ◌∙◌, subst, false, arith, append_assoc, length-append, lit<}
-use Rattle.std.specs.Prelude.{get_or, take, drop, Option, Some, None, IfSome, MatchOption}
+use Rattle.std.proofs.Common.{◌≡◌, ℕ, ◌+◌, ◌-◌, ◌*◌, ◌/◌, ◌%◌, ◌<◌, ◌≤◌, List, [], ◌∷◌, ◌++◌, length, refl, ap, sym, ◌∙◌, subst, false, arith, append_assoc, length-append, lit<}
+use Rattle.std.specs.Prelude.{take, drop, Option, Some, None, IfSome, MatchOption}
 use Rattle.std.specs.List.{flat_map}
-use Rattle.std.proofs.lemmas.List.{append-nil, length-map, length-take-le, length-drop, take-append-drop}
+use Rattle.std.proofs.lemmas.List.{append-nil, length-map, map-append, length-take-le, length-drop, take-append-drop}
 use Rattle.std.proofs.lemmas.List.Concat.{flat_map-append}
 use Rattle.zone_rdata.proofs.Bytes.{Bytes, bytes_append}
 use Rattle.zone_rdata.specs.FedSource.{is_failed, is_finished, SourceState}
@@ -19,11 +19,12 @@ use Rattle.zone_wire.specs.Machine.Feeding.{IsCut, Going, Follow}
 use Rattle.zone_wire.specs.Machine.Transferring.{zone_held, IsAfter, ReadsNext, TakesWhole, StopsIn}
 use Rattle.zone_wire.specs.Message.{u16_at}
 use Rattle.zone_wire.specs.TransferSource.{StandsForStream, StreamKept, StreamLeaves}
-use Rattle.zone_wire.specs.Stream.{octets_in, placed_in, IsReadAfter, AreRead, StreamDecides, StreamReads, StreamEnd}
+use Rattle.zone_wire.specs.Stream.{octets_in, placed_in, IsReadAfter, AreRead, ReadAfter, stops, end_fault, StreamDecides, StreamReads}
 use Rattle.zone_wire.specs.Transfer.{StatedMessage, frame}
 use Rattle.zone_wire.specs.declared.framer.Framer.{Framer}
 use Rattle.zone_wire.specs.declared.transfer.Transfer.{Transfer}
 use Rattle.zone_wire.proofs.Accepting.{all_append}
+use Rattle.zone_wire.proofs.GivenMessages.{reads_all, reads_up_to}
 use Rattle.zone_wire.proofs.Streams.{one_decision, fault_stays, fault_is_read, some_decision, some_reading}
 
 -- octets of the length that they begin with are a frame
@@ -49,15 +50,11 @@ read_append : (before parts : List StatedMessage) (p : StatedMessage) → AreRea
 read_append before [] p are is = (subst (λ b. IsReadAfter b p) (append-nil before) is, tt)
 read_append before (q ∷ parts) p are is = (are.0, read_append (before ++ q ∷ []) parts p are.1 (subst (λ b. IsReadAfter b p) (sym (append_assoc before (q ∷ []) parts)) is))
 
-octets_append : (parts : List StatedMessage) (p : StatedMessage) → octets_in (parts ++ p ∷ []) ≡ octets_in parts ++ p.octets ∷ []
-octets_append [] p = refl
-octets_append (q ∷ parts) p = ap (λ x. q.octets ∷ x) (octets_append parts p)
-
 -- one frame more, without a fault or with one
 going_on : (old new : Transfer) (unfinished fed front octets : List ℕ) (given : List Placed) → (g : Going old unfinished fed given) → unfinished ++ front ≡ frame octets → length octets ≤ 65535 → TakesWhole octets g.parts old new → Going new [] (fed ++ front) given
 going_on old new unfinished fed front octets given g e short w = record {
   parts = g.parts ++ w.part ∷ [];
-  framed = subst (λ (ms : List (List ℕ)). IsFramed (fed ++ front) ms []) (ap (λ (m : List ℕ). octets_in g.parts ++ m ∷ []) (sym w.octets_are) ∙ sym (octets_append g.parts w.part)) (framed_more fed front octets unfinished (octets_in g.parts) g.framed e short);
+  framed = subst (λ (ms : List (List ℕ)). IsFramed (fed ++ front) ms []) (ap (λ (m : List ℕ). octets_in g.parts ++ m ∷ []) (sym w.octets_are) ∙ sym (map-append (λ (p : StatedMessage). p.octets) g.parts (w.part ∷ []))) (framed_more fed front octets unfinished (octets_in g.parts) g.framed e short);
   read = read_append [] g.parts w.part g.read w.read;
   after = w.after;
   handed = w.handed given g.handed;
@@ -69,7 +66,7 @@ stopped old new unfinished fed front octets given g e short f offset s place = r
   rest = [];
   framed = framed_more fed front octets unfinished (octets_in g.parts) g.framed e short;
   all = placed_in g.parts ++ s.here;
-  read = record { parts = g.parts; octets = octets; rest = []; here = s.here; fault = f.0; offset = offset; read = g.read; next = s.next; whole = refl; stated = refl; place = ap (λ (p : Place). (f.0, p)) place };
+  read = subst (λ (p : Place). ReadAfter [] (octets_in g.parts ++ octets ∷ []) (placed_in g.parts ++ s.here) (Some (f.0, p))) (sym place) (reads_up_to [] g.parts (octets ∷ []) s.here _ g.read (stops s.next));
   stated = s.handed given g.handed;
 }
 
@@ -117,21 +114,6 @@ after_fault t unfinished other fed more given some each follow = record {
   state = faulted_state t unfinished other fed more given t.decided.ending some (bytes_append fed more follow.octets each) follow.state;
 }
 
--- the end of the stream after frames without a fault
-pub ends_with : (t : Transfer) (unfinished fed : List ℕ) (given : List Placed) (ending : Option (Fault × Place)) → (g : Going t unfinished fed given) → StreamEnd (length g.parts + 1) (placed_in g.parts) unfinished ending → StreamReads fed (given ++ t.decided.placed) ending
-ends_with t unfinished fed given ending g end = record {
-  first = None;
-  frames = record {
-    messages = octets_in g.parts;
-    rest = unfinished;
-    framed = g.framed;
-    all = placed_in g.parts;
-    read = record { parts = g.parts; read = g.read; whole = refl; stated = refl };
-    stated = g.handed;
-  };
-  ends = subst (λ n. StreamEnd (n + 1) (placed_in g.parts) unfinished ending) (sym (length-map g.parts (λ (p : StatedMessage). p.octets))) end;
-}
-
 -- the end of the stream after a fault
 pub ends_after_fault : (t : Transfer) (unfinished fed : List ℕ) (given : List Placed) → (t.decided.ending ≡ None → ⊥) → Follow t unfinished fed given → StreamReads fed (given ++ t.decided.placed) t.decided.ending
 ends_after_fault t unfinished fed given some follow = by t.decided.ending some follow.state
@@ -154,10 +136,22 @@ pub record FedSoFar (piece rest : List ℕ) (old new : Framer) : Type 0 where
   pub same : IfSome old.transfer.decided.ending (λ _. new ≡ old)
   pub follow : (fed : List ℕ) (given : List Placed) → Follow old.transfer old.unfinished.items fed given → Follow new.transfer new.unfinished.items (fed ++ front) given
 
-pub finishes : (t : Transfer) (unfinished fed : List ℕ) (given : List Placed) (ending : Option (Fault × Place)) → t.decided.ending ≡ None → ((placed : List Placed) → t.closed ≡ is_closed placed → StreamEnd (t.messages + 1) placed unfinished ending) → Follow t unfinished fed given → StreamReads fed (given ++ t.decided.placed) ending
+-- the end of the stream after frames without a fault
+pub finishes : (t : Transfer) (unfinished fed : List ℕ) (given : List Placed) (ending : Option (Fault × Place)) → t.decided.ending ≡ None → ((placed : List Placed) → t.closed ≡ is_closed placed → ending ≡ end_fault (t.messages + 1) placed unfinished) → Follow t unfinished fed given → StreamReads fed (given ++ t.decided.placed) ending
 finishes t unfinished fed given ending going ends follow =
     let g = still_going t unfinished fed given t.decided.ending going follow.state in
-    ends_with t unfinished fed given ending g (subst (λ n. StreamEnd (n + 1) (placed_in g.parts) unfinished ending) g.after.count (ends (placed_in g.parts) g.after.among.closed))
+    record {
+      first = None;
+      frames = record {
+        messages = octets_in g.parts;
+        rest = unfinished;
+        framed = g.framed;
+        all = placed_in g.parts;
+        read = reads_all [] g.parts g.read;
+        stated = g.handed;
+      };
+      ends = ends (placed_in g.parts) g.after.among.closed ∙ ap (λ n. end_fault (n + 1) (placed_in g.parts) unfinished) (g.after.count ∙ sym (length-map g.parts (λ (p : StatedMessage). p.octets)));
+    }
 
 pub fed_more : (piece rest : List ℕ) (taken : ℕ) (old mid new : Framer) → Bytes piece → (s : FedSoFar piece rest old mid) → mid.transfer.decided.ending ≡ None → 0 < taken → taken ≤ length rest → IsCut new.unfinished.items → IfSome new.transfer.decided.ending (λ _. new.unfinished.items ≡ []) → new.transfer.messages ≤ mid.transfer.messages + 1
     → ((fed : List ℕ) (given : List Placed) → Follow mid.transfer mid.unfinished.items fed given → Follow new.transfer new.unfinished.items (fed ++ take taken rest) given) → FedSoFar piece (drop taken rest) old new
@@ -193,11 +187,14 @@ pub empty_of : {X : Type 0} (xs : List X) → length xs ≡ 0 → xs ≡ []
 empty_of [] e = refl
 empty_of (x ∷ xs) e = absurd (omega (arith, e))
 
+abbrev kept_in : Transfer → StreamKept
+kept_in t = record { messages = t.messages; id = t.id; zone = zone_held t.zone; opening = t.opening; closed = t.closed }
+
 -- a source as it holds this
 abbrev pub source_of : FedStatus → ℕ → Transfer → List ℕ → SourceState StreamKept
 source_of status count t unfinished = record {
   pending = record { failed = is_failed status; records = t.decided.placed; ending = t.decided.ending };
-  held = record { finished = is_finished status; fed = count; kept = record { messages = t.messages; id = t.id; zone = zone_held t.zone; opening = t.opening; closed = t.closed }; unfinished = unfinished };
+  held = record { finished = is_finished status; fed = count; kept = kept_in t; unfinished = unfinished };
 }
 
 decided_by : (fed unfinished : List ℕ) (parts : List StatedMessage) → IsFramed fed (octets_in parts) unfinished → AreRead [] parts → StreamDecides fed (handed_on (placed_in parts)) None
@@ -206,7 +203,7 @@ decided_by fed unfinished parts framed read = record {
   rest = unfinished;
   framed = framed;
   all = placed_in parts;
-  read = record { parts = parts; read = read; whole = refl; stated = refl };
+  read = reads_all [] parts read;
   stated = refl;
 }
 
@@ -222,7 +219,7 @@ stands_follow status count t unfinished fed given going stands = record { octets
           parts = l.parts;
           framed = l.framed;
           read = l.read;
-          after = record { count = l.number; id = l.id; among = record { zone = l.zone; opening = l.opening; closed = l.closed } };
+          after = (let k = l.kept_is in record { count = ap (λ (x : StreamKept). x.messages) k; id = ap (λ (x : StreamKept). x.id) k; among = record { zone = ap (λ (x : StreamKept). x.zone) k; opening = ap (λ (x : StreamKept). x.opening) k; closed = ap (λ (x : StreamKept). x.closed) k } });
           handed = (one_decision fed (given ++ t.decided.placed) (handed_on (placed_in l.parts)) None None decided (decided_by fed unfinished l.parts l.framed l.read)).0;
         }
     by (Some f) e = subst (λ o. StreamDecides fed (given ++ t.decided.placed) o) e (stands.decided going)
@@ -246,11 +243,7 @@ follow_stands status count t unfinished fed given works going counted follow = r
       parts = g.parts;
       framed = g.framed;
       read = g.read;
-      number = g.after.count;
-      id = g.after.id;
-      zone = g.after.among.zone;
-      opening = g.after.among.opening;
-      closed = g.after.among.closed;
+      kept_is = (let a = g.after in cc);
     }
 
 pub finished_stands : (count : ℕ) (t : Transfer) (unfinished fed : List ℕ) (given : List Placed) → Bytes fed → count ≡ length fed → StreamReads fed (given ++ t.decided.placed) t.decided.ending → StandsForStream (source_of Finished count t unfinished) fed given

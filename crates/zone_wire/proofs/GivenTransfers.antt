@@ -2,24 +2,27 @@
 use Rattle.std.proofs.Common.{◌≡◌, ℕ, ◌+◌, List, [], ◌∷◌, ◌++◌, length, refl, ap, sym, ◌∙◌, subst, true, arith, length-append, lit<}
 use Rattle.std.specs.Prelude.{None}
 use Rattle.std.specs.List.{flat_map, AllByRecursion, list_any}
-use Rattle.std.proofs.lemmas.Bool.{eq-eqb, or_left, or_right}
+use Rattle.std.proofs.lemmas.Bool.{cond-true, eq-eqb, or_left, or_right}
 use Rattle.std.proofs.lemmas.List.{append-nil}
 use Rattle.zone_rdata.specs.Record.{Record}
 use Rattle.zone_rdata.specs.declared.record.Placed.{Placed}
-use Rattle.zone_wire.specs.Answers.{zone_of, is_closed, handed_on, ComeInOrder}
-use Rattle.zone_wire.specs.Message.{QuestionAt, Sections}
-use Rattle.zone_wire.specs.Stream.{octets_in, asked_in, placed_in, HasFirstId, AsksIn, IsReadAfter, AreRead, closed, StreamReads}
+use Rattle.zone_wire.specs.AnswerFault.{AnswersGive, no_more, states}
+use Rattle.zone_wire.specs.Answers.{zone_of, is_closed, handed_on}
+use Rattle.zone_wire.specs.Message.{QuestionAt, RecordAt, Sections}
+use Rattle.zone_wire.specs.Stream.{octets_in, asked_in, placed_in, HasFirstId, AsksIn, IsReadAfter, ReadAfter, whole, reads, StreamReads}
 use Rattle.zone_wire.specs.Transfer.{StatedMessage, IsStatedMessage, AreStatedMessages, AsksFor, AnswersState, frame, StreamStates}
 use Rattle.zone_wire.proofs.Accepting.{all_append, in_order_parts, opens_more, any_append, rest_in_order, framed_parts, short_parts, handed_transfer}
 use Rattle.zone_wire.proofs.AnswerFaults.{agrees_by, order_stands}
 use Rattle.zone_wire.proofs.Answering.{OpensWith, zone_agrees, is_soa, InOrder, order_is_kept}
-use Rattle.zone_wire.proofs.GivenMessages.{placed_grow, sections_grow, asked_grow}
+use Rattle.zone_wire.proofs.GivenMessages.{placed_grow, asked_grow}
 
--- records in the order of a transfer
-stand_in_order : (zone : Record) (questions : List QuestionAt) (before placed : List Placed) → AllByRecursion (AsksFor zone) questions → InOrder zone before placed → ComeInOrder questions before placed
-stand_in_order zone questions before [] ask order = tt
-stand_in_order zone questions before (p ∷ placed) ask order =
-    (order_stands questions before p.rr (order_is_kept zone questions before p ask order.0), stand_in_order zone questions (before ++ p ∷ []) placed ask order.1)
+-- answers that state records in the order of a transfer
+give_in_order : (zone : Record) (number : ℕ) (octets : List ℕ) (questions : List QuestionAt) (before : List Placed) (answers : List RecordAt) (placed : List Placed) → AllByRecursion (AsksFor zone) questions → AnswersState number octets answers placed → InOrder zone before placed → AnswersGive number octets questions before answers placed None
+give_in_order zone number octets questions before [] [] ask is order = no_more
+give_in_order zone number octets questions before [] (p ∷ placed) ask is order = absurd is
+give_in_order zone number octets questions before (a ∷ answers) [] ask is order = absurd is
+give_in_order zone number octets questions before (a ∷ answers) (p ∷ placed) ask is order =
+    states is.0 is.1 (order_stands questions before p.rr (order_is_kept zone questions before p ask order.0)) (give_in_order zone number octets questions (before ++ p ∷ []) answers placed ask is.2 order.1)
 
 first_id : (id : ℕ) (before : List StatedMessage) (s : Sections) → AllByRecursion (λ (p : StatedMessage). p.sections.id ≡ id) before → s.id ≡ id → HasFirstId before s
 first_id id [] s each e = tt
@@ -34,24 +37,22 @@ asks_in zone before placed (q ∷ questions) asked opens ask =
 stated_is_read : (id : ℕ) (zone : Record) (number : ℕ) (before : List StatedMessage) (p : StatedMessage) → number ≡ length before + 1 → IsStatedMessage id zone number p → AllByRecursion (λ (q : StatedMessage). q.sections.id ≡ id) before → AllByRecursion (AsksFor zone) (asked_in before) → OpensWith zone (placed_in before) → InOrder zone (placed_in before) p.placed → IsReadAfter before p
 stated_is_read id zone number before p count is ids asked opens order = record {
   message = record { message = is.message; same_id = first_id id before p.sections ids is.same_id; asks = asks_in zone (asked_in before) (placed_in before) p.sections.questions asked opens is.questions };
-  stated = subst (λ n. AnswersState n p.octets p.sections.answers p.placed) count is.answers;
-  order = stand_in_order zone (asked_in before ++ p.sections.questions) (placed_in before) p.placed (all_append (AsksFor zone) (asked_in before) p.sections.questions asked is.questions) order;
+  gives = give_in_order zone (length before + 1) p.octets (asked_in before ++ p.sections.questions) (placed_in before) p.sections.answers p.placed (all_append (AsksFor zone) (asked_in before) p.sections.questions asked is.questions) (subst (λ n. AnswersState n p.octets p.sections.answers p.placed) count is.answers) order;
 }
 
-parts_are_read : (id : ℕ) (zone : Record) (parts before : List StatedMessage) (number : ℕ) → number ≡ length before + 1 → AreStatedMessages id zone number parts → AllByRecursion (λ (q : StatedMessage). q.sections.id ≡ id) before → AllByRecursion (AsksFor zone) (asked_in before) → OpensWith zone (placed_in before) → InOrder zone (placed_in before) (placed_in parts) → AreRead before parts
-parts_are_read id zone [] before number count are ids asked opens order = tt
+parts_are_read : (id : ℕ) (zone : Record) (parts before : List StatedMessage) (number : ℕ) → number ≡ length before + 1 → AreStatedMessages id zone number parts → AllByRecursion (λ (q : StatedMessage). q.sections.id ≡ id) before → AllByRecursion (AsksFor zone) (asked_in before) → OpensWith zone (placed_in before) → InOrder zone (placed_in before) (placed_in parts) → ReadAfter before (octets_in parts) (placed_in parts) None
+parts_are_read id zone [] before number count are ids asked opens order = whole
 parts_are_read id zone (p ∷ parts) before number count are ids asked opens order =
     let orders = in_order_parts zone (placed_in before) p.placed (placed_in parts) order in
     let s = p.sections in
-    let questions : asked_in before ++ s.questions ≡ asked_in (before ++ p ∷ []) = sym (asked_grow before s) ∙ ap (flat_map (λ (t : Sections). t.questions)) (sections_grow before p) in
-    let placed = placed_grow before p in (
-      stated_is_read id zone number before p count are.0 ids asked opens orders.0,
-      parts_are_read id zone parts (before ++ p ∷ []) (number + 1) (omega (arith, count, length-append before (p ∷ []))) are.1
-          (all_append (λ (q : StatedMessage). q.sections.id ≡ id) before (p ∷ []) ids (are.0.same_id, tt))
-          (subst (AllByRecursion (AsksFor zone)) questions (all_append (AsksFor zone) (asked_in before) s.questions asked are.0.questions))
-          (subst (OpensWith zone) placed (opens_more zone (placed_in before) p.placed opens orders.0))
-          (subst (λ x. InOrder zone x (placed_in parts)) placed orders.1),
-    )
+    let questions = asked_grow before p in
+    let placed = placed_grow before p in
+    reads (stated_is_read id zone number before p count are.0 ids asked opens orders.0)
+    (parts_are_read id zone parts (before ++ p ∷ []) (number + 1) (omega (arith, count, length-append before (p ∷ []))) are.1
+    (all_append (λ (q : StatedMessage). q.sections.id ≡ id) before (p ∷ []) ids (are.0.same_id, tt))
+    (subst (AllByRecursion (AsksFor zone)) questions (all_append (AsksFor zone) (asked_in before) s.questions asked are.0.questions))
+    (subst (OpensWith zone) placed (opens_more zone (placed_in before) p.placed opens orders.0))
+    (subst (λ x. InOrder zone x (placed_in parts)) placed orders.1))
 
 -- a transfer is read as its records
 pub transfer_reads : (stream : List ℕ) (placed : List Placed) → StreamStates stream placed → StreamReads stream placed None
@@ -70,8 +71,8 @@ transfer_reads stream placed s =
         rest = [];
         framed = record { whole = s.framed ∙ framed_parts s.parts ∙ sym (append-nil (flat_map frame (octets_in s.parts))); short = short_parts s.id s.opening.rr 1 s.parts s.each; cut = lit< tt };
         all = all;
-        read = record { parts = s.parts; read = read; whole = refl; stated = sym s.answers };
+        read = subst (λ x. ReadAfter [] (octets_in s.parts) x None) s.answers read;
         stated = s.stated ∙ sym kept;
       };
-      ends = closed refl last;
+      ends = sym (cond-true _ _ _ last);
     }

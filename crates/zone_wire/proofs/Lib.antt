@@ -4,6 +4,7 @@ pub mod AnswerFaults
 pub mod Answering
 pub mod Carrying
 pub mod Computing
+pub mod Conditions
 pub mod DataFaults
 pub mod DataReading
 pub mod Ends

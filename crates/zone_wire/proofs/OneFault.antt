@@ -1,46 +1,28 @@
 -- Data and answers have one first fault, and none where they have a value.
-use Rattle.std.proofs.Common.{◌≡◌, ℕ, ◌<◌, ◌≤◌, List, [], ◌∷◌, length, refl, ap, sym, ◌∙◌, subst, Bool, true, false, nat_eq, nat_lt, inl, inr, arith}
-use Rattle.std.specs.Prelude.{◌&&◌, ◌⊎◌, not, Option, Some, None, MatchOption, if◌then◌else◌}
-use Rattle.std.specs.List.{list_any}
-use Rattle.std.proofs.lemmas.Bool.{cond-true, cond-false, and_parts, and_from, ltb-true, lt-ltb, not-true, false_from_ne_true, true_from_ne_false}
+use Rattle.std.proofs.Common.{◌≡◌, ℕ, ◌<◌, ◌≤◌, List, [], ◌∷◌, length, refl, ap, sym, ◌∙◌, subst, inl, inr, arith}
+use Rattle.std.specs.Prelude.{Option, Some, None, MatchOption}
 use Rattle.zone_rdata.specs.Field.{FieldValue, name, HoldEach}
 use Rattle.zone_rdata.specs.Layout.{layout, StringsLast}
 use Rattle.zone_rdata.specs.Record.{Record}
-use Rattle.zone_rdata.specs.Words.{IsClass, IsKind, is_meta}
+use Rattle.zone_rdata.specs.Words.{IsClass, IsKind}
 use Rattle.zone_rdata.specs.declared.fault.Fault.{Fault}
-use Rattle.zone_rdata.specs.declared.fault.Fault.TheVariants.{BadRdata, BadClass, MetaType, CompressibleType}
+use Rattle.zone_rdata.specs.declared.fault.Fault.TheVariants.{BadRdata}
 use Rattle.zone_rdata.specs.declared.field.Field.{Field}
 use Rattle.zone_rdata.specs.declared.field.Field.TheVariants.{Name, Serial, Time, U16, Octets, OneString, Strings}
 use Rattle.zone_rdata.specs.declared.record.Placed.{Placed}
 use Rattle.zone_rdata.proofs.Tables.{table_row}
-use Rattle.zone_wire.specs.AnswerFault.{OwnFault, of_class, of_kind, unread, of_data, AnswerFault, own, of_order}
+use Rattle.zone_wire.specs.AnswerFault.{OwnFault, OrderFault, AnswerFault}
 use Rattle.zone_wire.specs.Answers.{ComesAfter}
 use Rattle.zone_wire.specs.DataFault.{IsFieldAt, FieldFault, FieldsFault, DataFault}
-use Rattle.zone_wire.specs.Machine.Answers.{is_no_class, order_fault}
 use Rattle.zone_wire.specs.Message.{QuestionAt, RecordAt}
 use Rattle.zone_wire.specs.Name.{Found, IsNameAt}
-use Rattle.zone_wire.specs.Transfer.{octets_between, AreValuesAt, AreFieldsAt, IsDataAt, compressible, IsReadable, AnswerStates}
+use Rattle.zone_wire.specs.Transfer.{octets_between, AreValuesAt, AreFieldsAt, IsDataAt, AnswerStates}
 use Rattle.zone_wire.specs.Walk.{NameFault}
-use Rattle.zone_wire.proofs.AnswerFaults.{order_refuses, stands_unrefused}
-use Rattle.zone_wire.proofs.Answering.{holds_data, none_of}
+use Rattle.zone_wire.proofs.Conditions.{unless_one, unless_holds}
 use Rattle.zone_wire.proofs.Fielding.{value_reads}
-use Rattle.zone_wire.proofs.MessageFaults.{name_refuses}
-use Rattle.zone_wire.proofs.ReadAnswers.{each_other}
-use Rattle.zone_wire.proofs.ReadRecords.{no_class_parts}
+use Rattle.zone_wire.proofs.MessageFaults.{name_one, name_not_both}
 use Rattle.zone_wire.proofs.Transfers.{record_unique}
-use Rattle.zone_wire.proofs.Walking.{name_walks, one_name}
-
-name_one : (octets : List ℕ) (offset : ℕ) (f g : Fault) → NameFault octets offset f → NameFault octets offset g → f ≡ g
-name_one octets offset f g is too =
-    let e = (name_refuses octets offset f is).1 in
-    let k = (name_refuses octets offset g too).1 in
-    cc
-
-name_not_both : (octets : List ℕ) (offset : ℕ) (found : Found) (f : Fault) → IsNameAt octets offset found → NameFault octets offset f → ⊥
-name_not_both octets offset found f is fault =
-    let e = name_walks octets offset found is in
-    let k = (name_refuses octets offset f fault).1 in
-    cc
+use Rattle.zone_wire.proofs.Walking.{one_name}
 
 module _ (octets : List ℕ) (end : ℕ) (within : end ≤ length octets) where
   value_one : (field : Field) (start past late : ℕ) (v w : FieldValue) → IsFieldAt octets end field start past v → IsFieldAt octets end field start late w → (v ≡ w) × (past ≡ late)
@@ -117,81 +99,33 @@ data_one octets a f g within is too = row_one octets a.end within a.start f g (l
 data_not_both : (octets : List ℕ) (a : RecordAt) (f : Fault) (canonical : List ℕ) → a.end ≤ length octets → DataFault octets a f → IsDataAt octets a canonical → ⊥
 data_not_both octets a f canonical within is has = row_not_both octets a.end within a.start f canonical (layout a.class a.kind) (λ fields e. (table_row a.class a.kind fields e).last) is has
 
--- the fault of an answer's class and type
-abbrev class_test : ℕ → Bool
-class_test n = nat_lt n 65536 && not (is_no_class n)
+-- an answer by itself
+pub own_one : (octets : List ℕ) (a : RecordAt) (f g : Fault) → a.end ≤ length octets → OwnFault octets a f → OwnFault octets a g → f ≡ g
+own_one octets a f g within = unless_one (λ _ _. unless_one (λ _ _. unless_one (λ x y. data_one octets a x y within)))
 
-abbrev kind_test : ℕ → Bool
-kind_test n = nat_lt n 65536 && not (is_meta n)
+pub own_not_both : (octets : List ℕ) (a : RecordAt) (f : Fault) (r : Record) → a.end ≤ length octets → OwnFault octets a f → AnswerStates octets a r → ⊥
+own_not_both octets a f r within is s =
+    data_not_both octets a f r.octets within (unless_holds s.readable (unless_holds (subst IsKind s.kind s.fits.rdata.kind) (unless_holds (subst IsClass s.class s.fits.rdata.class) is))) s.rdata
 
-abbrev head_fault : RecordAt → Option Fault
-head_fault a = if not (class_test a.class) then Some BadClass else if not (kind_test a.kind) then Some MetaType else if list_any (nat_eq a.kind) compressible then Some CompressibleType else None
+-- a record after others
+order_one : (questions : List QuestionAt) (before : List Placed) (r : Record) (f g : Fault) → OrderFault questions before r f → OrderFault questions before r g → f ≡ g
+order_one questions [] r f g = unless_one (λ _ _. unless_one (λ _ _ no. absurd no))
+order_one questions (opening ∷ others) r f g = unless_one (λ _ _. unless_one (λ _ _ no. absurd no))
 
-is_class : (n : ℕ) → IsClass n → class_test n ≡ true
-is_class n is = and_from (nat_lt n 65536) (not (is_no_class n)) (lt-ltb _ _ is.short) (ap not (holds_data n is))
-
-no_class : (n : ℕ) → (IsClass n → ⊥) → class_test n ≡ false
-no_class n none = false_from_ne_true (class_test n) (λ t.
-    let parts = and_parts (nat_lt n 65536) (not (is_no_class n)) t in
-    let others = no_class_parts n (not-true _ parts.1) in
-    none (record { short = ltb-true _ _ parts.0; not_zero = others.0; not_none = others.1; not_any = others.2 }))
-
-is_kind : (n : ℕ) → IsKind n → kind_test n ≡ true
-is_kind n is = and_from (nat_lt n 65536) (not (is_meta n)) (lt-ltb _ _ is.short) (ap not is.stored)
-
-no_kind : (n : ℕ) → (IsKind n → ⊥) → kind_test n ≡ false
-no_kind n none = false_from_ne_true (kind_test n) (λ t.
-    let parts = and_parts (nat_lt n 65536) (not (is_meta n)) t in
-    none (record { short = ltb-true _ _ parts.0; stored = not-true _ parts.1 }))
-
-head_none : (a : RecordAt) → IsClass a.class → IsKind a.kind → IsReadable a.kind → head_fault a ≡ None
-head_none a class kind read = cond-false _ _ _ (ap not (is_class a.class class)) ∙ cond-false _ _ _ (ap not (is_kind a.kind kind)) ∙ cond-false _ _ _ (none_of a.kind compressible read)
-
-own_head : (octets : List ℕ) (a : RecordAt) (f : Fault) → OwnFault octets a f → (head_fault a ≡ Some f) ⊎ ((head_fault a ≡ None) × DataFault octets a f)
-own_head octets a f (of_class none) = inl (cond-true _ _ _ (ap not (no_class a.class none)))
-own_head octets a f (of_kind class none) = inl (cond-false _ _ _ (ap not (is_class a.class class)) ∙ cond-true _ _ _ (ap not (no_kind a.kind none)))
-own_head octets a f (unread class kind none) =
-    let among : list_any (nat_eq a.kind) compressible ≡ true = true_from_ne_false (list_any (nat_eq a.kind) compressible) (λ e. none (each_other a.kind compressible e)) in
-    inl (cond-false _ _ _ (ap not (is_class a.class class)) ∙ cond-false _ _ _ (ap not (is_kind a.kind kind)) ∙ cond-true _ _ _ among)
-own_head octets a f (of_data g class kind read is) = inr (head_none a class kind read, is)
-
-states_head : (octets : List ℕ) (a : RecordAt) (r : Record) → AnswerStates octets a r → head_fault a ≡ None
-states_head octets a r s = head_none a (subst IsClass s.class s.fits.rdata.class) (subst IsKind s.kind s.fits.rdata.kind) s.readable
-
-own_one : (octets : List ℕ) (a : RecordAt) (f g : Fault) → a.end ≤ length octets → OwnFault octets a f → OwnFault octets a g → f ≡ g
-own_one octets a f g within is too = by (own_head octets a f is) (own_head octets a g too)
-  where
-    by : (head_fault a ≡ Some f) ⊎ ((head_fault a ≡ None) × DataFault octets a f) → (head_fault a ≡ Some g) ⊎ ((head_fault a ≡ None) × DataFault octets a g) → f ≡ g
-    by (inl x) (inl y) = cc
-    by (inl x) (inr y) = let z = y.0 in cc
-    by (inr x) (inl y) = let z = x.0 in cc
-    by (inr x) (inr y) = data_one octets a f g within x.1 y.1
-
-own_not_both : (octets : List ℕ) (a : RecordAt) (f : Fault) (r : Record) → a.end ≤ length octets → OwnFault octets a f → AnswerStates octets a r → ⊥
-own_not_both octets a f r within is states = by (own_head octets a f is)
-  where
-    by : (head_fault a ≡ Some f) ⊎ ((head_fault a ≡ None) × DataFault octets a f) → ⊥
-    by (inl x) = let y = states_head octets a r states in cc
-    by (inr x) = data_not_both octets a f r.octets within x.1 states.rdata
+order_not_both : (questions : List QuestionAt) (before : List Placed) (r : Record) (f : Fault) → ComesAfter questions before r → OrderFault questions before r f → ⊥
+order_not_both questions [] r f comes is = unless_holds comes.1 (unless_holds comes.0 is)
+order_not_both questions (opening ∷ others) r f comes is = unless_holds comes.1 (unless_holds comes.0 is)
 
 -- an answer after others
 module _ (octets : List ℕ) (questions : List QuestionAt) (before : List Placed) (a : RecordAt) (within : a.end ≤ length octets) where
   pub answer_not_both : (f : Fault) (r : Record) → AnswerFault octets questions before a f → AnswerStates octets a r → ComesAfter questions before r → ⊥
-  answer_not_both f r (own is) states stands = own_not_both octets a f r within is states
-  answer_not_both f r (of_order s other is) states stands =
-      let same = record_unique octets a s r within other states in
-      let e = order_refuses questions before s f is in
-      let k = stands_unrefused questions before r stands in
-      let moved : order_fault questions before r ≡ Some f = ap (order_fault questions before) (sym same) ∙ e in
-      cc
+  answer_not_both f r (inl is) states comes = own_not_both octets a f r within is states
+  answer_not_both f r (inr is) states comes =
+      order_not_both questions before r f comes (subst (λ s. OrderFault questions before s f) (record_unique octets a is.0 r within is.1 states) is.2)
 
   pub answer_one : (f g : Fault) → AnswerFault octets questions before a f → AnswerFault octets questions before a g → f ≡ g
-  answer_one f g (own is) (own too) = own_one octets a f g within is too
-  answer_one f g (own is) (of_order r states too) = absurd (own_not_both octets a f r within is states)
-  answer_one f g (of_order r states is) (own too) = absurd (own_not_both octets a g r within too states)
-  answer_one f g (of_order r states is) (of_order s other too) =
-      let same = record_unique octets a r s within states other in
-      let e = order_refuses questions before r f is in
-      let k = order_refuses questions before s g too in
-      let moved : order_fault questions before s ≡ Some f = ap (order_fault questions before) (sym same) ∙ e in
-      cc
+  answer_one f g (inl is) (inl too) = own_one octets a f g within is too
+  answer_one f g (inl is) (inr too) = absurd (own_not_both octets a f too.0 within is too.1)
+  answer_one f g (inr is) (inl too) = absurd (own_not_both octets a g is.0 within too is.1)
+  answer_one f g (inr is) (inr too) =
+      order_one questions before too.0 f g (subst (λ s. OrderFault questions before s f) (record_unique octets a is.0 too.0 within is.1 too.1) is.2) too.2

@@ -6,7 +6,7 @@ use Rattle.zone_rdata.specs.declared.fault.Fault.{Fault}
 use Rattle.zone_wire.specs.Message.{u16_at, IsResponse, HasHeader, QuestionAt, question_by, IsQuestionAt, RecordAt, record_by, IsRecordAt, AreAt, Sections, IsMessage}
 use Rattle.zone_wire.specs.Name.{Found}
 use Rattle.zone_wire.specs.Machine.Finding.{Outcome, named, refused, outcome}
-use Rattle.zone_wire.specs.Machine.Sections.{and_then, at_offset, header_fault, inside, question_at, record_at, each_from, questions_from, records_from, after_header, sections_of}
+use Rattle.zone_wire.specs.Machine.Sections.{and_then, at_offset, header_fault, inside, question_at, record_at, each_from, questions_from, records_from, after_header, unless_faulted, sections_of}
 use Rattle.zone_wire.specs.Machine.Walk.{walk}
 use Rattle.zone_wire.proofs.Walking.{walk_names}
 
@@ -93,7 +93,7 @@ each_shows {X} read end_of Is shows (suc count) offset run e =
     let others = each_shows read end_of Is shows count (end_of one.first) rest.first rest.is in
     subst (λ (x : List X × ℕ). (length x.0 ≡ suc count) × AreAt Is end_of offset x.0 x.1) (ok_same _ _ rest.goes_on) (ap suc others.0, (here, others.1))
 
-opened : (octets : List ℕ) (s : Sections) (fault : Option Fault) → (let r : Result Sections (Fault × ℕ) = elim fault [ Some f ↦ Err (f, 0) | None ↦ after_header octets ] in r) ≡ Ok s → (fault ≡ None) × (after_header octets ≡ Ok s)
+opened : (octets : List ℕ) (s : Sections) (fault : Option Fault) → unless_faulted fault (after_header octets) ≡ Ok s → (fault ≡ None) × (after_header octets ≡ Ok s)
 opened octets s None e = (refl, e)
 opened octets s (Some f) e = cc
 

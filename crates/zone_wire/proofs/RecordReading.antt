@@ -1,7 +1,6 @@
 -- An answer is read as the record that it states, or has its first fault.
-use Rattle.std.proofs.Common.{◌≡◌, ℕ, ◌<◌, ◌≤◌, List, length, refl, ap, sym, ◌∙◌, subst, Bool, true, false}
-use Rattle.std.specs.Prelude.{IfOk, IfErr, IsErr, IsErrAnd, Result, Ok, Err, IsTrue, ◌↔◌}
-use Rattle.std.proofs.lemmas.Result.{err_from_is_err_and}
+use Rattle.std.proofs.Common.{◌≡◌, ℕ, List, refl, ap, sym, ◌∙◌, subst, Bool, true, false}
+use Rattle.std.specs.Prelude.{IfOk, IfErr, IsErr, Result, Ok, Err, IsTrue, ◌↔◌}
 use Rattle.zone_rdata.proofs.Bytes.{Bytes}
 use Rattle.zone_rdata.specs.declared.fault.Failing.{Failing}
 use Rattle.zone_rdata.specs.declared.fault.Failing.TheVariants as failings
@@ -12,34 +11,20 @@ use Rattle.zone_rdata.specs.Fault.{IfFault}
 use Rattle.zone_rdata.specs.Field.{octets_of}
 use Rattle.zone_rdata.specs.Record.{Record, Data, IsRecord}
 use Rattle.zone_rdata.specs.Words.{IsClass, IsKind}
-use Rattle.zone_wire.specs.AnswerFault.{OwnFault, of_class, of_kind, unread, of_data}
+use Rattle.zone_wire.specs.AnswerFault.{OwnFault}
 use Rattle.zone_wire.specs.DataFault.{DataFault}
 use Rattle.zone_wire.specs.Machine.Data.{data_at}
 use Rattle.zone_wire.specs.Machine.DataReading.{IsRead}
 use Rattle.zone_wire.specs.Message.{RecordAt, IsRecordAt}
 use Rattle.zone_wire.specs.Transfer.{IsDataAt, IsReadable, AnswerStates, ttl_of}
+use Rattle.zone_wire.specs.Unless.{fails, holds}
 use Rattle.zone_wire.specs.View.{RawRecord}
-use Rattle.zone_wire.proofs.DataFaults.{data_faults, data_refuses}
-use Rattle.zone_wire.proofs.Fielding.{data_reads}
+use Rattle.zone_wire.proofs.DataFaults.{data_faults}
+use Rattle.zone_wire.proofs.OneFault.{own_not_both}
 use Rattle.zone_wire.proofs.ReadFields.{data_shown}
-use Rattle.zone_wire.proofs.ReadSections.{ok_same}
-use Rattle.zone_wire.proofs.Transfers.{equal_parts}
+use Rattle.zone_wire.proofs.Transfers.{record_unique}
 
 -- ---- one record, or one fault
-one_record : (octets : List ℕ) (a : RecordAt) (r s : Record) → a.end ≤ length octets → AnswerStates octets a r → AnswerStates octets a s → s ≡ r
-one_record octets a r s within is too =
-    equal_parts s r (too.owner ∙ sym is.owner) (too.class ∙ sym is.class) (too.kind ∙ sym is.kind) (too.ttl ∙ sym is.ttl)
-    (ok_same s.octets r.octets (sym (data_reads octets a s.octets within too.rdata) ∙ data_reads octets a r.octets within is.rdata))
-
-stated_unrefused : (octets : List ℕ) (a : RecordAt) (r : Record) (fault : Fault) → Bytes octets → a.end ≤ length octets → AnswerStates octets a r → OwnFault octets a fault → ⊥
-stated_unrefused octets a r _ each within is (of_class none) = none (subst IsClass is.class is.fits.rdata.class)
-stated_unrefused octets a r _ each within is (of_kind class none) = none (subst IsKind is.kind is.fits.rdata.kind)
-stated_unrefused octets a r _ each within is (unread class kind none) = none is.readable
-stated_unrefused octets a r _ each within is (of_data fault class kind read bad) =
-    let stands = data_reads octets a r.octets within is.rdata in
-    let fails = data_refuses octets a fault each within bad in
-    cc
-
 abbrev pub IsOnlyAnswer : List ℕ → RecordAt → Result Record Failing → Type 0
 IsOnlyAnswer octets a result = (r : Record) → AnswerStates octets a r → IfOk result (λ s. s ≡ r) × IfErr result (λ e. e ≡ failings.Memory)
 
@@ -48,8 +33,8 @@ only_answer raw now view offset each at result shows faults =
     subst (λ (v : RawRecord). IfOk result (AnswerStates v.octets v.at) → IfErr result (IfFault (OwnFault v.octets v.at)) → IsOnlyAnswer v.octets v.at result) view (by result) shows faults
   where
     by : (result : Result Record Failing) → IfOk result (AnswerStates raw.octets raw.at) → IfErr result (IfFault (OwnFault raw.octets raw.at)) → IsOnlyAnswer raw.octets raw.at result
-    by (Ok s) shows faults r is = (one_record raw.octets raw.at r s at.inside is shows, tt)
-    by (Err (failings.Fault fault)) shows faults r is = absurd (stated_unrefused raw.octets raw.at r fault each at.inside is faults)
+    by (Ok s) shows faults r is = (record_unique raw.octets raw.at s r at.inside shows is, tt)
+    by (Err (failings.Fault fault)) shows faults r is = absurd (own_not_both raw.octets raw.at fault r at.inside faults is)
     by (Err failings.Memory) shows faults r is = (tt, refl)
 
 pub only_failing : (raw now : RawRecord) → raw ≡ now → (offset : ℕ) → Bytes raw.octets → IsRecordAt raw.octets offset raw.at → (result : Result Record Failing) → IsErr result → IfErr result (IfFault (OwnFault now.octets now.at)) → IsOnlyAnswer now.octets now.at result
@@ -58,16 +43,16 @@ only_failing raw now view offset each at (Err e) bad faults = only_answer raw no
 
 -- ---- class, type and data
 pub class_fault : (octets : List ℕ) (a : RecordAt) (number : ℕ) → number ≡ a.class → (IsClass number → ⊥) → OwnFault octets a BadClass
-class_fault octets a number is none = of_class (λ class. none (subst IsClass (sym is) class))
+class_fault octets a number is none = fails (λ class. none (subst IsClass (sym is) class))
 
 pub kind_fault : (octets : List ℕ) (a : RecordAt) (number : ℕ) → number ≡ a.kind → IsClass a.class → (IsKind number → ⊥) → OwnFault octets a MetaType
-kind_fault octets a number is class none = of_kind class (λ kind. none (subst IsKind (sym is) kind))
+kind_fault octets a number is class none = holds class (fails (λ kind. none (subst IsKind (sym is) kind)))
 
 pub unread_fault : (octets : List ℕ) (a : RecordAt) (number : ℕ) (read : Bool) → number ≡ a.kind → IsClass a.class → IsKind a.kind → (IsTrue read ↔ IsReadable number) → read ≡ false → OwnFault octets a CompressibleType
-unread_fault octets a number read is class kind test refused = unread class kind (λ readable. let yes : read ≡ true = test.1 (subst IsReadable (sym is) readable) in cc)
+unread_fault octets a number read is class kind test refused = holds class (holds kind (fails (λ readable. let yes : read ≡ true = test.1 (subst IsReadable (sym is) readable) in cc)))
 
 pub own_data : (octets : List ℕ) (a : RecordAt) (fault : Fault) → IsClass a.class → IsKind a.kind → IsReadable a.kind → DataFault octets a fault → OwnFault octets a fault
-own_data octets a fault class kind readable is = of_data fault class kind readable is
+own_data octets a fault class kind readable is = holds class (holds kind (holds readable is))
 
 pub data_is_refused : (raw now : RawRecord) → raw ≡ now → (offset : ℕ) → Bytes raw.octets → IsRecordAt raw.octets offset raw.at → (fault : Fault) → data_at now.octets now.at ≡ Err fault → DataFault now.octets now.at fault
 data_is_refused raw now view offset each at fault e =

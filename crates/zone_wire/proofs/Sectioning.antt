@@ -1,12 +1,12 @@
 -- The sections of a message are read.
 use Rattle.std.proofs.Common.{◌≡◌, ℕ, ◌/◌, arith, ◌≤◌, List, [], ◌∷◌, length, refl, ap, sym, ◌∙◌, subst, false, nat_le}
-use Rattle.std.specs.Prelude.{slice_index, ◌==◌, not, Option, Some, None, Result, Ok, Err}
+use Rattle.std.specs.Prelude.{slice_index, ◌==◌, not, Option, Some, None, Result, Ok}
 use Rattle.std.proofs.lemmas.Bool.{cond-true, cond-false, le-leb, le-ltb, eq-eqb, and_from}
 use Rattle.zone_rdata.specs.declared.fault.Fault.{Fault}
 use Rattle.zone_wire.specs.Message.{u16_at, IsResponse, HasHeader, QuestionAt, question_by, IsQuestionAt, RecordAt, record_by, IsRecordAt, AreAt, Sections, IsMessage}
 use Rattle.zone_wire.specs.Name.{Found}
 use Rattle.zone_wire.specs.Machine.Finding.{Outcome, named, outcome}
-use Rattle.zone_wire.specs.Machine.Sections.{and_then, at_offset, header_fault, inside, question_at, record_at, each_from, after_header, sections_of}
+use Rattle.zone_wire.specs.Machine.Sections.{and_then, at_offset, header_fault, inside, question_at, record_at, each_from, after_header, unless_faulted, sections_of}
 use Rattle.zone_wire.specs.Machine.Walk.{walk}
 use Rattle.zone_wire.proofs.Walking.{name_walks}
 
@@ -48,7 +48,7 @@ each_reads {X} read end_of Is reads xs count offset past size are = subst (λ n.
         and_then_ok (at_offset start (read start)) x _ (ap (at_offset start) (reads start x at.0))
         ∙ and_then_ok (each_from read end_of (length parts) (end_of x)) (parts, past) _ (by parts (end_of x) at.1)
 
-pub opens : (octets : List ℕ) (fault : Option Fault) → fault ≡ None → (let r : Result Sections (Fault × ℕ) = elim fault [ Some f ↦ Err (f, 0) | None ↦ after_header octets ] in r) ≡ after_header octets
+pub opens : (octets : List ℕ) (fault : Option Fault) → fault ≡ None → unless_faulted fault (after_header octets) ≡ after_header octets
 opens octets None e = refl
 opens octets (Some f) e = cc
 

@@ -1,18 +1,17 @@
 -- A stream is read in one way, and what is decided for its beginning stays.
 use Rattle.std.proofs.Common.{◌≡◌, ℕ, ◌+◌, ◌<◌, List, [], ◌∷◌, ◌++◌, length, refl, ap, sym, ◌∙◌, subst}
-use Rattle.std.specs.Prelude.{get_or, ◌==◌, not, Option, Some, None}
+use Rattle.std.specs.Prelude.{get_or, ◌==◌, not, Option, Some}
 use Rattle.std.specs.List.{filter}
+use Rattle.std.specs.Option.{option_or}
 use Rattle.std.proofs.lemmas.List.Elements.{filter-append}
 use Rattle.zone_rdata.specs.declared.fault.Fault.{Fault}
 use Rattle.zone_rdata.specs.declared.fault.Place.{Place}
 use Rattle.zone_rdata.specs.declared.record.Placed.{Placed}
 use Rattle.zone_wire.specs.Answers.{handed_on}
 use Rattle.zone_wire.specs.Frames.{IsFramed}
-use Rattle.zone_wire.specs.Machine.Stream.{ending_of}
-use Rattle.zone_wire.specs.Stream.{ReadAfter, StreamReads, StreamDecides}
+use Rattle.zone_wire.specs.Stream.{ReadAfter, end_fault, StreamReads, StreamDecides}
 use Rattle.zone_wire.proofs.Frames.{framed_unique, framed_extends, framing}
-use Rattle.zone_wire.proofs.GivenMessages.{finds}
-use Rattle.zone_wire.proofs.GivenStreams.{EndsWith, ends_are, stream_shows, decision_shows}
+use Rattle.zone_wire.proofs.GivenStreams.{stream_decides}
 use Rattle.zone_wire.proofs.OneReading.{GoesOn, read_goes_on, one_way}
 
 pub one_reading : (stream : List ℕ) (placed other : List Placed) (ending late : Option (Fault × Place)) → StreamReads stream placed ending → StreamReads stream other late → (placed ≡ other) × (ending ≡ late)
@@ -21,9 +20,13 @@ one_reading stream placed other ending late reads also =
     let too = also.frames in
     let same = framed_unique stream is.messages too.messages is.rest too.rest is.framed too.framed in
     let one = one_way too.messages is.all too.all reads.first also.first (subst (λ m. ReadAfter [] m is.all reads.first) same.0 is.read) too.read in
-    let number = length is.messages + 1 in
-    let ends = ap (λ x. ending_of number (finds x reads.first) is.rest) one.0 ∙ ap (λ x. ending_of number (finds too.all x) is.rest) one.1 ∙ ap (λ m. ending_of (length m + 1) (finds too.all also.first) is.rest) same.0 ∙ ap (ending_of (length too.messages + 1) (finds too.all also.first)) same.1 in
-    (is.stated ∙ ap handed_on one.0 ∙ sym too.stated, ends_are number is.all reads.first is.rest ending reads.ends ∙ ends ∙ sym (ends_are (length too.messages + 1) too.all also.first too.rest late also.ends))
+    let messages = same.0 in
+    let rest = same.1 in
+    let records = one.0 in
+    let first = one.1 in
+    let ends = reads.ends in
+    let others = also.ends in
+    (is.stated ∙ ap handed_on one.0 ∙ sym too.stated, cc)
 
 pub one_decision : (stream : List ℕ) (placed other : List Placed) (ending late : Option (Fault × Place)) → StreamDecides stream placed ending → StreamDecides stream other late → (placed ≡ other) × (ending ≡ late)
 one_decision stream placed other ending late is too =
@@ -35,7 +38,7 @@ one_decision stream placed other ending late is too =
 messages_go_on : (stream more : List ℕ) (ms ns : List (List ℕ)) (r s : List ℕ) (placed other : List Placed) (ending late : Option (Fault × Place)) → IsFramed stream ms r → IsFramed (stream ++ more) ns s → ReadAfter [] ms placed ending → ReadAfter [] ns other late → GoesOn placed ending other late
 messages_go_on stream more ms ns r s placed other ending late is longer read also =
     let after = framed_extends stream more ms ns r s is longer in
-    read_goes_on ms after.0 [] placed other ending late read (subst (λ m. ReadAfter [] m other late) after.1 also)
+    read_goes_on ms after.0 ns [] placed other ending late after.1 read also
 
 pub handed_more : (placed more : List Placed) → (rest : List Placed) × (handed_on (placed ++ more) ≡ handed_on placed ++ rest)
 handed_more [] more = (handed_on more, refl)
@@ -59,18 +62,14 @@ fault_stays stream more placed other e late is too =
 pub records_are_read : (stream more : List ℕ) (placed other : List Placed) (ending late : Option (Fault × Place)) → StreamDecides stream placed ending → StreamReads (stream ++ more) other late → (rest : List Placed) × (other ≡ placed ++ rest)
 records_are_read stream more placed other ending late is too = records_stay stream more placed other ending too.first is too.frames
 
-ends_by_fault : (number : ℕ) (placed : List Placed) (first : Option (Fault × Place)) (rest : List ℕ) (ending : Option (Fault × Place)) (e : Fault × Place) → first ≡ Some e → EndsWith number placed first rest ending → ending ≡ Some e
-ends_by_fault number placed None rest ending e h ends = cc
-ends_by_fault number placed (Some f) rest ending e h ends = ends ∙ h
-
 pub fault_is_read : (stream more : List ℕ) (placed other : List Placed) (e : Fault × Place) (late : Option (Fault × Place)) → StreamDecides stream placed (Some e) → StreamReads (stream ++ more) other late → (other ≡ placed) × (late ≡ Some e)
 fault_is_read stream more placed other e late is too =
     let s = fault_stays stream more placed other e too.first is too.frames in
-    (s.0, ends_by_fault (length too.frames.messages + 1) too.frames.all too.first too.frames.rest late e s.1 too.ends)
+    (s.0, too.ends ∙ ap (λ o. option_or o (end_fault (length too.frames.messages + 1) too.frames.all too.frames.rest)) s.1)
 
 -- each stream has a reading, and something is decided for it
 pub some_reading : (stream : List ℕ) → ((i : ℕ) → get_or stream i 0 < 256) → (placed : List Placed) × (ending : Option (Fault × Place)) × StreamReads stream placed ending
-some_reading stream each = let f = framing stream each in (_, _, stream_shows stream each _ _ (record { messages = f.messages; rest = f.rest; framed = f.framed; stated = refl; ends = refl }))
+some_reading stream each = let f = framing stream each in (_, _, record { first = _; frames = stream_decides stream each f.messages f.rest f.framed; ends = refl })
 
 pub some_decision : (stream : List ℕ) → ((i : ℕ) → get_or stream i 0 < 256) → (placed : List Placed) × (ending : Option (Fault × Place)) × StreamDecides stream placed ending
-some_decision stream each = let f = framing stream each in (_, _, decision_shows stream each _ _ (record { messages = f.messages; rest = f.rest; framed = f.framed; stated = refl; ends = refl }))
+some_decision stream each = let f = framing stream each in (_, _, stream_decides stream each f.messages f.rest f.framed)

@@ -7,7 +7,7 @@ use Rattle.zone_rdata.specs.declared.fault.Fault.{Fault}
 use Rattle.zone_rdata.specs.declared.fault.Fault.TheVariants.{TrailingOctets}
 use Rattle.zone_wire.specs.Message.{u16_at, HasHeader, QuestionAt, RecordAt, IsRecordAt, AreRecordsAt, Sections, IsMessage}
 use Rattle.zone_wire.specs.Machine.Parsing.{IsParsed, parsed, sections_or_none, run_end_of}
-use Rattle.zone_wire.specs.Machine.Sections.{and_then, header_fault, record_at, questions_from, records_from, to_the_end, after_header, sections_of}
+use Rattle.zone_wire.specs.Machine.Sections.{and_then, header_fault, record_at, questions_from, records_from, to_the_end, after_header, unless_faulted, sections_of}
 use Rattle.zone_wire.proofs.ReadSections.{header_shows, record_shows, each_shows, sections_shown}
 use Rattle.zone_wire.proofs.Sectioning.{and_then_ok, opens}
 
@@ -38,7 +38,7 @@ after_questions octets questions = and_then (records_from octets (u16_at octets 
 
 pub header_refused : (octets : List ℕ) (fault : Fault) → Some fault ≡ header_fault octets → sections_of octets ≡ Err (fault, 0)
 unfolding sections_of
-header_refused octets fault e = ap (λ (h : Option Fault). elim h [ Some f ↦ Err (f, 0) | None ↦ after_header octets ]) (sym e)
+header_refused octets fault e = ap (λ (h : Option Fault). unless_faulted h (after_header octets)) (sym e)
 
 -- a header without a fault counts its parts
 pub has_header : (octets : List ℕ) → None ≡ header_fault octets → HasHeader octets

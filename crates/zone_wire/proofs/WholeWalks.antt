@@ -1,5 +1,5 @@
 -- The walk is the one list of places that is a walk.
-use Rattle.std.proofs.Common.{◌≡◌, ℕ, zero, suc, ◌+◌, ◌*◌, ◌≤◌, List, [], ◌∷◌, length, refl, ap, sym, ◌∙◌, subst, arith, lit≤}
+use Rattle.std.proofs.Common.{◌≡◌, ℕ, zero, suc, ◌+◌, ◌*◌, ◌≤◌, List, ◌∷◌, refl, ap, sym, ◌∙◌, subst, arith, lit≤}
 use Rattle.std.specs.Prelude.{Option, Some, None}
 use Rattle.zone_wire.specs.Walk.{Spot, Standing, at_root, at_label, at_pointer, at_fault, Visit, outset, past_label, past_pointer, visit, Walks, outside, to_root, to_fault, over_label, by_pointer, IsWalk}
 use Rattle.zone_wire.specs.Machine.Walk.{standing_in, walk_on, walk_by, walk}

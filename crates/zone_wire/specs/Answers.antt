@@ -1,11 +1,11 @@
 -- What stands before an answer in a stream: the questions, and the records of the answers (RFC 5936
 -- 2.2, 3).
-use Rattle.std.specs.Prelude.{◌≡◌, ℕ, List, [], ◌∷◌, ◌++◌, ◌==◌, not, Bool, false, Option, Some, None, MatchOption, ⊤}
-use Rattle.std.specs.List.{flat_map, filter, list_any}
+use Rattle.std.specs.Prelude.{◌≡◌, ℕ, List, [], ◌∷◌, ◌==◌, not, Bool, false, Option, Some, None, MatchOption, ⊤}
+use Rattle.std.specs.List.{filter, list_any}
 use Rattle.zone_name.specs.Common.{Labels}
 use Rattle.zone_rdata.specs.Record.{Record}
 use Rattle.zone_rdata.specs.declared.record.Placed.{Placed}
-use Rattle.zone_wire.specs.Message.{QuestionAt, Sections}
+use Rattle.zone_wire.specs.Message.{QuestionAt}
 
 -- a zone's name and class
 pub record ZoneAsked : Type 0 where
@@ -23,10 +23,6 @@ zone_of [] [] = None
 abbrev pub AgreeWith : Option ZoneAsked → Labels → ℕ → Type 0
 AgreeWith zone name class = MatchOption zone ⊤ (λ z. (name ≡ z.name) × (class ≡ z.class))
 
--- the questions of messages
-abbrev pub questions_of : List Sections → List QuestionAt
-questions_of messages = flat_map (λ s. s.questions) messages
-
 -- the opening SOA and the records that are none: the closing SOA isn't handed on
 abbrev pub handed_on : List Placed → List Placed
 handed_on [] = []
@@ -39,15 +35,7 @@ is_closed (opening ∷ others) = list_any (λ p. p.rr.kind == 6) others
 
 -- Where a record can stand after questions and records: as the opening SOA, of the zone that a
 -- question fixed; or after that, the transfer not being closed, as no SOA or the opening one again.
-pub data ComesAfter (questions : List QuestionAt) (before : List Placed)
-    (r : Record) : Type 0 where
-  opens : before ≡ [] → r.kind ≡ 6 → AgreeWith (zone_of questions []) r.owner r.class
-      → ComesAfter questions before r
-  follows : (opening : Placed) (others : List Placed) → before ≡ opening ∷ others
-      → is_closed before ≡ false → (r.kind ≡ 6 → r ≡ opening.rr) → ComesAfter questions before r
-
--- each after those before it
-abbrev pub ComeInOrder : List QuestionAt → List Placed → List Placed → Type 0
-ComeInOrder questions before [] = ⊤
-ComeInOrder questions before (p ∷ placed) =
-    ComesAfter questions before p.rr × ComeInOrder questions (before ++ p ∷ []) placed
+abbrev pub ComesAfter : List QuestionAt → List Placed → Record → Type 0
+ComesAfter questions [] r = (r.kind ≡ 6) × AgreeWith (zone_of questions []) r.owner r.class
+ComesAfter questions (opening ∷ others) r =
+    (is_closed (opening ∷ others) ≡ false) × (r.kind ≡ 6 → r ≡ opening.rr)

@@ -9,6 +9,7 @@ pub mod Name
 pub mod TransferSource
 pub mod Stream
 pub mod Transfer
+pub mod Unless
 pub mod View
 pub mod Visits
 pub mod Walk

@@ -4,7 +4,7 @@ ghost use Rattle.std.specs.Prelude.{◌≡◌, ◌+◌, ◌-◌, ◌<◌, ◌≤
 ghost use Rattle.zone_rdata.specs.declared.record.Placed.{Placed};
 ghost use Rattle.zone_wire.specs.Machine.Feeding.{Follow, IsCut};
 ghost use Rattle.zone_wire.specs.Message.{u16_at};
-ghost use Rattle.zone_wire.specs.Stream.{StreamEnd, StreamReads};
+ghost use Rattle.zone_wire.specs.Stream.{end_fault, StreamReads};
 ghost use Rattle.zone_wire.specs.Answers.{is_closed};
 ghost use Rattle.zone_wire.specs.Transfer.{frame};
 
@@ -127,7 +127,8 @@ impl Framer {
     fn end(&self) -> Option<(Fault, Place)>
         requires { self.now.transfer.messages + 1 < 2 ^ 64 }
         ensures { (placed : List Placed) → self.now.transfer.closed ≡ is_closed placed
-            → StreamEnd (self.now.transfer.messages + 1) placed self.now.unfinished.items result }
+            → result
+            ≡ end_fault (self.now.transfer.messages + 1) placed self.now.unfinished.items }
     {
         let place = Place::Message(self.transfer.messages + 1, 0);
         if !self.unfinished.is_empty() {

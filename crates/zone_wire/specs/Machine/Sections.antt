@@ -80,6 +80,10 @@ after_header octets =
       additional = additional.0;
     }))))
 
+-- a fault of the header comes before all others
+abbrev pub unless_faulted : Option Fault → Result Sections (Fault × ℕ) → Result Sections (Fault × ℕ)
+unless_faulted (Some fault) next = Err (fault, 0)
+unless_faulted None next = next
+
 unfoldable pub sections_of : List ℕ → Result Sections (Fault × ℕ)
-sections_of octets =
-    elim (header_fault octets) [ Some fault ↦ Err (fault, 0) | None ↦ after_header octets ]
+sections_of octets = unless_faulted (header_fault octets) (after_header octets)

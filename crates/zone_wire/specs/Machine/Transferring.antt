@@ -7,11 +7,12 @@ use Rattle.zone_rdata.specs.declared.fault.Fault.{Fault}
 use Rattle.zone_rdata.specs.declared.fault.Fault.TheVariants.{IdMismatch, BadQuestion}
 use Rattle.zone_rdata.specs.declared.fault.Place.TheVariants.{Message}
 use Rattle.zone_rdata.specs.declared.record.Placed.{Placed}
-use Rattle.zone_wire.specs.AnswerFault.{FirstAnswerFault}
-use Rattle.zone_wire.specs.Answers.{ZoneAsked, zone_of, handed_on, is_closed, ComesAfter, ComeInOrder}
+use Rattle.zone_wire.specs.AnswerFault.{AnswersGive}
+use Rattle.zone_wire.specs.Answers.{ZoneAsked, zone_of, handed_on, is_closed, ComesAfter}
 use Rattle.zone_wire.specs.Message.{QuestionAt, RecordAt, Sections}
-use Rattle.zone_wire.specs.Stream.{asked_in, placed_in, first_id, opening_of, HasFirstId, AskAfter, IsReadAfter, FaultAfter}
-use Rattle.zone_wire.specs.Transfer.{AnswerStates, StatedMessage, AnswersState}
+use Rattle.zone_wire.specs.Stream.{asked_in, placed_in, HasFirstId, AskAfter, IsReadAfter, FaultAfter}
+use Rattle.zone_wire.specs.Transfer.{AnswerStates, StatedMessage}
+use Rattle.zone_wire.specs.TransferSource.{first_id, opening_of}
 use Rattle.zone_wire.specs.declared.transfer.FixedZone.{FixedZone}
 use Rattle.zone_wire.specs.declared.transfer.Transfer.{Transfer}
 
@@ -47,9 +48,7 @@ pub record Gains (here : List Placed) (questions : List QuestionAt) (placed : Li
     (old new : Transfer) : Type 0 where
   pub among : Among questions (placed ++ here) new
   pub handed : Hands placed (placed ++ here) old new
-  pub messages : new.messages ≡ old.messages
   pub id : new.id ≡ old.id
-  pub ending : new.decided.ending ≡ old.decided.ending
 
 -- the record of an answer came after others
 pub record Takes (octets : List ℕ) (a : RecordAt) (questions : List QuestionAt)
@@ -65,14 +64,6 @@ abbrev pub IfNoMemory : (Option (Fault × ℕ) → Type 0) → Result (Unit {0})
 IfNoMemory Is (Ok done) = Is None
 IfNoMemory Is (Err e) =
     elim e.0 [ failings.Fault fault ↦ Is (Some (fault, e.1)) | failings.Memory ↦ ⊤ ]
-
--- what answers give: the records of all of them, or those before the first fault
-abbrev pub AnswersGive : ℕ → List ℕ → List QuestionAt → List Placed → List RecordAt → List Placed
-    → Option (Fault × ℕ) → Type 0
-AnswersGive number octets questions placed answers here None =
-    AnswersState number octets answers here × ComeInOrder questions placed here
-AnswersGive number octets questions placed answers here (Some e) =
-    FirstAnswerFault number octets questions placed answers here e.0 e.1
 
 -- the records of answers came after others, up to a fault
 pub record TakesUpTo (octets : List ℕ) (answers : List RecordAt) (questions : List QuestionAt)

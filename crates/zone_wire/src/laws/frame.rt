@@ -6,8 +6,9 @@ ghost use Rattle.zone_rdata.specs.declared.fault.Place.TheVariants.{Message};
 ghost use Rattle.zone_rdata.specs.declared.record.Placed.{Placed};
 ghost use Rattle.zone_wire.specs.Answers.{handed_on};
 ghost use Rattle.zone_wire.specs.Frames.{IsFramed};
-ghost use Rattle.zone_wire.specs.Stream.{octets_in, placed_in, IsReadAfter, AreRead, FaultAfter, AreAlike, StreamDecides};
+ghost use Rattle.zone_wire.specs.Stream.{octets_in, placed_in, IsReadAfter, AreRead, FaultAfter, StreamDecides};
 ghost use Rattle.zone_wire.specs.Transfer.{StatedMessage, frame};
+ghost use Rattle.zone_wire.specs.TransferSource.{AreAlike};
 
 /// The frames of joined octets are those of the first octets, and then those of their rest and the
 /// octets after it.

@@ -1,13 +1,24 @@
+use Rattle.std.proofs.Common.{◌≡◌, refl, inl, inr}
+use Rattle.std.specs.Prelude.{Result, Ok, Err}
+use Rattle.zone_name.specs.Common.{EitherIs}
+use Rattle.zone_rdata.specs.Record.{Record}
+use Rattle.zone_rdata.specs.declared.fault.Fault.{Fault}
 use Rattle.zone_wire.specs.AnswerFault.{OwnFault}
 use Rattle.zone_wire.specs.Machine.Answers.{own_record}
 use Rattle.zone_wire.specs.Transfer.{AnswerStates}
-use Rattle.zone_wire.proofs.AnswerFaults.{own_faults, own_refuses, own_states}
-use Rattle.zone_wire.proofs.Answering.{record_is_read}
-use Rattle.zone_wire.proofs.Verdicts.{decides}
+use Rattle.zone_wire.proofs.AnswerFaults.{own_faults, own_states}
+use Rattle.zone_wire.proofs.OneFault.{own_one, own_not_both}
+use Rattle.zone_wire.proofs.Transfers.{record_unique}
 use Rattle.zone_wire.proofs.laws.record.a_record_or_a_fault.Goals as goal
 
 pub returns : goal.returns
-returns c = λ octets offset a each short at.
-    decides (AnswerStates octets a) (OwnFault octets a) (own_record octets a)
-    (λ r e. own_states octets each short offset a r at e) (λ r is. record_is_read octets a r at.inside is)
-    (λ fault e. own_faults octets each short offset a fault at e) (λ fault is. own_refuses octets each short offset a fault at is)
+returns c octets offset a each short at = record {
+  one_of = by (own_record octets a) refl;
+  never_both = λ r fault is bad. own_not_both octets a fault r at.inside bad is;
+  one_value = λ r s is too. record_unique octets a r s at.inside is too;
+  one_fault = λ f g is too. own_one octets a f g at.inside is too;
+}
+  where
+    by : (r : Result Record Fault) → own_record octets a ≡ r → EitherIs (AnswerStates octets a) (OwnFault octets a)
+    by (Ok r) e = inl (r, own_states octets each short offset a r at e)
+    by (Err f) e = inr (f, own_faults octets each short offset a f at e)

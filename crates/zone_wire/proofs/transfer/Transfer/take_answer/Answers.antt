@@ -1,18 +1,17 @@
-use Rattle.std.proofs.Common.{◌≡◌, ◌∙◌, sym, refl}
+use Rattle.std.proofs.Common.{◌≡◌, ◌∙◌, sym, refl, inl, inr}
 use Rattle.zone_rdata.specs.Record.{IsRecord, record_with}
 use Rattle.zone_rdata.proofs.Failings.{fault_answered, if_fault_passed}
-use Rattle.zone_wire.specs.AnswerFault.{own, of_order, closed}
-use Rattle.zone_wire.proofs.Progress.{other_gains, stands_after}
+use Rattle.zone_wire.proofs.Progress.{other_gains, stands_after, closed_after}
 use Rattle.zone_wire.proofs.RecordReading.{own_data, stated}
 use Rattle.zone_wire.proofs.transfer.Transfer.take_answer.Goals as goal
 
 pub returns-in_err-class-clause-fault : goal.returns-in_err-class-clause-fault
-returns-in_err-class-clause-fault c = fault_answered c.from_residual.result _ _ c.from_residual.ensures.1 (λ questions placed among. own c.in_err-class.ensures.fault)
+returns-in_err-class-clause-fault c = fault_answered c.from_residual.result _ _ c.from_residual.ensures.1 (λ questions placed among. inl c.in_err-class.ensures.fault)
 
 pub returns-in_err-rdata-clause-fault : goal.returns-in_err-rdata-clause-fault
 returns-in_err-rdata-clause-fault c =
     if_fault_passed c.from_residual-in_err-rdata.result c.in_err-rdata.field-0.0 _ _ c.from_residual-in_err-rdata.ensures.1
-    (λ fault bad. λ questions placed among. own (own_data c.args.answer.octets c.args.answer.at fault c.in_ok-class.ensures.class.1 c.in_ok-class.ensures.kind.1 c.in_ok-class.ensures.readable bad))
+    (λ fault bad. λ questions placed among. inl (own_data c.args.answer.octets c.args.answer.at fault c.in_ok-class.ensures.class.1 c.in_ok-class.ensures.kind.1 c.in_ok-class.ensures.readable bad))
     c.in_err-rdata.ensures.fault
 
 pub returns-then-self-clause-fault : goal.returns-then-self-clause-fault
@@ -20,7 +19,7 @@ returns-then-self-clause-fault c =
     let rr = record_with c.answer.inside.owner c.counted_ttl-ttl.result c.in_ok-rdata.rdata in
     let fits : IsRecord rr = record { owner = c.known.ensures.name; ttl = c.counted_ttl-ttl.ensures.short; rdata = c.known-2.ensures } in
     let states = stated _ c.args.answer c.answer.view_is _ _ _ c.in_ok-rdata.rdata rr refl fits c.in_ok-rdata.ensures.class c.in_ok-rdata.ensures.kind c.in_ok-class.ensures.class.0 c.in_ok-class.ensures.kind.0 c.counted_ttl-ttl.ensures.value c.in_ok-rdata.ensures.found c.in_ok-class.ensures.readable in
-    rw c.of.ensures (λ questions placed among. of_order rr states (closed (sym among.closed ∙ c.if-self.true)))
+    rw c.of.ensures (λ questions placed among. inr (rr, states, closed_after questions placed rr c.args.self.now among c.if-self.true))
 
 pub returns-clause-taken : goal.returns-clause-taken
 returns-clause-taken c = λ questions placed among.
@@ -33,5 +32,5 @@ returns-clause-taken c = λ questions placed among.
       rr = rr;
       states = states;
       stands = stands_after questions placed rr c.args.self.now among c.if-is_none.ensures c.if-self.false other;
-      gains = other_gains questions placed rr c.args.answer.at.offset c.args.self.now c.args.self.now c.hand_on.new.self among c.if-is_none.ensures other refl c.hand_on.ensures.others c.hand_on.ensures.ending items;
+      gains = other_gains questions placed rr c.args.answer.at.offset c.args.self.now c.args.self.now c.hand_on.new.self among c.if-is_none.ensures other refl c.hand_on.ensures.others items;
     }

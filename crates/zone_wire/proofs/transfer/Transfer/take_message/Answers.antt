@@ -15,5 +15,5 @@ pub returns-in-Ok-take_head-clause-taken : goal.returns-in-Ok-take_head-clause-t
 returns-in-Ok-take_head-clause-taken c = λ before after.
     let s = c.in-Ok.message.sections in
     let head = c.in-Ok-take_head.ensures.taken before after in
-    message_taken c.args.octets.now before s c.args.self.now c.take_head.new.self c.take_answers.new.self after c.in-Ok.ensures.found head c.take_head.ensures.decided c.take_answers.result
+    message_taken c.args.octets.now before s c.args.self.now c.take_head.new.self c.take_answers.new.self after c.in-Ok.ensures.found head c.take_head.ensures.decided c.take_answers.ensures.count c.take_answers.result
     (subst (λ octets. TakesEach octets s.answers (asked_in before ++ s.questions) (placed_in before) c.take_answers.result c.take_head.new.self c.take_answers.new.self) c.in-Ok.ensures.octets (c.take_answers.ensures.taken (asked_in before ++ s.questions) (placed_in before) head.among))

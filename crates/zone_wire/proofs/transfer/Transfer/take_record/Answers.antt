@@ -1,15 +1,13 @@
 use Rattle.std.proofs.Common.{◌≡◌, ◌++◌, ◌∷◌, [], ap, sym, ◌∙◌, refl, Some}
 use Rattle.zone_rdata.specs.Record.{record_with}
 use Rattle.zone_wire.specs.Machine.Transferring.{zone_held, zone_with}
-use Rattle.zone_wire.proofs.Progress.{some_of, here_at, gains_closing, opening_gains, other_gains}
+use Rattle.zone_wire.proofs.Progress.{here_at, closing_gains, opening_gains, other_gains}
 use Rattle.zone_wire.proofs.transfer.Transfer.take_record.Goals as goal
 use Rattle.zone_wire.proofs.transfer.Transfer.take_record.Goals.{then-is_none+in-Ok, else-is_none+else-is_soa}
 
 pub returns-then-is_soa-clause-gains : goal.returns-then-is_soa-clause-gains
 returns-then-is_soa-clause-gains c = λ questions placed among.
-    let some = some_of c.args.self.now.opening c.if-is_none.ensures in
-    let soa : c.args.rr.kind ≡ 6 = sym c.kind.ensures ∙ c.is_soa.ensures.0 c.if-is_soa.true in
-    gains_closing questions placed (here_at c.args.rr c.args.self.now.messages c.args.answer.now.at.offset) some.0 c.args.self.now _ among some.1 soa refl refl refl refl refl refl
+    closing_gains questions placed (here_at c.args.rr c.args.self.now.messages c.args.answer.now.at.offset) c.args.self.now _ among c.if-is_none.ensures (sym c.kind.ensures ∙ c.is_soa.ensures.0 c.if-is_soa.true) refl
 
 pub returns-clause-gains : goal.returns-clause-gains
 returns-clause-gains c = λ questions placed among.
@@ -24,8 +22,8 @@ returns-clause-gains c = λ questions placed among.
           (ap (λ t. t.opening) w.self-is ∙ w.open.ensures.opening ∙ ap Some (w.in-Ok.ensures.only c.args.rr c.requires).0)
           (ap (λ t. zone_held t.zone) w.self-is ∙ w.open.ensures.zone ∙ ap (zone_with (zone_held c.args.self.now.zone)) (w.in-Ok.ensures.only c.args.rr c.requires).0)
           (w.self-is ∙ w.open.ensures.others ∙ ap (λ t. record c.args.self.now { zone = t.zone; opening = t.opening }) (sym w.self-is))
-          c.hand_on.ensures.others c.hand_on.ensures.ending items
+          c.hand_on.ensures.others items
       | else-is_none+else-is_soa w ↦ other_gains questions placed c.args.rr c.args.answer.now.at.offset c.args.self.now c.if-is_none.self c.hand_on.new.self among w.if-is_none.ensures
           (λ soa. let yes = w.is_soa.ensures.1 (w.kind.ensures ∙ soa) in let not_it = w.if-is_soa.false in let none : ⊥ = cc in none)
-          w.self-is c.hand_on.ensures.others c.hand_on.ensures.ending items
+          w.self-is c.hand_on.ensures.others items
     ]

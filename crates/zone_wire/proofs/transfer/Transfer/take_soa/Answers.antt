@@ -1,11 +1,10 @@
-use Rattle.std.proofs.Common.{sym}
+use Rattle.std.proofs.Common.{sym, inr}
 use Rattle.zone_rdata.specs.Cause.{fault_for}
-use Rattle.zone_wire.specs.AnswerFault.{of_order}
 use Rattle.zone_wire.proofs.AnswerFaults.{order_faults, order_stands}
 use Rattle.zone_wire.proofs.transfer.Transfer.take_soa.Goals as goal
 
 pub returns-in-Some-clause-fault : goal.returns-in-Some-clause-fault
-returns-in-Some-clause-fault c = rw c.of.ensures (λ questions placed among. of_order c.in_ok-rr.rr c.in_ok-rr.ensures.found (order_faults questions placed c.in_ok-rr.rr (fault_for c.in-Some.cause) (sym (c.in-Some.ensures questions placed among))))
+returns-in-Some-clause-fault c = rw c.of.ensures (λ questions placed among. inr (c.in_ok-rr.rr, c.in_ok-rr.ensures.found, order_faults questions placed c.in_ok-rr.rr (fault_for c.in-Some.cause) (sym (c.in-Some.ensures questions placed among))))
 
 pub returns-in_ok-take_record-in-None-clause-taken : goal.returns-in_ok-take_record-in-None-clause-taken
 returns-in_ok-take_record-in-None-clause-taken c = λ questions placed among. record {

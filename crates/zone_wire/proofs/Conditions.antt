@@ -1,0 +1,46 @@
+-- Conditions in an order, and the tests that decide them.
+use Rattle.std.proofs.Common.{◌≡◌, List, [], ◌∷◌, refl, subst, Bool, true, false}
+use Rattle.std.specs.Prelude.{Option, Some, Result, Err, if◌then◌else◌}
+use Rattle.std.specs.List.{AllByRecursion, list_all}
+use Rattle.std.proofs.lemmas.Bool.{and_parts, and_from}
+use Rattle.zone_wire.specs.Unless.{Unless, fails, holds}
+
+-- conditions have one first fault
+pub unless_one : {E Holds : Type 0} {next : E → Type 0} {first e f : E} → ((a b : E) → next a → next b → a ≡ b) → Unless Holds first next e → Unless Holds first next f → e ≡ f
+unless_one go (fails x) (fails y) = refl
+unless_one go (fails x) (holds y more) = absurd (x y)
+unless_one go (holds x more) (fails y) = absurd (y x)
+unless_one go (holds x more) (holds y others) = go _ _ more others
+
+-- one that holds leaves the fault to those after it
+pub unless_holds : {E Holds : Type 0} {own : E} {next : E → Type 0} {e : E} → Holds → Unless Holds own next e → next e
+unless_holds is (fails x) = absurd (x is)
+unless_holds is (holds x more) = more
+
+-- what holds of each fault
+pub unless_each : {E Holds : Type 0} {own : E} {next : E → Type 0} {e : E} (P : E → Type 0) → P own → (next e → P e) → Unless Holds own next e → P e
+unless_each P here later (fails x) = here
+unless_each P here later (holds x more) = later more
+
+-- conditions that mean the same
+pub unless_same : {E Holds Other : Type 0} {own : E} {next after : E → Type 0} {e : E} → (Holds → Other) → (Other → Holds) → (next e → after e) → Unless Holds own next e → Unless Other own after e
+unless_same to from go (fails x) = fails (λ y. x (from y))
+unless_same to from go (holds x more) = holds (to x) (go more)
+
+-- a test, and those after it
+pub option_unless : {E Holds : Type 0} {next : E → Type 0} (test : Bool) (own : E) (rest : Option E) (e : E) → (Holds → test ≡ false) → (test ≡ false → Holds) → (Holds → rest ≡ Some e → next e) → (if test then Some own else rest) ≡ Some e → Unless Holds own next e
+option_unless {E} {Holds} {next} true own rest e off by go h = let same : own ≡ e = cc in subst (Unless Holds own next) same (fails (λ x. let no = off x in cc))
+option_unless false own rest e off by go h = let x = by refl in holds x (go x h)
+
+pub result_unless : {X E Holds : Type 0} {next : E → Type 0} (test : Bool) (own : E) (rest : Result X E) (e : E) → (Holds → test ≡ false) → (test ≡ false → Holds) → (Holds → rest ≡ Err e → next e) → (if test then Err own else rest) ≡ Err e → Unless Holds own next e
+result_unless {X} {E} {Holds} {next} true own rest e off by go h = let same : own ≡ e = cc in subst (Unless Holds own next) same (fails (λ x. let no = off x in cc))
+result_unless false own rest e off by go h = let x = by refl in holds x (go x h)
+
+-- all elements pass a test of what holds of each
+pub all_pass : {X : Type 0} (P : X → Type 0) (test : X → Bool) → ((x : X) → P x → test x ≡ true) → (xs : List X) → AllByRecursion P xs → list_all test xs ≡ true
+all_pass P test is [] each = refl
+all_pass P test is (x ∷ xs) each = and_from (test x) (list_all test xs) (is x each.0) (all_pass P test is xs each.1)
+
+pub all_by : {X : Type 0} (P : X → Type 0) (test : X → Bool) → ((x : X) → test x ≡ true → P x) → (xs : List X) → list_all test xs ≡ true → AllByRecursion P xs
+all_by P test shows [] e = tt
+all_by P test shows (x ∷ xs) e = let p = and_parts (test x) (list_all test xs) e in (shows x p.0, all_by P test shows xs p.1)
