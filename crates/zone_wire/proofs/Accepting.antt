@@ -31,9 +31,6 @@ opens_more zone (opening ∷ before) here opens order = opens
 abbrev pub octets_of_parts : List StatedMessage → List (List ℕ)
 octets_of_parts parts = map (λ p. p.octets) parts
 
-abbrev pub placed_of_parts : List StatedMessage → List Placed
-placed_of_parts parts = flat_map (λ p. p.placed) parts
-
 pub any_append : (xs ys : List Placed) → list_any is_soa (xs ++ ys) ≡ (list_any is_soa xs || list_any is_soa ys)
 any_append [] ys = refl
 any_append (x ∷ xs) ys = ap (λ b. is_soa x || b) (any_append xs ys) ∙ or_assoc (is_soa x) (list_any is_soa xs) (list_any is_soa ys)

@@ -26,19 +26,6 @@ pub none_of : (kind : ℕ) (kinds : List ℕ) → AllByRecursion (λ k. kind ≢
 none_of kind [] each = refl
 none_of kind (k ∷ kinds) each = or_from (nat_eq kind k) (list_any (nat_eq kind) kinds) (differ kind k each.0) (none_of kind kinds each.1)
 
--- the record of an answer by itself
-pub record_is_read : (octets : List ℕ) (a : RecordAt) (r : Record) → a.end ≤ length octets → AnswerStates octets a r → own_record octets a ≡ Ok r
-unfolding own_record
-record_is_read octets a r within s =
-    let class : is_no_class a.class ≡ false = ap is_no_class (sym s.class) ∙ holds_data r.class s.fits.rdata.class in
-    let kind : is_meta a.kind ≡ false = ap is_meta (sym s.kind) ∙ s.fits.rdata.kind.stored in
-    cond-false _ _ _ class ∙ cond-false _ _ _ kind ∙ cond-false _ _ _ (none_of a.kind compressible s.readable)
-    ∙ and_then_ok (data_at octets a) r.octets _ (data_reads octets a r.octets within s.rdata)
-    ∙ ap (λ (x : List (List ℕ)). Ok (record r { owner = x; class = a.class; kind = a.kind; ttl = ttl_of a.ttl })) (sym s.owner)
-    ∙ ap (λ (x : ℕ). Ok (record r { class = x; kind = a.kind; ttl = ttl_of a.ttl })) (sym s.class)
-    ∙ ap (λ (x : ℕ). Ok (record r { kind = x; ttl = ttl_of a.ttl })) (sym s.kind)
-    ∙ ap (λ (x : ℕ). Ok (record r { ttl = x })) (sym s.ttl)
-
 pub names_same : (n m : List (List ℕ)) → n ≡ m → same_name n m ≡ true
 names_same n m e = (pointwise_decides bytes_decides n m).1 e
 

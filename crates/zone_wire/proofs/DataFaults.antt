@@ -71,26 +71,6 @@ module _ (octets : List ℕ) (each : (k : ℕ) → get_or octets k 0 < 256) (end
   field_faults start OneString fault e = (sized_fault start OneString (1 + slice_index octets start) fault e, no_value start OneString fault e)
   field_faults start Strings fault e = (strings_fault (octets_between octets start end) fault e, no_value start Strings fault e)
 
-  other_refuses : (start : ℕ) (field : Field) (fault : Fault) → ((f : Fault) → value_at octets end start field ≡ Err f → f ≡ BadRdata) → (fault ≡ BadRdata) × ((past : ℕ) (value : FieldValue) → IsFieldAt octets end field start past value → ⊥) → value_at octets end start field ≡ Err fault
-  other_refuses start field fault only is = by (value_at octets end start field) refl
-    where
-      by : (r : Result (FieldValue × ℕ) Fault) → value_at octets end start field ≡ r → value_at octets end start field ≡ Err fault
-      by (Ok v) e = absurd (is.1 v.1 v.0 (value_has start field v e))
-      by (Err f) e = e ∙ ap Err (only f e ∙ sym is.0)
-
-  pub field_refuses : (start : ℕ) (field : Field) (fault : Fault) → FieldFault octets end field start fault → value_at octets end start field ≡ Err fault
-  unfolding value_at
-  field_refuses start Name fault (inl is) = ap (name_before end) (name_refuses octets start fault is).1
-  field_refuses start Name fault (inr is) =
-      let past : nat_le is.1.end end ≡ false = false_from_ne_true (nat_le is.1.end end) (λ t. let le : is.1.end ≤ end = leb-true _ _ t in omega (arith, le, is.3)) in
-      ap (name_before end) (name_walks octets start is.1 is.2) ∙ cond-false _ _ _ past ∙ ap Err (sym is.0)
-  field_refuses start Serial fault is = other_refuses start Serial fault (λ f e. sized_fault start Serial 4 f e) is
-  field_refuses start Time fault is = other_refuses start Time fault (λ f e. sized_fault start Time 4 f e) is
-  field_refuses start U16 fault is = other_refuses start U16 fault (λ f e. sized_fault start U16 2 f e) is
-  field_refuses start (Octets n) fault is = other_refuses start (Octets n) fault (λ f e. sized_fault start (Octets n) n f e) is
-  field_refuses start OneString fault is = other_refuses start OneString fault (λ f e. sized_fault start OneString (1 + slice_index octets start) f e) is
-  field_refuses start Strings fault is = other_refuses start Strings fault (λ f e. strings_fault (octets_between octets start end) f e) is
-
   -- the first of fields that has no value
   pub values_fault : (fields : List Field) (start : ℕ) (fault : Fault) → values_at octets end start fields ≡ Err fault → FieldsFault octets end fields start fault
   values_fault [] start fault e =
@@ -105,13 +85,6 @@ module _ (octets : List ℕ) (each : (k : ℕ) → get_or octets k 0 < 256) (end
         ]
       ]
 
-  pub values_refuse : (fields : List Field) (start : ℕ) (fault : Fault) → FieldsFault octets end fields start fault → values_at octets end start fields ≡ Err fault
-  values_refuse [] start fault is = cond-false _ _ _ (false_from_ne_true (start == end) (λ t. is.1 (eqb-true start end t))) ∙ ap Err (sym is.0)
-  values_refuse (field ∷ fields) start fault (inl is) = and_then_err (value_at octets end start field) fault _ (field_refuses start field fault is)
-  values_refuse (field ∷ fields) start fault (inr is) =
-      and_then_ok (value_at octets end start field) (is.1, is.0) _ (value_is start is.0 field is.1 is.2)
-      ∙ and_then_err (values_at octets end is.0 fields) fault _ (values_refuse fields is.0 fault is.3)
-
   layout_fault : (start : ℕ) (fault : Fault) (o : Option (List Field)) → (let r : Result (List ℕ) Fault = elim o [ None ↦ Ok (octets_between octets start end) | Some fields ↦ and_then (values_at octets end start fields) (λ values. Ok (octets_of values)) ] in r) ≡ Err fault → MatchOption o ⊥ (λ fields. FieldsFault octets end fields start fault)
   layout_fault start fault None e = cc
   layout_fault start fault (Some fields) e = elim (stops (values_at octets end start fields) _ fault e) [
@@ -119,22 +92,7 @@ module _ (octets : List ℕ) (each : (k : ℕ) → get_or octets k 0 < 256) (end
     | inr h ↦ (let t : ⊥ = cc in absurd t)
   ]
 
-  layout_refuses : (start : ℕ) (fault : Fault) (o : Option (List Field)) → MatchOption o ⊥ (λ fields. FieldsFault octets end fields start fault) → (let r : Result (List ℕ) Fault = elim o [ None ↦ Ok (octets_between octets start end) | Some fields ↦ and_then (values_at octets end start fields) (λ values. Ok (octets_of values)) ] in r) ≡ Err fault
-  layout_refuses start fault None is = absurd is
-  layout_refuses start fault (Some fields) is = and_then_err (values_at octets end start fields) fault _ (values_refuse fields start fault is)
-
--- data that is refused has this first fault, and data that has one is refused with it
+-- data that is refused has this first fault
 pub data_faults : (octets : List ℕ) (a : RecordAt) (fault : Fault) → ((k : ℕ) → get_or octets k 0 < 256) → a.end ≤ length octets → data_at octets a ≡ Err fault → DataFault octets a fault
 unfolding data_at
 data_faults octets a fault each within e = layout_fault octets each a.end within a.start fault (layout a.class a.kind) e
-
-pub data_refuses : (octets : List ℕ) (a : RecordAt) (fault : Fault) → ((k : ℕ) → get_or octets k 0 < 256) → a.end ≤ length octets → DataFault octets a fault → data_at octets a ≡ Err fault
-unfolding data_at
-data_refuses octets a fault each within is = layout_refuses octets each a.end within a.start fault (layout a.class a.kind) is
-
--- a record has data, or its data a first fault
-pub data_verdict : (octets : List ℕ) (a : RecordAt) → ((k : ℕ) → get_or octets k 0 < 256) → a.end ≤ length octets → IsVerdict (IsDataAt octets a) (DataFault octets a)
-data_verdict octets a each within =
-    decides (IsDataAt octets a) (DataFault octets a) (data_at octets a)
-    (λ canonical e. data_shown octets a canonical each within e) (λ canonical is. data_reads octets a canonical within is)
-    (λ f e. data_faults octets a f each within e) (λ f is. data_refuses octets a f each within is)

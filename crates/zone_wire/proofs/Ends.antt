@@ -5,11 +5,11 @@ use Rattle.std.proofs.lemmas.Bool.{cond-true, cond-false, le-leb}
 use Rattle.std.proofs.lemmas.Bool.Decides.{nat_tests}
 use Rattle.zone_rdata.specs.declared.fault.Fault.{Fault}
 use Rattle.zone_rdata.specs.declared.fault.Fault.TheVariants.{ShortMessage}
-use Rattle.zone_wire.specs.Message.{u16_at, question_by, record_by}
+use Rattle.zone_wire.specs.Message.{u16_at}
 use Rattle.zone_wire.specs.Name.{Found}
 use Rattle.zone_wire.specs.Machine.Finding.{Outcome, named, refused, outcome}
 use Rattle.zone_wire.specs.Machine.Parsing.{name_end_of, part_end_of, run_end_of}
-use Rattle.zone_wire.specs.Machine.Sections.{and_then, at_offset, inside, question_at, record_at, each_from, records_from}
+use Rattle.zone_wire.specs.Machine.Sections.{and_then, at_offset, inside, record_at, each_from, records_from}
 use Rattle.zone_wire.specs.Machine.Walk.{walk}
 use Rattle.zone_wire.proofs.Walking.{walk_names, name_bounds}
 
@@ -26,52 +26,28 @@ name_ends_inside message offset each end ends = ended_inside message offset each
 not_inside : (a b : ℕ) → b < a → nat_le a b ≡ false
 not_inside a b h = grind (arith, nat_tests)
 
-inside_refused : {X : Type 0} (octets : List ℕ) (by : Found → X) (end_of : X → ℕ) (o : Outcome) (fault : Fault) → Err fault ≡ name_end_of o → Err fault ≡ part_end_of end_of (inside octets by end_of o)
+pub inside_refused : {X : Type 0} (octets : List ℕ) (by : Found → X) (end_of : X → ℕ) (o : Outcome) (fault : Fault) → Err fault ≡ name_end_of o → Err fault ≡ part_end_of end_of (inside octets by end_of o)
 inside_refused octets by end_of (refused other steps) fault e = e
 inside_refused octets by end_of (named found) fault e = cc
 
 -- a part whose end is this far after that of its name
-inside_ends : {X : Type 0} (octets : List ℕ) (by : Found → X) (end_of : X → ℕ) (past : ℕ → ℕ) → ((found : Found) → end_of (by found) ≡ past found.end) → (o : Outcome) (end : ℕ) → Ok end ≡ name_end_of o → past end ≤ length octets → Ok (past end) ≡ part_end_of end_of (inside octets by end_of o)
+pub inside_ends : {X : Type 0} (octets : List ℕ) (by : Found → X) (end_of : X → ℕ) (past : ℕ → ℕ) → ((found : Found) → end_of (by found) ≡ past found.end) → (o : Outcome) (end : ℕ) → Ok end ≡ name_end_of o → past end ≤ length octets → Ok (past end) ≡ part_end_of end_of (inside octets by end_of o)
 inside_ends octets by end_of past ends (named found) end e h =
     let same : end ≡ found.end = cc in
     let there : past end ≡ end_of (by found) = ap past same ∙ sym (ends found) in
     ap Ok there ∙ sym (ap (part_end_of end_of) (cond-true _ _ _ (le-leb _ _ (subst (λ n. n ≤ length octets) there h))))
 inside_ends octets by end_of past ends (refused fault steps) end e h = cc
 
-inside_short : {X : Type 0} (octets : List ℕ) (by : Found → X) (end_of : X → ℕ) (past : ℕ → ℕ) → ((found : Found) → end_of (by found) ≡ past found.end) → (o : Outcome) (end : ℕ) → Ok end ≡ name_end_of o → length octets < past end → Err ShortMessage ≡ part_end_of end_of (inside octets by end_of o)
+pub inside_short : {X : Type 0} (octets : List ℕ) (by : Found → X) (end_of : X → ℕ) (past : ℕ → ℕ) → ((found : Found) → end_of (by found) ≡ past found.end) → (o : Outcome) (end : ℕ) → Ok end ≡ name_end_of o → length octets < past end → Err ShortMessage ≡ part_end_of end_of (inside octets by end_of o)
 inside_short octets by end_of past ends (named found) end e h =
     let same : end ≡ found.end = cc in
     let there : past end ≡ end_of (by found) = ap past same ∙ sym (ends found) in
     sym (ap (part_end_of end_of) (cond-false _ _ _ (not_inside _ _ (subst (λ n. length octets < n) there h))))
 inside_short octets by end_of past ends (refused fault steps) end e h = cc
 
-pub question_refused : (octets : List ℕ) (offset : ℕ) (fault : Fault) → Err fault ≡ name_end_of (outcome octets (walk octets offset)) → Err fault ≡ part_end_of (λ q. q.end) (question_at octets offset)
-unfolding question_at
-question_refused octets offset fault e = inside_refused octets (question_by octets) (λ q. q.end) (outcome octets (walk octets offset)) fault e
-
-pub question_ends : (octets : List ℕ) (offset end : ℕ) → Ok end ≡ name_end_of (outcome octets (walk octets offset)) → end + 4 ≤ length octets → Ok (end + 4) ≡ part_end_of (λ q. q.end) (question_at octets offset)
-unfolding question_at
-question_ends octets offset end e h = inside_ends octets (question_by octets) (λ q. q.end) (λ n. n + 4) (λ found. refl) (outcome octets (walk octets offset)) end e h
-
-pub question_short : (octets : List ℕ) (offset end : ℕ) → Ok end ≡ name_end_of (outcome octets (walk octets offset)) → length octets < end + 4 → Err ShortMessage ≡ part_end_of (λ q. q.end) (question_at octets offset)
-unfolding question_at
-question_short octets offset end e h = inside_short octets (question_by octets) (λ q. q.end) (λ n. n + 4) (λ found. refl) (outcome octets (walk octets offset)) end e h
-
-pub record_refused : (octets : List ℕ) (offset : ℕ) (fault : Fault) → Err fault ≡ name_end_of (outcome octets (walk octets offset)) → Err fault ≡ part_end_of (λ r. r.end) (record_at octets offset)
-unfolding record_at
-record_refused octets offset fault e = inside_refused octets (record_by octets offset) (λ r. r.end) (outcome octets (walk octets offset)) fault e
-
 -- the offset after a record whose name ends here
 abbrev pub past_record : List ℕ → ℕ → ℕ
 past_record octets end = end + 10 + u16_at octets (end + 8)
-
-pub record_ends : (octets : List ℕ) (offset end : ℕ) → Ok end ≡ name_end_of (outcome octets (walk octets offset)) → past_record octets end ≤ length octets → Ok (past_record octets end) ≡ part_end_of (λ r. r.end) (record_at octets offset)
-unfolding record_at
-record_ends octets offset end e h = inside_ends octets (record_by octets offset) (λ r. r.end) (past_record octets) (λ found. refl) (outcome octets (walk octets offset)) end e h
-
-pub record_short : (octets : List ℕ) (offset end : ℕ) → Ok end ≡ name_end_of (outcome octets (walk octets offset)) → length octets < past_record octets end → Err ShortMessage ≡ part_end_of (λ r. r.end) (record_at octets offset)
-unfolding record_at
-record_short octets offset end e h = inside_short octets (record_by octets offset) (λ r. r.end) (past_record octets) (λ found. refl) (outcome octets (walk octets offset)) end e h
 
 same_end : {X : Type 0} (x : X) (r : Result (List X × ℕ) (Fault × ℕ)) → run_end_of (and_then r (λ others. Ok (x ∷ others.0, others.1))) ≡ run_end_of r
 same_end x (Ok run) = refl

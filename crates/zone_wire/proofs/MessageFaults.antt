@@ -9,14 +9,14 @@ use Rattle.zone_wire.specs.Machine.Finding.{Outcome, named, refused, outcome}
 use Rattle.zone_wire.specs.Machine.Sections.{and_then, header_fault, inside, question_at, record_at, at_offset, each_from, questions_from, records_from, to_the_end, after_header, unless_faulted, sections_of}
 use Rattle.zone_wire.specs.Walk.{ending, NameFault}
 use Rattle.zone_wire.specs.Machine.Walk.{walk}
-use Rattle.zone_wire.specs.Message.{qdcount_of, ancount_of, arcount_of, nscount_of, HasCounts, question_by, QuestionAt, IsQuestionAt, record_by, RecordAt, IsRecordAt, AreAt, Sections, IsMessage}
+use Rattle.zone_wire.specs.Message.{qdcount_of, ancount_of, arcount_of, nscount_of, HasCounts, IsPartAt, question_by, QuestionAt, IsQuestionAt, record_by, RecordAt, IsRecordAt, AreAt, Sections, IsMessage}
 use Rattle.zone_wire.specs.MessageFault.{PartFault, FaultIn, MessageFault}
 use Rattle.zone_wire.specs.Name.{Found, IsNameAt}
 use Rattle.zone_wire.specs.Unless.{Unless, fails, holds, NoFault}
 use Rattle.zone_wire.proofs.Conditions.{unless_one, unless_holds}
-use Rattle.zone_wire.proofs.Messages.{one_question, one_record, one_message}
+use Rattle.zone_wire.proofs.Messages.{one_part, one_message}
 use Rattle.zone_wire.proofs.ReadSections.{each_shows, question_shows, record_shows, response_of, sections_shown, at_offset_shows}
-use Rattle.zone_wire.proofs.Sectioning.{question_reads, record_reads, sixteen, not_other}
+use Rattle.zone_wire.proofs.Sectioning.{part_reads, sixteen, not_other}
 use Rattle.zone_wire.proofs.Walking.{Measures, name_walks, walk_names, walk_measures}
 use Rattle.zone_wire.proofs.WholeWalks.{is_walk, walk_is}
 
@@ -68,18 +68,18 @@ pub and_then_err : {X Y E : Type 0} (r : Result X E) (e : E) (next : X → Resul
 and_then_err r e next h = ap (λ z. and_then z next) h
 
 -- what begins with a name
-part_faults : {X : Type 0} (octets : List ℕ) (offset : ℕ) (by : Found → X) (end_of : X → ℕ) (Is : ℕ → X → Type 0) (o : Outcome) (fault : Fault) → ((k : ℕ) → get_or octets k 0 < 256) → ((x : X) → Is offset x → inside octets by end_of o ≡ Ok x) → outcome octets (walk octets offset) ≡ o → inside octets by end_of o ≡ Err fault → PartFault octets Is offset fault
-part_faults octets offset by end_of Is (refused f steps) fault each reads is e = inl (subst (NameFault octets offset) (err_same f fault e) (name_refused octets offset f steps is))
-part_faults octets offset by end_of Is (named found) fault each reads is e =
-    inr (sym (fails_test (nat_le (end_of (by found)) (length octets)) (by found) ShortMessage fault e).1, found, walk_names octets offset found each is, λ x at. let read = reads x at in cc)
+part_faults : {X : Type 0} (octets : List ℕ) (by : Found → X) (end_of : X → ℕ) → ((k : ℕ) → get_or octets k 0 < 256) → (offset : ℕ) (fault : Fault) (Is : ℕ → X → Type 0) → ((x : X) → Is offset x → IsPartAt octets by end_of offset x) → inside octets by end_of (outcome octets (walk octets offset)) ≡ Err fault → PartFault octets Is offset fault
+part_faults {X} octets by end_of each offset fault Is part e = of (outcome octets (walk octets offset)) refl e
+  where
+    of : (o : Outcome) → outcome octets (walk octets offset) ≡ o → inside octets by end_of o ≡ Err fault → PartFault octets Is offset fault
+    of (refused f steps) is h = inl (subst (NameFault octets offset) (err_same f fault h) (name_refused octets offset f steps is))
+    of (named found) is h = inr (sym (fails_test (nat_le (end_of (by found)) (length octets)) (by found) ShortMessage fault h).1, found, walk_names octets offset found each is, λ x at. let read = part_reads offset x (part x at) in cc)
 
 question_faults : (octets : List ℕ) → ((k : ℕ) → get_or octets k 0 < 256) → (offset : ℕ) (fault : Fault) → question_at octets offset ≡ Err fault → PartFault octets (IsQuestionAt octets) offset fault
-unfolding question_at
-question_faults octets each offset fault e = part_faults octets offset (question_by octets) (λ (q : QuestionAt). q.end) (IsQuestionAt octets) (outcome octets (walk octets offset)) fault each (question_reads octets offset) refl e
+question_faults octets each offset fault = part_faults octets (question_by octets) (λ (q : QuestionAt). q.end) each offset fault (IsQuestionAt octets) (λ q is. is)
 
 record_faults : (octets : List ℕ) → ((k : ℕ) → get_or octets k 0 < 256) → (offset : ℕ) (fault : Fault) → record_at octets offset ≡ Err fault → PartFault octets (IsRecordAt octets) offset fault
-unfolding record_at
-record_faults octets each offset fault e = part_faults octets offset (record_by octets offset) (λ (r : RecordAt). r.end) (IsRecordAt octets) (outcome octets (walk octets offset)) fault each (record_reads octets offset) refl e
+record_faults octets each offset fault = part_faults octets (record_by octets offset) (λ (r : RecordAt). r.end) each offset fault (IsRecordAt octets) (λ r is. is)
 
 at_offset_stops : {X : Type 0} (offset : ℕ) (r : Result X Fault) (e : Fault × ℕ) → at_offset offset r ≡ Err e → (r ≡ Err e.0) × (e.1 ≡ offset)
 at_offset_stops offset (Ok x) e h = cc
@@ -201,28 +201,25 @@ module _ (octets : List ℕ) (each : (k : ℕ) → get_or octets k 0 < 256) wher
 
 -- a message has one first fault
 module _ (octets : List ℕ) where
-  question_named : (offset : ℕ) (q : QuestionAt) → IsQuestionAt octets offset q → (found : Found) × IsNameAt octets offset found
-  question_named offset q is = (is.found, is.name)
-
-  record_named : (offset : ℕ) (r : RecordAt) → IsRecordAt octets offset r → (found : Found) × IsNameAt octets offset found
-  record_named offset r is = (is.found, is.name)
+  part_named : {X : Type 0} {by : Found → X} {end_of : X → ℕ} (offset : ℕ) (x : X) → IsPartAt octets by end_of offset x → (found : Found) × IsNameAt octets offset found
+  part_named offset x is = (is.found, is.name)
 
   records_one : (next : ℕ → Fault × ℕ → Type 0) → ((offset : ℕ) (e f : Fault × ℕ) → next offset e → next offset f → e ≡ f) → (count offset : ℕ) (e f : Fault × ℕ) → FaultIn octets (IsRecordAt octets) (λ r. r.end) count next offset e → FaultIn octets (IsRecordAt octets) (λ r. r.end) count next offset f → e ≡ f
-  records_one = fault_in_one octets (IsRecordAt octets) (λ r. r.end) record_named (one_record octets)
+  records_one = fault_in_one octets (IsRecordAt octets) (λ r. r.end) (λ o x. part_named o x) (λ o x y. one_part o x y)
 
   records_past : (next : ℕ → Fault × ℕ → Type 0) (parts : List RecordAt) (count offset past : ℕ) (e : Fault × ℕ) → length parts ≡ count → AreAt (IsRecordAt octets) (λ r. r.end) offset parts past → FaultIn octets (IsRecordAt octets) (λ r. r.end) count next offset e → next past e
-  records_past = fault_past octets (IsRecordAt octets) (λ r. r.end) record_named (one_record octets)
+  records_past = fault_past octets (IsRecordAt octets) (λ r. r.end) (λ o x. part_named o x) (λ o x y. one_part o x y)
 
   pub one_fault : (e f : Fault × ℕ) → MessageFault octets e.0 e.1 → MessageFault octets f.0 f.1 → e ≡ f
   one_fault e f = unless_one (λ a b. unless_one (λ a b. unless_one (λ a b. unless_one (λ a b. unless_one
-      (fault_in_one octets (IsQuestionAt octets) (λ q. q.end) question_named (one_question octets) (answers_fault octets)
+      (fault_in_one octets (IsQuestionAt octets) (λ q. q.end) part_named one_part (answers_fault octets)
       (records_one (additional_fault octets) (records_one (left_over octets) (λ offset a b. unless_one (λ x y no. absurd no)) (arcount_of octets)) (ancount_of octets)) (qdcount_of octets) 12)))))
 
   pub never_both : (s : Sections) (e : Fault × ℕ) → IsMessage octets s → MessageFault octets e.0 e.1 → ⊥
   never_both s e is fault =
       let h = is.header in
       let questions = unless_holds h.counts (unless_holds h.no_error (unless_holds h.whole (unless_holds h.response (unless_holds h.twelve fault)))) in
-      let answers = fault_past octets (IsQuestionAt octets) (λ q. q.end) question_named (one_question octets) (answers_fault octets) s.questions (qdcount_of octets) 12 is.past_questions e is.question_count is.questions questions in
+      let answers = fault_past octets (IsQuestionAt octets) (λ q. q.end) part_named one_part (answers_fault octets) s.questions (qdcount_of octets) 12 is.past_questions e is.question_count is.questions questions in
       let additional = records_past (additional_fault octets) s.answers (ancount_of octets) is.past_questions is.past_answers e is.answer_count is.answers answers in
       unless_holds refl (records_past (left_over octets) s.additional (arcount_of octets) is.past_answers (length octets) e is.additional_count is.additional additional)
 

@@ -93,10 +93,10 @@ module _ (octets : List ℕ) (end : ℕ) (within : end ≤ length octets) where
   row_not_both start f canonical None last is has = is
   row_not_both start f canonical (Some fields) last is has = fields_not_both fields has.values start f (last fields refl) has.held has.stand is
 
-data_one : (octets : List ℕ) (a : RecordAt) (f g : Fault) → a.end ≤ length octets → DataFault octets a f → DataFault octets a g → f ≡ g
+pub data_one : (octets : List ℕ) (a : RecordAt) (f g : Fault) → a.end ≤ length octets → DataFault octets a f → DataFault octets a g → f ≡ g
 data_one octets a f g within is too = row_one octets a.end within a.start f g (layout a.class a.kind) is too
 
-data_not_both : (octets : List ℕ) (a : RecordAt) (f : Fault) (canonical : List ℕ) → a.end ≤ length octets → DataFault octets a f → IsDataAt octets a canonical → ⊥
+pub data_not_both : (octets : List ℕ) (a : RecordAt) (f : Fault) (canonical : List ℕ) → a.end ≤ length octets → DataFault octets a f → IsDataAt octets a canonical → ⊥
 data_not_both octets a f canonical within is has = row_not_both octets a.end within a.start f canonical (layout a.class a.kind) (λ fields e. (table_row a.class a.kind fields e).last) is has
 
 -- an answer by itself

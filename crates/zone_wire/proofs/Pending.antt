@@ -7,13 +7,13 @@ use Rattle.zone_wire.specs.Name.{Found, IsNameAt}
 use Rattle.zone_wire.specs.Machine.Parsing.{parsed, IsParsed, raw_from, records_or_none, HasRecordsFrom}
 use Rattle.zone_wire.specs.Machine.Sections.{record_at}
 use Rattle.zone_wire.specs.View.{raw_at}
-use Rattle.zone_wire.proofs.Messages.{one_record}
-use Rattle.zone_wire.proofs.Sectioning.{record_reads, each_reads}
+use Rattle.zone_wire.proofs.Messages.{one_part}
+use Rattle.zone_wire.proofs.Sectioning.{part_reads, each_reads}
 use Rattle.zone_wire.proofs.Walking.{one_name}
 
 -- records that stand somewhere are read there
 pub stand_read : (octets : List ℕ) (count offset : ℕ) (s : HasRecordsFrom octets count offset) → raw_from octets count offset ≡ map (raw_at octets) s.records
-stand_read octets count offset s = ap (λ r. map (raw_at octets) (records_or_none r)) (each_reads (record_at octets) (λ r. r.end) (IsRecordAt octets) (record_reads octets) s.records count offset s.past s.counted s.stand)
+stand_read octets count offset s = ap (λ r. map (raw_at octets) (records_or_none r)) (each_reads (record_at octets) (λ r. r.end) (IsRecordAt octets) (λ o x. part_reads o x) s.records count offset s.past s.counted s.stand)
 
 -- the first of them, and the others
 pub record OneMore (octets : List ℕ) (count offset : ℕ) : Type 0 where
@@ -35,7 +35,7 @@ one_more octets count offset s some = by s.records s.stand s.counted (stand_read
 pub one_more_is : (octets : List ℕ) (count offset : ℕ) → HasRecordsFrom octets count offset → (count ≡ 0 → ⊥) → (r : RecordAt) → IsRecordAt octets offset r → (end : ℕ) → r.end ≡ end → HasRecordsFrom octets (count - 1) end × (raw_from octets count offset ≡ raw_at octets r ∷ raw_from octets (count - 1) end)
 one_more_is octets count offset s some r is end e =
     let more = one_more octets count offset s some in
-    let same : more.first ≡ r = one_record octets offset more.first r more.is is in
+    let same : more.first ≡ r = one_part offset more.first r more.is is in
     let there : more.first.end ≡ end = ap (λ (x : RecordAt). x.end) same ∙ e in
     (subst (HasRecordsFrom octets (count - 1)) there more.rest, more.shown ∙ ap (λ (x : RecordAt). raw_at octets x ∷ raw_from octets (count - 1) more.first.end) same ∙ ap (λ n. raw_at octets r ∷ raw_from octets (count - 1) n) there)
 

@@ -41,10 +41,6 @@ none_of None e = refl
 none_of (Some x) e = cc
 
 -- one record more
-none_placed : (placed : List Placed) → None ≡ opening_of placed → placed ≡ []
-none_placed [] e = refl
-none_placed (p ∷ placed) e = cc
-
 zone_opened : (questions : List QuestionAt) (p : Placed) → zone_with (zone_of questions []) p.rr ≡ zone_of questions (p ∷ [])
 zone_opened [] p = refl
 zone_opened (q ∷ questions) p = refl

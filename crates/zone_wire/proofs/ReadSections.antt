@@ -3,7 +3,7 @@ use Rattle.std.proofs.Common.{◌≡◌, ℕ, zero, suc, ◌/◌, arith, ◌<◌
 use Rattle.std.specs.Prelude.{get_or, slice_index, ◌==◌, Option, Some, None, Result, Ok, Err, if◌then◌else◌}
 use Rattle.std.proofs.lemmas.Bool.{and_parts, leb-true, ltb-false, eqb-true, not-false}
 use Rattle.zone_rdata.specs.declared.fault.Fault.{Fault}
-use Rattle.zone_wire.specs.Message.{u16_at, IsResponse, HasHeader, QuestionAt, question_by, IsQuestionAt, RecordAt, record_by, IsRecordAt, AreAt, Sections, IsMessage}
+use Rattle.zone_wire.specs.Message.{u16_at, IsResponse, HasHeader, IsPartAt, QuestionAt, question_by, IsQuestionAt, RecordAt, record_by, IsRecordAt, AreAt, Sections, IsMessage}
 use Rattle.zone_wire.specs.Name.{Found}
 use Rattle.zone_wire.specs.Machine.Finding.{Outcome, named, refused, outcome}
 use Rattle.zone_wire.specs.Machine.Sections.{and_then, at_offset, header_fault, inside, question_at, record_at, each_from, questions_from, records_from, after_header, unless_faulted, sections_of}
@@ -56,29 +56,20 @@ header_shows octets e =
     }
 
 -- what stands after a name inside the message
-record IsInside {X : Type 0} (octets : List ℕ) (by : Found → X) (end_of : X → ℕ) (o : Outcome) (x : X) : Type 0 where
-  found : Found
-  is : o ≡ named found
-  stands : by found ≡ x
-  fits : end_of (by found) ≤ length octets
-
-inside_shows : {X : Type 0} (octets : List ℕ) (by : Found → X) (end_of : X → ℕ) (o : Outcome) (x : X) → inside octets by end_of o ≡ Ok x → IsInside octets by end_of o x
-inside_shows octets by end_of (named found) x e =
-    let p = passes (nat_le (end_of (by found)) (length octets)) (by found) x _ e in
-    record { found = found; is = refl; stands = p.1; fits = leb-true _ _ p.0 }
-inside_shows octets by end_of (refused fault steps) x e = cc
+pub part_shows : {X : Type 0} (octets : List ℕ) (by : Found → X) (end_of : X → ℕ) → ((k : ℕ) → get_or octets k 0 < 256) → (offset : ℕ) (x : X) → inside octets by end_of (outcome octets (walk octets offset)) ≡ Ok x → IsPartAt octets by end_of offset x
+part_shows {X} octets by end_of each offset x e = of (outcome octets (walk octets offset)) refl e
+  where
+    of : (o : Outcome) → outcome octets (walk octets offset) ≡ o → inside octets by end_of o ≡ Ok x → IsPartAt octets by end_of offset x
+    of (named found) is e =
+        let p = passes (nat_le (end_of (by found)) (length octets)) (by found) x _ e in
+        record { found = found; name = walk_names octets offset found each is; stands = sym p.1; inside = subst (λ y. end_of y ≤ length octets) p.1 (leb-true _ _ p.0) }
+    of (refused fault steps) is e = cc
 
 pub question_shows : (octets : List ℕ) → ((k : ℕ) → get_or octets k 0 < 256) → (offset : ℕ) (q : QuestionAt) → question_at octets offset ≡ Ok q → IsQuestionAt octets offset q
-unfolding question_at
-question_shows octets each offset q e =
-    let s = inside_shows octets (question_by octets) (λ (x : QuestionAt). x.end) (outcome octets (walk octets offset)) q e in
-    record { found = s.found; name = walk_names octets offset s.found each s.is; stands = sym s.stands; inside = subst (λ (x : QuestionAt). x.end ≤ length octets) s.stands s.fits }
+question_shows octets = part_shows octets (question_by octets) (λ (q : QuestionAt). q.end)
 
 pub record_shows : (octets : List ℕ) → ((k : ℕ) → get_or octets k 0 < 256) → (offset : ℕ) (r : RecordAt) → record_at octets offset ≡ Ok r → IsRecordAt octets offset r
-unfolding record_at
-record_shows octets each offset r e =
-    let s = inside_shows octets (record_by octets offset) (λ (x : RecordAt). x.end) (outcome octets (walk octets offset)) r e in
-    record { found = s.found; name = walk_names octets offset s.found each s.is; stands = sym s.stands; inside = subst (λ (x : RecordAt). x.end ≤ length octets) s.stands s.fits }
+record_shows octets each offset = part_shows octets (record_by octets offset) (λ (r : RecordAt). r.end) each offset
 
 pub at_offset_shows : {X : Type 0} (offset : ℕ) (r : Result X Fault) (x : X) → at_offset offset r ≡ Ok x → r ≡ Ok x
 at_offset_shows offset (Ok y) x e = ap Ok (ok_same y x e)

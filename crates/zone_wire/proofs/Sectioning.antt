@@ -3,9 +3,9 @@ use Rattle.std.proofs.Common.{◌≡◌, ℕ, ◌/◌, arith, ◌≤◌, List, [
 use Rattle.std.specs.Prelude.{slice_index, ◌==◌, not, Option, Some, None, Result, Ok}
 use Rattle.std.proofs.lemmas.Bool.{cond-true, cond-false, le-leb, le-ltb, eq-eqb, and_from}
 use Rattle.zone_rdata.specs.declared.fault.Fault.{Fault}
-use Rattle.zone_wire.specs.Message.{u16_at, IsResponse, HasHeader, QuestionAt, question_by, IsQuestionAt, RecordAt, record_by, IsRecordAt, AreAt, Sections, IsMessage}
+use Rattle.zone_wire.specs.Message.{u16_at, IsResponse, HasHeader, IsPartAt, IsQuestionAt, IsRecordAt, AreAt, Sections, IsMessage}
 use Rattle.zone_wire.specs.Name.{Found}
-use Rattle.zone_wire.specs.Machine.Finding.{Outcome, named, outcome}
+use Rattle.zone_wire.specs.Machine.Finding.{outcome}
 use Rattle.zone_wire.specs.Machine.Sections.{and_then, at_offset, header_fault, inside, question_at, record_at, each_from, after_header, unless_faulted, sections_of}
 use Rattle.zone_wire.specs.Machine.Walk.{walk}
 use Rattle.zone_wire.proofs.Walking.{name_walks}
@@ -26,18 +26,9 @@ header_reads octets is =
     cond-false _ _ _ (le-ltb _ _ is.twelve) ∙ cond-false _ _ _ (not_other _ _ (sixteen octets is.response)) ∙ cond-false _ _ _ (not_other _ _ is.whole)
     ∙ cond-false _ _ _ (not_other _ _ is.no_error) ∙ cond-false _ _ _ (ap not (and_from (nat_le (u16_at octets 4) 1) (u16_at octets 8 == 0) (le-leb _ _ is.counts.0) (eq-eqb _ _ is.counts.1)))
 
-inside_reads : {X : Type 0} (octets : List ℕ) (by : Found → X) (end : X → ℕ) (found : Found) (o : Outcome) → o ≡ named found → end (by found) ≤ length octets → inside octets by end o ≡ Ok (by found)
-inside_reads octets by end found o e h = ap (inside octets by end) e ∙ cond-true _ _ _ (le-leb _ _ h)
-
-pub question_reads : (octets : List ℕ) (offset : ℕ) (q : QuestionAt) → IsQuestionAt octets offset q → question_at octets offset ≡ Ok q
-unfolding question_at
-question_reads octets offset q is =
-    inside_reads octets (question_by octets) (λ (x : QuestionAt). x.end) is.found (outcome octets (walk octets offset)) (name_walks octets offset is.found is.name) (subst (λ (x : QuestionAt). x.end ≤ length octets) is.stands is.inside) ∙ ap Ok (sym is.stands)
-
-pub record_reads : (octets : List ℕ) (offset : ℕ) (r : RecordAt) → IsRecordAt octets offset r → record_at octets offset ≡ Ok r
-unfolding record_at
-record_reads octets offset r is =
-    inside_reads octets (record_by octets offset) (λ (x : RecordAt). x.end) is.found (outcome octets (walk octets offset)) (name_walks octets offset is.found is.name) (subst (λ (x : RecordAt). x.end ≤ length octets) is.stands is.inside) ∙ ap Ok (sym is.stands)
+pub part_reads : {X : Type 0} {octets : List ℕ} {by : Found → X} {end_of : X → ℕ} (offset : ℕ) (x : X) → IsPartAt octets by end_of offset x → inside octets by end_of (outcome octets (walk octets offset)) ≡ Ok x
+part_reads {octets = octets} {by = by} {end_of = end_of} offset x is =
+    ap (inside octets by end_of) (name_walks octets offset is.found is.name) ∙ cond-true _ _ _ (le-leb _ _ (subst (λ y. end_of y ≤ length octets) is.stands is.inside)) ∙ ap Ok (sym is.stands)
 
 pub each_reads : {X : Type 0} (read : ℕ → Result X Fault) (end_of : X → ℕ) (Is : ℕ → X → Type 0) → ((offset : ℕ) (x : X) → Is offset x → read offset ≡ Ok x) → (xs : List X) (count offset past : ℕ) → length xs ≡ count → AreAt Is end_of offset xs past → each_from read end_of count offset ≡ Ok (xs, past)
 each_reads {X} read end_of Is reads xs count offset past size are = subst (λ n. each_from read end_of n offset ≡ Ok (xs, past)) size (by xs offset are)
@@ -57,8 +48,8 @@ pub sections_read : (octets : List ℕ) (s : Sections) → IsMessage octets s �
 unfolding sections_of
 sections_read octets s is =
     opens octets (header_fault octets) (header_reads octets is.header)
-    ∙ and_then_ok _ (s.questions, is.past_questions) _ (each_reads (question_at octets) (λ q. q.end) (IsQuestionAt octets) (question_reads octets) s.questions (u16_at octets 4) 12 is.past_questions is.question_count is.questions)
-    ∙ and_then_ok _ (s.answers, is.past_answers) _ (each_reads (record_at octets) (λ r. r.end) (IsRecordAt octets) (record_reads octets) s.answers (u16_at octets 6) is.past_questions is.past_answers is.answer_count is.answers)
-    ∙ and_then_ok _ (s.additional, length octets) _ (each_reads (record_at octets) (λ r. r.end) (IsRecordAt octets) (record_reads octets) s.additional (u16_at octets 10) is.past_answers (length octets) is.additional_count is.additional)
+    ∙ and_then_ok _ (s.questions, is.past_questions) _ (each_reads (question_at octets) (λ q. q.end) (IsQuestionAt octets) part_reads s.questions (u16_at octets 4) 12 is.past_questions is.question_count is.questions)
+    ∙ and_then_ok _ (s.answers, is.past_answers) _ (each_reads (record_at octets) (λ r. r.end) (IsRecordAt octets) (λ o x. part_reads o x) s.answers (u16_at octets 6) is.past_questions is.past_answers is.answer_count is.answers)
+    ∙ and_then_ok _ (s.additional, length octets) _ (each_reads (record_at octets) (λ r. r.end) (IsRecordAt octets) (λ o x. part_reads o x) s.additional (u16_at octets 10) is.past_answers (length octets) is.additional_count is.additional)
     ∙ cond-true _ _ _ (eq-eqb (length octets) (length octets) refl)
     ∙ ap (λ n. Ok (record s { id = n })) (sym is.id)

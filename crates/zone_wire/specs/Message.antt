@@ -76,11 +76,16 @@ question_by octets found =
       end = found.end + 4;
     }
 
-pub record IsQuestionAt (octets : List ℕ) (offset : ℕ) (q : QuestionAt) : Type 0 where
+-- a part at an offset: it begins with a name, is what is made of that, and ends in the message
+pub record IsPartAt {X : Type 0} (octets : List ℕ) (by : Found → X) (end_of : X → ℕ) (offset : ℕ)
+    (x : X) : Type 0 where
   pub found : Found
   pub name : IsNameAt octets offset found
-  pub stands : q ≡ question_by octets found
-  pub inside : q.end ≤ length octets
+  pub stands : x ≡ by found
+  pub inside : end_of x ≤ length octets
+
+abbrev pub IsQuestionAt : List ℕ → ℕ → QuestionAt → Type 0
+IsQuestionAt octets offset q = IsPartAt octets (question_by octets) (λ q. q.end) offset q
 
 -- a record, the offset at which it begins, and those from which and up to which its data stands
 -- (RFC 1035 4.1.3)
@@ -104,11 +109,8 @@ record_by octets offset found = record {
   end = found.end + 10 + u16_at octets (found.end + 8);
 }
 
-pub record IsRecordAt (octets : List ℕ) (offset : ℕ) (r : RecordAt) : Type 0 where
-  pub found : Found
-  pub name : IsNameAt octets offset found
-  pub stands : r ≡ record_by octets offset found
-  pub inside : r.end ≤ length octets
+abbrev pub IsRecordAt : List ℕ → ℕ → RecordAt → Type 0
+IsRecordAt octets offset r = IsPartAt octets (record_by octets offset) (λ r. r.end) offset r
 
 -- parts of a message, one after another from an offset to another
 abbrev pub AreAt : {X : Type 0} → (ℕ → X → Type 0) → (X → ℕ) → ℕ → List X → ℕ → Type 0

@@ -32,11 +32,11 @@ inside octets by end (refused fault steps) = Err fault
 inside octets by end (named found) =
     if nat_le (end (by found)) (length octets) then Ok (by found) else Err ShortMessage
 
-unfoldable pub question_at : List ℕ → ℕ → Result QuestionAt Fault
+abbrev pub question_at : List ℕ → ℕ → Result QuestionAt Fault
 question_at octets offset =
     inside octets (question_by octets) (λ q. q.end) (outcome octets (walk octets offset))
 
-unfoldable pub record_at : List ℕ → ℕ → Result RecordAt Fault
+abbrev pub record_at : List ℕ → ℕ → Result RecordAt Fault
 record_at octets offset =
     inside octets (record_by octets offset) (λ r. r.end) (outcome octets (walk octets offset))
 

@@ -4,14 +4,14 @@ use Rattle.zone_wire.specs.Machine.Answers.{own_record, answer_record}
 use Rattle.zone_wire.specs.Machine.Data.{value_at, data_at}
 use Rattle.zone_wire.specs.Examples.{answer_header, question_x, record_of_class, record_x, closing_x, ends_with, message_with, small_body}
 use Rattle.zone_wire.specs.Machine.Finding.{outcome}
-use Rattle.zone_wire.specs.Machine.Sections.{header_fault, question_at, record_at, sections_of}
+use Rattle.zone_wire.specs.Machine.Sections.{header_fault, sections_of}
 use Rattle.zone_wire.specs.Machine.Stream.{next_message, stream_records}
 use Rattle.zone_wire.specs.Machine.Walk.{standing_in, walk_by, walk}
 use Rattle.zone_wire.proofs.Computing.{reads}
 use Rattle.zone_wire.proofs.examples.answers_with_two_faults.Goals as goal
 
 pub returns : goal.returns
-unfolding stream_records next_message sections_of header_fault question_at record_at value_at data_at strings_of own_record answer_record outcome standing_in walk_by walk
+unfolding stream_records next_message sections_of header_fault value_at data_at strings_of own_record answer_record outcome standing_in walk_by walk
 returns c = record {
   class_and_type = reads ((ends_with (record_of_class 0 41 [])) ∷ []) [] _ refl refl refl refl;
   name_past_the_message = reads ((ends_with (record_x 2 [])) ∷ []) [] _ refl refl refl refl;

@@ -4,14 +4,14 @@ use Rattle.zone_wire.specs.Machine.Answers.{own_record, answer_record}
 use Rattle.zone_wire.specs.Machine.Data.{value_at, data_at}
 use Rattle.zone_wire.specs.Examples.{answer_header, question_x, opening_x, server_x, record_x, closing_x, message_with, small_body, small_message}
 use Rattle.zone_wire.specs.Machine.Finding.{outcome}
-use Rattle.zone_wire.specs.Machine.Sections.{header_fault, question_at, record_at, sections_of}
+use Rattle.zone_wire.specs.Machine.Sections.{header_fault, sections_of}
 use Rattle.zone_wire.specs.Machine.Stream.{next_message, stream_records}
 use Rattle.zone_wire.specs.Machine.Walk.{standing_in, walk_by, walk}
 use Rattle.zone_wire.proofs.Computing.{reads}
 use Rattle.zone_wire.proofs.examples.faults_of_answers.Goals as goal
 
 pub returns : goal.returns
-unfolding stream_records next_message sections_of header_fault question_at record_at value_at data_at strings_of own_record answer_record outcome standing_in walk_by walk
+unfolding stream_records next_message sections_of header_fault value_at data_at strings_of own_record answer_record outcome standing_in walk_by walk
 returns c = record {
   no_opening = reads ((answer_header 1 1 0 ++ question_x ++ record_x 2 (192 ∷ 12 ∷ [])) ∷ []) [] _ refl refl refl refl;
   question_class = reads ((answer_header 1 3 0 ++ (1 ∷ 120 ∷ 0 ∷ 0 ∷ 252 ∷ 0 ∷ 3 ∷ []) ++ opening_x ++ server_x ++ closing_x 1) ∷ []) [] _ refl refl refl refl;

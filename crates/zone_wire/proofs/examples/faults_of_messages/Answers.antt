@@ -4,14 +4,14 @@ use Rattle.zone_wire.specs.Machine.Answers.{own_record, answer_record}
 use Rattle.zone_wire.specs.Machine.Data.{value_at, data_at}
 use Rattle.zone_wire.specs.Examples.{answer_header, numbers, question_x, opening_x, record_x, server_x, closing_x, message_with, small_body, small_message, first_message}
 use Rattle.zone_wire.specs.Machine.Finding.{outcome}
-use Rattle.zone_wire.specs.Machine.Sections.{header_fault, question_at, record_at, sections_of}
+use Rattle.zone_wire.specs.Machine.Sections.{header_fault, sections_of}
 use Rattle.zone_wire.specs.Machine.Stream.{next_message, stream_records}
 use Rattle.zone_wire.specs.Machine.Walk.{standing_in, walk_by, walk}
 use Rattle.zone_wire.proofs.Computing.{reads}
 use Rattle.zone_wire.proofs.examples.faults_of_messages.Goals as goal
 
 pub returns : goal.returns
-unfolding stream_records next_message sections_of header_fault question_at record_at value_at data_at strings_of own_record answer_record outcome standing_in walk_by walk
+unfolding stream_records next_message sections_of header_fault value_at data_at strings_of own_record answer_record outcome standing_in walk_by walk
 returns c = record {
   no_octets = reads ([] ∷ []) [] _ refl refl refl refl;
   query = reads (((0 ∷ 1 ∷ 4 ∷ 0 ∷ 0 ∷ 1 ∷ 0 ∷ 3 ∷ 0 ∷ 0 ∷ 0 ∷ 0 ∷ []) ++ small_body) ∷ []) [] _ refl refl refl refl;

@@ -4,14 +4,14 @@ use Rattle.zone_wire.specs.Machine.Answers.{own_record, answer_record}
 use Rattle.zone_wire.specs.Machine.Data.{value_at, data_at}
 use Rattle.zone_wire.specs.Examples.{answer_header, small_message, first_message}
 use Rattle.zone_wire.specs.Machine.Finding.{outcome}
-use Rattle.zone_wire.specs.Machine.Sections.{header_fault, question_at, record_at, sections_of}
+use Rattle.zone_wire.specs.Machine.Sections.{header_fault, sections_of}
 use Rattle.zone_wire.specs.Machine.Stream.{next_message, stream_records}
 use Rattle.zone_wire.specs.Machine.Walk.{standing_in, walk_by, walk}
 use Rattle.zone_wire.proofs.Computing.{reads}
 use Rattle.zone_wire.proofs.examples.streams_cut_short.Goals as goal
 
 pub returns : goal.returns
-unfolding stream_records next_message sections_of header_fault question_at record_at value_at data_at strings_of own_record answer_record outcome standing_in walk_by walk
+unfolding stream_records next_message sections_of header_fault value_at data_at strings_of own_record answer_record outcome standing_in walk_by walk
 returns c = record {
   empty = reads [] [] _ refl refl refl refl;
   no_answers = reads ((0 ∷ 1 ∷ 132 ∷ 0 ∷ 0 ∷ 0 ∷ 0 ∷ 0 ∷ 0 ∷ 0 ∷ 0 ∷ 0 ∷ []) ∷ []) [] _ refl refl refl refl;

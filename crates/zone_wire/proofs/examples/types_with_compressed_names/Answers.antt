@@ -4,7 +4,7 @@ use Rattle.zone_wire.specs.Machine.Answers.{own_record, answer_record}
 use Rattle.zone_wire.specs.Machine.Data.{value_at, data_at}
 use Rattle.zone_wire.specs.Examples.{record_x, ends_with}
 use Rattle.zone_wire.specs.Machine.Finding.{outcome}
-use Rattle.zone_wire.specs.Machine.Sections.{header_fault, question_at, record_at, sections_of}
+use Rattle.zone_wire.specs.Machine.Sections.{header_fault, sections_of}
 use Rattle.zone_wire.specs.Machine.Stream.{next_message, stream_records}
 use Rattle.zone_wire.specs.Machine.Walk.{standing_in, walk_by, walk}
 use Rattle.zone_wire.proofs.Computing.{reads}
@@ -15,5 +15,5 @@ abbrev with_type : ℕ → List (List ℕ)
 with_type kind = ends_with (record_x kind []) ∷ []
 
 pub returns : goal.returns
-unfolding stream_records next_message sections_of header_fault question_at record_at value_at data_at strings_of own_record answer_record outcome standing_in walk_by walk
+unfolding stream_records next_message sections_of header_fault value_at data_at strings_of own_record answer_record outcome standing_in walk_by walk
 returns c = (reads (with_type 3) [] _ refl refl refl refl, (reads (with_type 4) [] _ refl refl refl refl, (reads (with_type 7) [] _ refl refl refl refl, (reads (with_type 8) [] _ refl refl refl refl, (reads (with_type 9) [] _ refl refl refl refl, (reads (with_type 14) [] _ refl refl refl refl, (reads (with_type 17) [] _ refl refl refl refl, (reads (with_type 18) [] _ refl refl refl refl, (reads (with_type 21) [] _ refl refl refl refl, (reads (with_type 24) [] _ refl refl refl refl, (reads (with_type 26) [] _ refl refl refl refl, (reads (with_type 30) [] _ refl refl refl refl, tt))))))))))))
