@@ -41,12 +41,9 @@ any_append (x ∷ xs) ys = ap (λ b. is_soa x || b) (any_append xs ys) ∙ or_as
 
 -- an SOA, records that are none, and the SOA again are in order
 pub rest_in_order : (zone : Record) (opening closing : Placed) (done others : List Placed) → closing.rr ≡ opening.rr → list_any is_soa done ≡ false → AllByRecursion (λ (p : Placed). p.rr.kind ≢ 6) others → InOrder zone (opening ∷ done) (others ++ closing ∷ [])
-rest_in_order zone opening closing done [] same none each =
-    let again : not (same_record closing.rr opening.rr) ≡ false = ap not (records_same closing.rr opening.rr same) in
-    ((none, and_right (is_soa closing) (not (same_record closing.rr opening.rr)) again), tt)
+rest_in_order zone opening closing done [] same none each = ((none, λ kind. same), tt)
 rest_in_order zone opening closing done (p ∷ others) same none each =
-    let other : is_soa p ≡ false = differ p.rr.kind 6 each.0 in
-    ((none, and_left (is_soa p) (not (same_record p.rr opening.rr)) other), rest_in_order zone opening closing (done ++ p ∷ []) others same (any_append done (p ∷ []) ∙ or_from (list_any is_soa done) (list_any is_soa (p ∷ [])) none (or_from (is_soa p) false other refl)) each.1)
+    ((none, λ kind. absurd (each.0 kind)), rest_in_order zone opening closing (done ++ p ∷ []) others same (any_append done (p ∷ []) ∙ or_from (list_any is_soa done) (list_any is_soa (p ∷ [])) none (or_from (is_soa p) false (differ p.rr.kind 6 each.0) refl)) each.1)
 
 others_kept : (others : List Placed) → AllByRecursion (λ (p : Placed). p.rr.kind ≢ 6) others → filter (λ (p : Placed). not (p.rr.kind == 6)) others ≡ others
 others_kept [] each = refl

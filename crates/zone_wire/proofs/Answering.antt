@@ -9,7 +9,7 @@ use Rattle.zone_rdata.specs.Record.{Record}
 use Rattle.zone_rdata.specs.Words.{IsClass, is_meta}
 use Rattle.zone_rdata.specs.declared.record.Placed.{Placed}
 use Rattle.zone_wire.specs.Machine.Answers.{same_name, same_record, is_no_class, own_record, agrees, order_fault}
-use Rattle.zone_wire.specs.Answers.{zone_of}
+use Rattle.zone_wire.specs.Answers.{zone_of, AgreeWith, ComesAfter}
 use Rattle.zone_wire.specs.Machine.Data.{data_at}
 use Rattle.zone_wire.specs.Message.{QuestionAt, RecordAt}
 use Rattle.zone_wire.specs.Transfer.{ttl_of, compressible, AnswerStates, AsksFor}
@@ -42,10 +42,10 @@ OpensWith zone [] = ⊤
 OpensWith zone (opening ∷ placed) = opening.rr ≡ zone
 
 -- what the questions for a zone and its records fix is the zone
-pub zone_agrees : (zone : Record) (questions : List QuestionAt) (placed : List Placed) (name : List (List ℕ)) (class : ℕ) → AllByRecursion (AsksFor zone) questions → OpensWith zone placed → name ≡ zone.owner → class ≡ zone.class → agrees (zone_of questions placed) name class ≡ true
-zone_agrees zone (q ∷ questions) placed name class ask opens n c = and_from (same_name name q.name) (class == q.class) (names_same name q.name (n ∙ sym ask.0.name)) (eq-eqb class q.class (c ∙ sym ask.0.class))
-zone_agrees zone [] (opening ∷ placed) name class ask opens n c = and_from (same_name name opening.rr.owner) (class == opening.rr.class) (names_same name opening.rr.owner (n ∙ ap (λ (r : Record). r.owner) (sym opens))) (eq-eqb class opening.rr.class (c ∙ ap (λ (r : Record). r.class) (sym opens)))
-zone_agrees zone [] [] name class ask opens n c = refl
+pub zone_agrees : (zone : Record) (questions : List QuestionAt) (placed : List Placed) (name : List (List ℕ)) (class : ℕ) → AllByRecursion (AsksFor zone) questions → OpensWith zone placed → name ≡ zone.owner → class ≡ zone.class → AgreeWith (zone_of questions placed) name class
+zone_agrees zone (q ∷ questions) placed name class ask opens n c = (n ∙ sym ask.0.name, c ∙ sym ask.0.class)
+zone_agrees zone [] (opening ∷ placed) name class ask opens n c = (n ∙ ap (λ (r : Record). r.owner) (sym opens), c ∙ ap (λ (r : Record). r.class) (sym opens))
+zone_agrees zone [] [] name class ask opens n c = tt
 
 abbrev pub is_soa : Placed → Bool
 is_soa p = p.rr.kind == 6
@@ -53,14 +53,13 @@ is_soa p = p.rr.kind == 6
 -- a record that can stand after others
 abbrev pub Follows : Record → List Placed → Placed → Type 0
 Follows zone [] p = (p.rr ≡ zone) × (zone.kind ≡ 6)
-Follows zone (opening ∷ others) p = (list_any is_soa others ≡ false) × ((is_soa p && not (same_record p.rr opening.rr)) ≡ false)
+Follows zone (opening ∷ others) p = (list_any is_soa others ≡ false) × (p.rr.kind ≡ 6 → p.rr ≡ opening.rr)
 
 abbrev pub InOrder : Record → List Placed → List Placed → Type 0
 InOrder zone before [] = ⊤
 InOrder zone before (p ∷ placed) = Follows zone before p × InOrder zone (before ++ p ∷ []) placed
 
-pub order_is_kept : (zone : Record) (questions : List QuestionAt) (before : List Placed) (p : Placed) → AllByRecursion (AsksFor zone) questions → Follows zone before p → order_fault questions before p.rr ≡ None
-order_is_kept zone questions [] p ask follows =
-    cond-false _ _ _ (ap not (eq-eqb p.rr.kind 6 (ap (λ (r : Record). r.kind) follows.0 ∙ follows.1)))
-    ∙ cond-true _ _ _ (zone_agrees zone questions [] p.rr.owner p.rr.class ask tt (ap (λ (r : Record). r.owner) follows.0) (ap (λ (r : Record). r.class) follows.0))
-order_is_kept zone questions (opening ∷ others) p ask follows = cond-false _ _ _ follows.0 ∙ cond-false _ _ _ follows.1
+pub follows_comes : (zone : Record) (questions : List QuestionAt) (before : List Placed) (p : Placed) → AllByRecursion (AsksFor zone) questions → Follows zone before p → ComesAfter questions before p.rr
+follows_comes zone questions [] p ask follows =
+    (ap (λ (r : Record). r.kind) follows.0 ∙ follows.1, zone_agrees zone questions [] p.rr.owner p.rr.class ask tt (ap (λ (r : Record). r.owner) follows.0) (ap (λ (r : Record). r.class) follows.0))
+follows_comes zone questions (opening ∷ others) p ask follows = follows

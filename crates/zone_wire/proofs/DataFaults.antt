@@ -25,7 +25,6 @@ use Rattle.zone_wire.proofs.MessageFaults.{err_same, fails_test, stops, and_then
 use Rattle.zone_wire.proofs.ReadFields.{value_shows, data_shown}
 use Rattle.zone_wire.proofs.ReadSections.{passes}
 use Rattle.zone_wire.proofs.Sectioning.{and_then_ok}
-use Rattle.zone_wire.proofs.Verdicts.{decides}
 use Rattle.zone_wire.proofs.Walking.{name_walks, walk_names}
 
 -- what is read for a field is its value, and conversely

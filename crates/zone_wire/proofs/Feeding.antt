@@ -24,6 +24,7 @@ use Rattle.zone_wire.specs.Transfer.{StatedMessage, frame}
 use Rattle.zone_wire.specs.declared.framer.Framer.{Framer}
 use Rattle.zone_wire.specs.declared.transfer.Transfer.{Transfer}
 use Rattle.zone_wire.proofs.Accepting.{all_append}
+use Rattle.zone_wire.proofs.FrameLaws.{frames_join, frame_is}
 use Rattle.zone_wire.proofs.GivenMessages.{reads_all, reads_up_to}
 use Rattle.zone_wire.proofs.Streams.{one_decision, fault_stays, fault_is_read, some_decision, some_reading}
 
@@ -40,11 +41,7 @@ framed_whole (high ∷ low ∷ octets) each e =
     ap (λ x. x ∷ low ∷ octets) high_is ∙ ap (λ x. (length octets / 256) ∷ x ∷ octets) low_is
 
 framed_more : (fed front octets unfinished : List ℕ) (messages : List (List ℕ)) → IsFramed fed messages unfinished → unfinished ++ front ≡ frame octets → length octets ≤ 65535 → IsFramed (fed ++ front) (messages ++ octets ∷ []) []
-framed_more fed front octets unfinished messages is e short = record {
-  whole = ap (λ x. x ++ front) is.whole ∙ append_assoc (flat_map frame messages) unfinished front ∙ ap (λ x. flat_map frame messages ++ x) (e ∙ sym (append-nil (frame octets))) ∙ sym (flat_map-append frame messages (octets ∷ [])) ∙ sym (append-nil (flat_map frame (messages ++ octets ∷ [])));
-  short = all_append (λ (x : List ℕ). length x ≤ 65535) messages (octets ∷ []) is.short (short, tt);
-  cut = lit< tt;
-}
+framed_more fed front octets unfinished messages is e short = frames_join fed front messages (octets ∷ []) unfinished [] is (subst (λ x. IsFramed x (octets ∷ []) []) (sym e) (frame_is octets short))
 
 read_append : (before parts : List StatedMessage) (p : StatedMessage) → AreRead before parts → IsReadAfter (before ++ parts) p → AreRead before (parts ++ p ∷ [])
 read_append before [] p are is = (subst (λ b. IsReadAfter b p) (append-nil before) is, tt)

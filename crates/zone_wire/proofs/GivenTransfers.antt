@@ -12,8 +12,7 @@ use Rattle.zone_wire.specs.Message.{QuestionAt, RecordAt, Sections}
 use Rattle.zone_wire.specs.Stream.{octets_in, asked_in, placed_in, HasFirstId, AsksIn, IsReadAfter, ReadAfter, whole, reads, StreamReads}
 use Rattle.zone_wire.specs.Transfer.{StatedMessage, IsStatedMessage, AreStatedMessages, AsksFor, AnswersState, frame, StreamStates}
 use Rattle.zone_wire.proofs.Accepting.{all_append, in_order_parts, opens_more, any_append, rest_in_order, framed_parts, short_parts, handed_transfer}
-use Rattle.zone_wire.proofs.AnswerFaults.{agrees_by, order_stands}
-use Rattle.zone_wire.proofs.Answering.{OpensWith, zone_agrees, is_soa, InOrder, order_is_kept}
+use Rattle.zone_wire.proofs.Answering.{OpensWith, zone_agrees, is_soa, InOrder, follows_comes}
 use Rattle.zone_wire.proofs.GivenMessages.{placed_grow, asked_grow}
 
 -- answers that state records in the order of a transfer
@@ -22,7 +21,7 @@ give_in_order zone number octets questions before [] [] ask is order = no_more
 give_in_order zone number octets questions before [] (p ∷ placed) ask is order = absurd is
 give_in_order zone number octets questions before (a ∷ answers) [] ask is order = absurd is
 give_in_order zone number octets questions before (a ∷ answers) (p ∷ placed) ask is order =
-    states is.0 is.1 (order_stands questions before p.rr (order_is_kept zone questions before p ask order.0)) (give_in_order zone number octets questions (before ++ p ∷ []) answers placed ask is.2 order.1)
+    states is.0 is.1 (follows_comes zone questions before p ask order.0) (give_in_order zone number octets questions (before ++ p ∷ []) answers placed ask is.2 order.1)
 
 first_id : (id : ℕ) (before : List StatedMessage) (s : Sections) → AllByRecursion (λ (p : StatedMessage). p.sections.id ≡ id) before → s.id ≡ id → HasFirstId before s
 first_id id [] s each e = tt
@@ -31,7 +30,7 @@ first_id id (first ∷ before) s each e = e ∙ sym each.0
 asks_in : (zone : Record) (before : List QuestionAt) (placed : List Placed) (questions : List QuestionAt) → AllByRecursion (AsksFor zone) before → OpensWith zone placed → AllByRecursion (AsksFor zone) questions → AllByRecursion (AsksIn (zone_of before placed)) questions
 asks_in zone before placed [] asked opens ask = tt
 asks_in zone before placed (q ∷ questions) asked opens ask =
-    (record { kind = ask.0.kind; agrees = agrees_by (zone_of before placed) q.name q.class (zone_agrees zone before placed q.name q.class asked opens ask.0.name ask.0.class) }, asks_in zone before placed questions asked opens ask.1)
+    (record { kind = ask.0.kind; agrees = zone_agrees zone before placed q.name q.class asked opens ask.0.name ask.0.class }, asks_in zone before placed questions asked opens ask.1)
 
 -- a message of a transfer after others
 stated_is_read : (id : ℕ) (zone : Record) (number : ℕ) (before : List StatedMessage) (p : StatedMessage) → number ≡ length before + 1 → IsStatedMessage id zone number p → AllByRecursion (λ (q : StatedMessage). q.sections.id ≡ id) before → AllByRecursion (AsksFor zone) (asked_in before) → OpensWith zone (placed_in before) → InOrder zone (placed_in before) p.placed → IsReadAfter before p

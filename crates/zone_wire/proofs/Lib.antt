@@ -36,7 +36,6 @@ pub mod Streams
 pub mod StringReading
 pub mod Structures
 pub mod Transfers
-pub mod Verdicts
 pub mod Visits
 pub mod WalkLaws
 pub mod Walking

@@ -8,6 +8,7 @@ use Rattle.zone_rdata.specs.declared.fault.Fault.TheVariants.{TrailingOctets}
 use Rattle.zone_wire.specs.Message.{u16_at, HasHeader, QuestionAt, RecordAt, IsRecordAt, AreRecordsAt, Sections, IsMessage}
 use Rattle.zone_wire.specs.Machine.Parsing.{IsParsed, parsed, sections_or_none, run_end_of}
 use Rattle.zone_wire.specs.Machine.Sections.{and_then, header_fault, record_at, questions_from, records_from, to_the_end, after_header, unless_faulted, sections_of}
+use Rattle.zone_wire.proofs.MessageFaults.{and_then_err}
 use Rattle.zone_wire.proofs.ReadSections.{header_shows, record_shows, each_shows, sections_shown}
 use Rattle.zone_wire.proofs.Sectioning.{and_then_ok, opens}
 
@@ -23,9 +24,6 @@ run_ends (Err fault) end e = cc
 run_refuses : {X : Type 0} (r : Result (List X × ℕ) (Fault × ℕ)) (e : Fault × ℕ) → Err e ≡ run_end_of r → r ≡ Err e
 run_refuses (Ok run) e h = cc
 run_refuses (Err other) e h = ap Err (let same : other ≡ e = cc in same)
-
-refuses : {X Y : Type 0} (r : Result X (Fault × ℕ)) (next : X → Result Y (Fault × ℕ)) (e : Fault × ℕ) → r ≡ Err e → and_then r next ≡ Err e
-refuses r next e h = ap (λ z. and_then z next) h
 
 abbrev after_additional : List ℕ → List QuestionAt → List RecordAt → List RecordAt × ℕ → Result Sections (Fault × ℕ)
 after_additional octets questions answers additional = to_the_end octets additional.1 (record { id = u16_at octets 0; questions = questions; answers = answers; additional = additional.0 })
@@ -50,7 +48,7 @@ module _ (octets : List ℕ) (none : None ≡ header_fault octets) where
   from_header = opens octets (header_fault octets) (sym none)
 
   pub questions_refused : (e : Fault × ℕ) → Err e ≡ run_end_of (questions_from octets (u16_at octets 4) 12) → sections_of octets ≡ Err e
-  questions_refused e h = from_header ∙ refuses _ (after_questions octets) e (run_refuses _ e h)
+  questions_refused e h = from_header ∙ and_then_err _ e (after_questions octets) (run_refuses _ e h)
 
   module _ (answers : ℕ) (after : Ok answers ≡ run_end_of (questions_from octets (u16_at octets 4) 12)) where
     questions_run : Runs (questions_from octets (u16_at octets 4) 12) answers
@@ -60,7 +58,7 @@ module _ (octets : List ℕ) (none : None ≡ header_fault octets) where
     from_questions = from_header ∙ and_then_ok _ (questions_run.parts, answers) (after_questions octets) questions_run.is
 
     pub answers_refused : (e : Fault × ℕ) → Err e ≡ run_end_of (records_from octets (u16_at octets 6) answers) → sections_of octets ≡ Err e
-    answers_refused e h = from_questions ∙ refuses _ (after_answers octets questions_run.parts) e (run_refuses _ e h)
+    answers_refused e h = from_questions ∙ and_then_err _ e (after_answers octets questions_run.parts) (run_refuses _ e h)
 
     module _ (additional : ℕ) (later : Ok additional ≡ run_end_of (records_from octets (u16_at octets 6) answers)) where
       answers_run : Runs (records_from octets (u16_at octets 6) answers) additional
@@ -70,7 +68,7 @@ module _ (octets : List ℕ) (none : None ≡ header_fault octets) where
       from_answers = from_questions ∙ and_then_ok _ (answers_run.parts, additional) (after_answers octets questions_run.parts) answers_run.is
 
       pub additional_refused : (e : Fault × ℕ) → Err e ≡ run_end_of (records_from octets (u16_at octets 10) additional) → sections_of octets ≡ Err e
-      additional_refused e h = from_answers ∙ refuses _ (after_additional octets questions_run.parts answers_run.parts) e (run_refuses _ e h)
+      additional_refused e h = from_answers ∙ and_then_err _ e (after_additional octets questions_run.parts answers_run.parts) (run_refuses _ e h)
 
       module _ (end : ℕ) (last : Ok end ≡ run_end_of (records_from octets (u16_at octets 10) additional)) where
         additional_run : Runs (records_from octets (u16_at octets 10) additional) end

@@ -1,5 +1,7 @@
-use Rattle.zone_wire.proofs.Transfers.{one_list}
+use Rattle.std.specs.Prelude.{None}
+use Rattle.zone_wire.proofs.GivenTransfers.{transfer_reads}
+use Rattle.zone_wire.proofs.Streams.{one_reading}
 use Rattle.zone_wire.proofs.laws.one_list_of_a_stream.Goals as goal
 
 pub returns : goal.returns
-returns c = one_list
+returns c = λ stream placed other states too. (one_reading stream placed other None None (transfer_reads stream placed states) (transfer_reads stream other too)).0
