@@ -2,15 +2,14 @@
 use Rattle.std.proofs.Common.{◌≡◌, ◌≢◌, ℕ, ◌+◌, ◌≤◌, List, [], ◌∷◌, ◌++◌, length, refl, ap, sym, ◌∙◌, subst, Bool, true, false, append_assoc}
 use Rattle.std.specs.Prelude.{map, ◌==◌, ◌||◌, not}
 use Rattle.std.specs.List.{flat_map, filter, AllByRecursion, list_any}
-use Rattle.std.proofs.lemmas.Bool.{cond-true, cond-false, eq-eqb, and_left, and_right, or_from}
+use Rattle.std.proofs.lemmas.Bool.{cond-true, cond-false, eq-eqb, or_from}
 use Rattle.std.proofs.lemmas.List.{append-nil}
 use Rattle.std.proofs.lemmas.List.Elements.{filter-append}
 use Rattle.zone_rdata.specs.Record.{Record}
 use Rattle.zone_rdata.specs.declared.record.Placed.{Placed}
 use Rattle.zone_wire.specs.Answers.{handed_on}
-use Rattle.zone_wire.specs.Machine.Answers.{same_record}
 use Rattle.zone_wire.specs.Transfer.{StatedMessage, AreStatedMessages, frame}
-use Rattle.zone_wire.proofs.Answering.{OpensWith, is_soa, InOrder, differ, records_same}
+use Rattle.zone_wire.proofs.Answering.{OpensWith, is_soa, InOrder, differ}
 
 pub all_append : {X : Type 0} (P : X → Type 0) (xs ys : List X) → AllByRecursion P xs → AllByRecursion P ys → AllByRecursion P (xs ++ ys)
 all_append P [] ys each also = also

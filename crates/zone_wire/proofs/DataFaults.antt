@@ -1,11 +1,10 @@
 -- The faults of a record's data are those at which its fields stop being read.
-use Rattle.std.proofs.Common.{◌≡◌, ℕ, ◌+◌, ◌<◌, ◌≤◌, List, [], ◌∷◌, length, refl, ap, sym, ◌∙◌, subst, true, false, nat_le, nat_lt, nat_eq, inl, inr, arith}
+use Rattle.std.proofs.Common.{◌≡◌, ℕ, ◌+◌, ◌<◌, ◌≤◌, List, [], ◌∷◌, length, refl, ap, sym, ◌∙◌, subst, true, nat_le, nat_lt, nat_eq, inl, inr}
 use Rattle.std.specs.Prelude.{get_or, slice_index, ◌==◌, ◌&&◌, Option, Some, None, MatchOption, Result, Ok, Err}
 use Rattle.std.specs.Cmp.Lexicographic.{pointwise}
 use Rattle.std.specs.List.{flat_map}
-use Rattle.std.proofs.lemmas.Bool.{cond-false, leb-true, leb-false, eqb-true, eq-eqb, false_from_ne_true}
+use Rattle.std.proofs.lemmas.Bool.{leb-false, eq-eqb}
 use Rattle.zone_name.specs.Name.{with_length}
-use Rattle.zone_name.specs.Common.{IsVerdict}
 use Rattle.zone_rdata.specs.Field.{FieldValue, name, strings, field_at, octets_of}
 use Rattle.zone_rdata.specs.Fields.Strings.{strings_of}
 use Rattle.zone_rdata.specs.Layout.{layout}
@@ -19,13 +18,12 @@ use Rattle.zone_wire.specs.Machine.Finding.{Outcome, named, refused, outcome}
 use Rattle.zone_wire.specs.Machine.Sections.{and_then}
 use Rattle.zone_wire.specs.Machine.Walk.{walk}
 use Rattle.zone_wire.specs.Message.{RecordAt}
-use Rattle.zone_wire.specs.Transfer.{octets_between, IsDataAt}
-use Rattle.zone_wire.proofs.Fielding.{value_reads, data_reads}
-use Rattle.zone_wire.proofs.MessageFaults.{err_same, fails_test, stops, and_then_err, name_refused, name_refuses}
-use Rattle.zone_wire.proofs.ReadFields.{value_shows, data_shown}
+use Rattle.zone_wire.specs.Transfer.{octets_between}
+use Rattle.zone_wire.proofs.Fielding.{value_reads}
+use Rattle.zone_wire.proofs.MessageFaults.{err_same, fails_test, stops, name_refused}
+use Rattle.zone_wire.proofs.ReadFields.{value_shows}
 use Rattle.zone_wire.proofs.ReadSections.{passes}
-use Rattle.zone_wire.proofs.Sectioning.{and_then_ok}
-use Rattle.zone_wire.proofs.Walking.{name_walks, walk_names}
+use Rattle.zone_wire.proofs.Walking.{walk_names}
 
 -- what is read for a field is its value, and conversely
 module _ (octets : List ℕ) (each : (k : ℕ) → get_or octets k 0 < 256) (end : ℕ) (within : end ≤ length octets) where

@@ -1,10 +1,9 @@
 -- What is decided of a stream by one frame more, by octets that end inside a frame, and by the
 -- stream's end.
-use Rattle.std.proofs.Common.{◌≡◌, ℕ, ◌+◌, ◌-◌, ◌*◌, ◌/◌, ◌%◌, ◌<◌, ◌≤◌, List, [], ◌∷◌, ◌++◌, length, refl, ap, sym, ◌∙◌, subst, false, arith, append_assoc, length-append, lit<}
+use Rattle.std.proofs.Common.{◌≡◌, ℕ, ◌+◌, ◌-◌, ◌*◌, ◌/◌, ◌%◌, ◌<◌, ◌≤◌, List, [], ◌∷◌, ◌++◌, length, refl, ap, sym, ◌∙◌, subst, false, arith, append_assoc, length-append}
 use Rattle.std.specs.Prelude.{take, drop, Option, Some, None, IfSome, MatchOption}
 use Rattle.std.specs.List.{flat_map}
 use Rattle.std.proofs.lemmas.List.{append-nil, length-map, map-append, length-take-le, length-drop, take-append-drop}
-use Rattle.std.proofs.lemmas.List.Concat.{flat_map-append}
 use Rattle.zone_rdata.proofs.Bytes.{Bytes, bytes_append}
 use Rattle.zone_rdata.specs.FedSource.{is_failed, is_finished, SourceState}
 use Rattle.zone_rdata.specs.declared.fault.Fault.{Fault}
@@ -23,7 +22,6 @@ use Rattle.zone_wire.specs.Stream.{octets_in, placed_in, IsReadAfter, AreRead, R
 use Rattle.zone_wire.specs.Transfer.{StatedMessage, frame}
 use Rattle.zone_wire.specs.declared.framer.Framer.{Framer}
 use Rattle.zone_wire.specs.declared.transfer.Transfer.{Transfer}
-use Rattle.zone_wire.proofs.Accepting.{all_append}
 use Rattle.zone_wire.proofs.FrameLaws.{frames_join, frame_is}
 use Rattle.zone_wire.proofs.GivenMessages.{reads_all, reads_up_to}
 use Rattle.zone_wire.proofs.Streams.{one_decision, fault_stays, fault_is_read, some_decision, some_reading}

@@ -21,7 +21,7 @@ use Rattle.zone_wire.specs.Message.{QuestionAt, RecordAt, Sections, IsMessage}
 use Rattle.zone_wire.specs.MessageFault.{MessageFault}
 use Rattle.zone_wire.specs.Stream.{asked_in, placed_in, HasFirstId, AsksIn, AskAfter}
 use Rattle.zone_wire.specs.Transfer.{StatedMessage}
-use Rattle.zone_wire.specs.TransferSource.{first_id, opening_of}
+use Rattle.zone_wire.specs.TransferSource.{first_id}
 use Rattle.zone_wire.specs.Unless.{fails, holds}
 use Rattle.zone_wire.specs.View.{RawRecord, raw_at, asked}
 use Rattle.zone_wire.specs.declared.message.Question.{Question}

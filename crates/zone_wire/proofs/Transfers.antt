@@ -1,12 +1,10 @@
 -- At most one list of records of a stream.
-use Rattle.std.proofs.Common.{◌≡◌, ℕ, ◌+◌, ◌/◌, ◌%◌, ◌≤◌, List, [], ◌∷◌, ◌++◌, length, refl, ap, sym, ◌∙◌, subst, arith, length-append}
-use Rattle.std.specs.List.{flat_map}
+use Rattle.std.proofs.Common.{◌≡◌, ℕ, ◌/◌, ◌%◌, ◌≤◌, List, [], ◌∷◌, ◌++◌, length, refl, ap, sym, ◌∙◌, arith}
 use Rattle.zone_rdata.specs.Record.{Record}
 use Rattle.zone_rdata.specs.declared.record.Placed.{Placed}
-use Rattle.zone_wire.specs.Message.{RecordAt, Sections, AreRecordsAt, IsMessage}
-use Rattle.zone_wire.specs.Transfer.{IsDataAt, AnswerStates, AnswersState, StatedMessage, IsStatedMessage, AreStatedMessages, frame, StreamStates}
+use Rattle.zone_wire.specs.Message.{RecordAt}
+use Rattle.zone_wire.specs.Transfer.{IsDataAt, AnswerStates, frame}
 use Rattle.zone_wire.proofs.Fielding.{data_reads}
-use Rattle.zone_wire.proofs.Messages.{one_message}
 
 -- two lists, each with more after it, where the first are as long
 pub front_unique : {X : Type 0} (a b c d : List X) → length a ≡ length b → a ++ c ≡ b ++ d → (a ≡ b) × (c ≡ d)

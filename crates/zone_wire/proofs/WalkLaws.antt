@@ -2,7 +2,6 @@
 use Rattle.std.proofs.Common.{◌≡◌, ℕ, ◌<◌, List, length, refl, ap, sym, ◌∙◌, subst, inl, inr}
 use Rattle.std.specs.Prelude.{get_or, None}
 use Rattle.zone_name.specs.Common.{EitherIs, IsVerdict}
-use Rattle.zone_rdata.specs.declared.fault.Fault.{Fault}
 use Rattle.zone_wire.specs.Machine.Finding.{Outcome, named, refused, outcome}
 use Rattle.zone_wire.specs.Walk.{Visit, ending, IsWalk, NameFault}
 use Rattle.zone_wire.specs.Machine.Walk.{walk}

@@ -83,7 +83,8 @@ pub data ReadAfter : List StatedMessage → List (List ℕ) → List Placed → 
       → IsReadAfter before p → ReadAfter (before ++ p ∷ []) messages placed ending
       → ReadAfter before (p.octets ∷ messages) (p.placed ++ placed) ending
   stops : {before : List StatedMessage} {octets : List ℕ} {messages : List (List ℕ)}
-      {placed : List Placed} {fault : Fault} {offset : ℕ} → FaultAfter before octets placed fault offset
+      {placed : List Placed} {fault : Fault} {offset : ℕ}
+      → FaultAfter before octets placed fault offset
       → ReadAfter before (octets ∷ messages) placed
       (Some (fault, Message (length before + 1) offset))
 
