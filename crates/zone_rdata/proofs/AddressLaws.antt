@@ -37,10 +37,7 @@ own : IsNumeralModel AreDigits decimal_value
 own = numerals_by_fold AreDigits digits_test (λ n text. fold (λ n c. n * 10 + (c - 48)) n text) digits_fold
 
 number_printed : (n : ℕ) → n < 256 → IsOctetNumber (decimal n) n
-number_printed n fits = record {
-  number = record { some = decimal_nonempty n (omega arith); digits = digits_decimal own n (omega arith); value = sym (digits_value-decimal own n (omega arith)) };
-  short = omega arith;
-}
+number_printed n fits = grind (arith, decimal_nonempty, digits_decimal, own, digits_value-decimal)
 
 pub ipv4_printed : (octets : List ℕ) → length octets ≡ 4 → AllByRecursion (λ c. c < 256) octets → IsIpv4Address (ipv4_text octets) octets
 ipv4_printed (a ∷ b ∷ c ∷ d ∷ []) len each = record {
@@ -59,22 +56,7 @@ IsFilled n text = (0 < length text) × (length text ≤ 4) × (replicate (4 - le
 
 hex_filled : (n : ℕ) → n < 2 ^ 16 → IsFilled n (hex n)
 unfolding hex
-hex_filled n fits = elim (cases_lt n 0x1000) [
-  | inr four ↦ rw (le-leb _ n four) (omega arith, omega arith, refl)
-  | inl h₃ ↦
-      let a : digit_char (n / 0x1000) ≡ 48 = let e : n / 0x1000 ≡ 0 = omega arith in ap digit_char e in
-      elim (cases_lt n 0x100) [
-        | inr three ↦ rw (lt-leb _ n h₃, le-leb _ n three) (omega arith, omega arith, cc)
-        | inl h₂ ↦
-            let b : digit_char (n / 0x100 % 16) ≡ 48 = let e : n / 0x100 % 16 ≡ 0 = omega arith in ap digit_char e in
-            elim (cases_lt n 0x10) [
-              | inr two ↦ rw (lt-leb _ n h₃, lt-leb _ n h₂, le-leb _ n two) (omega arith, omega arith, cc)
-              | inl h₁ ↦
-                  let d : digit_char (n / 0x10 % 16) ≡ 48 = let e : n / 0x10 % 16 ≡ 0 = omega arith in ap digit_char e in
-                  rw (lt-leb _ n h₃, lt-leb _ n h₂, lt-leb _ n h₁) (omega arith, omega arith, cc)
-            ]
-      ]
-]
+hex_filled n fits = grind (arith, cases_lt, le-leb, lt-leb)
 
 abbrev pair : ℕ → List ℕ
 pair n = n / 256 ∷ n % 256 ∷ []
@@ -83,9 +65,7 @@ abbrev part : ℕ → AddressPart
 part n = record { text = hex n; octets = pair n }
 
 pair_bytes : (a b : ℕ) → a < 256 → b < 256 → (i : ℕ) → slice_index (a ∷ b ∷ []) i < 256
-pair_bytes a b h k zero = h
-pair_bytes a b h k (suc zero) = k
-pair_bytes a b h k (suc (suc i)) = omega arith
+pair_bytes a b h k v4 = grind arith
 
 group_printed : (n : ℕ) → n < 2 ^ 16 → IsGroup (part n)
 group_printed n fits =
@@ -125,13 +105,11 @@ length-pairs (g ∷ groups) = omega (arith, length-pairs groups)
 
 zero_pairs : (n : ℕ) → pairs (replicate n 0) ≡ replicate (2 * n) 0
 zero_pairs zero = refl
-zero_pairs (suc n) =
-    let twice : 2 * suc n ≡ suc (suc (2 * n)) = omega arith in
-    ap (λ o. 0 ∷ 0 ∷ o) (zero_pairs n) ∙ ap (λ k. replicate k 0) (sym twice)
+zero_pairs (suc n) = let twice : 2 * suc n ≡ suc (suc (2 * n)) = omega arith in cc (zero_pairs n)
 
 -- the groups of octets
 segments_each : (octets : List ℕ) → AllByRecursion (λ c. c < 256) octets → AllGroups (segments_of octets)
-segments_each (a ∷ b ∷ octets) each = (let h = each.0 in let l = each.1.0 in omega arith, segments_each octets each.1.1)
+segments_each (a ∷ b ∷ octets) each = grind (arith, segments_each octets each.1.1)
 segments_each octets each = tt
 
 pub segments_count : (count : ℕ) (octets : List ℕ) → length octets ≡ 2 * count → length (segments_of octets) ≡ count
@@ -142,11 +120,7 @@ segments_count count octets len = absurd (omega arith)
 segments_back : (count : ℕ) (octets : List ℕ) → length octets ≡ 2 * count → AllByRecursion (λ c. c < 256) octets → pairs (segments_of octets) ≡ octets
 segments_back count (a ∷ []) len each = absurd (omega arith)
 segments_back zero (a ∷ b ∷ octets) len each = absurd (omega arith)
-segments_back (suc count) (a ∷ b ∷ octets) len each =
-    let low : b < 256 = each.1.0 in
-    let high_is : (a * 256 + b) / 256 ≡ a = omega arith in
-    let low_is : (a * 256 + b) % 256 ≡ b = omega arith in
-    ap (λ c. c ∷ (a * 256 + b) % 256 ∷ pairs (segments_of octets)) high_is ∙ ap (λ c. a ∷ c ∷ pairs (segments_of octets)) low_is ∙ ap (λ o. a ∷ b ∷ o) (segments_back count octets (omega arith) each.1.1)
+segments_back (suc count) (a ∷ b ∷ octets) len each = grind (arith, segments_back count octets (omega arith) each.1.1)
 segments_back count [] len each = refl
 
 -- groups around a run of zeros
@@ -192,7 +166,6 @@ run_is groups start len run =
     let least = run.longest (longest_zero_run groups).0 (longest_zero_run groups).1 own_run in
     let same : (longest_zero_run groups).1 ≡ len = omega (arith, most.0, least) in
     let before = run.first (longest_zero_run groups).0 (subst (λ l. IsZeroRun groups (longest_zero_run groups).0 l) same own_run) in
-    let after = most.1 (sym same) in
     (omega arith, same)
 
 longest_is : (groups : List ℕ) → 1 < (longest_zero_run groups).1 → IsShortenedRun groups (longest_zero_run groups).0 (longest_zero_run groups).1
@@ -204,35 +177,21 @@ longest_is groups long = record {
 }
 
 pub run_shortened : (octets : List ℕ) (start len : ℕ) → IsShortenedRun (segments_of octets) start len → ipv6_text octets ≡ shortened_groups (segments_of octets) start len
-run_shortened octets start len run =
-    let groups = segments_of octets in
-    let same = run_is groups start len run in
-    let long : 1 < (longest_zero_run groups).1 = omega (arith, same.1, run.two) in
-    rw (lt-ltb 1 (longest_zero_run groups).1 long) (ap (λ s. shortened_groups groups s (longest_zero_run groups).1) same.0 ∙ ap (λ l. shortened_groups groups start l) same.1)
+run_shortened octets start len run = grind (arith, run_is, lt-ltb)
 
 pub none_shortened : (octets : List ℕ) → ((start len : ℕ) → IsShortenedRun (segments_of octets) start len → ⊥) → ipv6_text octets ≡ parted_groups (segments_of octets)
-none_shortened octets none =
-    let groups = segments_of octets in
-    elim (cases_lt 1 (longest_zero_run groups).1) [
-      | inl long ↦ absurd (none (longest_zero_run groups).0 (longest_zero_run groups).1 (longest_is groups long))
-      | inr short ↦ rw (le-ltb 1 (longest_zero_run groups).1 short) refl
-    ]
+none_shortened octets none = grind (arith, cases_lt, longest_is, le-ltb)
 
 pub run_exists : (groups : List ℕ) (start len : ℕ) → IsZeroRun groups start len → 2 ≤ len → (first longest : ℕ) × IsShortenedRun groups first longest
-run_exists groups start len run two = ((longest_zero_run groups).0, (longest_zero_run groups).1, longest_is groups (omega (arith, (longest_zero_run_first groups start len run).0)))
+run_exists groups start len run two = grind (arith, longest_is, longest_zero_run_first)
 
 -- ---- the octets of texts
 
 digit_or_dot : (c : ℕ) → IsDigitOrDot c → IsAddressOctet c
-digit_or_dot c (inl range) = inl (range.0, range.1)
-digit_or_dot c (inr dot) = inr (inr (inl dot))
+digit_or_dot c v1 = grind arith
 
 hex_or_colon : (c : ℕ) → IsHexOrColon c → IsAddressOctet c
-hex_or_colon c (inl range) = elim (cases_lt c 58) [
-  | inl digit ↦ inl (range.0, omega arith)
-  | inr colon ↦ inr (inr (inr (let high = range.1 in omega arith)))
-]
-hex_or_colon c (inr range) = inr (inl (range.0, range.1))
+hex_or_colon c v1 = grind (arith, cases_lt)
 
 pub ipv4_plain : (octets : List ℕ) → length octets ≡ 4 → AllByRecursion (λ c. c < 256) octets → AllByRecursion IsAddressOctet (ipv4_text octets)
 ipv4_plain octets len each = recursion_from_All IsAddressOctet (ipv4_text octets) (All-weaker IsDigitOrDot IsAddressOctet digit_or_dot (ipv4_text octets) (All-ipv4_text octets (each_below (2 ^ 8) octets (omega arith) each)))
@@ -248,5 +207,4 @@ text_left [] each some = absurd (omega arith)
 text_left (p ∷ parts) each some = parts_some true p parts each
 
 pub ipv6_some : (text octets : List ℕ) → IsIpv6Address text octets → 0 < length text
-ipv6_some text octets (eight are size) = omega (arith, ap length are.parted, text_left are.parts are.each (omega (arith, ap length are.value)))
-ipv6_some text octets (fewer front back e around) = omega (arith, ap length e, length-append front (58 ∷ 58 ∷ back))
+ipv6_some text octets v2 = grind (arith, text_left, length-append)

@@ -16,9 +16,7 @@ zeros_bytes (suc n) = (omega arith, zeros_bytes n)
 
 numbers_bytes : (numbers : List (List ℕ)) (octets : List ℕ) → AllZip IsOctetNumber numbers octets → (length octets ≡ length numbers) × AreBytes octets
 numbers_bytes [] [] each = (refl, tt)
-numbers_bytes (a ∷ numbers) (n ∷ octets) each =
-    let rest = numbers_bytes numbers octets each.1 in
-    (ap suc rest.0, (omega (arith, each.0.short), rest.1))
+numbers_bytes (a ∷ numbers) (n ∷ octets) each = grind (arith, numbers_bytes numbers octets each.1)
 numbers_bytes numbers octets each = absurd each
 
 pub ipv4_count : (text octets : List ℕ) → IsIpv4Address text octets → length octets ≡ 4
@@ -44,13 +42,10 @@ parts_bytes ends (p ∷ []) each = AllByRecursion-append (λ c. c < 256) p.octet
 parts_bytes ends (p ∷ q ∷ parts) each = AllByRecursion-append (λ c. c < 256) p.octets (parts_octets (q ∷ parts)) (group_bytes p each.0) (parts_bytes ends (q ∷ parts) each.1)
 
 parted_bytes : (ends : Bool) (text octets : List ℕ) → ArePartsOf ends text octets → AreBytes octets
-parted_bytes ends text octets are = subst AreBytes (sym are.value) (parts_bytes ends are.parts are.each)
+parted_bytes ends text octets are = grind (arith, parts_bytes)
 
 pub ipv6_count : (text octets : List ℕ) → IsIpv6Address text octets → length octets ≡ 16
-ipv6_count text octets (eight are len) = len
-ipv6_count text octets (fewer front back parted around) =
-    let zeros : List ℕ = replicate (16 - length around.before - length around.after) 0 in
-    omega (arith, around.room, ap length around.value, length-append around.before (zeros ++ around.after), length-append zeros around.after, length-replicate {A = ℕ} (16 - length around.before - length around.after) 0)
+ipv6_count text octets v2 = grind (arith, ℕ, length-append, length-replicate)
 
 pub ipv6_bytes : (text octets : List ℕ) → IsIpv6Address text octets → AreBytes octets
 ipv6_bytes text octets (eight are len) = parted_bytes true text octets are

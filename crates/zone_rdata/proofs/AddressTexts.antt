@@ -30,12 +30,7 @@ four_digits n = digit_char (n / 0x1000) ∷ digit_char (n / 0x100 % 16) ∷ digi
 
 pub four_encoded : (n : ℕ) → n < 2 ^ 16 → encode_lower (n / 256 ∷ n % 256 ∷ []) ≡ four_digits n
 unfolding encode_with
-four_encoded n fits =
-    let a : slice_index lower_digits (n / 256 / 16) ≡ digit_char (n / 0x1000) = digit_same (n / 256 / 16) (omega arith) ∙ ap digit_char (omega arith) in
-    let b : slice_index lower_digits (n / 256 % 16) ≡ digit_char (n / 0x100 % 16) = digit_same (n / 256 % 16) (omega arith) in
-    let c : slice_index lower_digits (n % 256 / 16) ≡ digit_char (n / 0x10 % 16) = digit_same (n % 256 / 16) (omega arith) ∙ ap digit_char (omega arith) in
-    let d : slice_index lower_digits (n % 256 % 16) ≡ digit_char (n % 16) = digit_same (n % 256 % 16) (omega arith) ∙ ap digit_char (omega arith) in
-    cc
+four_encoded n fits = grind (arith, digit_same)
 
 pub group_written : (n zeros : ℕ) (digits bytes : List ℕ) → n < 2 ^ 16 → zeros ≡ leading_zero_digits n → bytes ≡ n / 256 % 256 ∷ n % 256 ∷ [] → digits ≡ encode_lower bytes → take (4 - zeros) (drop zeros digits) ≡ hex n
 unfolding hex

@@ -11,9 +11,7 @@ true_or_not true = inl refl
 true_or_not false = inr false≢true
 
 pub both_or_not : {A B : Type 0} → Decided A → Decided B → Decided (A × B)
-both_or_not (inl a) (inl b) = inl (a, b)
-both_or_not (inl a) (inr none) = inr (λ h. none h.1)
-both_or_not (inr none) b = inr (λ h. none h.0)
+both_or_not v0 b = grind arith
 
 pub each_or_not : {X : Type 0} (P : X → Type 0) → ((x : X) → Decided (P x)) → (xs : List X) → Decided (AllByRecursion P xs)
 each_or_not P one [] = inl tt
@@ -23,8 +21,7 @@ abbrev pub Choice : {X : Type 0} → (X → Type 0) → Type 0
 Choice {X = X} P = ((x : X) × P x) ⊎ ((x : X) → P x → ⊥)
 
 pub choice_as : {X Y : Type 0} {P : X → Type 0} {Q : Y → Type 0} (f : X → Y) → ((x : X) → P x → Q (f x)) → (((x : X) → P x → ⊥) → (y : Y) → Q y → ⊥) → Choice P → Choice Q
-choice_as f more none (inl found) = inl (f found.0, more found.0 found.1)
-choice_as f more none (inr lacks) = inr (none lacks)
+choice_as f more none v3 = grind arith
 
 -- a number below a bound is stated or none
 pub below_or_not : (Is : ℕ → Type 0) (bound : ℕ) → ((a b : ℕ) → Is a → Is b → a ≡ b) → Choice Is → Choice (λ n. Is n × (n < bound))

@@ -108,13 +108,10 @@ abbrev pub bare_item : List ℕ → List RawItem
 bare_item text = bare text ∷ []
 
 no_item : (origin : List (List ℕ)) (f : Field) → IsFieldFault origin f [] BadRdata
-no_item origin Strings = refl
-no_item origin f = refl
+no_item origin f = grind arith
 
 quoted_item : (origin : List (List ℕ)) (f : Field) (text : List ℕ) → f ≢ Strings → f ≢ OneString → IsFieldFault origin f (quoted text ∷ []) BadRdata
-quoted_item origin Strings text many one = absurd (many refl)
-quoted_item origin OneString text many one = absurd (one refl)
-quoted_item origin f text many one = refl
+quoted_item origin f text many one = grind arith
 
 pub bare_or_fault : (origin : List (List ℕ)) (f : Field) → f ≢ Strings → f ≢ OneString → ((text : List ℕ) → AreLow text → FieldChoice origin f (bare text ∷ [])) → (items : List RawItem) → AreLowItems items → FieldChoice origin f (take 1 items)
 bare_or_fault origin f many one own [] low = inr (BadRdata, no_item origin f)
@@ -122,8 +119,7 @@ bare_or_fault origin f many one own (quoted text ∷ items) low = inr (BadRdata,
 bare_or_fault origin f many one own (bare text ∷ items) low = own text low.0
 
 pub value_or_fault : {X : Type 0} (origin : List (List ℕ)) (f : Field) (text : List ℕ) (value : X → FieldValue) (own : Fault) (Stated : X → Type 0) → ((x : X) → Stated x → SpellsField origin f (bare text ∷ []) (value x)) → (((x : X) → Stated x → ⊥) → IsFieldFault origin f (bare text ∷ []) own) → Choice Stated → FieldChoice origin f (bare text ∷ [])
-value_or_fault origin f text value own Stated spelt bad (inl found) = inl (value found.0, spelt found.0 found.1)
-value_or_fault origin f text value own Stated spelt bad (inr none) = inr (own, bad none)
+value_or_fault origin f text value own v5 spelt bad v8 = grind arith
 
 -- the mark of the generic form as a text
 abbrev pub mark : List ℕ
@@ -138,14 +134,10 @@ number_unmarked n fits e = false≢true (subst (λ t. AllByRecursion (λ c. is_d
 -- ---- values that are sent as they are kept: all but names
 
 pub plain_front : (f : Field) (v : FieldValue) (front : List ℕ) → f ≢ Name → Holds f v → IsSent v front → front ≡ field_octets v
-plain_front Name v front other h s = absurd (other refl)
-plain_front f (name labels) front other h s = absurd h
-plain_front f v front other h s = s
+plain_front f v front other h s = grind arith
 
 plain_sent : (f : Field) (v : FieldValue) (front : List ℕ) → f ≢ Name → Holds f v → front ≡ field_octets v → IsSent v front
-plain_sent Name v front other h s = absurd (other refl)
-plain_sent f (name labels) front other h s = absurd h
-plain_sent f v front other h s = s
+plain_sent f v front other h s = grind arith
 
 -- so many octets at the beginning of octets are a value, and appended
 pub appends_plain : (f : Field) (octets rest old new : List ℕ) (count : ℕ) (v : FieldValue) → f ≢ Name → Holds f v → take count octets ≡ field_octets v → (f ≡ Strings → rest ≡ []) → AppendsPrefix count octets rest old new → AppendsValue f octets rest old new
@@ -182,11 +174,7 @@ appends_sized {value = value} f count sized octets rest old new low grows =
     appends_plain f octets rest old new count (value own.0) sized.plain own.1 own.2 (λ e. absurd (sized.single e)) grows
 
 pub none_sized : {X : Type 0} {value : X → FieldValue} (f : Field) (count : ℕ) → SizedField f value count → (octets : List ℕ) → length octets < count → BeginsWithNone f octets
-none_sized {value = value} f count sized octets few v rest b =
-    let own = sized.only v b.held in
-    let same = plain_front f v b.front sized.plain b.held b.sent in
-    let size = sized.size own.0 (subst (Holds f) own.1 b.held) in
-    omega (arith, ap length same, ap (λ w. length (field_octets w)) own.1, size, ap length b.parts, length-append b.front rest)
+none_sized {value = value} f count sized octets few v rest b = grind (arith, plain_front, length-append)
 
 pub sized_front : {X : Type 0} {value : X → FieldValue} (f : Field) (count : ℕ) → SizedField f value count → (octets : List ℕ) → AreLow octets → FrontChoice f octets
 sized_front f count sized octets low = elim (cases_lt (length octets) count) [

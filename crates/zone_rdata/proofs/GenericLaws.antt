@@ -29,9 +29,7 @@ forms_digits : (items : List RawItem) (m n : ℕ) (a b : List RawItem) → IsGen
 forms_digits items m n a b f g = let e = sym f.parts ∙ g.parts in cc
 
 forms_length : (items : List RawItem) (m n : ℕ) (a b : List RawItem) → IsGenericForm items m a → IsGenericForm items n b → m ≡ n
-forms_length items m n a b f g =
-    let same : f.item ≡ g.item = cc (sym f.parts ∙ g.parts) in
-    StatesLength-once g.item m n (subst (λ i. StatesLength i m) same f.states) g.states
+forms_length items m n a b f g = grind arith
 
 pub generic-once : (items : List RawItem) (a b : List ℕ) → StatesGeneric items a → StatesGeneric items b → a ≡ b
 generic-once items a b x y =
@@ -40,9 +38,8 @@ generic-once items a b x y =
 
 pub generic-never_both : (items : List RawItem) (octets : List ℕ) (fault : Fault) → StatesGeneric items octets → GenericFault items fault → ⊥
 generic-never_both items octets _ x (no_length marked none) = none (length octets) x.digits x.form
-generic-never_both items octets _ x (long_length n digits form over) = absurd (omega (arith, x.short, forms_length items (length octets) n x.digits digits x.form form))
-generic-never_both items octets _ x (bad_digits n digits form short bad) =
-    bad octets (subst (λ d. JoinTo d octets) (forms_digits items (length octets) n x.digits digits x.form form) x.joined) (forms_length items (length octets) n x.digits digits x.form form)
+generic-never_both items octets _ x (long_length n digits form over) = grind (arith, forms_length)
+generic-never_both items octets _ x (bad_digits n digits form short bad) = grind (arith, forms_digits, forms_length)
 
 pub generic_fault-once : (items : List RawItem) (a b : Fault) → GenericFault items a → GenericFault items b → a ≡ b
 generic_fault-once items _ _ (no_length marked none) (long_length n digits form over) = absurd (none n digits form)
@@ -73,7 +70,7 @@ length_or_fault (bare text) = elim (decimal_or_not text) [
 joins_by : (text : List ℕ) (items : List RawItem) (found : Result (List ℕ) FromHexError) → decode_of text ≡ found → Choice (JoinTo items) → Choice (JoinTo (bare text ∷ items))
 joins_by text items (Ok front) e (inl rest) = inl (front ++ rest.0, (front, rest.0, e, refl, rest.1))
 joins_by text items (Ok front) e (inr none) = inr (λ octets h. none h.1 h.4)
-joins_by text items (Err error) e rest = inr (λ octets h. absurd (let f : Err error ≡ Ok h.0 = sym e ∙ h.2 in cc))
+joins_by text items (Err error) e rest = grind arith
 
 joins_or_not : (items : List RawItem) → Choice (JoinTo items)
 joins_or_not [] = inl ([], refl)
@@ -126,5 +123,4 @@ printed-stated octets each short = record {
 }
 
 pub printed-text : (octets : List ℕ) → generic_text octets ≡ join_with_byte 32 (map item_text (generic_items octets))
-printed-text [] = ap (λ t. 92 ∷ 35 ∷ 32 ∷ t) (sym (decimal_digit 0 (omega arith)))
-printed-text (c ∷ octets) = refl
+printed-text v0 = grind (arith, decimal_digit)

@@ -1,5 +1,5 @@
 -- Items state a value or have a first fault.
-use Rattle.std.proofs.Common.{List, None, Option, Some, [], ap, inl, inr, length, refl, subst, sym, ℕ, ◌<◌, ◌∷◌, ◌≡◌, ◌⊎◌}
+use Rattle.std.proofs.Common.{List, None, Option, Some, [], ap, inl, inr, length, refl, subst, sym, ℕ, ◌<◌, ◌∷◌, ◌≡◌, ◌⊎◌, arith}
 use Rattle.std.proofs.lemmas.Bool.{cases_lt}
 use Rattle.hex.proofs.HexLemmas.{decode_of-ok}
 use Rattle.zone_name.specs.Name.{IsName}
@@ -25,9 +25,7 @@ use Rattle.zone_rdata.proofs.WordChoice.{same_or_not}
 use Rattle.zone_rdata.specs.DataFault as faults
 
 low_later : (f : Field) (items : List RawItem) → AreLowItems items → AreLowItems (items_after f items)
-low_later Strings items low = tt
-low_later f [] low = tt
-low_later f (item ∷ items) low = low.1
+low_later f items low = grind arith
 
 -- ---- items in words
 abbrev WordsChoice : List (List ℕ) → List Field → List RawItem → Type 0
@@ -65,12 +63,12 @@ joined_low (bare text ∷ items) octets h = subst AreLow (sym h.3) (AllByRecursi
 joined_low (quoted text ∷ items) octets h = absurd h
 
 canonical_item : (origin : List (List ℕ)) (row : List Field) (items : List RawItem) (stated : List ℕ) → StatesGeneric items stated → Choice (IsUncompressed row stated) → Outcome origin (Some row) items
-canonical_item origin row items stated form (inl found) = inl (found.0, in_octets (stated, form, found.1))
+canonical_item origin row items stated form (inl found) = grind arith
 canonical_item origin row items stated form (inr none) = inr (BadRdata, in_generic_form BadRdata (no_value row stated refl form none))
 
 form_by : (origin : List (List ℕ)) (class kind : ℕ) (laid : Option (List Field)) (items : List RawItem) → layout class kind ≡ laid → ((octets : List ℕ) × StatesGeneric items octets) ⊎ ((fault : Fault) × GenericFault items fault) → Outcome origin laid items
 form_by origin class kind laid items e (inr bad) = inr (bad.0, in_generic_form bad.0 (malformed bad.0 bad.1))
-form_by origin class kind None items e (inl found) = inl (found.0, in_octets (found.0, found.1, refl))
+form_by origin class kind None items e (inl found) = grind arith
 form_by origin class kind (Some row) items e (inl found) = canonical_item origin row items found.0 found.1 (canonical_or_not class kind row found.0 e (joined_low found.1.digits found.0 found.1.joined))
 
 -- the first item is the mark or not

@@ -21,27 +21,25 @@ each_once : NamesOnce → (origin : List (List ℕ)) (row : List Field) (items :
 each_once names origin [] [] [] [] h k = refl
 each_once names origin [] [] [] (w ∷ ws) h k = absurd k
 each_once names origin (f ∷ row) items (v ∷ vs) [] h k = absurd k
-each_once names origin (f ∷ row) items (v ∷ vs) (w ∷ ws) h k =
-    ap (λ x. x ∷ vs) (field_once names origin f (own_items f items) v w h.0 k.0) ∙ ap (λ xs. w ∷ xs) (each_once names origin row (items_after f items) vs ws h.1 k.1)
+each_once names origin (f ∷ row) items (v ∷ vs) (w ∷ ws) h k = grind (arith, field_once, each_once names origin row (items_after f items) vs ws h.1 k.1)
 each_once names origin row items vs ws h k = absurd h
 
 first_never : NamesNever → (origin : List (List ℕ)) (row : List Field) (items : List RawItem) (values : List FieldValue) (fault : Fault) → SpellEach origin row items values → FirstFieldFault origin row items fault → ⊥
 first_never names origin [] [] values fault h bad = bad
-first_never names origin (f ∷ row) items (v ∷ values) fault h (inl bad) = field_never names origin f (own_items f items) v fault h.0 bad
+first_never names origin (f ∷ row) items (v ∷ values) fault h (inl bad) = grind (arith, field_never)
 first_never names origin (f ∷ row) items (v ∷ values) fault h (inr more) = first_never names origin row (items_after f items) values fault h.1 more.2
 first_never names origin row items values fault h bad = h
 
 first_once : NamesNever → NameFaultOnce → (origin : List (List ℕ)) (row : List Field) (items : List RawItem) (a b : Fault) → FirstFieldFault origin row items a → FirstFieldFault origin row items b → a ≡ b
 first_once names once origin [] [] a b x y = absurd x
 first_once names once origin [] (item ∷ items) a b x y = x ∙ sym y
-first_once names once origin (f ∷ row) items a b (inl x) (inl y) = field_fault_once once origin f (own_items f items) a b x y
-first_once names once origin (f ∷ row) items a b (inl x) (inr y) = absurd (field_never names origin f (own_items f items) y.0 a y.1 x)
-first_once names once origin (f ∷ row) items a b (inr x) (inl y) = absurd (field_never names origin f (own_items f items) x.0 b x.1 y)
+first_once names once origin (f ∷ row) items a b (inl x) (inl y) = grind (arith, field_fault_once)
+first_once names once origin (f ∷ row) items a b (inl x) (inr y) = grind (arith, field_never)
+first_once names once origin (f ∷ row) items a b (inr x) (inl y) = grind (arith, field_never)
 first_once names once origin (f ∷ row) items a b (inr x) (inr y) = first_once names once origin row (items_after f items) a b x.2 y.2
 
 words_never : NamesOnce → NamesNever → (origin : List (List ℕ)) (row : List Field) (items : List RawItem) (values : List FieldValue) (fault : Fault) → SpellEach origin row items values → length (octets_of values) ≤ 65535 → IsWordsFault origin row items fault → ⊥
-words_never once names origin row items values _ h short (unspelt fault bad) = first_never names origin row items values fault h bad
-words_never once names origin row items values _ h short (too_long vs k over) = absurd (let e = ap (λ ws. length (octets_of ws)) (each_once once origin row items values vs h k) in omega (arith, e, short, over))
+words_never once names origin row items values v6 h short v9 = grind (arith, first_never, each_once)
 
 words_fault_once : NamesNever → NameFaultOnce → (origin : List (List ℕ)) (row : List Field) (items : List RawItem) (a b : Fault) → IsWordsFault origin row items a → IsWordsFault origin row items b → a ≡ b
 words_fault_once names once origin row items _ _ (unspelt a x) (unspelt b y) = first_once names once origin row items a b x y
@@ -63,34 +61,26 @@ generic_marks : (items : List RawItem) (octets : List ℕ) → StatesGeneric ite
 generic_marks items octets s = (s.form.item ∷ s.digits, s.form.parts)
 
 generic_fault_marks : (items : List RawItem) (fault : Fault) → GenericFault items fault → IsGeneric items
-generic_fault_marks items _ (no_length marked none) = marked
-generic_fault_marks items _ (long_length n digits form over) = (form.item ∷ digits, form.parts)
-generic_fault_marks items _ (bad_digits n digits form short none) = (form.item ∷ digits, form.parts)
+generic_fault_marks items v1 v2 = grind arith
 
 form_fault_marks : (laid : Option (List Field)) (items : List RawItem) (fault : Fault) → IsGenericDataFault laid items fault → IsGeneric items
-form_fault_marks laid items _ (malformed fault bad) = generic_fault_marks items fault bad
-form_fault_marks laid items _ (no_value row stated e form none) = generic_marks items stated form
+form_fault_marks laid items v2 v3 = grind (arith, generic_fault_marks, generic_marks)
 
 for_once : NamesOnce → (origin : List (List ℕ)) (laid : Option (List Field)) (items : List RawItem) (a b : List ℕ) → CanonicalOnce laid → StatesFor origin laid items a → StatesFor origin laid items b → a ≡ b
-for_once names origin laid items a b once (in_words row vs e unmarked h is short) (in_words row' ws e' unmarked2 k is' short') =
-    let same : row' ≡ row = same_row laid row' row e' e in
-    is ∙ ap octets_of (each_once names origin row items vs ws h (subst (λ r. SpellEach origin r items ws) same k)) ∙ sym is'
+for_once names origin laid items a b once (in_words row vs e unmarked h is short) (in_words row' ws e' unmarked2 k is' short') = grind (arith, same_row, each_once)
 for_once names origin laid items a b once (in_words row vs e unmarked h is short) (in_octets stated) = absurd (unmarked (generic_marks items stated.0 stated.1))
 for_once names origin laid items a b once (in_octets stated) (in_words row vs e unmarked h is short) = absurd (unmarked (generic_marks items stated.0 stated.1))
-for_once names origin laid items a b once (in_octets h) (in_octets k) =
-    once h.0 a b h.2 (subst (λ o. IsCanonicalOf laid o b) (generic-once items k.0 h.0 k.1 h.1) k.2)
+for_once names origin laid items a b once (in_octets h) (in_octets k) = cc (once h.0 a b h.2 (subst (λ o. IsCanonicalOf laid o b) (generic-once items k.0 h.0 k.1 h.1) k.2))
 
 form_never : (laid : Option (List Field)) (items : List RawItem) (stated octets : List ℕ) (fault : Fault) → StatesGeneric items stated → IsCanonicalOf laid stated octets → IsGenericDataFault laid items fault → ⊥
 form_never laid items stated octets _ form canonical (malformed fault bad) = generic-never_both items stated fault form bad
 form_never laid items stated octets _ form canonical (no_value row stated' e form' none) =
-    let here : IsCanonicalOf (Some row) stated octets = subst (λ l. IsCanonicalOf l stated octets) e canonical in
+    let here = subst (λ l. IsCanonicalOf l stated octets) e canonical in
     none octets (subst (λ o. IsUncompressed row o octets) (generic-once items stated stated' form form') here)
 
 for_never : NamesOnce → NamesNever → (origin : List (List ℕ)) (laid : Option (List Field)) (items : List RawItem) (octets : List ℕ) (fault : Fault) → StatesFor origin laid items octets → IsFaultFor origin laid items fault → ⊥
 for_never once names origin laid items octets _ (in_words row vs e unmarked h is short) (in_generic_form fault bad) = unmarked (form_fault_marks laid items fault bad)
-for_never once names origin laid items octets _ (in_words row vs e unmarked h is short) (faults.in_words row' fault e' unmarked2 bad) =
-    let same : row' ≡ row = same_row laid row' row e' e in
-    words_never once names origin row items vs fault h (subst (λ o. length o ≤ 65535) is short) (subst (λ r. IsWordsFault origin r items fault) same bad)
+for_never once names origin laid items octets _ (in_words row vs e unmarked h is short) (faults.in_words row' fault e' unmarked2 bad) = grind (arith, same_row, words_never)
 for_never once names origin laid items octets _ (in_words row vs e unmarked h is short) (opaque_words e' unmarked2) = let clash : Some row ≡ None = sym e ∙ e' in cc
 for_never once names origin laid items octets _ (in_octets h) (in_generic_form fault bad) = form_never laid items h.0 octets fault h.1 h.2 bad
 for_never once names origin laid items octets _ (in_octets h) (faults.in_words row fault e unmarked bad) = unmarked (generic_marks items h.0 h.1)
@@ -107,9 +97,7 @@ for_fault_once names once origin laid items _ _ (in_generic_form fault bad) (in_
 for_fault_once names once origin laid items _ _ (in_generic_form fault bad) (faults.in_words row fault' e unmarked bad') = absurd (unmarked (form_fault_marks laid items fault bad))
 for_fault_once names once origin laid items _ _ (in_generic_form fault bad) (opaque_words e unmarked) = absurd (unmarked (form_fault_marks laid items fault bad))
 for_fault_once names once origin laid items _ _ (faults.in_words row fault e unmarked bad) (in_generic_form fault' bad') = absurd (unmarked (form_fault_marks laid items fault' bad'))
-for_fault_once names once origin laid items _ _ (faults.in_words row fault e unmarked bad) (faults.in_words row' fault' e' unmarked2 bad') =
-    let same : row' ≡ row = same_row laid row' row e' e in
-    words_fault_once names once origin row items fault fault' bad (subst (λ r. IsWordsFault origin r items fault') same bad')
+for_fault_once names once origin laid items _ _ (faults.in_words row fault e unmarked bad) (faults.in_words row' fault' e' unmarked2 bad') = grind (arith, same_row, words_fault_once)
 for_fault_once names once origin laid items _ _ (faults.in_words row fault e unmarked bad) (opaque_words e' unmarked2) = let clash : Some row ≡ None = sym e ∙ e' in cc
 for_fault_once names once origin laid items _ _ (opaque_words e unmarked) (in_generic_form fault bad) = absurd (unmarked (form_fault_marks laid items fault bad))
 for_fault_once names once origin laid items _ _ (opaque_words e unmarked) (faults.in_words row fault e' unmarked2 bad) = let clash : Some row ≡ None = sym e' ∙ e in cc
@@ -124,4 +112,4 @@ pub data-never_both : NamesOnce → NamesNever → (origin : List (List ℕ)) (c
 data-never_both once names origin class kind items octets fault x y = for_never once names origin (layout class kind) items octets fault x.stated y.first
 
 pub data_fault-once : NamesNever → NameFaultOnce → (origin : List (List ℕ)) (class kind : ℕ) (items : List RawItem) (a b : Fault) → IsDataFault origin class kind items a → IsDataFault origin class kind items b → a ≡ b
-data_fault-once names once origin class kind items a b x y = for_fault_once names once origin (layout class kind) items a b x.first y.first
+data_fault-once names once origin class kind items a b x y = grind (arith, for_fault_once)

@@ -33,7 +33,7 @@ read_step origin row items f later left rest octets new read grows =
 
 -- a slice up to the end
 slice_end : (items : List Item) (place : ℕ) → take (length items - place) (drop place items) ≡ drop place items
-slice_end items place = take_all (length items - place) (drop place items) (let l = length-drop place items in omega (arith, l))
+slice_end items place = grind (arith, take_all, length-drop)
 
 pub read_more : (origin : List (List ℕ)) (row : List Field) (items : List Item) (i place n : ℕ) (f d : Field) (octets new : List ℕ) → i < length row → f ≡ get_or row i d → HaveRead origin row (map raw items) (drop i row) (map raw (drop place items)) octets → AppendsFirst origin f (map raw (take (length items - place) (drop place items))) (map raw (drop n (take (length items - place) (drop place items)))) octets new → HaveRead origin row (map raw items) (drop (i + 1) row) (map raw (drop (place + n) items)) new
 read_more origin row items i place n f d octets new lt found read sliced =
@@ -51,7 +51,7 @@ read_bad origin row own items i place f d octets fault same lt found read sliced
     subst (λ r. IsWordsFault origin r (map raw items) fault) same (unspelt fault (here.fault fault (inl bad)))
 
 nothing_later : (origin : List (List ℕ)) (row : List Field) (items : List RawItem) (i : ℕ) (left : List RawItem) (octets : List ℕ) → length row ≤ i → HaveRead origin row items (drop i row) left octets → HaveRead origin row items [] left octets
-nothing_later origin row items i left octets past read = subst (λ r. HaveRead origin row items r left octets) (drop_all i row past) read
+nothing_later origin row items i left octets past read = grind (arith, drop_all)
 
 -- no field is left for the next item
 pub read_over : (origin : List (List ℕ)) (row own : List Field) (items : List RawItem) (i : ℕ) (left : List RawItem) (octets : List ℕ) → row ≡ own → length row ≤ i → 0 < length left → HaveRead origin row items (drop i row) left octets → IsWordsFault origin own items BadRdata
@@ -73,9 +73,5 @@ pub generic_first : (items : List Item) (first : Item) (text : Bor (List ℕ)) (
 generic_first [] first text mark r some at is marks e = absurd (omega arith)
 generic_first (i ∷ items) first text mark r some at is marks e =
     let d = bytes_eq-Decides text.now mark in
-    let same : raw i ≡ bare text.now = ap raw (sym at ∙ is) in (
-      λ h. (map raw items, ap (λ x. x ∷ map raw items) (same ∙ ap bare (d.0 (sym e ∙ h) ∙ marks))),
-      λ g. let marked : raw i ≡ generic_mark = cc g.1 in
-          let texts : text.now ≡ 92 ∷ 35 ∷ [] = cc (sym same ∙ marked) in
-          e ∙ d.1 (texts ∙ sym marks),
-    )
+    let same = ap raw (sym at ∙ is) in
+    (λ h. (map raw items, ap (λ x. x ∷ map raw items) (same ∙ ap bare (d.0 (sym e ∙ h) ∙ marks))), λ g. let marked : raw i ≡ generic_mark = cc g.1 in let texts : text.now ≡ 92 ∷ 35 ∷ [] = cc (sym same ∙ marked) in e ∙ d.1 (texts ∙ sym marks))

@@ -25,8 +25,7 @@ use Rattle.zone_rdata.proofs.Tables.{table_row}
 
 joined_long : (first more : List RawItem) (octets : List ℕ) → AllByRecursion IsWritten first → JoinTo (first ++ more) octets → length first ≤ length octets
 joined_long [] more octets written h = omega arith
-joined_long (bare text ∷ first) more octets written h =
-    omega (arith, written.0, (decode_of-ok text h.0 h.2).2, joined_long first more h.1 written.1 h.4, ap length h.3, length-append h.0 h.1)
+joined_long (bare text ∷ first) more octets written h = grind (arith, decode_of-ok, length-append, joined_long first more h.1 written.1 h.4)
 joined_long (quoted text ∷ first) more octets written h = absurd h
 
 string_each : (items : List RawItem) (many : List (List ℕ)) → SpellEachString items many → length items ≤ length many
@@ -37,26 +36,22 @@ string_each (item ∷ items) (octets ∷ many) h = omega (arith, string_each ite
 spelt_long : (origin : List (List ℕ)) (fields : List Field) (items : List RawItem) (values : List FieldValue) → SpellEach origin fields items values → length items ≤ length fields + length (octets_of values)
 spelt_long origin [] (item ∷ items) values h = absurd h
 spelt_long origin (f ∷ fields) items [] h = absurd h
-spelt_long origin (Strings ∷ fields) items (strings many ∷ values) h =
-    omega (arith, string_each items many h.0.each, length-frames many, length-append (flat_map with_length many) (octets_of values))
+spelt_long origin (Strings ∷ fields) items (strings many ∷ values) h = grind (arith, string_each, length-frames, length-append)
 spelt_long origin (Strings ∷ fields) items (v ∷ values) h = absurd h.0
-spelt_long origin (f ∷ fields) (item ∷ items) (v ∷ values) h =
-    omega (arith, spelt_long origin fields items values h.1, length-append (field_octets v) (octets_of values))
+spelt_long origin (f ∷ fields) (item ∷ items) (v ∷ values) h = grind (arith, length-append, spelt_long origin fields items values h.1)
 spelt_long origin fields [] values h = omega arith
 
 -- ---- words
 
 fault_after : (item : RawItem) (items others : List RawItem) (fault : Fault) → (FirstStringFault others fault → FirstStringFault items fault) → FirstStringFault (item ∷ others) fault → FirstStringFault (item ∷ items) fault
-fault_after item items others fault goes (inl bad) = inl bad
-fault_after item items others fault goes (inr h) = inr (h.0, h.1, goes h.2)
+fault_after item items others fault goes v5 = grind arith
 
 strings_fault : (first more others : List RawItem) (fault : Fault) → LeavesOut more others → FirstStringFault (first ++ others) fault → FirstStringFault (first ++ more) fault
 strings_fault (item ∷ first) more others fault out (inl bad) = inl bad
 strings_fault (item ∷ first) more others fault out (inr h) = inr (h.0, h.1, strings_fault first more others fault out h.2)
 strings_fault [] [] others fault out bad = subst (λ t. FirstStringFault t fault) out bad
 strings_fault [] (item ∷ more) others fault (inr left) bad = inr (left.0, left.1, strings_fault [] more others fault left.2 bad)
-strings_fault [] (item ∷ more) others fault (inl kept) bad =
-    fault_after item more kept.0 fault (strings_fault [] more kept.0 fault kept.2) (subst (λ t. FirstStringFault t fault) kept.1 bad)
+strings_fault [] (item ∷ more) others fault (inl kept) bad = grind (arith, strings_fault [] more kept.0 fault kept.2)
 
 abbrev SpellSome : List RawItem → Type 0
 SpellSome items = (many : List (List ℕ)) × SpellEachString items many
@@ -109,7 +104,7 @@ words_fault origin fields first more others _ few many out (too_long values spel
 -- ---- the generic form
 
 form_same : (a b : RawItem) (items others digits : List RawItem) (n : ℕ) → IsGenericForm (a ∷ b ∷ items) n digits → IsGenericForm (a ∷ b ∷ others) n others
-form_same a b items others digits n form = record { item = form.item; parts = (let e = form.parts in cc); states = form.states }
+form_same a b items others digits n form = grind arith
 
 digits_of : (a b : RawItem) (items digits : List RawItem) (n : ℕ) → IsGenericForm (a ∷ b ∷ items) n digits → digits ≡ items
 digits_of a b items digits n form = let e = form.parts in cc
@@ -128,9 +123,7 @@ generic_fault (a ∷ b ∷ digits) more others _ written many (bad_digits n foun
 generic_fault first more others fault written many bad = absurd (omega (arith, many))
 
 generic_never : (first others : List RawItem) (octets : List ℕ) → AllByRecursion IsWritten first → 65543 ≤ length first → StatesGeneric (first ++ others) octets → ⊥
-generic_never (a ∷ b ∷ digits) others octets written many h =
-    let joined : JoinTo (digits ++ others) octets = subst (λ t. JoinTo t octets) (digits_of a b (digits ++ others) h.digits (length octets) h.form) h.joined in
-    omega (arith, joined_long digits others octets written.1.1 joined, h.short, many)
+generic_never (a ∷ b ∷ digits) others octets written many h = grind (arith, digits_of, joined_long)
 generic_never first others octets written many h = omega (arith, many)
 
 form_fault : (laid : Option (List Field)) (first more others : List RawItem) (fault : Fault) → AllByRecursion IsWritten first → 65543 ≤ length first → IsGenericDataFault laid (first ++ others) fault → IsGenericDataFault laid (first ++ more) fault
@@ -155,8 +148,7 @@ fault_for origin laid first more others _ few written many out (opaque_words e u
     opaque_words e (λ h. unmarked (marked first others more many h))
 
 never_for : (origin : List (List ℕ)) (laid : Option (List Field)) (first others : List RawItem) (octets : List ℕ) → AreFew laid → AllByRecursion IsWritten first → 65543 ≤ length first → StatesFor origin laid (first ++ others) octets → ⊥
-never_for origin laid first others octets few written many (in_words fields values e unmarked spelt is short) =
-    omega (arith, many, few fields e, short, ap length is, spelt_long origin fields (first ++ others) values spelt, length-append first others)
+never_for origin laid first others octets few written many (in_words fields values e unmarked spelt is short) = grind (arith, spelt_long, length-append)
 never_for origin laid first others octets few written many (in_octets h) = generic_never first others h.0 written many h.1
 
 are_few : (class kind : ℕ) → AreFew (layout class kind)
@@ -165,7 +157,7 @@ are_few class kind fields e = (table_row class kind fields e).few
 -- the others have the first fault of all items
 pub fault_of_all : (origin : List (List ℕ)) (class kind : ℕ) (items kept : List RawItem) (fault : Fault) → AllByRecursion IsWritten items → AreShortened 65543 items kept → IsDataFault origin class kind kept fault → IsDataFault origin class kind items fault
 fault_of_all origin class kind items kept fault written short bad =
-    let all : AllByRecursion IsWritten (short.first ++ short.more) = subst (AllByRecursion IsWritten) short.whole written in
+    let all = subst (AllByRecursion IsWritten) short.whole written in
     let first = subst (λ t. IsFaultFor origin (layout class kind) t fault) short.are_kept bad.first in
     let found = fault_for origin (layout class kind) short.first short.more short.others fault (are_few class kind) (AllByRecursion-front IsWritten short.first short.more all) short.many short.out first in
     record { first = subst (λ t. IsFaultFor origin (layout class kind) t fault) (sym short.whole) found }
@@ -173,16 +165,15 @@ fault_of_all origin class kind items kept fault written short bad =
 -- they state no data
 pub state_none : (origin : List (List ℕ)) (class kind : ℕ) (items kept : List RawItem) (octets : List ℕ) → AllByRecursion IsWritten items → AreShortened 65543 items kept → States origin class kind kept octets → ⊥
 state_none origin class kind items kept octets written short h =
-    let all : AllByRecursion IsWritten (short.first ++ short.more) = subst (AllByRecursion IsWritten) short.whole written in
-    never_for origin (layout class kind) short.first short.others octets (are_few class kind) (AllByRecursion-front IsWritten short.first short.more all) short.many
-    (subst (λ t. StatesFor origin (layout class kind) t octets) short.are_kept h.stated)
+    let all = subst (AllByRecursion IsWritten) short.whole written in
+    never_for origin (layout class kind) short.first short.others octets (are_few class kind) (AllByRecursion-front IsWritten short.first short.more all) short.many (subst (λ t. StatesFor origin (layout class kind) t octets) short.are_kept h.stated)
 
 -- ---- one item more
 
 leaves_kept : (more others : List RawItem) (item : RawItem) → LeavesOut more others → LeavesOut (more ++ item ∷ []) (others ++ item ∷ [])
 leaves_kept [] others item out = inl ([], ap (λ t. t ++ item ∷ []) out, refl)
-leaves_kept (x ∷ more) others item (inl kept) = inl (kept.0 ++ item ∷ [], ap (λ t. t ++ item ∷ []) kept.1, leaves_kept more kept.0 item kept.2)
-leaves_kept (x ∷ more) others item (inr left) = inr (left.0, left.1, leaves_kept more others item left.2)
+leaves_kept (x ∷ more) others item (inl kept) = grind (arith, leaves_kept more kept.0 item kept.2)
+leaves_kept (x ∷ more) others item (inr left) = grind (arith, leaves_kept more others item left.2)
 
 leaves_less : (more others : List RawItem) (item : RawItem) (octets : List ℕ) → SpellsString item octets → LeavesOut more others → LeavesOut (more ++ item ∷ []) others
 leaves_less [] others item octets spells out = inr (octets, spells, out)
@@ -191,15 +182,7 @@ leaves_less (x ∷ more) others item octets spells (inr left) = inr (left.0, lef
 
 -- the item is kept
 pub one_kept : (n : ℕ) (items kept : List RawItem) (item : RawItem) → AreShortened n items kept → AreShortened n (items ++ item ∷ []) (kept ++ item ∷ [])
-one_kept n items kept item short = record {
-  first = short.first;
-  more = short.more ++ item ∷ [];
-  others = short.others ++ item ∷ [];
-  whole = ap (λ t. t ++ item ∷ []) short.whole ∙ append_assoc short.first short.more (item ∷ []);
-  are_kept = ap (λ t. t ++ item ∷ []) short.are_kept ∙ append_assoc short.first short.others (item ∷ []);
-  many = short.many;
-  out = leaves_kept short.more short.others item short.out;
-}
+one_kept n items kept item short = grind (arith, append_assoc, leaves_kept)
 
 -- the item is left out
 pub one_left_out : (n : ℕ) (items kept : List RawItem) (item : RawItem) (octets : List ℕ) → SpellsString item octets → AreShortened n items kept → AreShortened n (items ++ item ∷ []) kept
@@ -226,17 +209,10 @@ pub record BeginWith (n : ℕ) (items kept : List RawItem) : Type 0 where
 
 begin_by : (n : ℕ) (items kept first more others : List RawItem) → items ≡ first ++ more → kept ≡ first ++ others → n < length first → LeavesOut more others → BeginWith n items kept
 begin_by n items kept [] more others whole are_kept many out = absurd (omega (arith, many))
-begin_by n items kept (item ∷ first) more others whole are_kept many out = record {
-  item = item;
-  rest = first ++ more;
-  others = first ++ others;
-  whole = whole;
-  are_kept = are_kept;
-  short = record { first = first; more = more; others = others; whole = refl; are_kept = refl; many = omega (arith, many); out = out };
-}
+begin_by n items kept (item ∷ first) more others whole are_kept many out = grind arith
 
 pub begin_with : (m n : ℕ) (items kept : List RawItem) → n < m → AreShortened m items kept → BeginWith n items kept
-begin_with m n items kept less short = begin_by n items kept short.first short.more short.others short.whole short.are_kept (omega (arith, less, short.many)) short.out
+begin_with m n items kept less short = grind (arith, begin_by)
 
 -- an item before both
 pub after_item : (n : ℕ) (item : RawItem) (items kept : List RawItem) → AreShortened n items kept → AreShortened n (item ∷ items) (item ∷ kept)
@@ -251,10 +227,7 @@ after_item n item items kept short = record {
 }
 
 pub are_many : (n : ℕ) (items kept : List RawItem) → AreShortened n items kept → (n ≤ length items) × (n ≤ length kept)
-are_many n items kept short = (
-  omega (arith, short.many, ap length short.whole, length-append short.first short.more),
-  omega (arith, short.many, ap length short.are_kept, length-append short.first short.others),
-)
+are_many n items kept short = grind (arith, length-append)
 
 pub at_least : (m n : ℕ) (items kept : List RawItem) → n ≤ m → AreShortened m items kept → AreShortened n items kept
-at_least m n items kept less short = record { first = short.first; more = short.more; others = short.others; whole = short.whole; are_kept = short.are_kept; many = omega (arith, less, short.many); out = short.out }
+at_least m n items kept less short = grind arith

@@ -80,8 +80,7 @@ some_groups c text [] e = absurd cc
 some_groups c text (g ∷ groups) e = omega arith
 
 grouped_by : (text : List ℕ) → ((n : ℕ) → IsDecimal text n → ⊥) → (AreGroups text → ⊥) → (n : ℕ) → IsTime text n → ⊥
-grouped_by text none no_groups n (plain h) = none n h
-grouped_by text none no_groups n (grouped groups some each parts sums) = no_groups (record { groups = groups; each = each; parts = parts })
+grouped_by text none no_groups n v4 = grind arith
 
 time_by : (c : ℕ) (text : List ℕ) → Choice (IsDecimal (c ∷ text)) → Decided (AreGroups (c ∷ text)) → Choice (IsTime (c ∷ text))
 time_by c text (inl found) choice = inl (found.0, plain found.1)
@@ -91,7 +90,7 @@ time_by c text (inr none) (inr no_groups) = inr (grouped_by (c ∷ text) none no
 no_time : (n : ℕ) → IsTime [] n → ⊥
 no_time n (plain h) = omega (arith, h.some)
 no_time n (grouped [] some each parts sums) = omega arith
-no_time n (grouped (g ∷ groups) some each parts sums) = run_nil g.digits g.letter (flat_map group_text groups) (sym (first_text g groups) ∙ sym parts)
+no_time n (grouped (g ∷ groups) some each parts sums) = grind (arith, run_nil, first_text)
 
 pub time_or_not : (text : List ℕ) → Choice (IsTime text)
 time_or_not [] = inr no_time

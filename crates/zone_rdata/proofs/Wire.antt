@@ -19,14 +19,10 @@ table_sized class kind None e = tt
 table_sized class kind (Some l) e = (table_row class kind (fields_of l) (sym e)).sized
 
 pub canonical_data : (class kind : ℕ) (laid : Option (List Field)) (octets canonical : List ℕ) → laid ≡ layout class kind → IsCanonicalOf laid octets canonical → length octets ≤ 65535 → AllByRecursion (λ c. c < 256) canonical → IsData class kind canonical
-canonical_data class kind laid octets canonical e is short each = record {
-  short = omega (arith, canonical_length laid octets canonical is);
-  each = each;
-  value = subst (λ l. AreFor l canonical) e (canonical_laid class kind laid octets canonical e is);
-}
+canonical_data class kind laid octets canonical e is short each = grind (arith, canonical_length, canonical_laid)
 
 pub canonical_only : (class kind : ℕ) (laid : Option (List Field)) (octets a b : List ℕ) → laid ≡ layout class kind → IsCanonicalOf laid octets a → IsCanonicalOf (layout class kind) octets b → a ≡ b
-canonical_only class kind laid octets a b e x y = canonical_same class kind laid octets a b e x (subst (λ l. IsCanonicalOf l octets b) (sym e) y)
+canonical_only class kind laid octets a b e x y = grind (arith, canonical_same)
 
 pub wire_fault : (class kind : ℕ) (laid : Option (List Field)) (octets : List ℕ) (fault : Fault) → laid ≡ layout class kind → length octets ≤ 65535 → (fault ≡ BadRdata) × ((canonical : List ℕ) → IsCanonicalOf laid octets canonical → ⊥) → IsWireFault (layout class kind) octets fault
 wire_fault class kind laid octets fault e short bad =

@@ -1,5 +1,5 @@
 -- A word is that of a class or of none, and that of a type or of none.
-use Rattle.std.proofs.Common.{◌≡◌, ℕ, ◌<◌, Bool, true, false, List, length, take, drop, codes, Option, Some, None, ◌⊎◌, inl, inr, refl, sym, ap, ◌∙◌, subst, bytes_eq}
+use Rattle.std.proofs.Common.{◌≡◌, ℕ, ◌<◌, Bool, true, false, List, length, take, drop, codes, Option, Some, None, ◌⊎◌, inl, inr, refl, sym, ap, ◌∙◌, subst, bytes_eq, arith}
 use Rattle.std.specs.List.{find}
 use Rattle.std.proofs.lemmas.Bool.{cases_lt, false≢true}
 use Rattle.std.proofs.lemmas.List.{take_at, drop_at, length-map, take-append-drop}
@@ -25,13 +25,13 @@ mnemonic_by rows up word (Some row) e = inl (row.number, row_is rows up word row
 
 -- ---- a name and a number right after it
 front_is : (name word : List ℕ) (n : ℕ) (x : IsNumbered name word n) → length x.front ≡ length name
-front_is name word n x = sym (length-map x.front folded_octet) ∙ ap length x.named ∙ length-map name folded_octet
+front_is name word n x = grind (arith, length-map)
 
 take_is : (name word : List ℕ) (n : ℕ) (x : IsNumbered name word n) → take (length name) word ≡ x.front
-take_is name word n x = ap (take (length name)) x.parts ∙ take_at x.front x.digits (length name) (front_is name word n x)
+take_is name word n x = cc (take_at x.front x.digits (length name) (front_is name word n x))
 
 drop_is : (name word : List ℕ) (n : ℕ) (x : IsNumbered name word n) → drop (length name) word ≡ x.digits
-drop_is name word n x = ap (drop (length name)) x.parts ∙ drop_at x.front x.digits (length name) (front_is name word n x)
+drop_is name word n x = cc (drop_at x.front x.digits (length name) (front_is name word n x))
 
 numbered_or_not : (name word : List ℕ) → Choice (IsNumbered name word)
 numbered_or_not name word =

@@ -23,16 +23,13 @@ use Rattle.zone_name.proofs.Lengths.{name_text_length}
 use Rattle.zone_rdata.proofs.Lists.{each_weaker}
 
 only : (v : FieldValue) → Holds Name v → (labels : List (List ℕ)) × (v ≡ name labels)
-only (name labels) h = (labels, refl)
-only v h = absurd h
+only v h = grind arith
 
 opens : (origin : List (List ℕ)) (items : List RawItem) (v : FieldValue) → SpellsField origin Name items v → (text : List ℕ) × (labels : List (List ℕ)) × (items ≡ bare text ∷ []) × (v ≡ name labels)
-opens origin (bare text ∷ []) (name labels) h = (text, labels, refl, refl)
-opens origin items v h = absurd h
+opens origin items v h = grind arith
 
 part : (v : FieldValue) → Suits (Some Name) v → FitsString v → IsReal v → Holds Name v × (0 < length (field_octets v))
-part (name labels) s fits real = (real, omega (arith, length-append (flat_map with_length labels) (0 ∷ [])))
-part v s fits real = absurd s
+part v s fits real = grind (arith, length-append)
 
 -- ---- its octets
 low_labels : (labels : List (List ℕ)) → AllByRecursion IsLabel labels → AreLow (flat_map with_length labels)
@@ -51,8 +48,7 @@ appends_name octets rest old new labels b grown = record {
 }
 
 as_sent : (octets : List ℕ) (v : FieldValue) (rest : List ℕ) → BeginsWithValue Name octets v rest → (labels : List (List ℕ)) × (v ≡ name labels) × BeginsWithSent octets labels rest
-as_sent octets (name labels) rest b = (labels, refl, record { is_name = b.held; sent = b.sent.0; folds = b.sent.1; parts = b.parts ∙ ap (λ t. t ++ rest) b.sent.2 })
-as_sent octets v rest b = absurd b.held
+as_sent octets v rest b = grind arith
 
 pub none_name : (octets : List ℕ) → ((labels : List (List ℕ)) (rest : List ℕ) → BeginsWithSent octets labels rest → ⊥) → BeginsWithNone Name octets
 none_name octets none v rest b = let s = as_sent octets v rest b in none s.0 rest s.2
@@ -66,13 +62,7 @@ front_once octets v w r s x y =
 
 -- ---- labels are a name or not
 octet_or_not : (c : ℕ) → Decided (IsFoldedOctet c)
-octet_or_not c = elim (cases_lt c 256) [
-  | inr over ↦ inr (λ h. omega (arith, h.octet))
-  | inl low ↦ elim (cases_eq (folded_octet c) c) [
-    | inl same ↦ inl (record { octet = low; lower = same })
-    | inr other ↦ inr (λ h. other h.lower)
-  ]
-]
+octet_or_not c = grind (arith, cases_lt, low, cases_eq)
 
 label_or_not : (label : List ℕ) → Decided (IsLabel label)
 label_or_not label = elim (each_or_not IsFoldedOctet octet_or_not label) [

@@ -25,13 +25,11 @@ spelled_or_not w text =
 -- ---- 16 bits
 
 u16_only : (v : FieldValue) → Holds U16 v → (n : ℕ) × (v ≡ u16_value n)
-u16_only (u16_value n) h = (n, refl)
-u16_only v h = absurd h
+u16_only v h = grind arith
 
 u16_opens : (origin : List (List ℕ)) (items : List RawItem) (v : FieldValue) → SpellsField origin U16 items v
     → (text : List ℕ) × (n : ℕ) × (items ≡ bare text ∷ []) × (v ≡ u16_value n)
-u16_opens origin (bare text ∷ []) (u16_value n) h = (text, n, refl, refl)
-u16_opens origin items v h = absurd h
+u16_opens origin items v h = grind arith
 
 u16_read : (octets : List ℕ) → AreLow octets → length octets ≡ 2
     → (n : ℕ) × IsNumber w16 n × (octets ≡ to_be_bytes w16 n)
@@ -40,11 +38,10 @@ u16_read octets low size =
     (from_be_bytes w16 octets, omega (arith, each 0, each 1), sym (be_bytes_2 octets (from_be_bytes w16 octets) size each refl))
 
 pub u16_sized : SizedField U16 u16_value 2
-u16_sized = record { plain = λ e. cc; single = λ e. cc; only = u16_only; size = λ n h. refl; read = u16_read }
+u16_sized = grind (arith, u16_only, u16_read)
 
 u16_part : (v : FieldValue) → Suits (Some U16) v → FitsString v → IsReal v → Holds U16 v × (0 < length (field_octets v))
-u16_part (u16_value n) s fits real = (real, omega arith)
-u16_part v s fits real = absurd s
+u16_part v s fits real = grind arith
 
 pub u16_laws : FieldLaws U16 u16_value bare_item
 u16_laws = record {
@@ -69,13 +66,11 @@ u16_laws = record {
 -- ---- 32 bits
 
 serial_only : (v : FieldValue) → Holds Serial v → (n : ℕ) × (v ≡ u32_value n)
-serial_only (u32_value n) h = (n, refl)
-serial_only v h = absurd h
+serial_only v h = grind arith
 
 serial_opens : (origin : List (List ℕ)) (items : List RawItem) (v : FieldValue) → SpellsField origin Serial items v
     → (text : List ℕ) × (n : ℕ) × (items ≡ bare text ∷ []) × (v ≡ u32_value n)
-serial_opens origin (bare text ∷ []) (u32_value n) h = (text, n, refl, refl)
-serial_opens origin items v h = absurd h
+serial_opens origin items v h = grind arith
 
 serial_read : (octets : List ℕ) → AreLow octets → length octets ≡ 4
     → (n : ℕ) × IsNumber w32 n × (octets ≡ to_be_bytes w32 n)
@@ -84,11 +79,10 @@ serial_read octets low size =
     (from_be_bytes w32 octets, omega (arith, each 0, each 1, each 2, each 3), sym (be_bytes_4 octets (from_be_bytes w32 octets) size each refl))
 
 pub serial_sized : SizedField Serial u32_value 4
-serial_sized = record { plain = λ e. cc; single = λ e. cc; only = serial_only; size = λ n h. refl; read = serial_read }
+serial_sized = grind (arith, serial_only, serial_read)
 
 serial_part : (v : FieldValue) → Suits (Some Serial) v → FitsString v → IsReal v → Holds Serial v × (0 < length (field_octets v))
-serial_part (u32_value n) s fits real = (real, omega arith)
-serial_part v s fits real = absurd s
+serial_part v s fits real = grind arith
 
 pub serial_laws : FieldLaws Serial u32_value bare_item
 serial_laws = record {

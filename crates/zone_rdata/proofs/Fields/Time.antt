@@ -14,11 +14,10 @@ use Rattle.zone_rdata.proofs.TimeLaws.{one_time}
 use Rattle.zone_rdata.proofs.Fields.Number.{serial_laws, serial_sized}
 
 pub sized : SizedField Time u32_value 4
-sized = record { plain = λ e. cc; single = λ e. cc; only = serial_sized.only; size = serial_sized.size; read = serial_sized.read }
+sized = grind (arith, serial_sized)
 
 opens : (origin : List (List ℕ)) (items : List RawItem) (v : FieldValue) → SpellsField origin Time items v → (text : List ℕ) × (n : ℕ) × (items ≡ bare text ∷ []) × (v ≡ u32_value n)
-opens origin (bare text ∷ []) (u32_value n) h = (text, n, refl, refl)
-opens origin items v h = absurd h
+opens origin items v h = grind arith
 
 pub laws : FieldLaws Time u32_value bare_item
 laws = record {

@@ -22,4 +22,4 @@ returns-in_err-push_last-clause-none c = if_none_any _ _ (parts_unended c.args.e
 pub returns-clause-found : goal.returns-clause-found
 returns-clause-found c =
     let added = c.in_ok-push_last.ensures.some in
-    subst (ArePartsOf c.args.ends c.args.text.now) (sym added.1.1) (parts_ended c.args.ends c.args.text.now _ _ added.0 c.loop-group.invariant added.1.0)
+    subst (ArePartsOf c.args.ends c.args.text.now) (sym added.1.1) (parts_ended c.args.ends c.args.text.now _ _ added.0 c.in_default.ensures.none c.loop-group.invariant added.1.0)
