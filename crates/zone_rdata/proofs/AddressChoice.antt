@@ -1,5 +1,5 @@
 -- A text is an address or none.
-use Rattle.std.proofs.Common.{Bool, Err, IsTrue, List, Ok, Result, [], ap, append_assoc, arith, drop, false, get_or, inl, inr, length, refl, replicate, subst, suc, sym, take, true, zero, ℕ, ◌++◌, ◌+◌, ◌-◌, ◌<◌, ◌∙◌, ◌∷◌, ◌≡◌, ◌≢◌, ◌≤◌, ◌⊎◌}
+use Rattle.std.proofs.Common.{[], Bool, Err, IsTrue, List, Ok, Result, ap, arith, drop, false, get_or, inl, inr, length, refl, replicate, suc, sym, take, true, zero, ℕ, ◌++◌, ◌+◌, ◌-◌, ◌<◌, ◌∙◌, ◌∷◌, ◌≡◌, ◌≢◌, ◌≤◌, ◌⊎◌}
 use Rattle.std.proofs.lemmas.Bool.{cases_eq, cases_lt}
 use Rattle.std.specs.List.{AllZip}
 use Rattle.hex.specs.Hex.{decode_sized}
@@ -134,7 +134,7 @@ ipv6_or_not text = elim (gap_or_not text) [
 
 -- ---- an address of so many octets
 no_size : (n : ℕ) (text : List ℕ) → n ≢ 4 → n ≢ 16 → (octets : List ℕ) → IsAddress n text octets → ⊥
-no_size n text not_ipv4 not_ipv6 octets v5 = grind arith
+no_size n text not_ipv4 not_ipv6 octets h = grind arith
 
 pub address_or_not : (n : ℕ) (text : List ℕ) → Choice (IsAddress n text)
 address_or_not n text = elim (cases_eq n 4) [

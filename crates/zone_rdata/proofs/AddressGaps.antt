@@ -1,6 +1,5 @@
 -- Two colons in a row: where an address has them.
-use Rattle.std.proofs.Common.{◌≡◌, ℕ, zero, suc, ◌+◌, ◌-◌, ◌<◌, ◌≤◌, Bool, true, false, inl, inr, List, [], ◌∷◌, ◌++◌, length, get_or, take, drop, replicate, refl, sym, ap, ◌∙◌, subst, arith, append_assoc, length-append, Option, Some, None}
-use Rattle.std.specs.Prelude.{IfSome}
+use Rattle.std.proofs.Common.{[], ◌≡◌, ℕ, zero, suc, ◌+◌, ◌-◌, ◌<◌, ◌≤◌, Bool, true, false, inl, inr, List, ◌∷◌, ◌++◌, length, get_or, take, drop, replicate, refl, sym, ap, ◌∙◌, subst, arith, append_assoc, length-append}
 use Rattle.std.proofs.lemmas.List.{take_at, drop_at, drop_more, drop_all, drop-replicate, replicate-append-replicate, length-replicate, append-nil, get_or_at, get_or_append_left, take-append-drop}
 use Rattle.std.proofs.lemmas.Bool.{cases_lt}
 use Rattle.zone_rdata.specs.Address.{AddressPart, IsLastPart, AreParts, parts_text, ArePartsOf, AreAround, IsIpv6Address, eight, fewer}
@@ -21,14 +20,14 @@ no_gaps_at (c ∷ d ∷ text) zero none at = none.0 at.0 at.1
 no_gaps_at (c ∷ d ∷ text) (suc k) none at = no_gaps_at (d ∷ text) k none.1 at
 
 no_gaps_tail : (c : ℕ) (text : List ℕ) → NoGaps (c ∷ text) → NoGaps text
-no_gaps_tail c v1 none = grind arith
+no_gaps_tail c text none = grind arith
 
 no_gaps_lacks : (text : List ℕ) → Lacks 58 text → NoGaps text
 no_gaps_lacks (c ∷ d ∷ text) lacks = (λ e f. lacks.0 e, no_gaps_lacks (d ∷ text) lacks.1)
 no_gaps_lacks text lacks = tt
 
 no_gaps_colon : (text : List ℕ) → Lacks 58 text → NoGaps (58 ∷ text)
-no_gaps_colon v0 lacks = grind (arith, no_gaps_lacks)
+no_gaps_colon text lacks = grind (arith, no_gaps_lacks)
 
 -- a part with a colon after it
 no_gaps_part : (text rest : List ℕ) → Lacks 58 text → NoGaps (58 ∷ rest) → NoGaps (text ++ 58 ∷ rest)
@@ -119,9 +118,6 @@ around_written before after first second n m a k f s ln lm room end rest =
     let front : take a (first ++ drop n (replicate 16 0)) ≡ before ++ zeros = ap (take a) whole ∙ take_at (before ++ zeros) tail a len in
     let back : drop k (drop a (first ++ drop n (replicate 16 0))) ≡ [] = ap (λ t. drop k (drop a t)) whole ∙ ap (drop k) (drop_at (before ++ zeros) tail a len) ∙ drop_all k tail (omega (arith, len_tail)) in
     cc (append-nil second, append_assoc before zeros after)
-
-pub if_some_weaker : {T : Type 0} (o : Option T) (P Q : T → Type 0) → ((x : T) → P x → Q x) → IfSome o P → IfSome o Q
-if_some_weaker v0 v1 v2 f p = grind arith
 
 -- ---- a text is one address
 

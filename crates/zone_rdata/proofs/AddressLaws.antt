@@ -1,7 +1,6 @@
 -- What is printed for an address is read back, and is of the form that RFC 5952 recommends.
-use Rattle.std.proofs.Common.{◌≡◌, ℕ, zero, suc, ◌+◌, ◌-◌, ◌*◌, ◌/◌, ◌%◌, ◌^◌, ◌<◌, ◌≤◌, Bool, true, false, inl, inr, List, [], ◌∷◌, ◌++◌, length, take, drop, map, replicate, decimal, refl, sym, ap, ◌∙◌, subst, arith, append_assoc, length-append, le-leb, lt-ltb, le-ltb, rules}
+use Rattle.std.proofs.Common.{[], ◌≡◌, ℕ, zero, suc, ◌+◌, ◌-◌, ◌*◌, ◌/◌, ◌%◌, ◌^◌, ◌<◌, ◌≤◌, Bool, true, false, inl, inr, List, ◌∷◌, ◌++◌, length, take, drop, map, replicate, decimal, refl, sym, ap, ◌∙◌, subst, arith, append_assoc, length-append, le-leb, lt-ltb, le-ltb, rules}
 use Rattle.std.specs.Prelude.{fold, slice_index}
-use Rattle.std.specs.Char.{digit_char}
 use Rattle.std.specs.List.{AllByRecursion}
 use Rattle.std.specs.Net.Addr.{segments_of}
 use Rattle.std.specs.Net.Text.{hex, longest_zero_run, hex_groups_text}
@@ -65,7 +64,7 @@ abbrev part : ℕ → AddressPart
 part n = record { text = hex n; octets = pair n }
 
 pair_bytes : (a b : ℕ) → a < 256 → b < 256 → (i : ℕ) → slice_index (a ∷ b ∷ []) i < 256
-pair_bytes a b h k v4 = grind arith
+pair_bytes a b h k i = grind arith
 
 group_printed : (n : ℕ) → n < 2 ^ 16 → IsGroup (part n)
 group_printed n fits =
@@ -188,10 +187,10 @@ run_exists groups start len run two = grind (arith, longest_is, longest_zero_run
 -- ---- the octets of texts
 
 digit_or_dot : (c : ℕ) → IsDigitOrDot c → IsAddressOctet c
-digit_or_dot c v1 = grind arith
+digit_or_dot c h = grind arith
 
 hex_or_colon : (c : ℕ) → IsHexOrColon c → IsAddressOctet c
-hex_or_colon c v1 = grind (arith, cases_lt)
+hex_or_colon c h = grind (arith, cases_lt)
 
 pub ipv4_plain : (octets : List ℕ) → length octets ≡ 4 → AllByRecursion (λ c. c < 256) octets → AllByRecursion IsAddressOctet (ipv4_text octets)
 ipv4_plain octets len each = recursion_from_All IsAddressOctet (ipv4_text octets) (All-weaker IsDigitOrDot IsAddressOctet digit_or_dot (ipv4_text octets) (All-ipv4_text octets (each_below (2 ^ 8) octets (omega arith) each)))
@@ -207,4 +206,4 @@ text_left [] each some = absurd (omega arith)
 text_left (p ∷ parts) each some = parts_some true p parts each
 
 pub ipv6_some : (text octets : List ℕ) → IsIpv6Address text octets → 0 < length text
-ipv6_some text octets v2 = grind (arith, text_left, length-append)
+ipv6_some text octets h = grind (arith, text_left, length-append)

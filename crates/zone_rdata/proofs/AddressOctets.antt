@@ -1,5 +1,5 @@
 -- How many octets an address has, and that they are octets.
-use Rattle.std.proofs.Common.{◌≡◌, ℕ, zero, suc, ◌-◌, ◌<◌, Bool, true, false, inl, inr, List, [], ◌∷◌, ◌++◌, length, replicate, refl, sym, ap, ◌∙◌, subst, arith, length-append}
+use Rattle.std.proofs.Common.{[], ◌≡◌, ℕ, zero, suc, ◌-◌, ◌<◌, Bool, true, false, inl, inr, List, ◌∷◌, ◌++◌, length, replicate, refl, sym, ◌∙◌, subst, arith, length-append}
 use Rattle.std.specs.List.{AllByRecursion, AllZip}
 use Rattle.std.proofs.lemmas.List.{length-replicate}
 use Rattle.hex.proofs.HexLemmas.{decode_of-ok, decode_sized-ok, decode_sized-twice}
@@ -45,7 +45,7 @@ parted_bytes : (ends : Bool) (text octets : List ℕ) → ArePartsOf ends text o
 parted_bytes ends text octets are = grind (arith, parts_bytes)
 
 pub ipv6_count : (text octets : List ℕ) → IsIpv6Address text octets → length octets ≡ 16
-ipv6_count text octets v2 = grind (arith, ℕ, length-append, length-replicate)
+ipv6_count text octets h = grind (arith, length-append, length-replicate)
 
 pub ipv6_bytes : (text octets : List ℕ) → IsIpv6Address text octets → AreBytes octets
 ipv6_bytes text octets (eight are len) = parted_bytes true text octets are

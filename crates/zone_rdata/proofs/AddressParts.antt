@@ -1,10 +1,9 @@
 -- The parts of an address between its colons.
-use Rattle.std.proofs.Common.{◌≡◌, ℕ, ◌+◌, ◌<◌, ◌≤◌, ◌==◌, Bool, inl, inr, List, [], ◌∷◌, ◌++◌, length, map, refl, sym, ap, ◌∙◌, subst, arith, append_assoc, length-append, IsTrue, Option, Some, None}
-use Rattle.std.specs.Prelude.{IfNone}
+use Rattle.std.proofs.Common.{[], ◌≡◌, ℕ, ◌+◌, ◌<◌, ◌≤◌, ◌==◌, Bool, inl, inr, List, ◌∷◌, ◌++◌, length, map, refl, sym, ap, ◌∙◌, subst, arith, append_assoc, length-append}
 use Rattle.std.specs.List.{AllByRecursion, join_with_byte}
 use Rattle.std.proofs.lemmas.List.{append-nil}
 use Rattle.std.proofs.lemmas.List.Splits.{join_with_byte-slice_split, length-slice_split}
-use Rattle.zone_rdata.specs.Address.{IsIpv4Address, AddressPart, IsGroup, IsLastPart, AreParts, parts_text, parts_octets, ArePartsOf}
+use Rattle.zone_rdata.specs.Address.{IsIpv4Address, AddressPart, IsLastPart, AreParts, parts_text, parts_octets, ArePartsOf}
 use Rattle.zone_rdata.specs.Machine.AddressReading.{Lacks, IsCutAtFirst, IsGroupOf, IsLastPartOf, NoneFits}
 use Rattle.zone_rdata.proofs.Addresses.{split, split_cut, split_join, split_lacks, group_lacks, group_same, last_lacks, last_same}
 
@@ -141,10 +140,3 @@ part_full ends text own old is long added last = omega (arith, ap length (last_s
 pub part_refused : (ends : Bool) (text old : List ℕ) → ((octets : List ℕ) → IsGroupOf text octets → ⊥) → ((octets : List ℕ) → IsIpv4Address text octets → ⊥) → NoneFits (IsLastPartOf ends text) old
 part_refused ends text old none none' added (inl is) = absurd (none added is)
 part_refused ends text old none none' added (inr are) = absurd (none' added are.1)
-
--- what holds after any answer
-pub if_none_any : {T : Type 0} (o : Option T) (P : Type 0) → P → IfNone o P
-if_none_any v0 v1 p = grind arith
-
-pub if_none_weaker : {T : Type 0} (o : Option T) (P Q : Type 0) → (P → Q) → IfNone o P → IfNone o Q
-if_none_weaker v0 v1 v2 f p = grind arith

@@ -1,5 +1,5 @@
 -- The canonical texts of addresses.
-use Rattle.std.proofs.Common.{◌≡◌, ℕ, zero, suc, ◌-◌, ◌/◌, ◌%◌, ◌^◌, ◌<◌, Bool, true, ◌&&◌, List, [], ◌∷◌, take, drop, refl, ap, ◌∙◌, arith, ◌==◌, inl, inr}
+use Rattle.std.proofs.Common.{[], ◌≡◌, ℕ, zero, suc, ◌-◌, ◌/◌, ◌%◌, ◌^◌, ◌<◌, Bool, true, ◌&&◌, List, ◌∷◌, take, drop, refl, ap, ◌∙◌, arith, ◌==◌, inl, inr}
 use Rattle.std.specs.Char.{digit_char}
 use Rattle.std.specs.Prelude.{slice_index}
 use Rattle.std.specs.Net.Text.{hex, leading_zero_digits}

@@ -1,5 +1,5 @@
 -- Lists of which each element is an octet, by index.
-use Rattle.std.proofs.Common.{ℕ, zero, suc, ◌<◌, List, [], ◌∷◌, ◌++◌, lit<}
+use Rattle.std.proofs.Common.{[], ℕ, zero, suc, ◌<◌, List, ◌∷◌, ◌++◌, lit<}
 use Rattle.std.specs.Prelude.{slice_index}
 
 abbrev pub Bytes : List ℕ → Type 0

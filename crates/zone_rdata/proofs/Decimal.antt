@@ -1,5 +1,5 @@
 -- Decimal digits read one after the other, under a cap.
-use Rattle.std.proofs.Common.{◌≡◌, ℕ, ◌+◌, ◌-◌, ◌*◌, min, true, List, [], ◌∷◌, ◌++◌, refl}
+use Rattle.std.proofs.Common.{[], ◌≡◌, ℕ, ◌+◌, ◌-◌, ◌*◌, min, true, List, ◌∷◌, ◌++◌, refl}
 use Rattle.std.specs.Prelude.{fold}
 use Rattle.std.specs.List.{AllByRecursion}
 use Rattle.zone_name.specs.Spelling.{is_digit}

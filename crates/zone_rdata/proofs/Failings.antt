@@ -1,5 +1,5 @@
 -- A fault that is passed on, and one that is not.
-use Rattle.std.proofs.Common.{◌≡◌, Result, Ok, Err, refl, sym, subst, arith}
+use Rattle.std.proofs.Common.{◌≡◌, Result, Err, arith}
 use Rattle.std.specs.Prelude.{IfErr, IsErrAnd}
 use Rattle.std.proofs.lemmas.Result.{err_from_is_err_and}
 use Rattle.zone_rdata.specs.declared.fault.Fault.{Fault}
@@ -8,10 +8,10 @@ use Rattle.zone_rdata.specs.declared.fault.Failing.TheVariants as failings
 use Rattle.zone_rdata.specs.Fault.{IfFault}
 
 pub IfFault-weaker : (P Q : Fault → Type 0) (e : Failing) → ((fault : Fault) → P fault → Q fault) → IfFault P e → IfFault Q e
-IfFault-weaker v0 v1 v2 goes h = grind arith
+IfFault-weaker P Q e goes h = grind arith
 
 pub IfErr-fault : {T : Type 0} (r : Result T Failing) (P Q : Fault → Type 0) → ((fault : Fault) → P fault → Q fault) → IfErr r (IfFault P) → IfErr r (IfFault Q)
-IfErr-fault v0 v1 v2 goes h = grind arith
+IfErr-fault r P Q goes h = grind arith
 
 -- the answer of a `?` on a failing
 pub if_fault_passed : {T : Type 0} (r : Result T Failing) (e : Failing) (P Q : Fault → Type 0) → IsErrAnd r (λ y. y ≡ e) → ((fault : Fault) → P fault → Q fault) → IfFault P e → IfErr r (IfFault Q)
@@ -26,7 +26,7 @@ stopped e = Err e
 
 -- likewise where the callee says what each fault is that it answers
 pub each_fault_passed : {T : Type 0} (r : Result T Failing) (e : Failing) (P Q : Fault → Type 0) → IsErrAnd r (λ y. y ≡ e) → ((fault : Fault) → P fault → Q fault) → ((fault : Fault) → stopped e ≡ Err (failings.Fault fault) → P fault) → IfErr r (IfFault Q)
-each_fault_passed r v1 v2 v3 is goes h = grind (arith, if_fault_passed)
+each_fault_passed r e P Q is goes h = grind (arith, if_fault_passed)
 
 -- the answer of a `?` on a failing that is such a fault
 pub same_fault_answered : {T : Type 0} (r : Result T Failing) (e : Failing) (own : Fault) (P : Fault → Type 0) → IsErrAnd r (λ y. y ≡ e) → e ≡ failings.Fault own → P own → IfErr r (IfFault P)

@@ -1,5 +1,5 @@
 -- What is proved of every kind of field, and what kinds share.
-use Rattle.std.proofs.Common.{List, Option, Some, [], ap, arith, decimal, drop, get_or, inl, inr, length, length-append, refl, subst, suc, sym, take, true, zero, ℕ, ◌++◌, ◌+◌, ◌*◌, ◌<◌, ◌^◌, ◌∙◌, ◌∷◌, ◌≡◌, ◌≢◌, ◌≤◌, ◌⊎◌}
+use Rattle.std.proofs.Common.{[], List, Option, Some, ap, arith, decimal, drop, get_or, inl, inr, length, length-append, refl, subst, suc, sym, take, true, zero, ℕ, ◌++◌, ◌+◌, ◌*◌, ◌<◌, ◌^◌, ◌∙◌, ◌∷◌, ◌≡◌, ◌≢◌, ◌≤◌, ◌⊎◌}
 use Rattle.std.specs.List.{AllByRecursion}
 use Rattle.std.specs.Prelude.{IfSome}
 use Rattle.std.proofs.lemmas.Bool.{cases_lt, false≢true}
@@ -119,7 +119,7 @@ bare_or_fault origin f many one own (quoted text ∷ items) low = inr (BadRdata,
 bare_or_fault origin f many one own (bare text ∷ items) low = own text low.0
 
 pub value_or_fault : {X : Type 0} (origin : List (List ℕ)) (f : Field) (text : List ℕ) (value : X → FieldValue) (own : Fault) (Stated : X → Type 0) → ((x : X) → Stated x → SpellsField origin f (bare text ∷ []) (value x)) → (((x : X) → Stated x → ⊥) → IsFieldFault origin f (bare text ∷ []) own) → Choice Stated → FieldChoice origin f (bare text ∷ [])
-value_or_fault origin f text value own v5 spelt bad v8 = grind arith
+value_or_fault origin f text value own Stated spelt bad h = grind arith
 
 -- the mark of the generic form as a text
 abbrev pub mark : List ℕ

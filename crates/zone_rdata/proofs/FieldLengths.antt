@@ -1,19 +1,16 @@
 -- How many octets a printed number, address or string has, with a space after it.
-use Rattle.std.proofs.Common.{◌≡◌, ℕ, ◌+◌, ◌*◌, ◌/◌, ◌%◌, ◌<◌, ◌≤◌, List, [], ◌∷◌, ◌++◌, length, take, drop, map, codes, decimal, refl, inl, inr, arith, ap, length-append, le-ltb, lt-ltb}
-use Rattle.std.specs.Char.{digit_char}
+use Rattle.std.proofs.Common.{[], ◌≡◌, ℕ, ◌+◌, ◌*◌, ◌<◌, ◌≤◌, List, ◌∷◌, ◌++◌, length, drop, map, codes, decimal, arith, ap, length-append, le-ltb, lt-ltb}
 use Rattle.std.specs.List.{AllByRecursion, flat_map}
-use Rattle.std.specs.Net.Addr.{segments_of}
-use Rattle.std.specs.Net.Text.{hex, leading_zero_digits, longest_zero_run}
+use Rattle.std.specs.Net.Text.{hex}
 use Rattle.std.proofs.lemmas.Bool.{cases_lt}
 use Rattle.std.proofs.lemmas.Fmt.{length-decimal-le}
 use Rattle.std.proofs.lemmas.List.{length-drop, length-take}
 use Rattle.zone_name.specs.Name.{with_length}
 use Rattle.zone_rdata.specs.Address.{ipv4_text, ipv6_text, parted_groups, shortened_groups}
-use Rattle.zone_rdata.specs.Strings.{inside_text, is_shown, string_text, unit_text}
+use Rattle.zone_rdata.specs.Strings.{inside_text, string_text}
 use Rattle.zone_rdata.specs.Fields.Strings.{strings_text}
 use Rattle.zone_rdata.proofs.AddressLaws.{segments_count}
 use Rattle.zone_rdata.proofs.Texts.{joined_more}
-use Rattle.zone_name.proofs.Lengths.{octet_by}
 
 -- ---- addresses
 
@@ -49,9 +46,6 @@ pub ipv6_length : (octets : List ℕ) → length octets ≡ 16 → length (ipv6_
 ipv6_length octets size = grind (arith, segments_count, cases_lt, lt-ltb, shortened_length, le-ltb, groups_length)
 
 -- ---- strings
-
-unit_length : (c : ℕ) → length (unit_text c) ≤ 4
-unit_length c = octet_by _ (is_shown c) c
 
 inside_length : (octets : List ℕ) → length (inside_text octets) ≤ 4 * length octets
 inside_length [] = omega arith

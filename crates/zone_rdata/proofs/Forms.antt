@@ -1,5 +1,5 @@
 -- What items state for a layout, if there is one, and why they state nothing.
-use Rattle.std.proofs.Common.{◌≡◌, ℕ, ◌≤◌, List, length, refl, sym, ap, ◌∙◌, subst, Bool, false, IsTrue, ◌↔◌, Option, Some, None, Result, Ok, Err, arith}
+use Rattle.std.proofs.Common.{◌≡◌, ℕ, ◌≤◌, List, length, sym, ap, ◌∙◌, subst, Bool, false, IsTrue, ◌↔◌, Option, Some, None, Result, Ok, Err, arith}
 use Rattle.std.specs.Prelude.{IfOk, IfErr, IsErrAnd, option_map}
 use Rattle.zone_rdata.specs.declared.fault.Failing.TheVariants as failings
 use Rattle.zone_rdata.specs.declared.fault.Failing.{Failing}
@@ -42,7 +42,7 @@ opaque_fault origin laid items b e plain_items test = opaque_words (ap (option_m
 
 -- items that state a value are refused for want of memory alone
 memory_left : (e : Failing) (P : Fault → Type 0) → IfFault P e → ((fault : Fault) → P fault → ⊥) → e ≡ failings.Memory
-memory_left v0 v1 bad none = grind arith
+memory_left e P bad none = grind arith
 
 pub only_memory : {T : Type 0} (r : Result T Failing) (e : Failing) (P : Fault → Type 0) (Q : T → Type 0) → IsErrAnd r (λ x. x ≡ e) → IfFault P e → ((fault : Fault) → P fault → ⊥) → IfOk r Q × IfErr r (λ x. x ≡ failings.Memory)
-only_memory v0 e v2 v3 is bad none = grind (arith, memory_left)
+only_memory r e P Q is bad none = grind (arith, memory_left)

@@ -1,5 +1,5 @@
 -- The generic form: digits that join to octets, item after item.
-use Rattle.std.proofs.Common.{◌≡◌, ◌≢◌, ℕ, ◌+◌, ◌-◌, ◌/◌, ◌<◌, ◌≤◌, min, List, [], ◌∷◌, ◌++◌, length, get_or, take, drop, map, length-drop, Ok, refl, sym, ap, ◌∙◌, subst, arith, append_assoc, length-append}
+use Rattle.std.proofs.Common.{[], ◌≡◌, ◌≢◌, ℕ, ◌+◌, ◌-◌, ◌/◌, ◌<◌, ◌≤◌, min, List, ◌∷◌, ◌++◌, length, get_or, take, drop, map, length-drop, Ok, refl, sym, ap, ◌∙◌, subst, arith, append_assoc, length-append}
 use Rattle.std.proofs.lemmas.List.{drop_all, take_all, append-nil}
 use Rattle.hex.specs.Hex.{decode_of}
 use Rattle.hex.proofs.HexLemmas.{decode_of-ok, decode_of-same}
@@ -58,7 +58,7 @@ decimal_once : (text : List ℕ) (m n : ℕ) → IsDecimal text m → IsDecimal 
 decimal_once text m n a b = a.value ∙ sym b.value
 
 pub StatesLength-once : (item : RawItem) (m n : ℕ) → StatesLength item m → StatesLength item n → m ≡ n
-StatesLength-once v0 m n a b = grind (arith, decimal_once)
+StatesLength-once item m n a b = grind (arith, decimal_once)
 
 pub length_none : (item : Item) (text : List ℕ) → raw item ≡ bare text → ((n : ℕ) → IsDecimal text n → ⊥) → LengthFault (raw item) BadGeneric
 length_none item text is none = no_number (λ n h. none n (subst (λ r. StatesLength r n) is h))

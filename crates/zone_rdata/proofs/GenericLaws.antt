@@ -1,5 +1,5 @@
 -- The laws of the generic form.
-use Rattle.std.proofs.Common.{◌≡◌, ℕ, ◌+◌, ◌/◌, ◌%◌, ◌<◌, ◌≤◌, ◌^◌, true, List, [], ◌∷◌, ◌++◌, length, map, Result, Ok, Err, ◌⊎◌, inl, inr, refl, sym, ap, ◌∙◌, subst, arith, length-append}
+use Rattle.std.proofs.Common.{[], ◌≡◌, ℕ, ◌+◌, ◌/◌, ◌%◌, ◌<◌, ◌≤◌, ◌^◌, true, List, ◌∷◌, ◌++◌, length, map, Result, Ok, Err, ◌⊎◌, inl, inr, refl, sym, ap, ◌∙◌, subst, arith, length-append}
 use Rattle.std.specs.Prelude.{decimal}
 use Rattle.std.specs.List.{AllByRecursion, join_with_byte}
 use Rattle.std.proofs.lemmas.Bool.{cases_lt, cases_eq}
@@ -19,7 +19,7 @@ use Rattle.zone_rdata.specs.Strings.{item_text}
 use Rattle.zone_rdata.specs.Text.{generic_text}
 use Rattle.zone_rdata.proofs.Choices.{Choice, each_or_not, true_or_not}
 use Rattle.zone_rdata.proofs.Decimal.{value_push}
-use Rattle.zone_rdata.proofs.GenericForm.{JoinTo-once, StatesLength-once, form_faults, form_missing, form_states}
+use Rattle.zone_rdata.proofs.GenericForm.{JoinTo-once, form_faults, form_missing, form_states}
 use Rattle.zone_name.proofs.Pushing.{AllByRecursion-append}
 use Rattle.zone_rdata.proofs.Lists.{each_below}
 use Rattle.zone_name.proofs.Lawful.{digit_test}
@@ -123,4 +123,4 @@ printed-stated octets each short = record {
 }
 
 pub printed-text : (octets : List ℕ) → generic_text octets ≡ join_with_byte 32 (map item_text (generic_items octets))
-printed-text v0 = grind (arith, decimal_digit)
+printed-text octets = grind (arith, decimal_digit)

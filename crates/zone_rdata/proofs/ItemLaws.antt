@@ -1,10 +1,10 @@
 -- Items state at most one value, or have at most one first fault.
-use Rattle.std.proofs.Common.{List, None, Option, Some, [], ap, arith, inl, inr, length, refl, subst, sym, ℕ, ◌∙◌, ◌∷◌, ◌≡◌, ◌≤◌}
+use Rattle.std.proofs.Common.{[], List, None, Option, Some, arith, inl, inr, length, refl, subst, sym, ℕ, ◌∙◌, ◌∷◌, ◌≡◌, ◌≤◌}
 use Rattle.zone_rdata.specs.declared.fault.Fault.{Fault}
 use Rattle.zone_rdata.specs.declared.field.Field.{Field}
 use Rattle.zone_rdata.specs.DataFault.{FirstFieldFault, IsDataFault, IsFaultFor, IsGenericDataFault, IsWordsFault, in_generic_form, malformed, no_value, opaque_words, too_long, unspelt}
-use Rattle.zone_rdata.specs.Field.{FieldValue, items_after, octets_of, own_items}
-use Rattle.zone_rdata.specs.Generic.{StatesGeneric, GenericFault, no_length, long_length, bad_digits}
+use Rattle.zone_rdata.specs.Field.{FieldValue, items_after, octets_of}
+use Rattle.zone_rdata.specs.Generic.{StatesGeneric, GenericFault}
 use Rattle.zone_rdata.specs.Item.{RawItem, IsGeneric}
 use Rattle.zone_rdata.specs.Layout.{layout}
 use Rattle.zone_rdata.specs.Spelling.{IsCanonicalOf, SpellEach, States, StatesFor, in_octets, in_words}
@@ -39,7 +39,7 @@ first_once names once origin (f ∷ row) items a b (inr x) (inl y) = grind (arit
 first_once names once origin (f ∷ row) items a b (inr x) (inr y) = first_once names once origin row (items_after f items) a b x.2 y.2
 
 words_never : NamesOnce → NamesNever → (origin : List (List ℕ)) (row : List Field) (items : List RawItem) (values : List FieldValue) (fault : Fault) → SpellEach origin row items values → length (octets_of values) ≤ 65535 → IsWordsFault origin row items fault → ⊥
-words_never once names origin row items values v6 h short v9 = grind (arith, first_never, each_once)
+words_never once names origin row items values fault h short k = grind (arith, first_never, each_once)
 
 words_fault_once : NamesNever → NameFaultOnce → (origin : List (List ℕ)) (row : List Field) (items : List RawItem) (a b : Fault) → IsWordsFault origin row items a → IsWordsFault origin row items b → a ≡ b
 words_fault_once names once origin row items _ _ (unspelt a x) (unspelt b y) = first_once names once origin row items a b x y
@@ -61,10 +61,10 @@ generic_marks : (items : List RawItem) (octets : List ℕ) → StatesGeneric ite
 generic_marks items octets s = (s.form.item ∷ s.digits, s.form.parts)
 
 generic_fault_marks : (items : List RawItem) (fault : Fault) → GenericFault items fault → IsGeneric items
-generic_fault_marks items v1 v2 = grind arith
+generic_fault_marks items fault h = grind arith
 
 form_fault_marks : (laid : Option (List Field)) (items : List RawItem) (fault : Fault) → IsGenericDataFault laid items fault → IsGeneric items
-form_fault_marks laid items v2 v3 = grind (arith, generic_fault_marks, generic_marks)
+form_fault_marks laid items fault h = grind (arith, generic_fault_marks, generic_marks)
 
 for_once : NamesOnce → (origin : List (List ℕ)) (laid : Option (List Field)) (items : List RawItem) (a b : List ℕ) → CanonicalOnce laid → StatesFor origin laid items a → StatesFor origin laid items b → a ≡ b
 for_once names origin laid items a b once (in_words row vs e unmarked h is short) (in_words row' ws e' unmarked2 k is' short') = grind (arith, same_row, each_once)

@@ -1,10 +1,10 @@
 -- Values of a layout are data: their octets hold them, are octets, and without strings few.
-use Rattle.std.proofs.Common.{List, Option, Some, [], ap, drop, length, refl, subst, sym, ℕ, ◌++◌, ◌<◌, ◌∙◌, ◌∷◌, ◌≡◌, ◌≤◌, arith, length-append, ◌*◌, ◌≢◌, None}
+use Rattle.std.proofs.Common.{[], List, Option, Some, ap, length, refl, ℕ, ◌++◌, ◌<◌, ◌∙◌, ◌∷◌, ◌≡◌, ◌≤◌, arith, length-append, ◌*◌, ◌≢◌}
 use Rattle.std.specs.List.{AllByRecursion}
 use Rattle.std.specs.Prelude.{MatchOption}
 use Rattle.std.proofs.lemmas.List.{drop_at}
 use Rattle.zone_rdata.specs.declared.field.Field.{Field}
-use Rattle.zone_rdata.specs.Field.{FieldValue, HoldEach, Holds, field_at, field_octets, octets_of, values_of}
+use Rattle.zone_rdata.specs.Field.{FieldValue, HoldEach, Holds, field_octets, octets_of, values_of}
 use Rattle.zone_rdata.specs.Layout.{AreLaidOut, IsData, StringsLast, layout, IsSized}
 use Rattle.zone_rdata.specs.Spelling.{IsCanonicalOf}
 use Rattle.zone_rdata.proofs.AnyField.{field_back, field_short, field_low}
@@ -34,10 +34,10 @@ AreFor laid octets = MatchOption laid (Unit {0}) (λ fields. AreLaidOut fields o
 
 -- the canonical octets of what is stated are data, and as many
 pub canonical_laid : (class kind : ℕ) (laid : Option (List Field)) (octets canonical : List ℕ) → laid ≡ layout class kind → IsCanonicalOf laid octets canonical → AreFor laid canonical
-canonical_laid class kind v2 octets canonical e is = grind (arith, laid_out, table_row)
+canonical_laid class kind laid octets canonical e is = grind (arith, laid_out, table_row)
 
 pub canonical_length : (laid : Option (List Field)) (octets canonical : List ℕ) → IsCanonicalOf laid octets canonical → length canonical ≡ length octets
-canonical_length v0 octets canonical is = grind (arith, uncompressed_length)
+canonical_length laid octets canonical is = grind (arith, uncompressed_length)
 
 pub low_values : (row : List Field) (values : List FieldValue) → HoldEach row values → AreLow (octets_of values)
 low_values [] [] held = tt

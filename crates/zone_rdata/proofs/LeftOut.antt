@@ -1,9 +1,8 @@
 -- Of more items than any data can have, those that spell strings may be left out: the others have
 -- the same first fault, and state no data.
-use Rattle.std.proofs.Common.{◌≡◌, ℕ, ◌+◌, ◌<◌, ◌≤◌, List, [], ◌∷◌, ◌++◌, length, Option, Some, inl, inr, refl, sym, ap, ◌∙◌, subst, arith, append_assoc, length-append}
-use Rattle.std.specs.List.{flat_map, AllByRecursion}
+use Rattle.std.proofs.Common.{[], ◌≡◌, ℕ, ◌+◌, ◌<◌, ◌≤◌, List, ◌∷◌, ◌++◌, length, Option, Some, inl, inr, refl, sym, ap, ◌∙◌, subst, arith, append_assoc, length-append}
+use Rattle.std.specs.List.{AllByRecursion}
 use Rattle.hex.proofs.HexLemmas.{decode_of-ok}
-use Rattle.zone_name.specs.Name.{with_length}
 use Rattle.zone_name.proofs.Octets.{length-frames}
 use Rattle.zone_name.proofs.Pushing.{AllByRecursion-front}
 use Rattle.zone_rdata.specs.declared.fault.Fault.{Fault}
@@ -11,7 +10,7 @@ use Rattle.zone_rdata.specs.declared.field.Field.{Field}
 use Rattle.zone_rdata.specs.declared.field.Field.TheVariants.{Strings}
 use Rattle.zone_rdata.specs.DataFault.{FirstFieldFault, IsDataFault, IsFaultFor, IsGenericDataFault, IsWordsFault, in_generic_form, malformed, no_value, opaque_words, too_long, unspelt}
 use Rattle.zone_rdata.specs.DataFault as faults
-use Rattle.zone_rdata.specs.Field.{FieldValue, SpellsField, field_octets, octets_of, strings}
+use Rattle.zone_rdata.specs.Field.{FieldValue, SpellsField, octets_of, strings}
 use Rattle.zone_rdata.specs.Fields.Strings.{FirstStringFault, SpellEachString}
 use Rattle.zone_rdata.specs.Generic.{GenericFault, IsGenericForm, JoinTo, StatesGeneric, bad_digits, long_length, no_length}
 use Rattle.zone_rdata.specs.Item.{IsGeneric, RawItem, bare, quoted}
@@ -42,9 +41,6 @@ spelt_long origin (f ∷ fields) (item ∷ items) (v ∷ values) h = grind (arit
 spelt_long origin fields [] values h = omega arith
 
 -- ---- words
-
-fault_after : (item : RawItem) (items others : List RawItem) (fault : Fault) → (FirstStringFault others fault → FirstStringFault items fault) → FirstStringFault (item ∷ others) fault → FirstStringFault (item ∷ items) fault
-fault_after item items others fault goes v5 = grind arith
 
 strings_fault : (first more others : List RawItem) (fault : Fault) → LeavesOut more others → FirstStringFault (first ++ others) fault → FirstStringFault (first ++ more) fault
 strings_fault (item ∷ first) more others fault out (inl bad) = inl bad

@@ -45,7 +45,7 @@ unlike name rows = list_all (λ row. not (bytes_eq (take (length name) (folded_l
 
 the_number : (n : ℕ) (found : Option ℕ) → is_number n found ≡ true → found ≡ Some n
 unfolding is_number
-the_number n v1 e = grind (arith, eqb-true)
+the_number n found e = grind (arith, eqb-true)
 
 mnemonic_number : (rows : List Named) → own_numbers rows ≡ true → (word : List ℕ) (n : ℕ) → IsMnemonic rows word n → number_among rows word ≡ Some n
 unfolding own_numbers

@@ -5,7 +5,7 @@ use Rattle.zone_name.proofs.Bare.{StandsBare, bare_append}
 use Rattle.zone_rdata.specs.declared.field.Field.{Field}
 use Rattle.zone_rdata.specs.Layout.{layout}
 use Rattle.zone_rdata.specs.Table.{Named, classes, type_names, mnemonic_among}
-use Rattle.zone_rdata.specs.Words.{IsClass, IsClassWord, IsKind, IsKindWord, IsNumbered, IsWordAmong, by_mnemonic, by_number, class_text, kind_text, laid_out_mnemonic, word_or_numbered}
+use Rattle.zone_rdata.specs.Words.{IsClass, IsClassWord, IsKind, IsKindWord, IsNumbered, IsWordAmong, by_number, class_text, kind_text, laid_out_mnemonic, word_or_numbered}
 use Rattle.zone_rdata.proofs.GenericLaws.{decimal-is}
 use Rattle.zone_rdata.proofs.Standing.{are_bare, bare_decimal, bare_tested}
 use Rattle.zone_rdata.proofs.Tables.{each_mnemonic}
@@ -14,7 +14,7 @@ numbered_printed : (name : List ℕ) (n : ℕ) → n < 2 ^ 64 → IsNumbered nam
 numbered_printed name n short = record { front = name; digits = decimal n; parts = refl; named = refl; number = decimal-is n short }
 
 word_of : (rows : List Named) (name : List ℕ) (row : Option (List ℕ)) (n : ℕ) → mnemonic_among rows n ≡ row → n < 2 ^ 64 → IsWordAmong rows name (word_or_numbered row name n) n
-word_of rows name v2 n e short = grind (arith, numbered_printed)
+word_of rows name row n e short = grind (arith, numbered_printed)
 
 pub class_printed : (n : ℕ) → IsClass n → IsClassWord (class_text n) n
 class_printed n is = grind (arith, word_of)

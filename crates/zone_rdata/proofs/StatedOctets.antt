@@ -1,13 +1,13 @@
 -- What items state is data.
-use Rattle.std.proofs.Common.{List, None, Option, Some, [], length, refl, subst, sym, ℕ, ◌<◌, ◌∷◌, ◌≡◌, ◌≤◌, arith}
+use Rattle.std.proofs.Common.{[], List, Option, length, refl, subst, ℕ, ◌<◌, ◌∷◌, ◌≡◌, ◌≤◌, arith}
 use Rattle.std.specs.List.{AllByRecursion}
 use Rattle.zone_rdata.specs.declared.fault.Fault.{Fault}
 use Rattle.zone_rdata.specs.declared.field.Field.{Field}
 use Rattle.zone_rdata.specs.DataFault.{IsDataFault, IsFaultFor}
 use Rattle.zone_rdata.specs.Field.{FieldValue, HoldEach, items_after, own_items}
 use Rattle.zone_rdata.specs.Item.{RawItem}
-use Rattle.zone_rdata.specs.Layout.{AreLaidOut, IsData, layout}
-use Rattle.zone_rdata.specs.Spelling.{IsCanonicalOf, SpellEach, States, StatesFor, in_octets, in_words}
+use Rattle.zone_rdata.specs.Layout.{IsData, layout}
+use Rattle.zone_rdata.specs.Spelling.{IsCanonicalOf, SpellEach, States, StatesFor}
 use Rattle.zone_rdata.proofs.AnyField.{field_holds}
 use Rattle.zone_rdata.proofs.Tables.{table_row}
 use Rattle.zone_rdata.proofs.FieldLaws.{AreLow}
@@ -21,10 +21,10 @@ spelt_hold origin row items values h = absurd h
 
 -- the octets that items state for a layout of the table are data
 stated_laid : (origin : List (List ℕ)) (class kind : ℕ) (laid : Option (List Field)) (items : List RawItem) (octets : List ℕ) → laid ≡ layout class kind → StatesFor origin laid items octets → AreFor laid octets
-stated_laid origin class kind v3 items octets e stated = grind (arith, laid_out, table_row, spelt_hold, canonical_laid)
+stated_laid origin class kind laid items octets e stated = grind (arith, laid_out, table_row, spelt_hold, canonical_laid)
 
 stated_short : (origin : List (List ℕ)) (laid : Option (List Field)) (items : List RawItem) (octets : List ℕ) → StatesFor origin laid items octets → length octets ≤ 65535
-stated_short origin laid items octets v4 = grind (arith, canonical_length)
+stated_short origin laid items octets h = grind (arith, canonical_length)
 
 -- what items state for the layout of a class and type is their data
 pub stated_data : (origin : List (List ℕ)) (class kind : ℕ) (laid : Option (List Field)) (items : List RawItem) (octets : List ℕ) → laid ≡ layout class kind → StatesFor origin laid items octets → AllByRecursion (λ c. c < 256) octets → IsData class kind octets
@@ -41,10 +41,10 @@ pub first_for : (origin : List (List ℕ)) (class kind : ℕ) (laid : Option (Li
 first_for origin class kind laid items fault e first = grind arith
 
 low_form : (laid : Option (List Field)) (stated octets : List ℕ) → AreLow stated → IsCanonicalOf laid stated octets → AreLow octets
-low_form v0 stated octets low is = grind (arith, low_values)
+low_form laid stated octets low is = grind (arith, low_values)
 
 stated_low : (origin : List (List ℕ)) (laid : Option (List Field)) (items : List RawItem) (octets : List ℕ) → StatesFor origin laid items octets → AreLow octets
-stated_low origin laid items octets v4 = grind (arith, low_values, spelt_hold, low_form, joined_low)
+stated_low origin laid items octets h = grind (arith, low_values, spelt_hold, low_form, joined_low)
 
 pub stated_is_data : (origin : List (List ℕ)) (class kind : ℕ) (items : List RawItem) (octets : List ℕ) → States origin class kind items octets → IsData class kind octets
 stated_is_data origin class kind items octets x = stated_data origin class kind (layout class kind) items octets refl x.stated (stated_low origin (layout class kind) items octets x.stated)

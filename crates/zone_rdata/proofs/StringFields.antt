@@ -1,11 +1,10 @@
 -- Octets that are strings, each after its length.
-use Rattle.std.proofs.Common.{◌≡◌, ℕ, zero, suc, ◌+◌, ◌<◌, ◌≤◌, List, [], ◌∷◌, ◌++◌, length, take, drop, refl, sym, ap, ◌∙◌, subst, arith, length-append}
-use Rattle.std.specs.List.{flat_map, AllByRecursion}
+use Rattle.std.proofs.Common.{[], ◌≡◌, ℕ, zero, suc, ◌+◌, ◌<◌, ◌≤◌, List, ◌∷◌, ◌++◌, length, take, drop, refl, sym, ap, ◌∙◌, subst, arith, length-append}
+use Rattle.std.specs.List.{flat_map}
 use Rattle.std.proofs.lemmas.List.{take_at, drop_at, take_all, drop_all, take-append-drop}
 use Rattle.zone_name.specs.Name.{with_length}
 use Rattle.zone_rdata.specs.Fields.OneString.{string_at}
 use Rattle.zone_rdata.specs.Fields.Strings.{AreStrings, strings_by, strings_of}
-use Rattle.zone_rdata.specs.Strings.{IsString}
 use Rattle.zone_rdata.specs.Machine.Fronts.{BeginsWithString, HoldsStrings}
 use Rattle.zone_rdata.specs.Machine.Printing.{BeginsWithField, after_field}
 use Rattle.zone_rdata.specs.declared.field.Field.{Field}
@@ -57,7 +56,7 @@ strings_next c octets =
 
 -- strings begin with a string, and the rest is strings
 pub first_string : (octets : List ℕ) → 0 < length octets → HoldsStrings octets → BeginsWithString octets × HoldsStrings (drop (length (with_length (string_at octets))) octets) × (strings_of octets ≡ string_at octets ∷ strings_of (drop (length (with_length (string_at octets))) octets))
-first_string v0 some held = grind (arith, strings_next, drop_at)
+first_string octets some held = grind (arith, strings_next, drop_at)
 
 pub no_strings : strings_of [] ≡ []
 unfolding strings_of

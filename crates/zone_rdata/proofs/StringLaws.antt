@@ -1,13 +1,12 @@
 -- The laws of strings.
-use Rattle.std.proofs.Common.{◌≡◌, ◌≢◌, ℕ, ◌<◌, Bool, true, false, ◌||◌, ◌==◌, nat_le, List, [], ◌∷◌, ◌++◌, ◌⊎◌, inl, inr, refl, sym, ap, ◌∙◌, subst, arith}
+use Rattle.std.proofs.Common.{[], ◌≡◌, ◌≢◌, ℕ, ◌<◌, Bool, true, false, ◌||◌, ◌==◌, nat_le, List, ◌∷◌, ◌⊎◌, refl, sym, ◌∙◌, arith}
 use Rattle.std.specs.Prelude.{map}
 use Rattle.std.specs.List.{AllByRecursion}
 use Rattle.std.proofs.lemmas.Bool.{and_parts, or_parts, or_cases, eqb-true, eqb-false, leb-true}
-use Rattle.zone_name.specs.Spelling.{Written, plain, text_of, octet_of, IsUnit, no_octet, written_text, written_octets, is_digit}
+use Rattle.zone_name.specs.Spelling.{Written, text_of, octet_of, IsUnit, no_octet, written_text, written_octets, is_digit}
 use Rattle.zone_rdata.specs.declared.fault.Fault.{Fault}
 use Rattle.zone_rdata.specs.Item.{RawItem, quoted}
 use Rattle.zone_rdata.specs.Strings.{IsString, SpellsString, StringFault, StandsInQuotes, is_quote, inside_text, is_shown, unit_text}
-use Rattle.zone_name.proofs.Pushing.{AllByRecursion-append}
 use Rattle.zone_name.proofs.Lawful.{written_by, printed_text, value_by, decimal_escapes}
 use Rattle.zone_rdata.proofs.Strings.{string_reads, fault_reads}
 use Rattle.zone_rdata.proofs.Lists.{each_weaker}
@@ -23,38 +22,34 @@ pub fault-once : (item : RawItem) (a b : Fault) → StringFault item a → Strin
 fault-once item a b f g = let e = sym (fault_reads item a f) ∙ fault_reads item b g in cc
 
 -- ---- what is printed
-is_special : ℕ → Bool
+abbrev is_special : ℕ → Bool
 is_special c = c == 34 || c == 92
 
-printed_unit : ℕ → Written
+abbrev printed_unit : ℕ → Written
 printed_unit c = written_by (is_special c) (is_shown c) c
 
 text_of-printed : (c : ℕ) → text_of (printed_unit c) ≡ unit_text c
-unfolding printed_unit is_special
 text_of-printed c = printed_text (is_special c) (is_shown c) c
 
 octet_of-printed : (c : ℕ) → octet_of (printed_unit c) ≡ c
-unfolding printed_unit
 octet_of-printed c = value_by (is_special c) (is_shown c) c
 
 no_digit : (c : ℕ) → (c ≡ 34) ⊎ (c ≡ 92) → is_digit c ≡ false
-no_digit c v1 = grind arith
+no_digit c h = grind arith
 
 special_is : (c : ℕ) → is_special c ≡ true → (c ≡ 34) ⊎ (c ≡ 92)
-unfolding is_special
 special_is c e = grind (arith, or_cases, eqb-true)
 
 special_not : (c n : ℕ) → (c ≡ 34) ⊎ (c ≡ 92) → n < 34 → c ≢ n
-special_not c n v2 low h = grind arith
+special_not c n k low h = grind arith
 
 quoted_by : (special shown : Bool) (c : ℕ) → is_special c ≡ special → is_shown c ≡ shown → c < 256 → IsUnit is_quote (written_by special shown c)
-unfolding written_by is_special
+unfolding written_by
 quoted_by true shown c e s low = grind (arith, special_is, no_digit, special_not)
 quoted_by false true c e s low = grind (arith, or_parts, eqb-false)
 quoted_by false false c e s low = decimal_escapes c low
 
 quoted_unit : (c : ℕ) → c < 256 → IsUnit is_quote (printed_unit c)
-unfolding printed_unit
 quoted_unit c low = quoted_by (is_special c) (is_shown c) c refl refl low
 
 line_by : (special shown : Bool) (c : ℕ) → is_special c ≡ special → is_shown c ≡ shown → AllByRecursion (λ d. d ≢ 10) (text_of (written_by special shown c))
@@ -64,29 +59,24 @@ line_by false true c e s = grind (arith, leb-true, and_parts, nat_le)
 line_by false false c e s = grind arith
 
 line_unit : (c : ℕ) → AllByRecursion (λ d. d ≢ 10) (text_of (printed_unit c))
-unfolding printed_unit
 line_unit c = line_by (is_special c) (is_shown c) c refl refl
 
-printed_units : List ℕ → List Written
+abbrev printed_units : List ℕ → List Written
 printed_units octets = map printed_unit octets
 
 quoted_units : (octets : List ℕ) → AllByRecursion (λ c. c < 256) octets → AllByRecursion (IsUnit is_quote) (printed_units octets)
-unfolding printed_units
 quoted_units [] each = tt
 quoted_units (c ∷ octets) each = (quoted_unit c each.0, quoted_units octets each.1)
 
 units_text : (octets : List ℕ) → inside_text octets ≡ written_text (printed_units octets)
-unfolding printed_units
 units_text [] = refl
 units_text (c ∷ octets) = cc (text_of-printed c, units_text octets)
 
 units_octets : (octets : List ℕ) → octets ≡ written_octets (printed_units octets)
-unfolding printed_units
 units_octets [] = refl
 units_octets (c ∷ octets) = cc (octet_of-printed c, units_octets octets)
 
 units_line : (octets : List ℕ) → AllByRecursion (λ d. d ≢ 10) (written_text (printed_units octets))
-unfolding printed_units
 units_line [] = tt
 units_line (c ∷ octets) = grind (arith, printed_unit, printed_units, line_unit, units_line octets)
 

@@ -1,5 +1,5 @@
 -- What is found in a table of rows, and what holds of each row.
-use Rattle.std.proofs.Common.{◌≡◌, ℕ, ◌<◌, List, [], ◌∷◌, length, map, Bool, true, false, not, cond, ◌&&◌, ◌||◌, ◌==◌, nat_lt, nat_le, bytes_eq, Option, Some, None, inl, inr, refl, sym, ap, ◌∙◌, subst, arith}
+use Rattle.std.proofs.Common.{[], ◌≡◌, ℕ, ◌<◌, List, ◌∷◌, length, map, Bool, true, false, not, cond, ◌&&◌, ◌||◌, ◌==◌, nat_lt, nat_le, bytes_eq, Option, Some, None, refl, sym, ap, ◌∙◌, subst, arith}
 use Rattle.std.specs.List.{AllByRecursion, find, list_all}
 use Rattle.std.specs.Option.{option_map}
 use Rattle.std.proofs.lemmas.Bool.{eqb-true, eq-eqb, and_parts, or_cases, not-true, cond-true, false≢true}
@@ -10,7 +10,7 @@ use Rattle.zone_rdata.specs.declared.field.Field.{Field}
 use Rattle.zone_rdata.specs.declared.field.Field.TheVariants as fields
 use Rattle.zone_rdata.specs.Layout.{IsLayout, IsSized, StringsLast, fields_in, layout}
 use Rattle.zone_rdata.specs.Field.{is_strings}
-use Rattle.zone_rdata.specs.Table.{Named, NamedType, ascend, in_class, mnemonic_among, number_among, types}
+use Rattle.zone_rdata.specs.Table.{Named, NamedType, ascend, mnemonic_among, number_among, types}
 use Rattle.zone_rdata.specs.Words.{IsMnemonic}
 
 -- ---- the first element that passes a test
@@ -100,7 +100,7 @@ no_row rows word e n x =
 -- ---- layouts
 
 fields_by : (p : List Field → Bool) (class : ℕ) (fields : List Field) (found : Option NamedType) → ((row : NamedType) → found ≡ Some row → p row.fields ≡ true) → fields_in class found ≡ Some fields → p fields ≡ true
-fields_by p class fields v3 each e = grind arith
+fields_by p class fields found each e = grind arith
 
 -- what holds of the fields of each type holds of each layout
 pub each_layout : (p : List Field → Bool) → list_all (λ row. p row.fields) types ≡ true → (class kind : ℕ) (fields : List Field) → layout class kind ≡ Some fields → p fields ≡ true

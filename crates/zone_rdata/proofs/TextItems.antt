@@ -1,6 +1,6 @@
 -- The canonical text of data is its items, they stand in a file as they are, and they state that
 -- data.
-use Rattle.std.proofs.Common.{List, None, Option, Some, [], ap, arith, drop, length, length-append, map, nat_lt, refl, subst, sym, true, ℕ, ◌++◌, ◌<◌, ◌∙◌, ◌∷◌, ◌≡◌, ◌≤◌}
+use Rattle.std.proofs.Common.{[], List, None, Option, Some, ap, arith, drop, length, length-append, map, nat_lt, refl, subst, sym, true, ℕ, ◌++◌, ◌<◌, ◌∙◌, ◌∷◌, ◌≡◌, ◌≤◌}
 use Rattle.std.specs.List.{AllByRecursion, flat_map, join_with_byte}
 use Rattle.std.proofs.lemmas.Bool.Decides.{nat_tests}
 use Rattle.std.proofs.lemmas.List.{append-nil, length-map, map-append}

@@ -1,11 +1,11 @@
 -- The text of data, field after field.
-use Rattle.std.proofs.Common.{◌≡◌, ℕ, zero, suc, ◌+◌, ◌<◌, List, [], ◌∷◌, ◌++◌, length, get_or, take, drop, map, refl, sym, ap, ◌∙◌, subst, arith, append_assoc, codes, decimal, Some, ◌/◌, ◌%◌}
-use Rattle.std.specs.Prelude.{slice_index, Result, Ok, Err, OnOk, IsOk}
-use Rattle.hex.specs.Hex.{lower_digits, encode_with, encode_lower}
+use Rattle.std.proofs.Common.{[], ◌≡◌, ℕ, zero, suc, ◌+◌, ◌<◌, List, ◌∷◌, ◌++◌, length, get_or, take, drop, map, refl, sym, ap, ◌∙◌, subst, arith, append_assoc, Some}
+use Rattle.std.specs.Prelude.{Result, OnOk, IsOk}
+use Rattle.hex.specs.Hex.{encode_with, encode_lower}
 use Rattle.std.specs.List.{flat_map, join_with_byte}
 use Rattle.std.proofs.lemmas.List.{take_at, drop_at, append-nil, take_more}
 use Rattle.zone_rdata.specs.declared.field.Field.{Field}
-use Rattle.zone_rdata.specs.Field.{field_octets, octets_of, field_at, values_of, field_text}
+use Rattle.zone_rdata.specs.Field.{field_at, values_of, field_text}
 use Rattle.zone_rdata.specs.Layout.{AreLaidOut}
 use Rattle.zone_rdata.specs.Machine.Printing.{BeginsWithField, after_field, spaced, generic_head, laid_out_text}
 use Rattle.zone_rdata.specs.Text.{generic_text}
@@ -26,11 +26,11 @@ joined_more text [] = sym (append-nil text)
 joined_more text (next ∷ texts) = ap (λ t. text ++ 32 ∷ t) (joined_more next texts)
 
 still_more : (i : ℕ) (text : List ℕ) (texts : List (List ℕ)) → still i (text ∷ texts) ≡ spaced i text ++ still (suc i) texts
-still_more v0 text texts = grind (arith, joined_more)
+still_more i text texts = grind (arith, joined_more)
 
 -- a space, and the text after it
 spaced_text : (i : ℕ) (text : List ℕ) → spaced i [] ++ text ≡ spaced i text
-spaced_text v0 text = grind arith
+spaced_text i text = grind arith
 
 -- the fields up to a place are printed: the rest is laid out, and its text is what is left of the
 -- whole
@@ -54,7 +54,7 @@ printed_more row whole rest text after i f d lt at so_far is =
 
 pub generic_whole : (octets : List ℕ) → generic_head octets ++ encode_lower octets ≡ generic_text octets
 unfolding encode_with
-generic_whole v0 = grind (arith, append_assoc)
+generic_whole octets = grind (arith, append_assoc)
 
 pub encode_push : (octets : List ℕ) (c : ℕ) → encode_lower (octets ++ c ∷ []) ≡ encode_lower octets ++ encode_lower (c ∷ [])
 unfolding encode_with
@@ -70,4 +70,4 @@ unfolding encode_with
 hex_started = refl
 
 pub at_is_ok : {T E : Type 0} (r : Result T E) (P : Type 0) → IsOk r → OnOk r P → P
-at_is_ok v0 v1 h p = grind arith
+at_is_ok r P h p = grind arith

@@ -1,5 +1,5 @@
 -- Times read octet by octet, and that a text has one reading.
-use Rattle.std.proofs.Common.{◌≡◌, ℕ, ◌+◌, ◌*◌, ◌<◌, ◌≤◌, min, true, false, List, [], ◌∷◌, ◌++◌, length, Some, refl, sym, ap, ◌∙◌, subst, arith, append_assoc, length-append, inl, inr, IsTrue, zero-add, take, drop, get_or}
+use Rattle.std.proofs.Common.{[], ◌≡◌, ℕ, ◌+◌, ◌*◌, ◌<◌, ◌≤◌, min, true, false, List, ◌∷◌, ◌++◌, length, Some, refl, sym, ap, ◌∙◌, subst, arith, append_assoc, length-append, IsTrue, zero-add, take, drop, get_or}
 use Rattle.std.specs.List.{AllByRecursion, flat_map, sum_by}
 use Rattle.std.proofs.lemmas.List.{append-nil, take-append-drop, drop_more, take_all}
 use Rattle.std.proofs.lemmas.List.Concat.{flat_map-append}
@@ -65,7 +65,7 @@ groups_open (g ∷ groups) (h ∷ other) a x y digits some e =
 
 -- no time goes on with an octet that is neither a digit nor, after digits, a unit
 pub stops : (text rest : List ℕ) (c n : ℕ) (p : Progress) → is_digit c ≡ false → (0 < length text → IsTrue p.open → (u : ℕ) → unit_seconds c ≡ Some u → ⊥) → ReadsTime text p → IsTime (text ++ c ∷ rest) n → ⊥
-stops text rest c n p no_digit none reads v8 = grind (arith, no_run, append_assoc, groups_run, length-append)
+stops text rest c n p no_digit none reads h = grind (arith, no_run, append_assoc, groups_run, length-append)
 
 capped_sum : (C T N u : ℕ) → 0 < u → min C (min C T + min C N * u) ≡ min C (T + N * u)
 capped_sum C T N u some = grind (arith, cases_lt, min-eq_left, le-mul_of_pos_right, mul-le-mul_right, min-eq_right)
@@ -112,7 +112,7 @@ ends_grouped text p groups closed reads =
 
 -- groups and digits after them are no time
 pub ends_both : (text : List ℕ) (n : ℕ) (p : Progress) → p.grouped ≡ true → p.open ≡ true → ReadsTime text p → IsTime text n → ⊥
-ends_both text n p groups opens reads v6 = grind (arith, first_unit, groups_open)
+ends_both text n p groups opens reads h = grind (arith, first_unit, groups_open)
 
 -- nothing is no time
 pub ends_none : (text : List ℕ) (n : ℕ) (p : Progress) → p.grouped ≡ false → p.open ≡ false → ReadsTime text p → IsTime text n → ⊥

@@ -1,5 +1,5 @@
 -- What a field's items spell is appended.
-use Rattle.std.proofs.Common.{List, None, Option, Some, [], ap, append_assoc, arith, drop, get_or, inl, inr, length, map, min, subst, sym, ℕ, ◌++◌, ◌+◌, ◌<◌, ◌∙◌, ◌∷◌, ◌≡◌, ◌≤◌}
+use Rattle.std.proofs.Common.{[], List, Option, Some, ap, append_assoc, arith, drop, get_or, inr, length, map, min, subst, sym, ℕ, ◌++◌, ◌+◌, ◌<◌, ◌∙◌, ◌∷◌, ◌≡◌, ◌≤◌}
 use Rattle.std.specs.List.{flat_map, slice_get}
 use Rattle.std.specs.Prelude.{IfNone, IfSome}
 use Rattle.std.proofs.lemmas.List.{append-nil, drop_all}
@@ -44,7 +44,7 @@ spelt_more all items i item d old now new lt is read h =
 
 -- there is an item
 some_first : (items : List RawItem) (fault : Fault) → FirstStringFault items fault → StringsFault items fault
-some_first v0 fault h = grind arith
+some_first items fault h = grind arith
 
 pub spelt_bad : (all items : List Item) (i : ℕ) (item d : Item) (old now : List ℕ) (fault : Fault) → i < length items → item ≡ get_or items i d → HaveSpelt (map raw all) (map raw (drop i items)) old now → StringFault (raw item) fault → StringsFault (map raw all) fault
 spelt_bad all items i item d old now fault lt is read bad = grind (arith, from_place, some_first)
@@ -60,8 +60,8 @@ spelt_all (first ∷ all) items i old now some past read =
 
 -- no number up to a greatest one is stated where the one that is read is greater, or none is
 pub no_number : (Is : ℕ → Type 0) (bound most cap : ℕ) (number : Option ℕ) → ((a b : ℕ) → Is a → Is b → a ≡ b) → bound ≤ most + 1 → most < cap → IfSome number (λ n. (m : ℕ) × (Is m × (n ≡ min cap m))) → IfNone number ((m : ℕ) → Is m → ⊥) → IfSome number (λ n. most < n) → (n : ℕ) → Is n × (n < bound) → ⊥
-no_number v0 bound most cap v4 once fits room found none over n h = grind arith
+no_number Is bound most cap number once fits room found none over n h = grind arith
 
 -- the number that was read, where it is no greater
 pub that_number : (Is : ℕ → Type 0) (n most cap : ℕ) (number : Option ℕ) → most < cap → number ≡ Some n → n ≤ most → IfSome number (λ n. (m : ℕ) × (Is m × (n ≡ min cap m))) → Is n
-that_number v0 n most cap v4 room e short found = grind arith
+that_number Is n most cap number room e short found = grind arith

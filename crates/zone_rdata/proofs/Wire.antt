@@ -9,7 +9,7 @@ use Rattle.zone_rdata.specs.declared.layout.Layout.{Layout}
 use Rattle.zone_rdata.specs.Layout.{IsData, IsSized, fields_of, layout}
 use Rattle.zone_rdata.specs.Spelling.{IsCanonicalOf}
 use Rattle.zone_rdata.specs.Wire.{IsWireFault, no_value}
-use Rattle.zone_rdata.proofs.Layouts.{AreFor, canonical_laid, canonical_length}
+use Rattle.zone_rdata.proofs.Layouts.{canonical_laid, canonical_length}
 use Rattle.zone_rdata.proofs.Tables.{table_row}
 use Rattle.zone_rdata.proofs.Taken.{canonical_same}
 

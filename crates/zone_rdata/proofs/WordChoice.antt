@@ -4,7 +4,7 @@ use Rattle.std.specs.List.{find}
 use Rattle.std.proofs.lemmas.Bool.{cases_lt, false≢true}
 use Rattle.std.proofs.lemmas.List.{take_at, drop_at, length-map, take-append-drop}
 use Rattle.std.proofs.lemmas.Slice.Eq.{bytes_eq-Decides}
-use Rattle.zone_name.specs.Name.{folded_octet, folded_label}
+use Rattle.zone_name.specs.Name.{folded_label}
 use Rattle.zone_rdata.specs.Number.{IsDecimal}
 use Rattle.zone_rdata.specs.Table.{Named, classes, type_names, ascend}
 use Rattle.zone_rdata.specs.Words.{IsKind, is_meta, IsMnemonic, IsNumbered, IsWordAmong, by_mnemonic, by_number, IsClassWord, IsKindWord, IsWordFault, nameless, beyond, for_queries}

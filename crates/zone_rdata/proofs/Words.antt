@@ -1,9 +1,8 @@
 -- Words that are equal in any case of their letters.
-use Rattle.std.proofs.Common.{◌≡◌, ℕ, ◌<◌, ◌≤◌, true, false, List, [], ◌∷◌, map, refl, sym, ap, ◌∙◌, arith, IsTrue, ◌↔◌, inl, inr, Option, Some, None, min, subst, bytes_eq, Bool}
+use Rattle.std.proofs.Common.{[], ◌≡◌, ℕ, ◌<◌, ◌≤◌, true, false, List, ◌∷◌, map, refl, sym, ap, ◌∙◌, arith, IsTrue, ◌↔◌, inl, inr, Some, None, min, subst, bytes_eq, Bool}
 use Rattle.std.specs.Char.{to_ascii_lowercase}
 use Rattle.std.specs.List.{find}
 use Rattle.std.specs.Option.{option_map}
-use Rattle.std.specs.Prelude.{IfNone}
 use Rattle.std.proofs.lemmas.Bool.Decides.{nat_tests}
 use Rattle.std.proofs.lemmas.Bool.{cases_lt}
 use Rattle.std.proofs.lemmas.Slice.Eq.{bytes_eq-Decides}
@@ -53,9 +52,6 @@ no_word names rows name word e none n (by_number is) = none n is
 -- a capped number of 16 bits is the number itself
 pub uncapped : (n m : ℕ) → n ≡ min 4294967296 m → n < 65536 → m ≡ n
 uncapped n m e short = omega arith
-
-pub none_weaker : (o : Option ℕ) (P Q : Type 0) → (P → Q) → IfNone o P → IfNone o Q
-none_weaker v0 v1 v2 f p = grind arith
 
 pub kind_refused : (word : List ℕ) (n : ℕ) → ((m : ℕ) × (IsKindWord word m × (n ≡ min 4294967296 m))) → (fault : Fault) → (n < 65536 → fault ≡ MetaType) × (65536 ≤ n → fault ≡ UnknownType) × (IsKind n → ⊥) → IsWordFault word fault
 kind_refused word n found fault h = elim (cases_lt n 65536) [

@@ -1,11 +1,10 @@
 -- An address of a fixed number of octets.
-use Rattle.std.proofs.Common.{List, Some, [], ap, arith, inl, inr, length, refl, subst, sym, ℕ, ◌+◌, ◌*◌, ◌<◌, ◌==◌, ◌∙◌, ◌∷◌, ◌≡◌, ◌≤◌, ◌⊎◌}
-use Rattle.std.specs.List.{AllByRecursion}
+use Rattle.std.proofs.Common.{[], List, Some, ap, arith, inl, inr, length, refl, subst, sym, ℕ, ◌+◌, ◌*◌, ◌<◌, ◌==◌, ◌∙◌, ◌∷◌, ◌≡◌, ◌≤◌, ◌⊎◌}
 use Rattle.std.specs.Prelude.{if◌then◌else◌}
 use Rattle.std.proofs.lemmas.List.{take_at}
 use Rattle.zone_rdata.specs.declared.fault.Fault.TheVariants.{BadRdata}
 use Rattle.zone_rdata.specs.declared.field.Field.TheVariants.{Octets}
-use Rattle.zone_rdata.specs.Address.{IsAddressOctet, IsIpv4Address, IsIpv6Address, ipv4_text, ipv6_text}
+use Rattle.zone_rdata.specs.Address.{IsAddressOctet, IsIpv6Address, ipv4_text, ipv6_text}
 use Rattle.zone_rdata.specs.Builder.{FitsString}
 use Rattle.zone_rdata.specs.Field.{FieldValue, Holds, SpellsField, Suits, field_octets, fixed}
 use Rattle.zone_rdata.specs.Fields.Address.{AreFixed, IsAddress, address_text, of_ipv4, of_ipv6}
@@ -35,7 +34,7 @@ part : (n : ℕ) (v : FieldValue) → Suits (Some (Octets n)) v → FitsString v
 part n v s fits real = grind arith
 
 short : (n : ℕ) (octets : List ℕ) → (n ≡ 4) ⊎ (n ≡ 16) → AreFixed n octets → length octets ≤ 256
-short n octets v2 h = grind arith
+short n octets k h = grind arith
 
 once : (n : ℕ) (text a b : List ℕ) → IsAddress n text a → IsAddress n text b → a ≡ b
 once n text a b (of_ipv4 e h) (of_ipv4 d k) = numbers_unique 3 text a b h k
@@ -54,10 +53,10 @@ printed n octets (inl e) h = grind (arith, text_of_ipv4, ipv4_printed)
 printed n octets (inr e) h = of_ipv6 e (subst (λ t. IsIpv6Address t octets) (sym (text_of_ipv6 octets (h.size ∙ e))) (ipv6_printed octets (h.size ∙ e) h.each))
 
 no_backslash : IsAddressOctet 92 → ⊥
-no_backslash v0 = grind arith
+no_backslash h = grind arith
 
 unmarked : (n : ℕ) (octets : List ℕ) → (n ≡ 4) ⊎ (n ≡ 16) → AreFixed n octets → address_text octets ≡ mark → ⊥
-unmarked n octets v2 h e = grind (arith, no_backslash, text_of_ipv4, ipv4_plain, text_of_ipv6, ipv6_plain)
+unmarked n octets k h e = grind (arith, no_backslash, text_of_ipv4, ipv4_plain, text_of_ipv6, ipv6_plain)
 
 stands : (n : ℕ) (octets : List ℕ) → (n ≡ 4) ⊎ (n ≡ 16) → AreFixed n octets → StandsBare (address_text octets)
 stands n octets (inl e) h =
@@ -68,7 +67,7 @@ stands n octets (inr e) h =
     subst StandsBare (sym (text_of_ipv6 octets size)) (bare_address (ipv6_text octets) (ipv6_some _ octets (ipv6_printed octets size h.each)) (ipv6_plain octets size h.each))
 
 few : (n : ℕ) (octets : List ℕ) → (n ≡ 4) ⊎ (n ≡ 16) → AreFixed n octets → length (address_text octets) + 1 ≤ 4 * length octets
-few n octets v2 h = grind (arith, text_of_ipv4, ipv4_length, text_of_ipv6, ipv6_length)
+few n octets k h = grind (arith, text_of_ipv4, ipv4_length, text_of_ipv6, ipv6_length)
 
 pub laws : (n : ℕ) → FieldLaws (Octets n) fixed bare_item
 laws n = record {

@@ -1,9 +1,9 @@
 -- A domain name.
-use Rattle.std.proofs.Common.{List, Some, [], ap, append_assoc, arith, drop, get_or, inl, inr, length, length-append, refl, subst, suc, sym, take, zero, ℕ, ◌++◌, ◌<◌, ◌∙◌, ◌∷◌, ◌≡◌, ◌≤◌, ◌⊎◌}
+use Rattle.std.proofs.Common.{[], List, Some, ap, append_assoc, arith, drop, get_or, inl, inr, length, length-append, refl, subst, suc, sym, take, zero, ℕ, ◌++◌, ◌<◌, ◌∙◌, ◌∷◌, ◌≡◌, ◌≤◌, ◌⊎◌}
 use Rattle.std.specs.List.{AllByRecursion, flat_map}
 use Rattle.std.proofs.lemmas.Bool.{cases_eq, cases_lt}
 use Rattle.std.proofs.lemmas.List.{append-nil, length-drop}
-use Rattle.zone_name.specs.Name.{IsFoldedOctet, IsLabel, IsName, folded, folded_label, folded_octet, wire, with_length}
+use Rattle.zone_name.specs.Name.{IsFoldedOctet, IsLabel, IsName, folded, folded_label, wire, with_length}
 use Rattle.zone_name.specs.Text.{label_text, name_text, octet_text}
 use Rattle.zone_name.proofs.Pushing.{AllByRecursion-append, AllByRecursion-back}
 use Rattle.zone_rdata.specs.declared.field.Field.TheVariants.{Name}

@@ -1,5 +1,5 @@
 -- A number of 16 or of 32 bits, written in decimal digits.
-use Rattle.std.proofs.Common.{List, Some, [], ap, arith, decimal, length, refl, sym, ℕ, ◌^◌, ◌<◌, ◌∙◌, ◌∷◌, ◌≡◌}
+use Rattle.std.proofs.Common.{[], List, Some, ap, arith, decimal, length, refl, sym, ℕ, ◌^◌, ◌<◌, ◌∙◌, ◌∷◌, ◌≡◌}
 use Rattle.std.specs.Int.{byte_len, from_be_bytes, to_be_bytes, Width, w16, w32}
 use Rattle.std.proofs.lemmas.List.{take_at}
 use Rattle.std.proofs.lemmas.Nat.{be_bytes_2, be_bytes_4, from_be_bytes-to_be_bytes_2, from_be_bytes-to_be_bytes_4}

@@ -1,5 +1,5 @@
 -- One character-string.
-use Rattle.std.proofs.Common.{List, Some, [], add-one, ap, arith, drop, get_or, inl, inr, length, length-append, refl, subst, sym, take, ℕ, ◌++◌, ◌+◌, ◌<◌, ◌∙◌, ◌∷◌, ◌≡◌, ◌≤◌}
+use Rattle.std.proofs.Common.{[], List, Some, add-one, ap, arith, drop, get_or, inl, inr, length, length-append, refl, subst, take, ℕ, ◌++◌, ◌+◌, ◌<◌, ◌∙◌, ◌∷◌, ◌≡◌, ◌≤◌}
 use Rattle.std.proofs.lemmas.Bool.{cases_lt}
 use Rattle.std.proofs.lemmas.List.{length-take, take_at}
 use Rattle.zone_name.specs.Name.{with_length}
@@ -32,7 +32,7 @@ part v s fits real = grind arith
 
 -- the first octet, and those after it
 pub first_later : (octets : List ℕ) → 1 ≤ length octets → octets ≡ get_or octets 0 0 ∷ drop 1 octets
-first_later v0 some = grind arith
+first_later octets some = grind arith
 
 pub low_string : (c : ℕ) (following : List ℕ) → AreLow (c ∷ following) → c ≤ length following → IsString (take c following)
 low_string c following low fits = grind (arith, length-take, low_take)

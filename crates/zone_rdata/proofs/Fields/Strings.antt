@@ -1,5 +1,5 @@
 -- One or more character-strings, up to the end of the data.
-use Rattle.std.proofs.Common.{List, Some, [], ap, append_assoc, arith, drop, inl, inr, length, length-append, map, refl, subst, suc, sym, take, zero, ℕ, ◌++◌, ◌<◌, ◌∙◌, ◌∷◌, ◌≡◌, ◌≤◌, ◌⊎◌}
+use Rattle.std.proofs.Common.{[], List, Some, ap, append_assoc, arith, drop, inl, inr, length, length-append, map, refl, subst, suc, sym, take, zero, ℕ, ◌++◌, ◌<◌, ◌∙◌, ◌∷◌, ◌≡◌, ◌≤◌, ◌⊎◌}
 use Rattle.std.specs.List.{AllByRecursion, flat_map}
 use Rattle.std.proofs.lemmas.Bool.{cases_lt}
 use Rattle.std.proofs.lemmas.List.{append-nil, drop_all, length-drop, length-map, take_all}
@@ -9,7 +9,7 @@ use Rattle.zone_rdata.specs.declared.fault.Fault.{Fault}
 use Rattle.zone_rdata.specs.declared.fault.Fault.TheVariants.{BadRdata}
 use Rattle.zone_rdata.specs.declared.field.Field.TheVariants.{OneString, Strings}
 use Rattle.zone_rdata.specs.Builder.{FitsString}
-use Rattle.zone_rdata.specs.Field.{FieldValue, Holds, SpellsField, Suits, field_octets, string, strings}
+use Rattle.zone_rdata.specs.Field.{FieldValue, Holds, SpellsField, Suits, field_octets, strings}
 use Rattle.zone_rdata.specs.Fields.OneString.{string_item}
 use Rattle.zone_rdata.specs.Fields.Strings.{AreStrings, FirstStringFault, SpellEachString, SpellsStrings, StringsFault, strings_of}
 use Rattle.zone_rdata.specs.Item.{IsGeneric, RawItem}

@@ -1,5 +1,5 @@
 -- A number of seconds, in octets a number of 32 bits, written in digits or as a time.
-use Rattle.std.proofs.Common.{List, [], arith, refl, ℕ, ◌∷◌, ◌≡◌}
+use Rattle.std.proofs.Common.{[], List, arith, refl, ℕ, ◌∷◌, ◌≡◌}
 use Rattle.zone_rdata.specs.declared.fault.Fault.TheVariants.{BadNumber}
 use Rattle.zone_rdata.specs.declared.field.Field.TheVariants.{Time}
 use Rattle.zone_rdata.specs.Field.{FieldValue, SpellsField, u32_value}
