@@ -52,19 +52,14 @@ plain_text (c ∷ text) = ap (λ t. c ∷ t) (plain_text text)
 
 -- octets that stand by themselves
 pub bare_octets : (text : List ℕ) → 0 < length text → AllByRecursion (λ c. is_bare c ≡ true) text → StandsBare text
-bare_octets text some each = record {
-  units = map plain text;
-  some = omega (arith, some, length-map text plain);
-  each = plain_units text each;
-  parts = plain_text text;
-}
+bare_octets text some each = grind (arith, length-map, plain_units, plain_text)
 
 -- ---- names
 
 printed_unit : (special printed : Bool) (c : ℕ) → c < 256 → is_special c ≡ special → is_printed c ≡ printed → IsUnit not_bare (written_by special printed c)
 unfolding written_by
 printed_unit true printed c low s p = special_escapes c s
-printed_unit false true c low s p = bare_plain c (ap₂ (λ a b. c == 46 || (not a && b)) s p ∙ or-true (c == 46))
+printed_unit false true c low s p = grind (arith, bare_plain, or-true)
 printed_unit false false c low s p = decimal_escapes c low
 
 bare_octet : (c : ℕ) → c < 256 → StandsBare (octet_text c)
@@ -79,10 +74,9 @@ bare_label (c ∷ label) each =
     (bare_append (octet_text c) (label_text label) (bare_octet c each.0.octet) (bare_label label each.1))
 
 bare_labels : (label : List ℕ) (labels : List (List ℕ)) → IsLabel label → AllByRecursion IsLabel labels → StandsBare (label_text label ++ flat_map label_text labels)
-bare_labels label [] is each = subst StandsBare (sym (append-nil (label_text label))) (bare_label label is.each)
+bare_labels label [] is each = grind (arith, append-nil, bare_label)
 bare_labels label (next ∷ labels) is each = bare_append (label_text label) (flat_map label_text (next ∷ labels)) (bare_label label is.each) (bare_labels next labels each.0 each.1)
 
 -- what is printed for a name stands outside quotes
 pub bare_name : (labels : List (List ℕ)) → IsName labels → StandsBare (name_text labels)
-bare_name [] is = bare_octets (46 ∷ []) (omega arith) (refl, tt)
-bare_name (label ∷ labels) is = bare_labels label labels is.each.0 is.each.1
+bare_name labels is = grind (arith, bare_octets, bare_labels)

@@ -1,7 +1,7 @@
 -- Equality, order and containment of names, as the code decides them.
 use Rattle.std.proofs.Common.{◌≡◌, ℕ, ◌+◌, ◌-◌, ◌≤◌, ◌↔◌, Bool, IsTrue, List, [], ◌∷◌, ◌++◌, length, take, drop, reverse, Option, Some, None, MatchOption, refl, ap, sym, ◌∙◌, nat_eq, true, arith, length-append, length-drop}
 use Rattle.std.specs.declared.cmp.Ordering.{Ordering}
-use Rattle.std.specs.declared.cmp.Ordering.TheVariants.{Less, Equal, Greater}
+use Rattle.std.specs.declared.cmp.Ordering.TheVariants.{Equal}
 use Rattle.std.specs.Ordering.{ordering_then, nat_cmp}
 use Rattle.std.specs.Bool.{Decides, one_answer}
 use Rattle.std.specs.Cmp.Lexicographic.{pointwise, pointwise_decides, bytes_decides, slice_cmp}
@@ -21,40 +21,29 @@ labels_decide a b =
 pub eq-from_octets : (a b : List (List ℕ)) (octets others : List ℕ) (answer : Bool) → answer ≡ pointwise nat_eq octets others → octets ≡ wire a → others ≡ wire b → labels_of (wire a) ≡ a → labels_of (wire b) ≡ b → answer ≡ pointwise (pointwise nat_eq) (reverse a) (reverse b)
 eq-from_octets a b octets others answer e left right back_a back_b =
     let same = bytes_decides octets others in
-    e ∙ one_answer (pointwise nat_eq octets others) (pointwise (pointwise nat_eq) (reverse a) (reverse b))
-    (λ h. sym back_a ∙ ap labels_of (sym left ∙ same.0 h ∙ right) ∙ back_b, λ h. same.1 (left ∙ ap wire h ∙ sym right))
-    (labels_decide a b)
+    cc (one_answer (pointwise nat_eq octets others) (pointwise (pointwise nat_eq) (reverse a) (reverse b)) (λ h. sym back_a ∙ ap labels_of (sym left ∙ same.0 h ∙ right) ∙ back_b, λ h. same.1 (left ∙ ap wire h ∙ sym right)) (labels_decide a b))
 
 -- equal names compare so
 pub name_cmp-same : (a b : List (List ℕ)) (answer : Bool) → answer ≡ pointwise (pointwise nat_eq) (reverse a) (reverse b) → answer ≡ true → Equal ≡ name_cmp a b
-name_cmp-same a b answer is same =
-    let e : a ≡ b = (labels_decide a b).0 (sym is ∙ same) in
-    sym (ap (λ x. name_cmp x b) e ∙ tied_itself (on_total (reverse {A = List ℕ}) (lists_total nat_list_cmp_total)) b)
+name_cmp-same a b answer is same = grind (arith, labels_decide, tied_itself, on_total, ℕ, lists_total, nat_list_cmp_total)
 
 -- the first that decides, of three
 then_assoc : (a b c : Ordering) → ordering_then (ordering_then a b) c ≡ ordering_then a (ordering_then b c)
-then_assoc Less b c = refl
-then_assoc Equal b c = refl
-then_assoc Greater b c = refl
+then_assoc a b c = grind arith
 
 then_equal : (a : Ordering) → ordering_then a Equal ≡ a
-then_equal Less = refl
-then_equal Equal = refl
-then_equal Greater = refl
+then_equal a = grind arith
 
 -- fronts that are as long decide first
 slice_cmp-append : {K : Type 0} (R : K → K → Ordering) (xs ys us vs : List K) → length xs ≡ length ys → slice_cmp R (xs ++ us) (ys ++ vs) ≡ ordering_then (slice_cmp R xs ys) (slice_cmp R us vs)
 slice_cmp-append R [] [] us vs e = refl
 slice_cmp-append R [] (y ∷ ys) us vs e = absurd (omega arith)
 slice_cmp-append R (x ∷ xs) [] us vs e = absurd (omega arith)
-slice_cmp-append R (x ∷ xs) (y ∷ ys) us vs e =
-    ap (ordering_then (R x y)) (slice_cmp-append R xs ys us vs (omega arith)) ∙ sym (then_assoc (R x y) (slice_cmp R xs ys) (slice_cmp R us vs))
+slice_cmp-append R (x ∷ xs) (y ∷ ys) us vs e = grind (arith, slice_cmp-append R xs ys us vs (omega arith))
 
 -- names compared by their ends first, and then by what is before them
 name_cmp-append : (us vs xs ys : List (List ℕ)) → length xs ≡ length ys → name_cmp (us ++ xs) (vs ++ ys) ≡ ordering_then (name_cmp xs ys) (slice_cmp label_cmp (reverse us) (reverse vs))
-name_cmp-append us vs xs ys e =
-    rw (reverse-append us xs, reverse-append vs ys)
-    (slice_cmp-append label_cmp (reverse xs) (reverse ys) (reverse us) (reverse vs) (length-reverse xs ∙ e ∙ sym (length-reverse ys)))
+name_cmp-append us vs xs ys e = grind (arith, reverse-append, slice_cmp-append, length-reverse)
 
 -- one step of the comparison from the left: what is right of it decides first
 pub name_cmp-more : (xs ys xs' ys' : List (List ℕ)) (x y : List ℕ) (order found order' whole : Ordering) → xs ≡ x ∷ xs' → ys ≡ y ∷ ys' → length xs ≡ length ys → found ≡ label_cmp x y → order' ≡ ordering_then found order → ordering_then (name_cmp xs ys) order ≡ whole → (length xs' ≡ length ys') × (ordering_then (name_cmp xs' ys') order' ≡ whole)
@@ -93,5 +82,5 @@ within_decided a b rest m n answer long_a long_b fits is says = (
 
 -- one label further
 pub drop_next : {A : Type 0} (r : Option A) (now : A → List ℕ) (left next whole : List (List ℕ)) (k : ℕ) → MatchOption r ((left ≡ []) × (next ≡ [])) (λ x. left ≡ now x ∷ next) → left ≡ drop k whole → next ≡ drop (k + 1) whole
-drop_next None now left next whole k says is = says.1 ∙ ap (drop 1) (sym says.0 ∙ is) ∙ drop-drop 1 k whole
+drop_next None now left next whole k says is = cc (drop-drop 1 k whole)
 drop_next (Some x) now left next whole k says is = ap (drop 1) (sym says ∙ is) ∙ drop-drop 1 k whole

@@ -1,6 +1,5 @@
 -- What the walk over a text finds is what the text spells: from the left, as far as it has come.
 use Rattle.std.proofs.Common.{◌≡◌, ◌≢◌, ℕ, zero, suc, ◌<◌, ◌≤◌, Bool, true, false, nat_le, if◌then◌else◌, List, [], ◌∷◌, ◌++◌, length, codes, Result, Ok, Err, refl, sym, ap, ◌∙◌, subst, inl, inr, arith, append_assoc, length-append}
-use Rattle.std.specs.Prelude.{map}
 use Rattle.std.specs.List.{AllByRecursion}
 use Rattle.std.proofs.lemmas.List.{append-nil, map_push, length-map}
 use Rattle.std.proofs.lemmas.List.Concat.{flat_map-append}
@@ -9,7 +8,7 @@ use Rattle.zone_name.specs.Name.{folded_label}
 use Rattle.zone_name.specs.Spelling.{Written, text_of, octet_of, IsUnit, is_dot, IsWrittenLabel, AreWrittenLabels, written_text, written_octets, dotted, parted, named, Reaches, FaultAt, empty_label, long_label, bad_escape}
 use Rattle.zone_name.specs.declared.fault.NameFault.{NameFault}
 use Rattle.zone_name.specs.declared.fault.NameFault.TheVariants.{LabelTooLong}
-use Rattle.zone_name.specs.Machine.LabelWalk.{Ahead, at_end, at_dot, at_octet, at_fault, ahead_in, failed, goes, step_at, read, reading}
+use Rattle.zone_name.specs.Machine.LabelWalk.{Ahead, at_end, at_dot, at_octet, at_fault, failed, goes, step_at, read, reading}
 use Rattle.zone_name.proofs.Ahead.{IsAhead, ahead_is, Shrinks, ahead_shrinks}
 use Rattle.zone_name.proofs.Steps.{after_step, read_step}
 use Rattle.zone_name.proofs.Pushing.{AllByRecursion-append}
@@ -34,15 +33,13 @@ Says text (Err fault) = FaultAt text fault
 
 -- ---- one label or one octet more
 dotted_push : (before : List (List Written)) (label : List Written) → dotted (before ++ label ∷ []) ≡ dotted before ++ (written_text label ++ 46 ∷ [])
-dotted_push before label =
-    let f = λ (l : List Written). written_text l ++ 46 ∷ [] in
-    flat_map-append f before (label ∷ []) ∙ ap (λ t. dotted before ++ t) (append-nil (written_text label ++ 46 ∷ []))
+dotted_push before label = grind (arith, flat_map-append, append-nil)
 
 named_push : (before : List (List Written)) (label : List Written) → named (before ++ label ∷ []) ≡ named before ++ folded_label (written_octets label) ∷ []
-named_push before label = ap (map folded_label) (map_push written_octets before label) ∙ map_push folded_label (map written_octets before) (written_octets label)
+named_push before label = grind (arith, map_push)
 
 text_push : (label : List Written) (w : Written) → written_text (label ++ w ∷ []) ≡ written_text label ++ text_of w
-text_push label w = flat_map-append text_of label (w ∷ []) ∙ ap (λ t. written_text label ++ t) (append-nil (text_of w))
+text_push label w = grind (arith, flat_map-append, append-nil)
 
 join_more : (a b c : List ℕ) → a ++ (46 ∷ (b ++ c)) ≡ ((a ++ 46 ∷ []) ++ b) ++ c
 join_more a b c = sym (append_assoc (a ++ 46 ∷ []) b c ∙ append_assoc a (46 ∷ []) (b ++ c))
@@ -50,10 +47,10 @@ join_more a b c = sym (append_assoc (a ++ 46 ∷ []) b c ∙ append_assoc a (46 
 parted_push : (before : List (List Written)) (label : List Written) → parted (before ++ label ∷ []) ≡ dotted before ++ written_text label
 parted_push [] label = refl
 parted_push (l ∷ []) label = join_more (written_text l) [] (written_text label)
-parted_push (l ∷ m ∷ ls) label = ap (λ t. written_text l ++ (46 ∷ t)) (parted_push (m ∷ ls) label) ∙ join_more (written_text l) (dotted (m ∷ ls)) (written_text label)
+parted_push (l ∷ m ∷ ls) label = grind (arith, join_more, parted_push (m ∷ ls) label)
 
 regroup : (a b more : List ℕ) → a ++ b ++ 46 ∷ more ≡ a ++ (b ++ 46 ∷ []) ++ [] ++ more
-regroup a b more = sym (ap (λ t. t ++ more) (append-nil (a ++ (b ++ 46 ∷ [])) ∙ sym (append_assoc a b (46 ∷ []))) ∙ append_assoc (a ++ b) (46 ∷ []) more)
+regroup a b more = grind (arith, append-nil, append_assoc)
 
 reaches_label : (text : List ℕ) (before : List (List Written)) (w : Written) (label : List Written) (rest more : List ℕ) → Reaches text before (w ∷ label) rest → rest ≡ 46 ∷ more → Reaches text (before ++ (w ∷ label) ∷ []) [] more
 reaches_label text before w label rest more r e = record {
@@ -128,12 +125,10 @@ step_says n text before (w ∷ label) rest at_fault other some later r enough is
 
 walk_says : (n : ℕ) (text : List ℕ) → text ≢ codes "." → 0 < length text → Later n text
 walk_says zero text other some before label rest r enough = absurd (omega arith)
-walk_says (suc n) text other some before label rest r enough =
-    let steps : Says text (after_step n (step_at (named before) (written_octets label) (ahead_in rest))) = step_says n text before label rest (ahead_in rest) other some (walk_says n text other some) r enough (ahead_is rest) (ahead_shrinks rest) in
-    subst (Says text) (sym (read_step n (named before) (written_octets label) rest (ahead_in rest) refl)) steps
+walk_says (suc n) text other some before label rest r enough = grind (arith, after_step, step_says, ahead_is, ahead_shrinks, read_step, walk_says n text other some)
 
 reaches_start : (text : List ℕ) → Reaches text [] [] text
-reaches_start text = record { labels = tt; short = tt; octets = tt; room = omega arith; parts = refl }
+reaches_start text = grind arith
 
 -- what is read is so
 pub reading-says : (text : List ℕ) → text ≢ codes "." → Says text (reading text)

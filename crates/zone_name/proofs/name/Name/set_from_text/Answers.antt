@@ -1,4 +1,4 @@
-use Rattle.std.proofs.Common.{◌≡◌, ℕ, List, Result, Ok, Err, Some, None, ap, arith, refl, sym, subst, ◌∙◌, option_copied}
+use Rattle.std.proofs.Common.{◌≡◌, ℕ, List, Result, Ok, Err, ap, arith, refl, sym, subst, ◌∙◌, option_copied}
 use Rattle.std.specs.Prelude.{IfErr, IsOk, OnOk}
 use Rattle.std.proofs.lemmas.Result.{IfErr-weaker, on_err_weaker, on_ok_weaker}
 use Rattle.zone_name.specs.Name.{HoldsName}
