@@ -13,6 +13,7 @@ use Rattle.std.proofs.lemmas.List.Elements.{All-weaker, recursion_from_All}
 use Rattle.std.proofs.lemmas.Str.Parse.{IsNumeralModel, IsDigitsTest, FoldsDigits, numerals_by_fold}
 use Rattle.hex.specs.Hex.{decode_sized}
 use Rattle.hex.proofs.HexLemmas.{decode_sized-encode_lower}
+use Rattle.zone_name.specs.Common.{AreOctets}
 use Rattle.zone_name.specs.Spelling.{is_digit}
 use Rattle.zone_rdata.specs.Number.{decimal_value}
 use Rattle.zone_rdata.specs.Address.{IsOctetNumber, IsIpv4Address, AddressPart, IsGroup, AreParts, parts_text, parts_octets, ArePartsOf, IsIpv6Address, eight, fewer, ipv4_text, ipv6_text, parted_groups, shortened_groups, IsZeroRun, IsShortenedRun, IsAddressOctet}
@@ -38,7 +39,7 @@ own = numerals_by_fold AreDigits digits_test (λ n text. fold (λ n c. n * 10 + 
 number_printed : (n : ℕ) → n < 256 → IsOctetNumber (decimal n) n
 number_printed n fits = grind (arith, decimal_nonempty, digits_decimal, own, digits_value-decimal)
 
-pub ipv4_printed : (octets : List ℕ) → length octets ≡ 4 → AllByRecursion (λ c. c < 256) octets → IsIpv4Address (ipv4_text octets) octets
+pub ipv4_printed : (octets : List ℕ) → length octets ≡ 4 → AreOctets octets → IsIpv4Address (ipv4_text octets) octets
 ipv4_printed (a ∷ b ∷ c ∷ d ∷ []) len each = record {
   numbers = decimal a ∷ decimal b ∷ decimal c ∷ decimal d ∷ [];
   counted = refl;
@@ -107,7 +108,7 @@ zero_pairs zero = refl
 zero_pairs (suc n) = let twice : 2 * suc n ≡ suc (suc (2 * n)) = omega arith in cc (zero_pairs n)
 
 -- the groups of octets
-segments_each : (octets : List ℕ) → AllByRecursion (λ c. c < 256) octets → AllGroups (segments_of octets)
+segments_each : (octets : List ℕ) → AreOctets octets → AllGroups (segments_of octets)
 segments_each (a ∷ b ∷ octets) each = grind (arith, segments_each octets each.1.1)
 segments_each octets each = tt
 
@@ -116,7 +117,7 @@ segments_count zero [] len = refl
 segments_count (suc count) (a ∷ b ∷ octets) len = ap suc (segments_count count octets (omega arith))
 segments_count count octets len = absurd (omega arith)
 
-segments_back : (count : ℕ) (octets : List ℕ) → length octets ≡ 2 * count → AllByRecursion (λ c. c < 256) octets → pairs (segments_of octets) ≡ octets
+segments_back : (count : ℕ) (octets : List ℕ) → length octets ≡ 2 * count → AreOctets octets → pairs (segments_of octets) ≡ octets
 segments_back count (a ∷ []) len each = absurd (omega arith)
 segments_back zero (a ∷ b ∷ octets) len each = absurd (omega arith)
 segments_back (suc count) (a ∷ b ∷ octets) len each = grind (arith, segments_back count octets (omega arith) each.1.1)
@@ -143,7 +144,7 @@ around_printed groups octets start len count each value run long =
       value = sym value ∙ ap pairs whole ∙ pairs-append front (replicate len 0 ++ back) ∙ ap (λ o. pairs front ++ o) zeros;
     })
 
-pub ipv6_printed : (octets : List ℕ) → length octets ≡ 16 → AllByRecursion (λ c. c < 256) octets → IsIpv6Address (ipv6_text octets) octets
+pub ipv6_printed : (octets : List ℕ) → length octets ≡ 16 → AreOctets octets → IsIpv6Address (ipv6_text octets) octets
 ipv6_printed octets len each =
     let groups = segments_of octets in
     let start = (longest_zero_run groups).0 in
@@ -192,10 +193,10 @@ digit_or_dot c h = grind arith
 hex_or_colon : (c : ℕ) → IsHexOrColon c → IsAddressOctet c
 hex_or_colon c h = grind (arith, cases_lt)
 
-pub ipv4_plain : (octets : List ℕ) → length octets ≡ 4 → AllByRecursion (λ c. c < 256) octets → AllByRecursion IsAddressOctet (ipv4_text octets)
+pub ipv4_plain : (octets : List ℕ) → length octets ≡ 4 → AreOctets octets → AllByRecursion IsAddressOctet (ipv4_text octets)
 ipv4_plain octets len each = recursion_from_All IsAddressOctet (ipv4_text octets) (All-weaker IsDigitOrDot IsAddressOctet digit_or_dot (ipv4_text octets) (All-ipv4_text octets (each_below (2 ^ 8) octets (omega arith) each)))
 
-pub ipv6_plain : (octets : List ℕ) → length octets ≡ 16 → AllByRecursion (λ c. c < 256) octets → AllByRecursion IsAddressOctet (ipv6_text octets)
+pub ipv6_plain : (octets : List ℕ) → length octets ≡ 16 → AreOctets octets → AllByRecursion IsAddressOctet (ipv6_text octets)
 unfolding hex_groups_text
 ipv6_plain octets len each = recursion_from_All IsAddressOctet (ipv6_text octets) (All-weaker IsHexOrColon IsAddressOctet hex_or_colon (ipv6_text octets) (All-hex_groups_text (segments_of octets) (each_below (2 ^ 16) (segments_of octets) (omega arith) (segments_each octets each))))
 

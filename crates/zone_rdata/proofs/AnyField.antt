@@ -2,6 +2,7 @@
 use Rattle.std.proofs.Common.{[], List, Some, ap, length, subst, sym, ℕ, ◌++◌, ◌+◌, ◌*◌, ◌<◌, ◌∙◌, ◌∷◌, ◌≡◌, ◌≢◌, ◌≤◌, arith}
 use Rattle.std.specs.List.{AllByRecursion}
 use Rattle.std.proofs.lemmas.List.{append_cancel_left}
+use Rattle.zone_name.specs.Common.{Labels}
 use Rattle.zone_name.specs.Name.{IsName}
 use Rattle.zone_rdata.specs.declared.fault.Fault.{Fault}
 use Rattle.zone_rdata.specs.declared.field.Field.{Field}
@@ -44,7 +45,7 @@ each : (f : Field) (k : KindOf f) (P : FieldValue → Type 0) → ((x : k.X) →
 each f k P own v h = let x = k.laws.only v h in subst P (sym x.1) (own x.0 (subst (Holds f) x.1 h))
 
 -- likewise of items that spell one
-each_spelt : (origin : List (List ℕ)) (f : Field) (k : KindOf f) (P : List RawItem → FieldValue → Type 0) → ((i : k.I) (x : k.X) → SpellsField origin f (k.items i) (k.value x) → P (k.items i) (k.value x)) → (items : List RawItem) (v : FieldValue) → SpellsField origin f items v → P items v
+each_spelt : (origin : Labels) (f : Field) (k : KindOf f) (P : List RawItem → FieldValue → Type 0) → ((i : k.I) (x : k.X) → SpellsField origin f (k.items i) (k.value x) → P (k.items i) (k.value x)) → (items : List RawItem) (v : FieldValue) → SpellsField origin f items v → P items v
 each_spelt origin f k P own items v h = grind arith
 
 -- ---- its octets
@@ -84,23 +85,23 @@ front_once f octets v w r s x y = plain_once f octets v w r s (λ e. cc) x y
 
 -- ---- the items that spell it
 
-pub field_holds : (origin : List (List ℕ)) (f : Field) (items : List RawItem) (v : FieldValue) → SpellsField origin f items v → Holds f v
+pub field_holds : (origin : Labels) (f : Field) (items : List RawItem) (v : FieldValue) → SpellsField origin f items v → Holds f v
 field_holds origin f items v h = let k = kind_of f in each_spelt origin f k (λ all w. Holds f w) (k.laws.holds origin) items v h
 
-pub field_once : NamesOnce → (origin : List (List ℕ)) (f : Field) (items : List RawItem) (v w : FieldValue) → SpellsField origin f items v → SpellsField origin f items w → v ≡ w
+pub field_once : NamesOnce → (origin : Labels) (f : Field) (items : List RawItem) (v w : FieldValue) → SpellsField origin f items v → SpellsField origin f items w → v ≡ w
 field_once names origin f items v w =
     let k = kind_of f in
     each_spelt origin f k (λ all u. SpellsField origin f all w → u ≡ w)
     (λ i x h other. let y = k.laws.opens origin (k.items i) w other in ap k.value (k.laws.once names origin i x y.1 h (subst (SpellsField origin f (k.items i)) y.3 other)) ∙ sym y.3)
     items v
 
-pub field_never : NamesNever → (origin : List (List ℕ)) (f : Field) (items : List RawItem) (v : FieldValue) (fault : Fault) → SpellsField origin f items v → IsFieldFault origin f items fault → ⊥
+pub field_never : NamesNever → (origin : Labels) (f : Field) (items : List RawItem) (v : FieldValue) (fault : Fault) → SpellsField origin f items v → IsFieldFault origin f items fault → ⊥
 field_never names origin f items v fault = let k = kind_of f in each_spelt origin f k (λ all w. IsFieldFault origin f all fault → ⊥) (λ i x. k.laws.never names origin i x fault) items v
 
-pub field_or_fault : NameOrFault → (origin : List (List ℕ)) → IsName origin → (f : Field) (items : List RawItem) → AreLowItems items → FieldChoice origin f (own_items f items)
+pub field_or_fault : NameOrFault → (origin : Labels) → IsName origin → (f : Field) (items : List RawItem) → AreLowItems items → FieldChoice origin f (own_items f items)
 field_or_fault names origin is f items low = (kind_of f).laws.or_fault names origin is items low
 
-pub field_fault_once : NameFaultOnce → (origin : List (List ℕ)) (f : Field) (items : List RawItem) (a b : Fault) → IsFieldFault origin f items a → IsFieldFault origin f items b → a ≡ b
+pub field_fault_once : NameFaultOnce → (origin : Labels) (f : Field) (items : List RawItem) (a b : Fault) → IsFieldFault origin f items a → IsFieldFault origin f items b → a ≡ b
 field_fault_once names origin Strings items a b x y = strings_fault_once items a b x y
 field_fault_once names origin OneString (item ∷ items) a b x y = fault-once item a b x y
 field_fault_once names origin Name (bare text ∷ items) a b x y = grind arith
@@ -109,7 +110,7 @@ field_fault_once names origin f items a b x y = x ∙ sym y
 
 -- ---- the items that are printed
 
-pub field_printed : NamesPrinted → (origin : List (List ℕ)) (f : Field) (v : FieldValue) (rest : List RawItem) → IsSized f → Holds f v → (f ≡ Strings → rest ≡ []) → SpellsField origin f (own_items f (field_items v ++ rest)) v × (items_after f (field_items v ++ rest) ≡ rest)
+pub field_printed : NamesPrinted → (origin : Labels) (f : Field) (v : FieldValue) (rest : List RawItem) → IsSized f → Holds f v → (f ≡ Strings → rest ≡ []) → SpellsField origin f (own_items f (field_items v ++ rest)) v × (items_after f (field_items v ++ rest) ≡ rest)
 field_printed names origin f v rest sized h last =
     let k = kind_of f in
     each f k (λ w. SpellsField origin f (own_items f (field_items w ++ rest)) w × (items_after f (field_items w ++ rest) ≡ rest)) (λ x held. k.laws.printed names origin x rest sized held last) v h

@@ -3,6 +3,7 @@ use Rattle.std.proofs.Common.{[], Bool, IsTrue, List, None, Option, Some, add-on
 use Rattle.std.specs.List.{AllByRecursion, flat_map}
 use Rattle.std.proofs.lemmas.List.{append-nil}
 use Rattle.std.proofs.lemmas.List.Concat.{flat_map-append}
+use Rattle.zone_name.specs.Common.{AreOctets}
 use Rattle.zone_name.specs.Name.{with_length}
 use Rattle.zone_rdata.specs.declared.fault.Fault.{Fault}
 use Rattle.zone_rdata.specs.declared.fault.Fault.TheVariants.{BadRdata}
@@ -224,7 +225,7 @@ parts_for : (class kind : ℕ) (laid : Option (List Field)) (count : ℕ) (octet
 parts_for class kind None count octets e held past = tt
 parts_for class kind (Some row) count octets e held past = whole_laid row count octets (table_row class kind row (sym e)).last past held
 
-pub parts_data : (class kind count : ℕ) (octets : List ℕ) → IsBuilt class kind count octets → least_of (layout class kind) ≤ count → AllByRecursion (λ c. c < 256) octets → IsRdata (record { class = class; kind = kind; octets = octets })
+pub parts_data : (class kind count : ℕ) (octets : List ℕ) → IsBuilt class kind count octets → least_of (layout class kind) ≤ count → AreOctets octets → IsRdata (record { class = class; kind = kind; octets = octets })
 parts_data class kind count octets is past each = record {
   class = is.is_class;
   kind = is.is_kind;

@@ -4,6 +4,7 @@ use Rattle.std.specs.List.{AllByRecursion}
 use Rattle.std.specs.Prelude.{IfSome}
 use Rattle.std.proofs.lemmas.Bool.{cases_lt, false≢true}
 use Rattle.std.proofs.lemmas.List.{length-take, take-append-drop}
+use Rattle.zone_name.specs.Common.{Labels}
 use Rattle.zone_name.specs.Name.{IsName}
 use Rattle.zone_name.specs.Spelling.{SpellingFault, Spells, is_digit}
 use Rattle.zone_name.specs.Text.{name_text}
@@ -27,11 +28,11 @@ use Rattle.zone_rdata.proofs.Standing.{IsPrintedItem}
 
 -- a text spells at most one name
 abbrev pub NamesOnce : Type 0
-NamesOnce = (origin : Option (List (List ℕ))) (text : List ℕ) (a b : List (List ℕ)) → Spells origin text a → Spells origin text b → a ≡ b
+NamesOnce = (origin : Option (List (List ℕ))) (text : List ℕ) (a b : Labels) → Spells origin text a → Spells origin text b → a ≡ b
 
 -- a text that has a first fault spells no name
 abbrev pub NamesNever : Type 0
-NamesNever = (origin : Option (List (List ℕ))) (text : List ℕ) (labels : List (List ℕ)) (fault : NameFault) → Spells origin text labels → SpellingFault origin text fault → ⊥
+NamesNever = (origin : Option (List (List ℕ))) (text : List ℕ) (labels : Labels) (fault : NameFault) → Spells origin text labels → SpellingFault origin text fault → ⊥
 
 -- a text has at most one first fault
 abbrev pub NameFaultOnce : Type 0
@@ -39,11 +40,11 @@ NameFaultOnce = (origin : Option (List (List ℕ))) (text : List ℕ) (f g : Nam
 
 -- a text of octets spells a name under an origin or has a first fault
 abbrev pub NameOrFault : Type 0
-NameOrFault = (origin : Option (List (List ℕ))) (text : List ℕ) → IfSome origin IsName → AllByRecursion (λ c. c < 256) text → ((labels : List (List ℕ)) × Spells origin text labels) ⊎ ((fault : NameFault) × SpellingFault origin text fault)
+NameOrFault = (origin : Option (List (List ℕ))) (text : List ℕ) → IfSome origin IsName → AllByRecursion (λ c. c < 256) text → ((labels : Labels) × Spells origin text labels) ⊎ ((fault : NameFault) × SpellingFault origin text fault)
 
 -- a name that is printed is spelled under any origin
 abbrev pub NamesPrinted : Type 0
-NamesPrinted = (origin : Option (List (List ℕ))) (labels : List (List ℕ)) → IsName labels → Spells origin (name_text labels) labels
+NamesPrinted = (origin : Option (List (List ℕ))) (labels : Labels) → IsName labels → Spells origin (name_text labels) labels
 
 -- ---- octets below 256
 
@@ -81,7 +82,7 @@ FrontChoice f octets = ((value : FieldValue) × ((rest : List ℕ) × BeginsWith
 pub record FieldLaws {X I : Type 0} (f : Field) (value : X → FieldValue) (items : I → List RawItem) : Type 0 where
   -- it holds no other value, and no other items spell one
   pub only : (v : FieldValue) → Holds f v → (x : X) × (v ≡ value x)
-  pub opens : (origin : List (List ℕ)) (all : List RawItem) (v : FieldValue) → SpellsField origin f all v → (i : I) × (x : X) × (all ≡ items i) × (v ≡ value x)
+  pub opens : (origin : Labels) (all : List RawItem) (v : FieldValue) → SpellsField origin f all v → (i : I) × (x : X) × (all ≡ items i) × (v ≡ value x)
   -- a part for it is a value, of one octet at least
   pub part : (v : FieldValue) → Suits (Some f) v → FitsString v → IsReal v → Holds (part_field f) v × (0 < length (field_octets v))
   -- its octets are read back, are octets, and few
@@ -90,13 +91,13 @@ pub record FieldLaws {X I : Type 0} (f : Field) (value : X → FieldValue) (item
   pub short : (x : X) → f ≢ Strings → IsSized f → Holds f (value x) → length (field_octets (value x)) ≤ 256
   pub front : (octets : List ℕ) → AreLow octets → FrontChoice f octets
   -- items spell a value that it holds, and one alone, or have a fault
-  pub holds : (origin : List (List ℕ)) (i : I) (x : X) → SpellsField origin f (items i) (value x) → Holds f (value x)
-  pub once : NamesOnce → (origin : List (List ℕ)) (i : I) (x y : X) → SpellsField origin f (items i) (value x) → SpellsField origin f (items i) (value y) → x ≡ y
-  pub never : NamesNever → (origin : List (List ℕ)) (i : I) (x : X) (fault : Fault) → SpellsField origin f (items i) (value x) → IsFieldFault origin f (items i) fault → ⊥
-  pub or_fault : NameOrFault → (origin : List (List ℕ)) → IsName origin → (all : List RawItem) → AreLowItems all → FieldChoice origin f (own_items f all)
+  pub holds : (origin : Labels) (i : I) (x : X) → SpellsField origin f (items i) (value x) → Holds f (value x)
+  pub once : NamesOnce → (origin : Labels) (i : I) (x y : X) → SpellsField origin f (items i) (value x) → SpellsField origin f (items i) (value y) → x ≡ y
+  pub never : NamesNever → (origin : Labels) (i : I) (x : X) (fault : Fault) → SpellsField origin f (items i) (value x) → IsFieldFault origin f (items i) fault → ⊥
+  pub or_fault : NameOrFault → (origin : Labels) → IsName origin → (all : List RawItem) → AreLowItems all → FieldChoice origin f (own_items f all)
   -- the items that are printed spell the value, stand in a file as they are, and are not in the
   -- generic form
-  pub printed : NamesPrinted → (origin : List (List ℕ)) (x : X) (rest : List RawItem) → IsSized f → Holds f (value x) → (f ≡ Strings → rest ≡ []) → SpellsField origin f (own_items f (field_items (value x) ++ rest)) (value x) × (items_after f (field_items (value x) ++ rest) ≡ rest)
+  pub printed : NamesPrinted → (origin : Labels) (x : X) (rest : List RawItem) → IsSized f → Holds f (value x) → (f ≡ Strings → rest ≡ []) → SpellsField origin f (own_items f (field_items (value x) ++ rest)) (value x) × (items_after f (field_items (value x) ++ rest) ≡ rest)
   pub stands : (x : X) → IsSized f → Holds f (value x) → AllByRecursion IsPrintedItem (field_items (value x))
   pub unmarked : (x : X) (rest : List RawItem) → IsSized f → Holds f (value x) → IsGeneric (field_items (value x) ++ rest) → ⊥
   -- its text and a space have at most four octets for each of its own
@@ -107,18 +108,18 @@ pub record FieldLaws {X I : Type 0} (f : Field) (value : X → FieldValue) (item
 abbrev pub bare_item : List ℕ → List RawItem
 bare_item text = bare text ∷ []
 
-no_item : (origin : List (List ℕ)) (f : Field) → IsFieldFault origin f [] BadRdata
+no_item : (origin : Labels) (f : Field) → IsFieldFault origin f [] BadRdata
 no_item origin f = grind arith
 
-quoted_item : (origin : List (List ℕ)) (f : Field) (text : List ℕ) → f ≢ Strings → f ≢ OneString → IsFieldFault origin f (quoted text ∷ []) BadRdata
+quoted_item : (origin : Labels) (f : Field) (text : List ℕ) → f ≢ Strings → f ≢ OneString → IsFieldFault origin f (quoted text ∷ []) BadRdata
 quoted_item origin f text many one = grind arith
 
-pub bare_or_fault : (origin : List (List ℕ)) (f : Field) → f ≢ Strings → f ≢ OneString → ((text : List ℕ) → AreLow text → FieldChoice origin f (bare text ∷ [])) → (items : List RawItem) → AreLowItems items → FieldChoice origin f (take 1 items)
+pub bare_or_fault : (origin : Labels) (f : Field) → f ≢ Strings → f ≢ OneString → ((text : List ℕ) → AreLow text → FieldChoice origin f (bare text ∷ [])) → (items : List RawItem) → AreLowItems items → FieldChoice origin f (take 1 items)
 bare_or_fault origin f many one own [] low = inr (BadRdata, no_item origin f)
 bare_or_fault origin f many one own (quoted text ∷ items) low = inr (BadRdata, quoted_item origin f text many one)
 bare_or_fault origin f many one own (bare text ∷ items) low = own text low.0
 
-pub value_or_fault : {X : Type 0} (origin : List (List ℕ)) (f : Field) (text : List ℕ) (value : X → FieldValue) (own : Fault) (Stated : X → Type 0) → ((x : X) → Stated x → SpellsField origin f (bare text ∷ []) (value x)) → (((x : X) → Stated x → ⊥) → IsFieldFault origin f (bare text ∷ []) own) → Choice Stated → FieldChoice origin f (bare text ∷ [])
+pub value_or_fault : {X : Type 0} (origin : Labels) (f : Field) (text : List ℕ) (value : X → FieldValue) (own : Fault) (Stated : X → Type 0) → ((x : X) → Stated x → SpellsField origin f (bare text ∷ []) (value x)) → (((x : X) → Stated x → ⊥) → IsFieldFault origin f (bare text ∷ []) own) → Choice Stated → FieldChoice origin f (bare text ∷ [])
 value_or_fault origin f text value own Stated spelt bad h = grind arith
 
 -- the mark of the generic form as a text

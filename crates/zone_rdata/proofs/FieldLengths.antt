@@ -1,10 +1,11 @@
 -- How many octets a printed number, address or string has, with a space after it.
 use Rattle.std.proofs.Common.{[], ◌≡◌, ℕ, ◌+◌, ◌*◌, ◌<◌, ◌≤◌, List, ◌∷◌, ◌++◌, length, drop, map, codes, decimal, arith, ap, length-append, le-ltb, lt-ltb}
-use Rattle.std.specs.List.{AllByRecursion, flat_map}
+use Rattle.std.specs.List.{flat_map}
 use Rattle.std.specs.Net.Text.{hex}
 use Rattle.std.proofs.lemmas.Bool.{cases_lt}
 use Rattle.std.proofs.lemmas.Fmt.{length-decimal-le}
 use Rattle.std.proofs.lemmas.List.{length-drop, length-take}
+use Rattle.zone_name.specs.Common.{AreOctets}
 use Rattle.zone_name.specs.Name.{with_length}
 use Rattle.zone_rdata.specs.Address.{ipv4_text, ipv6_text, parted_groups, shortened_groups}
 use Rattle.zone_rdata.specs.Strings.{inside_text, string_text}
@@ -20,7 +21,7 @@ dotted_length a b c d ha hb hc hd = grind (arith, length-append)
 octet_length : (n : ℕ) → n < 256 → length (decimal n) ≤ 3
 octet_length n short = length-decimal-le 3 n (omega arith) (omega arith) (omega arith)
 
-pub ipv4_length : (octets : List ℕ) → length octets ≡ 4 → AllByRecursion (λ c. c < 256) octets → length (ipv4_text octets) ≤ 15
+pub ipv4_length : (octets : List ℕ) → length octets ≡ 4 → AreOctets octets → length (ipv4_text octets) ≤ 15
 ipv4_length (a ∷ b ∷ c ∷ d ∷ []) size low = grind (arith, dotted_length, octet_length)
 ipv4_length octets size low = absurd (omega arith)
 

@@ -1,6 +1,7 @@
 -- What items state for a layout, if there is one, and why they state nothing.
 use Rattle.std.proofs.Common.{◌≡◌, ℕ, ◌≤◌, List, length, sym, ap, ◌∙◌, subst, Bool, false, IsTrue, ◌↔◌, Option, Some, None, Result, Ok, Err, arith}
 use Rattle.std.specs.Prelude.{IfOk, IfErr, IsErrAnd, option_map}
+use Rattle.zone_name.specs.Common.{Labels}
 use Rattle.zone_rdata.specs.declared.fault.Failing.TheVariants as failings
 use Rattle.zone_rdata.specs.declared.fault.Failing.{Failing}
 use Rattle.zone_rdata.specs.declared.fault.Fault.{Fault}
@@ -27,17 +28,17 @@ not_marked : (items : List RawItem) (b : Bool) → b ≡ false → (IsTrue b ↔
 not_marked items b plain_items test g = let marked = test.1 g in cc (sym plain_items ∙ marked)
 
 -- items in words
-words_found : (origin : List (List ℕ)) (laid : Option Layout) (own : Layout) (items : List RawItem) (b : Bool) (octets : List ℕ) → laid ≡ Some own → b ≡ false → (IsTrue b ↔ IsGeneric items) → AreSpelt origin (fields_of own) items octets → length octets ≤ 65535 → StatesFor origin (option_map fields_of laid) items octets
+words_found : (origin : Labels) (laid : Option Layout) (own : Layout) (items : List RawItem) (b : Bool) (octets : List ℕ) → laid ≡ Some own → b ≡ false → (IsTrue b ↔ IsGeneric items) → AreSpelt origin (fields_of own) items octets → length octets ≤ 65535 → StatesFor origin (option_map fields_of laid) items octets
 words_found origin laid own items b octets e plain_items test spelt short = in_words (fields_of own) spelt.values (ap (option_map fields_of) e) (not_marked items b plain_items test) spelt.spelt spelt.written short
 
-pub words_read : {T : Type 0} (octets_in : T → List ℕ) (r : Result T Failing) (origin : List (List ℕ)) (laid : Option Layout) (own : Layout) (items : List RawItem) (b : Bool) → laid ≡ Some own → b ≡ false → (IsTrue b ↔ IsGeneric items) → IfOk r (λ octets. AreSpelt origin (fields_of own) items (octets_in octets)) → IfOk r (λ octets. length (octets_in octets) ≤ 65535) → IfOk r (λ octets. StatesFor origin (option_map fields_of laid) items (octets_in octets))
+pub words_read : {T : Type 0} (octets_in : T → List ℕ) (r : Result T Failing) (origin : Labels) (laid : Option Layout) (own : Layout) (items : List RawItem) (b : Bool) → laid ≡ Some own → b ≡ false → (IsTrue b ↔ IsGeneric items) → IfOk r (λ octets. AreSpelt origin (fields_of own) items (octets_in octets)) → IfOk r (λ octets. length (octets_in octets) ≤ 65535) → IfOk r (λ octets. StatesFor origin (option_map fields_of laid) items (octets_in octets))
 words_read octets_in (Ok octets) origin laid own items b e plain_items test spelt short = words_found origin laid own items b (octets_in octets) e plain_items test spelt short
 words_read octets_in (Err failing) origin laid own items b e plain_items test spelt short = tt
 
-pub words_fault : (origin : List (List ℕ)) (laid : Option Layout) (own : Layout) (items : List RawItem) (b : Bool) (fault : Fault) → laid ≡ Some own → b ≡ false → (IsTrue b ↔ IsGeneric items) → IsWordsFault origin (fields_of own) items fault → IsFaultFor origin (option_map fields_of laid) items fault
+pub words_fault : (origin : Labels) (laid : Option Layout) (own : Layout) (items : List RawItem) (b : Bool) (fault : Fault) → laid ≡ Some own → b ≡ false → (IsTrue b ↔ IsGeneric items) → IsWordsFault origin (fields_of own) items fault → IsFaultFor origin (option_map fields_of laid) items fault
 words_fault origin laid own items b fault e plain_items test bad = faults.in_words (fields_of own) fault (ap (option_map fields_of) e) (not_marked items b plain_items test) bad
 
-pub opaque_fault : (origin : List (List ℕ)) (laid : Option Layout) (items : List RawItem) (b : Bool) → laid ≡ None → b ≡ false → (IsTrue b ↔ IsGeneric items) → IsFaultFor origin (option_map fields_of laid) items BadGeneric
+pub opaque_fault : (origin : Labels) (laid : Option Layout) (items : List RawItem) (b : Bool) → laid ≡ None → b ≡ false → (IsTrue b ↔ IsGeneric items) → IsFaultFor origin (option_map fields_of laid) items BadGeneric
 opaque_fault origin laid items b e plain_items test = opaque_words (ap (option_map fields_of) e) (not_marked items b plain_items test)
 
 -- items that state a value are refused for want of memory alone

@@ -57,9 +57,6 @@ joined_all items i octets past joined =
 decimal_once : (text : List ℕ) (m n : ℕ) → IsDecimal text m → IsDecimal text n → m ≡ n
 decimal_once text m n a b = a.value ∙ sym b.value
 
-pub StatesLength-once : (item : RawItem) (m n : ℕ) → StatesLength item m → StatesLength item n → m ≡ n
-StatesLength-once item m n a b = grind (arith, decimal_once)
-
 pub length_none : (item : Item) (text : List ℕ) → raw item ≡ bare text → ((n : ℕ) → IsDecimal text n → ⊥) → LengthFault (raw item) BadGeneric
 length_none item text is none = no_number (λ n h. none n (subst (λ r. StatesLength r n) is h))
 

@@ -1,13 +1,14 @@
 -- The laws of the generic form.
 use Rattle.std.proofs.Common.{[], ◌≡◌, ℕ, ◌+◌, ◌/◌, ◌%◌, ◌<◌, ◌≤◌, ◌^◌, true, List, ◌∷◌, ◌++◌, length, map, Result, Ok, Err, ◌⊎◌, inl, inr, refl, sym, ap, ◌∙◌, subst, arith, length-append}
 use Rattle.std.specs.Prelude.{decimal}
-use Rattle.std.specs.List.{AllByRecursion, join_with_byte}
+use Rattle.std.specs.List.{join_with_byte}
 use Rattle.std.proofs.lemmas.Bool.{cases_lt, cases_eq}
 use Rattle.std.proofs.lemmas.Fmt.{decimal_digit, decimal_by_steps}
 use Rattle.std.proofs.lemmas.List.{append-nil}
 use Rattle.hex.specs.Hex.{decode_of}
 use Rattle.hex.specs.declared.error.FromHexError.{FromHexError}
 use Rattle.hex.proofs.HexLemmas.{decode_of-encode_lower}
+use Rattle.zone_name.specs.Common.{AreOctets}
 use Rattle.zone_name.specs.Spelling.{is_digit}
 use Rattle.zone_rdata.specs.declared.fault.Fault.{Fault}
 use Rattle.zone_rdata.specs.declared.fault.Fault.TheVariants.{BadGeneric, RdataTooLong}
@@ -110,11 +111,11 @@ more_digits n digits h is = record {
 pub decimal-is : (n : ℕ) → n < 2 ^ 64 → IsDecimal (decimal n) n
 decimal-is n h = decimal_by_steps (λ n text. IsDecimal text n) one_digit more_digits n h
 
-printed_joins : (octets : List ℕ) → AllByRecursion (λ c. c < 256) octets → JoinTo (digit_items octets) octets
+printed_joins : (octets : List ℕ) → AreOctets octets → JoinTo (digit_items octets) octets
 printed_joins [] each = refl
 printed_joins (c ∷ octets) each = (c ∷ octets, [], decode_of-encode_lower (c ∷ octets) (each_below 256 (c ∷ octets) (omega arith) each), sym (append-nil (c ∷ octets)), refl)
 
-pub printed-stated : (octets : List ℕ) → AllByRecursion (λ c. c < 256) octets → length octets ≤ 65535 → StatesGeneric (generic_items octets) octets
+pub printed-stated : (octets : List ℕ) → AreOctets octets → length octets ≤ 65535 → StatesGeneric (generic_items octets) octets
 printed-stated octets each short = record {
   digits = digit_items octets;
   form = record { item = bare (decimal (length octets)); parts = refl; states = decimal-is (length octets) (omega arith) };

@@ -1,5 +1,6 @@
 -- Items state at most one value, or have at most one first fault.
 use Rattle.std.proofs.Common.{[], List, None, Option, Some, arith, inl, inr, length, refl, subst, sym, ℕ, ◌∙◌, ◌∷◌, ◌≡◌, ◌≤◌}
+use Rattle.zone_name.specs.Common.{Labels}
 use Rattle.zone_rdata.specs.declared.fault.Fault.{Fault}
 use Rattle.zone_rdata.specs.declared.field.Field.{Field}
 use Rattle.zone_rdata.specs.DataFault.{FirstFieldFault, IsDataFault, IsFaultFor, IsGenericDataFault, IsWordsFault, in_generic_form, malformed, no_value, opaque_words, too_long, unspelt}
@@ -17,20 +18,20 @@ use Rattle.zone_rdata.specs.DataFault as faults
 
 -- ---- items in words
 
-each_once : NamesOnce → (origin : List (List ℕ)) (row : List Field) (items : List RawItem) (vs ws : List FieldValue) → SpellEach origin row items vs → SpellEach origin row items ws → vs ≡ ws
+each_once : NamesOnce → (origin : Labels) (row : List Field) (items : List RawItem) (vs ws : List FieldValue) → SpellEach origin row items vs → SpellEach origin row items ws → vs ≡ ws
 each_once names origin [] [] [] [] h k = refl
 each_once names origin [] [] [] (w ∷ ws) h k = absurd k
 each_once names origin (f ∷ row) items (v ∷ vs) [] h k = absurd k
 each_once names origin (f ∷ row) items (v ∷ vs) (w ∷ ws) h k = grind (arith, field_once, each_once names origin row (items_after f items) vs ws h.1 k.1)
 each_once names origin row items vs ws h k = absurd h
 
-first_never : NamesNever → (origin : List (List ℕ)) (row : List Field) (items : List RawItem) (values : List FieldValue) (fault : Fault) → SpellEach origin row items values → FirstFieldFault origin row items fault → ⊥
+first_never : NamesNever → (origin : Labels) (row : List Field) (items : List RawItem) (values : List FieldValue) (fault : Fault) → SpellEach origin row items values → FirstFieldFault origin row items fault → ⊥
 first_never names origin [] [] values fault h bad = bad
 first_never names origin (f ∷ row) items (v ∷ values) fault h (inl bad) = grind (arith, field_never)
 first_never names origin (f ∷ row) items (v ∷ values) fault h (inr more) = first_never names origin row (items_after f items) values fault h.1 more.2
 first_never names origin row items values fault h bad = h
 
-first_once : NamesNever → NameFaultOnce → (origin : List (List ℕ)) (row : List Field) (items : List RawItem) (a b : Fault) → FirstFieldFault origin row items a → FirstFieldFault origin row items b → a ≡ b
+first_once : NamesNever → NameFaultOnce → (origin : Labels) (row : List Field) (items : List RawItem) (a b : Fault) → FirstFieldFault origin row items a → FirstFieldFault origin row items b → a ≡ b
 first_once names once origin [] [] a b x y = absurd x
 first_once names once origin [] (item ∷ items) a b x y = x ∙ sym y
 first_once names once origin (f ∷ row) items a b (inl x) (inl y) = grind (arith, field_fault_once)
@@ -38,10 +39,10 @@ first_once names once origin (f ∷ row) items a b (inl x) (inr y) = grind (arit
 first_once names once origin (f ∷ row) items a b (inr x) (inl y) = grind (arith, field_never)
 first_once names once origin (f ∷ row) items a b (inr x) (inr y) = first_once names once origin row (items_after f items) a b x.2 y.2
 
-words_never : NamesOnce → NamesNever → (origin : List (List ℕ)) (row : List Field) (items : List RawItem) (values : List FieldValue) (fault : Fault) → SpellEach origin row items values → length (octets_of values) ≤ 65535 → IsWordsFault origin row items fault → ⊥
+words_never : NamesOnce → NamesNever → (origin : Labels) (row : List Field) (items : List RawItem) (values : List FieldValue) (fault : Fault) → SpellEach origin row items values → length (octets_of values) ≤ 65535 → IsWordsFault origin row items fault → ⊥
 words_never once names origin row items values fault h short k = grind (arith, first_never, each_once)
 
-words_fault_once : NamesNever → NameFaultOnce → (origin : List (List ℕ)) (row : List Field) (items : List RawItem) (a b : Fault) → IsWordsFault origin row items a → IsWordsFault origin row items b → a ≡ b
+words_fault_once : NamesNever → NameFaultOnce → (origin : Labels) (row : List Field) (items : List RawItem) (a b : Fault) → IsWordsFault origin row items a → IsWordsFault origin row items b → a ≡ b
 words_fault_once names once origin row items _ _ (unspelt a x) (unspelt b y) = first_once names once origin row items a b x y
 words_fault_once names once origin row items _ _ (unspelt a x) (too_long vs h over) = absurd (first_never names origin row items vs a h x)
 words_fault_once names once origin row items _ _ (too_long vs h over) (unspelt b y) = absurd (first_never names origin row items vs b h y)
@@ -66,7 +67,7 @@ generic_fault_marks items fault h = grind arith
 form_fault_marks : (laid : Option (List Field)) (items : List RawItem) (fault : Fault) → IsGenericDataFault laid items fault → IsGeneric items
 form_fault_marks laid items fault h = grind (arith, generic_fault_marks, generic_marks)
 
-for_once : NamesOnce → (origin : List (List ℕ)) (laid : Option (List Field)) (items : List RawItem) (a b : List ℕ) → CanonicalOnce laid → StatesFor origin laid items a → StatesFor origin laid items b → a ≡ b
+for_once : NamesOnce → (origin : Labels) (laid : Option (List Field)) (items : List RawItem) (a b : List ℕ) → CanonicalOnce laid → StatesFor origin laid items a → StatesFor origin laid items b → a ≡ b
 for_once names origin laid items a b once (in_words row vs e unmarked h is short) (in_words row' ws e' unmarked2 k is' short') = grind (arith, same_row, each_once)
 for_once names origin laid items a b once (in_words row vs e unmarked h is short) (in_octets stated) = absurd (unmarked (generic_marks items stated.0 stated.1))
 for_once names origin laid items a b once (in_octets stated) (in_words row vs e unmarked h is short) = absurd (unmarked (generic_marks items stated.0 stated.1))
@@ -78,7 +79,7 @@ form_never laid items stated octets _ form canonical (no_value row stated' e for
     let here = subst (λ l. IsCanonicalOf l stated octets) e canonical in
     none octets (subst (λ o. IsUncompressed row o octets) (generic-once items stated stated' form form') here)
 
-for_never : NamesOnce → NamesNever → (origin : List (List ℕ)) (laid : Option (List Field)) (items : List RawItem) (octets : List ℕ) (fault : Fault) → StatesFor origin laid items octets → IsFaultFor origin laid items fault → ⊥
+for_never : NamesOnce → NamesNever → (origin : Labels) (laid : Option (List Field)) (items : List RawItem) (octets : List ℕ) (fault : Fault) → StatesFor origin laid items octets → IsFaultFor origin laid items fault → ⊥
 for_never once names origin laid items octets _ (in_words row vs e unmarked h is short) (in_generic_form fault bad) = unmarked (form_fault_marks laid items fault bad)
 for_never once names origin laid items octets _ (in_words row vs e unmarked h is short) (faults.in_words row' fault e' unmarked2 bad) = grind (arith, same_row, words_never)
 for_never once names origin laid items octets _ (in_words row vs e unmarked h is short) (opaque_words e' unmarked2) = let clash : Some row ≡ None = sym e ∙ e' in cc
@@ -92,7 +93,7 @@ form_fault_once laid items _ _ (malformed fault bad) (no_value row stated e form
 form_fault_once laid items _ _ (no_value row stated e form none) (malformed fault bad) = absurd (generic-never_both items stated fault form bad)
 form_fault_once laid items _ _ (no_value row stated e form none) (no_value _ _ _ _ _) = refl
 
-for_fault_once : NamesNever → NameFaultOnce → (origin : List (List ℕ)) (laid : Option (List Field)) (items : List RawItem) (a b : Fault) → IsFaultFor origin laid items a → IsFaultFor origin laid items b → a ≡ b
+for_fault_once : NamesNever → NameFaultOnce → (origin : Labels) (laid : Option (List Field)) (items : List RawItem) (a b : Fault) → IsFaultFor origin laid items a → IsFaultFor origin laid items b → a ≡ b
 for_fault_once names once origin laid items _ _ (in_generic_form fault bad) (in_generic_form fault' bad') = form_fault_once laid items fault fault' bad bad'
 for_fault_once names once origin laid items _ _ (in_generic_form fault bad) (faults.in_words row fault' e unmarked bad') = absurd (unmarked (form_fault_marks laid items fault bad))
 for_fault_once names once origin laid items _ _ (in_generic_form fault bad) (opaque_words e unmarked) = absurd (unmarked (form_fault_marks laid items fault bad))
@@ -105,11 +106,11 @@ for_fault_once names once origin laid items _ _ (opaque_words e unmarked) (opaqu
 
 -- ---- data of a class and type
 
-pub data-once : NamesOnce → (origin : List (List ℕ)) (class kind : ℕ) (items : List RawItem) (a b : List ℕ) → States origin class kind items a → States origin class kind items b → a ≡ b
+pub data-once : NamesOnce → (origin : Labels) (class kind : ℕ) (items : List RawItem) (a b : List ℕ) → States origin class kind items a → States origin class kind items b → a ≡ b
 data-once names origin class kind items a b x y = for_once names origin (layout class kind) items a b (λ stated v w. canonical_same class kind (layout class kind) stated v w refl) x.stated y.stated
 
-pub data-never_both : NamesOnce → NamesNever → (origin : List (List ℕ)) (class kind : ℕ) (items : List RawItem) (octets : List ℕ) (fault : Fault) → States origin class kind items octets → IsDataFault origin class kind items fault → ⊥
+pub data-never_both : NamesOnce → NamesNever → (origin : Labels) (class kind : ℕ) (items : List RawItem) (octets : List ℕ) (fault : Fault) → States origin class kind items octets → IsDataFault origin class kind items fault → ⊥
 data-never_both once names origin class kind items octets fault x y = for_never once names origin (layout class kind) items octets fault x.stated y.first
 
-pub data_fault-once : NamesNever → NameFaultOnce → (origin : List (List ℕ)) (class kind : ℕ) (items : List RawItem) (a b : Fault) → IsDataFault origin class kind items a → IsDataFault origin class kind items b → a ≡ b
+pub data_fault-once : NamesNever → NameFaultOnce → (origin : Labels) (class kind : ℕ) (items : List RawItem) (a b : Fault) → IsDataFault origin class kind items a → IsDataFault origin class kind items b → a ≡ b
 data_fault-once names once origin class kind items a b x y = grind (arith, for_fault_once)

@@ -5,6 +5,7 @@ use Rattle.std.specs.List.{AllByRecursion}
 use Rattle.hex.proofs.HexLemmas.{decode_of-ok}
 use Rattle.zone_name.proofs.Octets.{length-frames}
 use Rattle.zone_name.proofs.Pushing.{AllByRecursion-front}
+use Rattle.zone_name.specs.Common.{Labels}
 use Rattle.zone_rdata.specs.declared.fault.Fault.{Fault}
 use Rattle.zone_rdata.specs.declared.field.Field.{Field}
 use Rattle.zone_rdata.specs.declared.field.Field.TheVariants.{Strings}
@@ -32,7 +33,7 @@ string_each [] many h = omega arith
 string_each (item ∷ items) [] h = absurd h
 string_each (item ∷ items) (octets ∷ many) h = omega (arith, string_each items many h.1)
 
-spelt_long : (origin : List (List ℕ)) (fields : List Field) (items : List RawItem) (values : List FieldValue) → SpellEach origin fields items values → length items ≤ length fields + length (octets_of values)
+spelt_long : (origin : Labels) (fields : List Field) (items : List RawItem) (values : List FieldValue) → SpellEach origin fields items values → length items ≤ length fields + length (octets_of values)
 spelt_long origin [] (item ∷ items) values h = absurd h
 spelt_long origin (f ∷ fields) items [] h = absurd h
 spelt_long origin (Strings ∷ fields) items (strings many ∷ values) h = grind (arith, string_each, length-frames, length-append)
@@ -64,13 +65,13 @@ strings_more [] (item ∷ more) others many (inr left) h = let all = strings_mor
 strings_more [] (item ∷ more) others many (inl kept) h =
     string_before item more kept.0 many (λ rest found. strings_more [] more kept.0 rest kept.2 found) (subst (λ t. SpellEachString t many) kept.1 h)
 
-all_strings : (origin : List (List ℕ)) (item : RawItem) (first more others : List RawItem) (value : FieldValue) → LeavesOut more others → SpellsField origin Strings (item ∷ first ++ others) value → (all : FieldValue) × SpellsField origin Strings (item ∷ first ++ more) all
+all_strings : (origin : Labels) (item : RawItem) (first more others : List RawItem) (value : FieldValue) → LeavesOut more others → SpellsField origin Strings (item ∷ first ++ others) value → (all : FieldValue) × SpellsField origin Strings (item ∷ first ++ more) all
 all_strings origin item first more others (strings many) out h =
     let all = strings_more (item ∷ first) more others many out h.each in
     (strings all.0, record { some = omega arith; each = all.1 })
 all_strings origin item first more others value out h = absurd h
 
-fields_fault : (origin : List (List ℕ)) (fields : List Field) (first more others : List RawItem) (fault : Fault) → length fields < length first → LeavesOut more others → FirstFieldFault origin fields (first ++ others) fault → FirstFieldFault origin fields (first ++ more) fault
+fields_fault : (origin : Labels) (fields : List Field) (first more others : List RawItem) (fault : Fault) → length fields < length first → LeavesOut more others → FirstFieldFault origin fields (first ++ others) fault → FirstFieldFault origin fields (first ++ more) fault
 fields_fault origin fields [] more others fault few out bad = absurd (omega (arith, few))
 fields_fault origin [] (item ∷ first) more others fault few out bad = bad
 fields_fault origin (Strings ∷ fields) (item ∷ first) more others fault few out (inl bad) = inl (strings_fault (item ∷ first) more others fault out bad)
@@ -80,7 +81,7 @@ fields_fault origin (Strings ∷ fields) (item ∷ first) more others fault few 
 fields_fault origin (f ∷ fields) (item ∷ first) more others fault few out (inl bad) = inl bad
 fields_fault origin (f ∷ fields) (item ∷ first) more others fault few out (inr h) = inr (h.0, h.1, fields_fault origin fields first more others fault (omega (arith, few)) out h.2)
 
-fields_more : (origin : List (List ℕ)) (fields : List Field) (first more others : List RawItem) (values : List FieldValue) → length fields < length first → LeavesOut more others → SpellEach origin fields (first ++ others) values → (all : List FieldValue) × SpellEach origin fields (first ++ more) all
+fields_more : (origin : Labels) (fields : List Field) (first more others : List RawItem) (values : List FieldValue) → length fields < length first → LeavesOut more others → SpellEach origin fields (first ++ others) values → (all : List FieldValue) × SpellEach origin fields (first ++ more) all
 fields_more origin fields [] more others values few out h = absurd (omega (arith, few))
 fields_more origin (Strings ∷ fields) (item ∷ first) more others (v ∷ values) few out h =
     let all = all_strings origin item first more others v out h.0 in
@@ -90,7 +91,7 @@ fields_more origin (f ∷ fields) (item ∷ first) more others (v ∷ values) fe
     (v ∷ all.0, (h.0, all.1))
 fields_more origin fields (item ∷ first) more others values few out h = absurd h
 
-words_fault : (origin : List (List ℕ)) (fields : List Field) (first more others : List RawItem) (fault : Fault) → length fields ≤ 7 → 65543 ≤ length first → LeavesOut more others → IsWordsFault origin fields (first ++ others) fault → IsWordsFault origin fields (first ++ more) fault
+words_fault : (origin : Labels) (fields : List Field) (first more others : List RawItem) (fault : Fault) → length fields ≤ 7 → 65543 ≤ length first → LeavesOut more others → IsWordsFault origin fields (first ++ others) fault → IsWordsFault origin fields (first ++ more) fault
 words_fault origin fields first more others _ few many out (unspelt fault bad) =
     unspelt fault (fields_fault origin fields first more others fault (omega (arith, few, many)) out bad)
 words_fault origin fields first more others _ few many out (too_long values spelt long) =
@@ -135,7 +136,7 @@ marked : (first more others : List RawItem) → 65543 ≤ length first → IsGen
 marked [] more others many h = absurd (omega (arith, many))
 marked (a ∷ first) more others many h = mark_same a _ _ h
 
-fault_for : (origin : List (List ℕ)) (laid : Option (List Field)) (first more others : List RawItem) (fault : Fault) → AreFew laid → AllByRecursion IsWritten first → 65543 ≤ length first → LeavesOut more others → IsFaultFor origin laid (first ++ others) fault → IsFaultFor origin laid (first ++ more) fault
+fault_for : (origin : Labels) (laid : Option (List Field)) (first more others : List RawItem) (fault : Fault) → AreFew laid → AllByRecursion IsWritten first → 65543 ≤ length first → LeavesOut more others → IsFaultFor origin laid (first ++ others) fault → IsFaultFor origin laid (first ++ more) fault
 fault_for origin laid first more others _ few written many out (in_generic_form fault bad) =
     in_generic_form fault (form_fault laid first more others fault written many bad)
 fault_for origin laid first more others _ few written many out (faults.in_words fields fault e unmarked bad) =
@@ -143,7 +144,7 @@ fault_for origin laid first more others _ few written many out (faults.in_words 
 fault_for origin laid first more others _ few written many out (opaque_words e unmarked) =
     opaque_words e (λ h. unmarked (marked first others more many h))
 
-never_for : (origin : List (List ℕ)) (laid : Option (List Field)) (first others : List RawItem) (octets : List ℕ) → AreFew laid → AllByRecursion IsWritten first → 65543 ≤ length first → StatesFor origin laid (first ++ others) octets → ⊥
+never_for : (origin : Labels) (laid : Option (List Field)) (first others : List RawItem) (octets : List ℕ) → AreFew laid → AllByRecursion IsWritten first → 65543 ≤ length first → StatesFor origin laid (first ++ others) octets → ⊥
 never_for origin laid first others octets few written many (in_words fields values e unmarked spelt is short) = grind (arith, spelt_long, length-append)
 never_for origin laid first others octets few written many (in_octets h) = generic_never first others h.0 written many h.1
 
@@ -151,7 +152,7 @@ are_few : (class kind : ℕ) → AreFew (layout class kind)
 are_few class kind fields e = (table_row class kind fields e).few
 
 -- the others have the first fault of all items
-pub fault_of_all : (origin : List (List ℕ)) (class kind : ℕ) (items kept : List RawItem) (fault : Fault) → AllByRecursion IsWritten items → AreShortened 65543 items kept → IsDataFault origin class kind kept fault → IsDataFault origin class kind items fault
+pub fault_of_all : (origin : Labels) (class kind : ℕ) (items kept : List RawItem) (fault : Fault) → AllByRecursion IsWritten items → AreShortened 65543 items kept → IsDataFault origin class kind kept fault → IsDataFault origin class kind items fault
 fault_of_all origin class kind items kept fault written short bad =
     let all = subst (AllByRecursion IsWritten) short.whole written in
     let first = subst (λ t. IsFaultFor origin (layout class kind) t fault) short.are_kept bad.first in
@@ -159,7 +160,7 @@ fault_of_all origin class kind items kept fault written short bad =
     record { first = subst (λ t. IsFaultFor origin (layout class kind) t fault) (sym short.whole) found }
 
 -- they state no data
-pub state_none : (origin : List (List ℕ)) (class kind : ℕ) (items kept : List RawItem) (octets : List ℕ) → AllByRecursion IsWritten items → AreShortened 65543 items kept → States origin class kind kept octets → ⊥
+pub state_none : (origin : Labels) (class kind : ℕ) (items kept : List RawItem) (octets : List ℕ) → AllByRecursion IsWritten items → AreShortened 65543 items kept → States origin class kind kept octets → ⊥
 state_none origin class kind items kept octets written short h =
     let all = subst (AllByRecursion IsWritten) short.whole written in
     never_for origin (layout class kind) short.first short.others octets (are_few class kind) (AllByRecursion-front IsWritten short.first short.more all) short.many (subst (λ t. StatesFor origin (layout class kind) t octets) short.are_kept h.stated)

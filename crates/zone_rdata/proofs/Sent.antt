@@ -4,6 +4,7 @@ use Rattle.std.specs.Prelude.{◌↔◌}
 use Rattle.std.specs.List.{flat_map, AllByRecursion}
 use Rattle.std.proofs.lemmas.List.{append-nil, take-append-drop, length-map, length-take, map-append}
 use Rattle.std.proofs.lemmas.List.Concat.{flat_map-append}
+use Rattle.zone_name.specs.Common.{Labels}
 use Rattle.zone_name.specs.Name.{IsLabel, IsName, folded_octet, folded_label, folded, with_length, wire}
 use Rattle.zone_name.specs.Spelling.{IsLabelFault}
 use Rattle.zone_name.specs.declared.fault.NameFault.{NameFault}
@@ -37,7 +38,7 @@ frames_push many x a = grind (arith, append_assoc, append-nil, flat_map-append)
 abbrev pub AreSome : List (List ℕ) → Type 0
 AreSome labels = AllByRecursion (λ label. 0 < length label) labels
 
-pub folded_some : (sent : List (List ℕ)) → AllByRecursion IsLabel (folded sent) → AreSome sent
+pub folded_some : (sent : Labels) → AllByRecursion IsLabel (folded sent) → AreSome sent
 folded_some [] each = tt
 folded_some (label ∷ sent) each = grind (arith, length-map, folded_some sent each.1)
 
@@ -53,13 +54,13 @@ labels_first ((c ∷ label) ∷ sent) (l ∷ whole) rest tail some e =
     (next.0, ap (λ h. h ∷ whole) (sym cut.0) ∙ ap (λ t. (c ∷ label) ∷ t) next.1, next.2)
 
 -- the labels that were cut off so far
-pub record HasCut (octets : List ℕ) (labels : List (List ℕ)) (rest : List ℕ) : Type 0 where
+pub record HasCut (octets : List ℕ) (labels : Labels) (rest : List ℕ) : Type 0 where
   pub sent : List (List ℕ)
   pub folds : folded sent ≡ labels
   pub some : AreSome sent
   pub parts : octets ≡ flat_map with_length sent ++ rest
 
-pub cut_none : (octets : List ℕ) (labels : List (List ℕ)) → labels ≡ [] → HasCut octets labels octets
+pub cut_none : (octets : List ℕ) (labels : Labels) → labels ≡ [] → HasCut octets labels octets
 cut_none octets labels e = record { sent = []; folds = sym e; some = tt; parts = refl }
 
 pub cut_more : (octets rest : List ℕ) (labels new : List (List ℕ)) (c : ℕ) (following label after : List ℕ) → HasCut octets labels rest → rest ≡ c ∷ following → 0 < c → c ≤ length following → label ≡ take c following → after ≡ drop c following → new ≡ labels ++ folded_label label ∷ [] → HasCut octets new after
@@ -72,14 +73,14 @@ cut_more octets rest labels new c following label after cut e some fits front ba
       parts = cut.parts ∙ ap (λ t. flat_map with_length cut.sent ++ t) (e ∙ frame_at c following fits ∙ ap (λ l. with_length l ++ drop c following) (sym front) ∙ ap (λ t. with_length label ++ t) (sym back)) ∙ frames_push cut.sent label after;
     }
 
-pub cut_name : (octets rest : List ℕ) (labels name : List (List ℕ)) (c : ℕ) (following : List ℕ) → HasCut octets labels rest → rest ≡ c ∷ following → c ≡ 0 → name ≡ labels → IsName name → BeginsWithSent octets name following
+pub cut_name : (octets rest : List ℕ) (labels name : Labels) (c : ℕ) (following : List ℕ) → HasCut octets labels rest → rest ≡ c ∷ following → c ≡ 0 → name ≡ labels → IsName name → BeginsWithSent octets name following
 cut_name octets rest labels name c following cut e nothing same is = grind (arith, append_assoc)
 
 -- a name there goes on from what was cut off
-pub goes_on : (octets rest tail : List ℕ) (labels name : List (List ℕ)) (cut : HasCut octets labels rest) (b : BeginsWithSent octets name tail) → (more : List (List ℕ)) × (b.sent ≡ cut.sent ++ more) × (rest ≡ wire more ++ tail)
+pub goes_on : (octets rest tail : List ℕ) (labels name : Labels) (cut : HasCut octets labels rest) (b : BeginsWithSent octets name tail) → (more : List (List ℕ)) × (b.sent ≡ cut.sent ++ more) × (rest ≡ wire more ++ tail)
 goes_on octets rest tail labels name cut b = grind (arith, labels_first)
 
-pub no_first : (octets rest : List ℕ) (labels : List (List ℕ)) → HasCut octets labels rest → length rest ≡ 0 → (name : List (List ℕ)) (tail : List ℕ) → BeginsWithSent octets name tail → ⊥
+pub no_first : (octets rest : List ℕ) (labels : Labels) → HasCut octets labels rest → length rest ≡ 0 → (name : Labels) (tail : List ℕ) → BeginsWithSent octets name tail → ⊥
 no_first octets rest labels cut none name tail b =
     let next = goes_on octets rest tail labels name cut b in
     omega (arith, ap length next.2, length-append (wire next.0) tail, length-append (flat_map with_length next.0) (0 ∷ []))
@@ -89,14 +90,14 @@ next_label : (more : List (List ℕ)) (tail following : List ℕ) (c : ℕ) → 
 next_label [] tail following c some e = absurd (let bad : c ≡ 0 = cc in omega arith)
 next_label (l ∷ others) tail following c some e = grind (arith, append_assoc)
 
-pub no_room : (octets rest : List ℕ) (labels : List (List ℕ)) (c : ℕ) (following : List ℕ) → HasCut octets labels rest → rest ≡ c ∷ following → 0 < c → length following < c → (name : List (List ℕ)) (tail : List ℕ) → BeginsWithSent octets name tail → ⊥
+pub no_room : (octets rest : List ℕ) (labels : Labels) (c : ℕ) (following : List ℕ) → HasCut octets labels rest → rest ≡ c ∷ following → 0 < c → length following < c → (name : Labels) (tail : List ℕ) → BeginsWithSent octets name tail → ⊥
 no_room octets rest labels c following cut e some few name tail b =
     let next = goes_on octets rest tail labels name cut b in
     let label = next_label next.0 tail following c some (sym e ∙ next.2) in
     omega (arith, ap length label.4, length-append label.0 (wire label.1 ++ tail), label.3)
 
 -- what a name there says of the next label
-record Fits (labels : List (List ℕ)) (label : List ℕ) : Type 0 where
+record Fits (labels : Labels) (label : List ℕ) : Type 0 where
   short : length label ≤ 63
   room : length (wire (labels ++ label ∷ [])) ≤ 255
 
@@ -109,7 +110,7 @@ fits_by before label others name =
     let mine = flat_map-append with_length (folded before) (label ∷ []) in
     record { short = omega (arith, each.0.short, count); room = omega (arith, name.short, ap (λ t. length (wire t)) whole, length-append (flat_map with_length (folded before ++ folded_label label ∷ folded others)) (0 ∷ []), ap length frames, length-append (flat_map with_length (folded before)) (flat_map with_length (folded_label label ∷ folded others)), length-append (with_length (folded_label label)) (flat_map with_length (folded others)), count, length-append (flat_map with_length (folded before ++ label ∷ [])) (0 ∷ []), ap length mine, length-append (flat_map with_length (folded before)) (flat_map with_length (label ∷ [])), length-append (with_length label) []) }
 
-next_fits : (octets rest : List ℕ) (labels : List (List ℕ)) (c : ℕ) (following : List ℕ) → HasCut octets labels rest → rest ≡ c ∷ following → 0 < c → c ≤ length following → (name : List (List ℕ)) (tail : List ℕ) → BeginsWithSent octets name tail → Fits labels (take c following)
+next_fits : (octets rest : List ℕ) (labels : Labels) (c : ℕ) (following : List ℕ) → HasCut octets labels rest → rest ≡ c ∷ following → 0 < c → c ≤ length following → (name : Labels) (tail : List ℕ) → BeginsWithSent octets name tail → Fits labels (take c following)
 next_fits octets rest labels c following cut e some fits name tail b =
     let next = goes_on octets rest tail labels name cut b in
     let label = next_label next.0 tail following c some (sym e ∙ next.2) in
@@ -119,10 +120,10 @@ next_fits octets rest labels c following cut e some fits name tail b =
     let is : IsName (folded (cut.sent ++ label.0 ∷ label.1)) = subst IsName (sym b.folds ∙ ap folded whole) b.is_name in
     subst (λ l. Fits labels l) (sym same) (subst (λ ls. Fits ls label.0) cut.folds (fits_by cut.sent label.0 label.1 is))
 
-refused_by : (fault : NameFault) (labels : List (List ℕ)) (label : List ℕ) (r : Result (Unit {0}) NameFault) → r ≡ Err fault → IsLabelFault fault → ((r ≡ Err EmptyLabel) ↔ (length label ≡ 0)) → ((r ≡ Err LabelTooLong) ↔ (63 < length label)) → ((r ≡ Err NameTooLong) ↔ ((0 < length label) × (length label ≤ 63) × (255 < length (wire (labels ++ label ∷ []))))) → 0 < length label → Fits labels label → ⊥
+refused_by : (fault : NameFault) (labels : Labels) (label : List ℕ) (r : Result (Unit {0}) NameFault) → r ≡ Err fault → IsLabelFault fault → ((r ≡ Err EmptyLabel) ↔ (length label ≡ 0)) → ((r ≡ Err LabelTooLong) ↔ (63 < length label)) → ((r ≡ Err NameTooLong) ↔ ((0 < length label) × (length label ≤ 63) × (255 < length (wire (labels ++ label ∷ []))))) → 0 < length label → Fits labels label → ⊥
 refused_by fault labels label r is only empty long too_long some fits = grind arith
 
-pub no_label : (octets rest : List ℕ) (labels : List (List ℕ)) (c : ℕ) (following label : List ℕ) (fault : NameFault) (r : Result (Unit {0}) NameFault) → HasCut octets labels rest → rest ≡ c ∷ following → 0 < c → c ≤ length following → label ≡ take c following → r ≡ Err fault → IsLabelFault fault → ((r ≡ Err EmptyLabel) ↔ (length label ≡ 0)) → ((r ≡ Err LabelTooLong) ↔ (63 < length label)) → ((r ≡ Err NameTooLong) ↔ ((0 < length label) × (length label ≤ 63) × (255 < length (wire (labels ++ label ∷ []))))) → (name : List (List ℕ)) (tail : List ℕ) → BeginsWithSent octets name tail → ⊥
+pub no_label : (octets rest : List ℕ) (labels : Labels) (c : ℕ) (following label : List ℕ) (fault : NameFault) (r : Result (Unit {0}) NameFault) → HasCut octets labels rest → rest ≡ c ∷ following → 0 < c → c ≤ length following → label ≡ take c following → r ≡ Err fault → IsLabelFault fault → ((r ≡ Err EmptyLabel) ↔ (length label ≡ 0)) → ((r ≡ Err LabelTooLong) ↔ (63 < length label)) → ((r ≡ Err NameTooLong) ↔ ((0 < length label) × (length label ≤ 63) × (255 < length (wire (labels ++ label ∷ []))))) → (name : Labels) (tail : List ℕ) → BeginsWithSent octets name tail → ⊥
 no_label octets rest labels c following label fault r cut e some fits same is only empty long too_long name tail b =
     let count : 0 < length label = omega (arith, length-take c following, ap length same) in
     refused_by fault labels label r is only empty long too_long count (subst (λ l. Fits labels l) (sym same) (next_fits octets rest labels c following cut e some fits name tail b))
@@ -133,7 +134,7 @@ name_by [] rest tail some e = (refl, (cc))
 name_by ([] ∷ more) rest tail some e = absurd (omega (arith, some.0))
 name_by ((c ∷ l) ∷ more) rest tail some e = cc
 
-pub sent_once : (octets rest tail : List ℕ) (a b : List (List ℕ)) → BeginsWithSent octets a rest → BeginsWithSent octets b tail → (a ≡ b) × (rest ≡ tail)
+pub sent_once : (octets rest tail : List ℕ) (a b : Labels) → BeginsWithSent octets a rest → BeginsWithSent octets b tail → (a ≡ b) × (rest ≡ tail)
 sent_once octets rest tail a b x y =
     let open_x = x.parts ∙ append_assoc (flat_map with_length x.sent) (0 ∷ []) rest in
     let some_x = folded_some x.sent (subst (AllByRecursion IsLabel) (sym x.folds) x.is_name.each) in

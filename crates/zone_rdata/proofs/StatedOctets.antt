@@ -1,6 +1,6 @@
 -- What items state is data.
-use Rattle.std.proofs.Common.{[], List, Option, length, refl, subst, ℕ, ◌<◌, ◌∷◌, ◌≡◌, ◌≤◌, arith}
-use Rattle.std.specs.List.{AllByRecursion}
+use Rattle.std.proofs.Common.{[], List, Option, length, refl, subst, ℕ, ◌∷◌, ◌≡◌, ◌≤◌, arith}
+use Rattle.zone_name.specs.Common.{AreOctets, Labels}
 use Rattle.zone_rdata.specs.declared.fault.Fault.{Fault}
 use Rattle.zone_rdata.specs.declared.field.Field.{Field}
 use Rattle.zone_rdata.specs.DataFault.{IsDataFault, IsFaultFor}
@@ -14,37 +14,37 @@ use Rattle.zone_rdata.proofs.FieldLaws.{AreLow}
 use Rattle.zone_rdata.proofs.ItemChoice.{joined_low}
 use Rattle.zone_rdata.proofs.Layouts.{AreFor, canonical_laid, canonical_length, laid_out, low_values}
 
-pub spelt_hold : (origin : List (List ℕ)) (row : List Field) (items : List RawItem) (values : List FieldValue) → SpellEach origin row items values → HoldEach row values
+pub spelt_hold : (origin : Labels) (row : List Field) (items : List RawItem) (values : List FieldValue) → SpellEach origin row items values → HoldEach row values
 spelt_hold origin [] [] [] h = tt
 spelt_hold origin (f ∷ row) items (v ∷ values) h = (field_holds origin f (own_items f items) v h.0, spelt_hold origin row (items_after f items) values h.1)
 spelt_hold origin row items values h = absurd h
 
 -- the octets that items state for a layout of the table are data
-stated_laid : (origin : List (List ℕ)) (class kind : ℕ) (laid : Option (List Field)) (items : List RawItem) (octets : List ℕ) → laid ≡ layout class kind → StatesFor origin laid items octets → AreFor laid octets
+stated_laid : (origin : Labels) (class kind : ℕ) (laid : Option (List Field)) (items : List RawItem) (octets : List ℕ) → laid ≡ layout class kind → StatesFor origin laid items octets → AreFor laid octets
 stated_laid origin class kind laid items octets e stated = grind (arith, laid_out, table_row, spelt_hold, canonical_laid)
 
-stated_short : (origin : List (List ℕ)) (laid : Option (List Field)) (items : List RawItem) (octets : List ℕ) → StatesFor origin laid items octets → length octets ≤ 65535
+stated_short : (origin : Labels) (laid : Option (List Field)) (items : List RawItem) (octets : List ℕ) → StatesFor origin laid items octets → length octets ≤ 65535
 stated_short origin laid items octets h = grind (arith, canonical_length)
 
 -- what items state for the layout of a class and type is their data
-pub stated_data : (origin : List (List ℕ)) (class kind : ℕ) (laid : Option (List Field)) (items : List RawItem) (octets : List ℕ) → laid ≡ layout class kind → StatesFor origin laid items octets → AllByRecursion (λ c. c < 256) octets → IsData class kind octets
+pub stated_data : (origin : Labels) (class kind : ℕ) (laid : Option (List Field)) (items : List RawItem) (octets : List ℕ) → laid ≡ layout class kind → StatesFor origin laid items octets → AreOctets octets → IsData class kind octets
 stated_data origin class kind laid items octets e stated each = record {
   short = stated_short origin laid items octets stated;
   each = each;
   value = subst (λ l. AreFor l octets) e (stated_laid origin class kind laid items octets e stated);
 }
 
-pub states_for : (origin : List (List ℕ)) (class kind : ℕ) (laid : Option (List Field)) (items : List RawItem) (octets : List ℕ) → laid ≡ layout class kind → StatesFor origin laid items octets → States origin class kind items octets
+pub states_for : (origin : Labels) (class kind : ℕ) (laid : Option (List Field)) (items : List RawItem) (octets : List ℕ) → laid ≡ layout class kind → StatesFor origin laid items octets → States origin class kind items octets
 states_for origin class kind laid items octets e stated = grind arith
 
-pub first_for : (origin : List (List ℕ)) (class kind : ℕ) (laid : Option (List Field)) (items : List RawItem) (fault : Fault) → laid ≡ layout class kind → IsFaultFor origin laid items fault → IsDataFault origin class kind items fault
+pub first_for : (origin : Labels) (class kind : ℕ) (laid : Option (List Field)) (items : List RawItem) (fault : Fault) → laid ≡ layout class kind → IsFaultFor origin laid items fault → IsDataFault origin class kind items fault
 first_for origin class kind laid items fault e first = grind arith
 
 low_form : (laid : Option (List Field)) (stated octets : List ℕ) → AreLow stated → IsCanonicalOf laid stated octets → AreLow octets
 low_form laid stated octets low is = grind (arith, low_values)
 
-stated_low : (origin : List (List ℕ)) (laid : Option (List Field)) (items : List RawItem) (octets : List ℕ) → StatesFor origin laid items octets → AreLow octets
+stated_low : (origin : Labels) (laid : Option (List Field)) (items : List RawItem) (octets : List ℕ) → StatesFor origin laid items octets → AreLow octets
 stated_low origin laid items octets h = grind (arith, low_values, spelt_hold, low_form, joined_low)
 
-pub stated_is_data : (origin : List (List ℕ)) (class kind : ℕ) (items : List RawItem) (octets : List ℕ) → States origin class kind items octets → IsData class kind octets
+pub stated_is_data : (origin : Labels) (class kind : ℕ) (items : List RawItem) (octets : List ℕ) → States origin class kind items octets → IsData class kind octets
 stated_is_data origin class kind items octets x = stated_data origin class kind (layout class kind) items octets refl x.stated (stated_low origin (layout class kind) items octets x.stated)

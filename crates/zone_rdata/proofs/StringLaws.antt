@@ -3,6 +3,7 @@ use Rattle.std.proofs.Common.{[], ◌≡◌, ◌≢◌, ℕ, ◌<◌, Bool, true
 use Rattle.std.specs.Prelude.{map}
 use Rattle.std.specs.List.{AllByRecursion}
 use Rattle.std.proofs.lemmas.Bool.{and_parts, or_parts, or_cases, eqb-true, eqb-false, leb-true}
+use Rattle.zone_name.specs.Common.{AreOctets}
 use Rattle.zone_name.specs.Spelling.{Written, text_of, octet_of, IsUnit, no_octet, written_text, written_octets, is_digit}
 use Rattle.zone_rdata.specs.declared.fault.Fault.{Fault}
 use Rattle.zone_rdata.specs.Item.{RawItem, quoted}
@@ -64,7 +65,7 @@ line_unit c = line_by (is_special c) (is_shown c) c refl refl
 abbrev printed_units : List ℕ → List Written
 printed_units octets = map printed_unit octets
 
-quoted_units : (octets : List ℕ) → AllByRecursion (λ c. c < 256) octets → AllByRecursion (IsUnit is_quote) (printed_units octets)
+quoted_units : (octets : List ℕ) → AreOctets octets → AllByRecursion (IsUnit is_quote) (printed_units octets)
 quoted_units [] each = tt
 quoted_units (c ∷ octets) each = (quoted_unit c each.0, quoted_units octets each.1)
 

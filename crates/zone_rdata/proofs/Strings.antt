@@ -5,6 +5,7 @@ use Rattle.std.specs.List.{AllByRecursion}
 use Rattle.std.proofs.lemmas.Bool.{cases_Bool, le-leb, lt-leb, leb-true, leb-false}
 use Rattle.std.proofs.lemmas.List.{append-nil, length-map}
 use Rattle.std.proofs.lemmas.List.Concat.{flat_map-append}
+use Rattle.zone_name.specs.Common.{AreOctets}
 use Rattle.zone_name.specs.Spelling.{Written, plain, escaped, decimal, text_of, octet_of, IsUnit, no_octet, written_text, written_octets}
 use Rattle.zone_name.specs.Machine.Units.{Units, units_first}
 use Rattle.zone_rdata.specs.declared.fault.Fault.{Fault}
@@ -48,7 +49,7 @@ fault_reads item _ (long_string before w rest r full is) =
 
 -- ---- the answer is spelled, or is the first fault
 
-octets_each : (units : List Written) → AllByRecursion (IsUnit no_octet) units → AllByRecursion (λ c. c < 256) (written_text units) → AllByRecursion (λ c. c < 256) (written_octets units)
+octets_each : (units : List Written) → AllByRecursion (IsUnit no_octet) units → AreOctets (written_text units) → AreOctets (written_octets units)
 octets_each [] each low = tt
 octets_each (plain c ∷ units) each low = (low.0, octets_each units each.1 low.1)
 octets_each (escaped c ∷ units) each low = (low.1.0, octets_each units each.1 low.1.1)
@@ -78,15 +79,15 @@ long_units item found are split =
     let whole = are.whole ∙ ap (λ t. written_text t ++ found.rest) split.whole ∙ ap (λ t. t ++ found.rest) (flat_map-append text_of split.before (split.unit ∷ split.after)) ∙ append_assoc (written_text split.before) (text_of split.unit ++ written_text split.after) found.rest ∙ ap (λ t. written_text split.before ++ t) (append_assoc (text_of split.unit) (written_text split.after) found.rest) in
     long_string split.before split.unit (written_text split.after ++ found.rest) (record { units = AllByRecursion-front (IsUnit no_octet) split.before (split.unit ∷ split.after) each; room = omega (arith, split.count); parts = whole }) split.count (AllByRecursion-back (IsUnit no_octet) split.before (split.unit ∷ split.after) each).0
 
-short_units : (item : RawItem) (units : List Written) (rest : List ℕ) → item_text item ≡ written_text units ++ rest → AllByRecursion (IsUnit no_octet) units → NoUnit no_octet rest → length units ≤ 255 → AllByRecursion (λ c. c < 256) (item_text item) → EitherOf item
+short_units : (item : RawItem) (units : List Written) (rest : List ℕ) → item_text item ≡ written_text units ++ rest → AllByRecursion (IsUnit no_octet) units → NoUnit no_octet rest → length units ≤ 255 → AreOctets (item_text item) → EitherOf item
 short_units item units [] whole each none short low =
     let text : item_text item ≡ written_text units = whole ∙ append-nil (written_text units) in
-    inl (written_octets units, record { units = units; each = each; text = text; value = refl; string = record { short = omega (arith, short, length-map units octet_of); each = octets_each units each (subst (AllByRecursion (λ c. c < 256)) text low) } })
+    inl (written_octets units, record { units = units; each = each; text = text; value = refl; string = record { short = omega (arith, short, length-map units octet_of); each = octets_each units each (subst AreOctets text low) } })
 short_units item units (c ∷ rest) whole each (at_end e) short low = absurd (cc)
 short_units item units (c ∷ rest) whole each (at_octet d more e end) short low = cc
 short_units item units (c ∷ rest) whole each (at_backslash bad) short low = inr (BadEscape, bad_escape units (c ∷ rest) (record { units = each; room = short; parts = whole }) bad)
 
-pub string-or_fault : (item : RawItem) → AllByRecursion (λ c. c < 256) (item_text item) → ((octets : List ℕ) × SpellsString item octets) ⊎ ((fault : Fault) × StringFault item fault)
+pub string-or_fault : (item : RawItem) → AreOctets (item_text item) → ((octets : List ℕ) × SpellsString item octets) ⊎ ((fault : Fault) × StringFault item fault)
 string-or_fault item low =
     let found = units_first no_octet (item_text item) in
     let are = units_first_are no_octet (item_text item) in

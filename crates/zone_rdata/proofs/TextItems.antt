@@ -6,6 +6,7 @@ use Rattle.std.proofs.lemmas.Bool.Decides.{nat_tests}
 use Rattle.std.proofs.lemmas.List.{append-nil, length-map, map-append}
 use Rattle.std.proofs.lemmas.List.Concat.{flat_map-append}
 use Rattle.zone_name.proofs.Pushing.{AllByRecursion-append}
+use Rattle.zone_name.specs.Common.{AreOctets, Labels}
 use Rattle.zone_rdata.specs.declared.field.Field.{Field}
 use Rattle.zone_rdata.specs.declared.field.Field.TheVariants.{Strings}
 use Rattle.zone_rdata.specs.Field.{FieldValue, HoldEach, Holds, field_items, field_text, string, strings, values_of}
@@ -79,7 +80,7 @@ data_written d h = written_for (layout d.class d.kind) d.octets h.octets.value
 abbrev ArePrintedItems : List RawItem → Type 0
 ArePrintedItems items = AllByRecursion IsPrintedItem items
 
-digits_stand : (octets : List ℕ) → AllByRecursion (λ c. c < 256) octets → ArePrintedItems (digit_items octets)
+digits_stand : (octets : List ℕ) → AreOctets octets → ArePrintedItems (digit_items octets)
 digits_stand [] low = tt
 digits_stand (c ∷ octets) low = (bare_hex c octets low, tt)
 
@@ -89,7 +90,7 @@ each_stand (f ∷ row) (v ∷ values) sized h =
     AllByRecursion-append IsPrintedItem (field_items v) (flat_map field_items values) (field_stands f v sized.0 h.0) (each_stand row values sized.1 h.1)
 each_stand row values sized h = absurd h
 
-laid_out_stand : (laid : Option (List Field)) (octets : List ℕ) → ((row : List Field) → laid ≡ Some row → IsLayout row) → length octets ≤ 65535 → AllByRecursion (λ c. c < 256) octets → AreFor laid octets → ArePrintedItems (laid_out_items laid octets)
+laid_out_stand : (laid : Option (List Field)) (octets : List ℕ) → ((row : List Field) → laid ≡ Some row → IsLayout row) → length octets ≤ 65535 → AreOctets octets → AreFor laid octets → ArePrintedItems (laid_out_items laid octets)
 laid_out_stand None octets table short low value = (bare_mark, (bare_decimal (length octets) (omega arith), digits_stand octets low))
 laid_out_stand (Some row) octets table short low value = each_stand row (values_of row octets) (table row refl).sized value.held
 
@@ -123,12 +124,12 @@ data_some d h = laid_out_some (layout d.class d.kind) d.octets (row_some d.class
 -- ---- the items spell the values
 
 -- a field before the others
-next_spelt : NamesPrinted → (origin : List (List ℕ)) (f : Field) (row : List Field) (v : FieldValue) (items : List RawItem) (values : List FieldValue) → IsSized f → Holds f v → (f ≡ Strings → items ≡ []) → SpellEach origin row items values → SpellEach origin (f ∷ row) (field_items v ++ items) (v ∷ values)
+next_spelt : NamesPrinted → (origin : Labels) (f : Field) (row : List Field) (v : FieldValue) (items : List RawItem) (values : List FieldValue) → IsSized f → Holds f v → (f ≡ Strings → items ≡ []) → SpellEach origin row items values → SpellEach origin (f ∷ row) (field_items v ++ items) (v ∷ values)
 next_spelt names origin f row v items values sized h last rest =
     let own = field_printed names origin f v items sized h last in
     (own.0, subst (λ following. SpellEach origin row following values) (sym own.1) rest)
 
-each_spelt : NamesPrinted → (origin : List (List ℕ)) (row : List Field) (values : List FieldValue) → StringsLast row → AllByRecursion IsSized row → HoldEach row values → SpellEach origin row (flat_map field_items values) values
+each_spelt : NamesPrinted → (origin : Labels) (row : List Field) (values : List FieldValue) → StringsLast row → AllByRecursion IsSized row → HoldEach row values → SpellEach origin row (flat_map field_items values) values
 each_spelt names origin [] [] last sized h = tt
 each_spelt names origin (f ∷ []) (v ∷ []) last sized h = next_spelt names origin f [] v [] [] sized.0 h.0 (λ e. refl) tt
 each_spelt names origin (f ∷ []) (v ∷ w ∷ values) last sized h = absurd h.1
@@ -145,12 +146,12 @@ fields_unmarked row values sized h g = h
 
 -- ---- the items state the data
 
-stated_for : NamesPrinted → (origin : List (List ℕ)) (laid : Option (List Field)) (octets : List ℕ) → ((row : List Field) → laid ≡ Some row → IsLayout row) → length octets ≤ 65535 → AllByRecursion (λ c. c < 256) octets → AreFor laid octets → StatesFor origin laid (laid_out_items laid octets) octets
+stated_for : NamesPrinted → (origin : Labels) (laid : Option (List Field)) (octets : List ℕ) → ((row : List Field) → laid ≡ Some row → IsLayout row) → length octets ≤ 65535 → AreOctets octets → AreFor laid octets → StatesFor origin laid (laid_out_items laid octets) octets
 stated_for names origin None octets table short each value = in_octets (octets, printed-stated octets each short, refl)
 stated_for names origin (Some row) octets table short each value =
     let values = values_of row octets in
     let sound = table row refl in
     in_words row values refl (fields_unmarked row values sound.sized value.held) (each_spelt names origin row values sound.last sound.sized value.held) (sym value.whole) short
 
-pub data_stated : NamesPrinted → (origin : List (List ℕ)) (d : Data) → IsRdata d → States origin d.class d.kind (data_items d) d.octets
+pub data_stated : NamesPrinted → (origin : Labels) (d : Data) → IsRdata d → States origin d.class d.kind (data_items d) d.octets
 data_stated names origin d h = record { stated = stated_for names origin (layout d.class d.kind) d.octets (table_row d.class d.kind) h.octets.short h.octets.each h.octets.value }

@@ -3,6 +3,7 @@ use Rattle.std.proofs.Common.{[], List, Option, Some, ap, append_assoc, arith, d
 use Rattle.std.specs.List.{flat_map, slice_get}
 use Rattle.std.specs.Prelude.{IfNone, IfSome}
 use Rattle.std.proofs.lemmas.List.{append-nil, drop_all}
+use Rattle.zone_name.specs.Common.{Labels}
 use Rattle.zone_name.specs.Name.{with_length}
 use Rattle.zone_rdata.specs.declared.fault.Fault.{Fault}
 use Rattle.zone_rdata.specs.declared.field.Field.{Field}
@@ -18,12 +19,12 @@ use Rattle.zone_rdata.proofs.Lists.{from_place}
 -- ---- the items of the field at their front
 
 -- what is stated of the first item is spelled by it
-pub first_appended : {X : Type 0} {Stated : X → Type 0} {octets : X → List ℕ} (value : X → FieldValue) (origin : List (List ℕ)) (field f : Field) (first : Item) (items : List Item) (old new : List ℕ) → field ≡ f → Some first ≡ slice_get items 0 → ((rest : List RawItem) → items_after f (raw first ∷ rest) ≡ rest) → ((x : X) (rest : List RawItem) → Stated x → SpellsField origin f (own_items f (raw first ∷ rest)) (value x)) → ((x : X) → octets x ≡ field_octets (value x)) → Appends Stated octets old new → AppendsFirst origin field (map raw items) (map raw (drop 1 items)) old new
+pub first_appended : {X : Type 0} {Stated : X → Type 0} {octets : X → List ℕ} (value : X → FieldValue) (origin : Labels) (field f : Field) (first : Item) (items : List Item) (old new : List ℕ) → field ≡ f → Some first ≡ slice_get items 0 → ((rest : List RawItem) → items_after f (raw first ∷ rest) ≡ rest) → ((x : X) (rest : List RawItem) → Stated x → SpellsField origin f (own_items f (raw first ∷ rest)) (value x)) → ((x : X) → octets x ≡ field_octets (value x)) → Appends Stated octets old new → AppendsFirst origin field (map raw items) (map raw (drop 1 items)) old new
 first_appended value origin field f first [] old new which is following spells own done = absurd cc
 first_appended value origin field f first (item ∷ items) old new which is following spells own done = grind arith
 
 -- strings are all that is left
-pub all_appended : (origin : List (List ℕ)) (field : Field) (items : List Item) (old new : List ℕ) → field ≡ fields.Strings → Appends (SpellsStrings (map raw items)) (flat_map with_length) old new → AppendsFirst origin field (map raw items) (map raw (drop (length items) items)) old new
+pub all_appended : (origin : Labels) (field : Field) (items : List Item) (old new : List ℕ) → field ≡ fields.Strings → Appends (SpellsStrings (map raw items)) (flat_map with_length) old new → AppendsFirst origin field (map raw items) (map raw (drop (length items) items)) old new
 all_appended origin field items old new which h = subst (λ f. AppendsFirst origin f (map raw items) (map raw (drop (length items) items)) old new) (sym which) (record {
   appends = record { value = strings h.value; stated = h.stated; written = h.written };
   following = ap (map raw) (drop_all (length items) items (omega arith));

@@ -1,7 +1,8 @@
 -- Data from uncompressed octets.
-use Rattle.std.proofs.Common.{◌≡◌, ℕ, ◌<◌, ◌≤◌, List, length, Option, Some, None, sym, subst, arith}
+use Rattle.std.proofs.Common.{◌≡◌, ℕ, ◌≤◌, List, length, Option, Some, None, sym, subst, arith}
 use Rattle.std.specs.Prelude.{IfSome, option_map}
 use Rattle.std.specs.List.{AllByRecursion}
+use Rattle.zone_name.specs.Common.{AreOctets}
 use Rattle.zone_rdata.specs.declared.fault.Fault.{Fault}
 use Rattle.zone_rdata.specs.declared.fault.Fault.TheVariants.{BadRdata}
 use Rattle.zone_rdata.specs.declared.field.Field.{Field}
@@ -18,7 +19,7 @@ pub table_sized : (class kind : ℕ) (laid : Option Layout) → option_map field
 table_sized class kind None e = tt
 table_sized class kind (Some l) e = (table_row class kind (fields_of l) (sym e)).sized
 
-pub canonical_data : (class kind : ℕ) (laid : Option (List Field)) (octets canonical : List ℕ) → laid ≡ layout class kind → IsCanonicalOf laid octets canonical → length octets ≤ 65535 → AllByRecursion (λ c. c < 256) canonical → IsData class kind canonical
+pub canonical_data : (class kind : ℕ) (laid : Option (List Field)) (octets canonical : List ℕ) → laid ≡ layout class kind → IsCanonicalOf laid octets canonical → length octets ≤ 65535 → AreOctets canonical → IsData class kind canonical
 canonical_data class kind laid octets canonical e is short each = grind (arith, canonical_length, canonical_laid)
 
 pub canonical_only : (class kind : ℕ) (laid : Option (List Field)) (octets a b : List ℕ) → laid ≡ layout class kind → IsCanonicalOf laid octets a → IsCanonicalOf (layout class kind) octets b → a ≡ b

@@ -3,6 +3,7 @@ use Rattle.std.proofs.Common.{[], List, Some, ap, arith, decimal, length, refl, 
 use Rattle.std.specs.Int.{byte_len, from_be_bytes, to_be_bytes, Width, w16, w32}
 use Rattle.std.proofs.lemmas.List.{take_at}
 use Rattle.std.proofs.lemmas.Nat.{be_bytes_2, be_bytes_4, from_be_bytes-to_be_bytes_2, from_be_bytes-to_be_bytes_4}
+use Rattle.zone_name.specs.Common.{Labels}
 use Rattle.zone_rdata.specs.declared.fault.Fault.TheVariants.{BadNumber}
 use Rattle.zone_rdata.specs.declared.field.Field.TheVariants.{Serial, U16}
 use Rattle.zone_rdata.specs.Builder.{FitsString}
@@ -27,7 +28,7 @@ spelled_or_not w text =
 u16_only : (v : FieldValue) → Holds U16 v → (n : ℕ) × (v ≡ u16_value n)
 u16_only v h = grind arith
 
-u16_opens : (origin : List (List ℕ)) (items : List RawItem) (v : FieldValue) → SpellsField origin U16 items v
+u16_opens : (origin : Labels) (items : List RawItem) (v : FieldValue) → SpellsField origin U16 items v
     → (text : List ℕ) × (n : ℕ) × (items ≡ bare text ∷ []) × (v ≡ u16_value n)
 u16_opens origin items v h = grind arith
 
@@ -68,7 +69,7 @@ u16_laws = record {
 serial_only : (v : FieldValue) → Holds Serial v → (n : ℕ) × (v ≡ u32_value n)
 serial_only v h = grind arith
 
-serial_opens : (origin : List (List ℕ)) (items : List RawItem) (v : FieldValue) → SpellsField origin Serial items v
+serial_opens : (origin : Labels) (items : List RawItem) (v : FieldValue) → SpellsField origin Serial items v
     → (text : List ℕ) × (n : ℕ) × (items ≡ bare text ∷ []) × (v ≡ u32_value n)
 serial_opens origin items v h = grind arith
 

@@ -2,6 +2,7 @@
 use Rattle.std.proofs.Common.{[], List, Some, add-one, ap, arith, drop, get_or, inl, inr, length, length-append, refl, subst, take, ℕ, ◌++◌, ◌+◌, ◌<◌, ◌∙◌, ◌∷◌, ◌≡◌, ◌≤◌}
 use Rattle.std.proofs.lemmas.Bool.{cases_lt}
 use Rattle.std.proofs.lemmas.List.{length-take, take_at}
+use Rattle.zone_name.specs.Common.{Labels}
 use Rattle.zone_name.specs.Name.{with_length}
 use Rattle.zone_rdata.specs.declared.fault.Fault.TheVariants.{BadRdata}
 use Rattle.zone_rdata.specs.declared.field.Field.TheVariants.{OneString}
@@ -22,7 +23,7 @@ only v h = grind arith
 abbrev pub one_item : RawItem → List RawItem
 one_item item = item ∷ []
 
-opens : (origin : List (List ℕ)) (items : List RawItem) (v : FieldValue) → SpellsField origin OneString items v → (item : RawItem) × (octets : List ℕ) × (items ≡ item ∷ []) × (v ≡ string octets)
+opens : (origin : Labels) (items : List RawItem) (v : FieldValue) → SpellsField origin OneString items v → (item : RawItem) × (octets : List ℕ) × (items ≡ item ∷ []) × (v ≡ string octets)
 opens origin items v h = grind arith
 
 part : (v : FieldValue) → Suits (Some OneString) v → FitsString v → IsReal v → Holds OneString v × (0 < length (field_octets v))
@@ -62,7 +63,7 @@ front (c ∷ following) low = elim (cases_lt (length (c ∷ following)) (c + 1))
   | inr fits ↦ found_front OneString (c ∷ following) (drop (c + 1) (c ∷ following)) (take (c + 1) (c ∷ following)) (appends_string (c ∷ following) (drop (c + 1) (c ∷ following)) [] (take (c + 1) (c ∷ following)) c (c + 1) following low refl refl (front_of (c + 1) (c ∷ following) fits))
 ]
 
-spelt_or_fault : (origin : List (List ℕ)) (items : List RawItem) → AreLowItems items → FieldChoice origin OneString (take 1 items)
+spelt_or_fault : (origin : Labels) (items : List RawItem) → AreLowItems items → FieldChoice origin OneString (take 1 items)
 spelt_or_fault origin [] low = inr (BadRdata, refl)
 spelt_or_fault origin (item ∷ items) low = elim (string-or_fault item low.0) [ inl found ↦ inl (string found.0, found.1) | inr bad ↦ inr (bad.0, bad.1) ]
 

@@ -3,6 +3,7 @@ use Rattle.std.proofs.Common.{[], List, Some, ap, append_assoc, arith, drop, inl
 use Rattle.std.specs.List.{AllByRecursion, flat_map}
 use Rattle.std.proofs.lemmas.Bool.{cases_lt}
 use Rattle.std.proofs.lemmas.List.{append-nil, drop_all, length-drop, length-map, take_all}
+use Rattle.zone_name.specs.Common.{Labels}
 use Rattle.zone_name.specs.Name.{with_length}
 use Rattle.zone_name.proofs.Pushing.{AllByRecursion-append}
 use Rattle.zone_rdata.specs.declared.fault.Fault.{Fault}
@@ -33,7 +34,7 @@ only v h = grind arith
 abbrev pub all_items : List RawItem → List RawItem
 all_items items = items
 
-opens : (origin : List (List ℕ)) (items : List RawItem) (v : FieldValue) → SpellsField origin Strings items v → (all : List RawItem) × (many : List (List ℕ)) × (items ≡ all) × (v ≡ strings many)
+opens : (origin : Labels) (items : List RawItem) (v : FieldValue) → SpellsField origin Strings items v → (all : List RawItem) × (many : List (List ℕ)) × (items ≡ all) × (v ≡ strings many)
 opens origin items v h = grind arith
 
 part : (v : FieldValue) → Suits (Some Strings) v → FitsString v → IsReal v → Holds OneString v × (0 < length (field_octets v))
@@ -131,7 +132,7 @@ each_held [] [] h = (tt, refl)
 each_held (item ∷ items) (octets ∷ many) h = grind (arith, each_held items many h.1)
 each_held items many h = absurd h
 
-each_once : (items : List RawItem) (a b : List (List ℕ)) → SpellEachString items a → SpellEachString items b → a ≡ b
+each_once : (items : List RawItem) (a b : Labels) → SpellEachString items a → SpellEachString items b → a ≡ b
 each_once [] [] [] h k = refl
 each_once [] (x ∷ a) b h k = absurd h
 each_once (item ∷ items) [] b h k = absurd h
@@ -171,11 +172,11 @@ each_or_fault : (items : List RawItem) → AreLowItems items → StringsChoice i
 each_or_fault [] low = inl ([], tt)
 each_or_fault (item ∷ items) low = next_string item items (string-or_fault item low.0) (each_or_fault items low.1)
 
-spelt_by : (origin : List (List ℕ)) (item : RawItem) (items : List RawItem) → StringsChoice (item ∷ items) → FieldChoice origin Strings (item ∷ items)
+spelt_by : (origin : Labels) (item : RawItem) (items : List RawItem) → StringsChoice (item ∷ items) → FieldChoice origin Strings (item ∷ items)
 spelt_by origin item items (inl found) = inl (strings found.0, record { some = omega arith; each = found.1 })
 spelt_by origin item items (inr bad) = inr (bad.0, bad.1)
 
-spelt_or_fault : (origin : List (List ℕ)) (items : List RawItem) → AreLowItems items → FieldChoice origin Strings items
+spelt_or_fault : (origin : Labels) (items : List RawItem) → AreLowItems items → FieldChoice origin Strings items
 spelt_or_fault origin [] low = inr (BadRdata, refl)
 spelt_or_fault origin (item ∷ items) low = spelt_by origin item items (each_or_fault (item ∷ items) low)
 
