@@ -1,12 +1,6 @@
 -- How many octets an address has, and that they are octets.
-use Rattle.std.proofs.Common.{[], ◌≡◌, ℕ, zero, suc, ◌-◌, ◌<◌, Bool, true, false, inl, inr, List, ◌∷◌, ◌++◌, length, replicate, refl, sym, ◌∙◌, subst, arith, length-append}
-use Rattle.std.specs.List.{AllZip}
-use Rattle.std.proofs.lemmas.List.{length-replicate}
-use Rattle.hex.proofs.HexLemmas.{decode_of-ok, decode_sized-ok, decode_sized-twice}
-use Rattle.zone_name.specs.Common.{AreOctets}
-use Rattle.zone_rdata.specs.Address.{IsOctetNumber, IsIpv4Address, AddressPart, IsGroup, IsLastPart, AreParts, parts_octets, ArePartsOf, IsIpv6Address, eight, fewer}
+use Rattle.zone_rdata.proofs.Common.{[], ◌≡◌, ℕ, zero, suc, ◌-◌, ◌<◌, Bool, true, false, inl, inr, List, ◌∷◌, ◌++◌, length, replicate, refl, sym, ◌∙◌, subst, arith, length-append, AllZip, length-replicate, decode_of-ok, decode_sized-ok, decode_sized-twice, AreOctets, IsOctetNumber, IsIpv4Address, AddressPart, IsGroup, IsLastPart, AreParts, parts_octets, ArePartsOf, IsIpv6Address, eight, fewer, AllByRecursion-append}
 use Rattle.zone_rdata.proofs.Lists.{bytes_each}
-use Rattle.zone_name.proofs.Pushing.{AllByRecursion-append}
 
 zeros_bytes : (n : ℕ) → AreOctets (replicate n 0)
 zeros_bytes zero = tt

@@ -1,11 +1,8 @@
 -- The canonical texts of addresses.
-use Rattle.std.proofs.Common.{[], ◌≡◌, ℕ, zero, suc, ◌-◌, ◌/◌, ◌%◌, ◌^◌, ◌<◌, Bool, true, ◌&&◌, List, ◌∷◌, take, drop, refl, ap, ◌∙◌, arith, ◌==◌, inl, inr}
+use Rattle.zone_rdata.proofs.Common.{[], ◌≡◌, ℕ, zero, suc, ◌-◌, ◌/◌, ◌%◌, ◌^◌, ◌<◌, Bool, true, ◌&&◌, List, ◌∷◌, take, drop, refl, ap, ◌∙◌, arith, ◌==◌, inl, inr, slice_index, leading_zero_digits, and_parts, cases_eq, eqb-true, take_rest, encode_lower, lower_digits}
 use Rattle.std.specs.Char.{digit_char}
-use Rattle.std.specs.Prelude.{slice_index}
-use Rattle.std.specs.Net.Text.{hex, leading_zero_digits}
-use Rattle.std.proofs.lemmas.Bool.{and_parts, cases_eq, eqb-true}
-use Rattle.std.proofs.lemmas.List.{take_rest}
-use Rattle.hex.specs.Hex.{encode_lower, encode_with, lower_digits}
+use Rattle.std.specs.Net.Text.{hex}
+use Rattle.hex.specs.Hex.{encode_with}
 
 -- the first places of hex's table hold the digits that std writes
 abbrev are_same : ℕ → Bool

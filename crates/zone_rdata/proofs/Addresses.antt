@@ -1,16 +1,6 @@
 -- Addresses in text, cut at dots and colons.
-use Rattle.std.proofs.Common.{[], ◌≡◌, ◌≢◌, ℕ, suc, ◌-◌, ◌==◌, Bool, true, false, inl, inr, List, ◌∷◌, ◌++◌, length, replicate, refl, sym, ap, ◌∙◌, subst, arith, Result, Ok}
-use Rattle.std.specs.List.{AllByRecursion, AllZip, All, join_with_byte, slice_split}
-use Rattle.std.proofs.lemmas.Bool.{ne_eqb}
-use Rattle.std.proofs.lemmas.List.{drop_at}
-use Rattle.std.proofs.lemmas.List.Elements.{All-drop, All-from_recursion, recursion_from_All}
+use Rattle.zone_rdata.proofs.Common.{[], ◌≡◌, ◌≢◌, ℕ, suc, ◌-◌, ◌==◌, Bool, true, false, inl, inr, List, ◌∷◌, ◌++◌, length, replicate, refl, sym, ap, ◌∙◌, subst, arith, Result, Ok, AllByRecursion, AllZip, All, join_with_byte, slice_split, ne_eqb, drop_at, All-drop, All-from_recursion, recursion_from_All, is_hex_digit, IsOk-decode_sized, is_digit, IsOctetNumber, AreNumbers, IsIpv4Address, AddressPart, IsGroup, IsLastPart, Lacks, IsCutAtFirst, AllByRecursion-append}
 use Rattle.std.proofs.lemmas.List.Splits.{join_with_byte-slice_split, slice_split_at, slice_split_none}
-use Rattle.hex.specs.Hex.{is_hex_digit}
-use Rattle.hex.proofs.HexLemmas.{IsOk-decode_sized}
-use Rattle.zone_name.specs.Spelling.{is_digit}
-use Rattle.zone_rdata.specs.Address.{IsOctetNumber, AreNumbers, IsIpv4Address, AddressPart, IsGroup, IsLastPart}
-use Rattle.zone_rdata.specs.Machine.AddressReading.{Lacks, IsCutAtFirst}
-use Rattle.zone_name.proofs.Pushing.{AllByRecursion-append}
 use Rattle.zone_rdata.proofs.Lists.{each_weaker}
 
 -- ---- cutting

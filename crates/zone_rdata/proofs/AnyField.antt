@@ -1,18 +1,6 @@
 -- What is proved of any field. `kind_of` picks the laws of its kind.
-use Rattle.std.proofs.Common.{[], List, Some, ap, length, subst, sym, ℕ, ◌++◌, ◌+◌, ◌*◌, ◌<◌, ◌∙◌, ◌∷◌, ◌≡◌, ◌≢◌, ◌≤◌, arith}
-use Rattle.std.specs.List.{AllByRecursion}
-use Rattle.std.proofs.lemmas.List.{append_cancel_left}
-use Rattle.zone_name.specs.Common.{Labels}
-use Rattle.zone_name.specs.Name.{IsName}
-use Rattle.zone_rdata.specs.declared.fault.Fault.{Fault}
-use Rattle.zone_rdata.specs.declared.field.Field.{Field}
+use Rattle.zone_rdata.proofs.Common.{[], List, Some, ap, length, subst, sym, ℕ, ◌++◌, ◌+◌, ◌*◌, ◌<◌, ◌∙◌, ◌∷◌, ◌≡◌, ◌≢◌, ◌≤◌, arith, AllByRecursion, append_cancel_left, Labels, IsName, Fault, Field, FitsString, FieldValue, Holds, IsFieldFault, SpellsField, Suits, field_at, field_items, field_octets, field_text, items_after, own_items, IsGeneric, RawItem, bare, IsSized, BeginsWithValue, IsReal, part_field}
 use Rattle.zone_rdata.specs.declared.field.Field.TheVariants.{Name, Octets, OneString, Serial, Strings, Time, U16}
-use Rattle.zone_rdata.specs.Builder.{FitsString}
-use Rattle.zone_rdata.specs.Field.{FieldValue, Holds, IsFieldFault, SpellsField, Suits, field_at, field_items, field_octets, field_text, items_after, own_items}
-use Rattle.zone_rdata.specs.Item.{IsGeneric, RawItem, bare}
-use Rattle.zone_rdata.specs.Layout.{IsSized}
-use Rattle.zone_rdata.specs.Machine.Appending.{BeginsWithValue}
-use Rattle.zone_rdata.specs.Machine.Building.{IsReal, part_field}
 use Rattle.zone_rdata.proofs.FieldLaws.{AreLow, AreLowItems, FieldChoice, FieldLaws, FrontChoice, NameFaultOnce, NameOrFault, NamesNever, NamesOnce, NamesPrinted, plain_front}
 use Rattle.zone_rdata.proofs.Standing.{IsPrintedItem}
 use Rattle.zone_rdata.proofs.StringLaws.{fault-once}

@@ -1,8 +1,5 @@
 -- What is so or not, of one thing or of none.
-use Rattle.std.proofs.Common.{[], ◌≡◌, ℕ, ◌<◌, Bool, true, false, List, ◌∷◌, ◌⊎◌, inl, inr, refl, arith, Option}
-use Rattle.std.specs.List.{AllByRecursion}
-use Rattle.std.specs.Prelude.{IfNone, IfSome}
-use Rattle.std.proofs.lemmas.Bool.{cases_lt, false≢true}
+use Rattle.zone_rdata.proofs.Common.{[], ◌≡◌, ℕ, ◌<◌, Bool, true, false, List, ◌∷◌, ◌⊎◌, inl, inr, refl, arith, Option, AllByRecursion, IfNone, IfSome, cases_lt, false≢true}
 
 abbrev pub Decided : Type 0 → Type 0
 Decided P = P ⊎ (P → ⊥)

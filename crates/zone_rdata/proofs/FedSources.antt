@@ -1,9 +1,7 @@
 -- What a source that is fed stands for after the records that it gives.
-use Rattle.std.proofs.Common.{[], ◌≡◌, ℕ, List, ◌∷◌, ◌++◌, Option, Some, None, Result, Ok, Err, refl, sym, ap, ◌∙◌, subst, append_assoc, arith}
-use Rattle.std.proofs.lemmas.List.{append-nil}
+use Rattle.zone_rdata.proofs.Common.{[], ◌≡◌, ℕ, List, ◌∷◌, ◌++◌, Option, Some, None, Result, Ok, Err, refl, sym, ap, ◌∙◌, subst, append_assoc, arith, append-nil, Fault}
 use Rattle.zone_rdata.specs.FedSource.{Gives, Held, SourceState, StandsFor}
 use Rattle.zone_rdata.specs.RrSource.{Pending, after, answer_of, first_answer, others}
-use Rattle.zone_rdata.specs.declared.fault.Fault.{Fault}
 use Rattle.zone_rdata.specs.declared.fault.Place.{Place}
 use Rattle.zone_rdata.specs.declared.fault.Stop.{Stop}
 use Rattle.zone_rdata.specs.declared.record.Placed.{Placed}

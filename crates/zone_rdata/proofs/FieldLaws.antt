@@ -1,25 +1,9 @@
 -- What is proved of every kind of field, and what kinds share.
-use Rattle.std.proofs.Common.{[], List, Option, Some, ap, arith, decimal, drop, get_or, inl, inr, length, length-append, refl, subst, suc, sym, take, true, zero, ℕ, ◌++◌, ◌+◌, ◌*◌, ◌<◌, ◌^◌, ◌∙◌, ◌∷◌, ◌≡◌, ◌≢◌, ◌≤◌, ◌⊎◌}
-use Rattle.std.specs.List.{AllByRecursion}
-use Rattle.std.specs.Prelude.{IfSome}
-use Rattle.std.proofs.lemmas.Bool.{cases_lt, false≢true}
-use Rattle.std.proofs.lemmas.List.{length-take, take-append-drop}
-use Rattle.zone_name.specs.Common.{Labels}
-use Rattle.zone_name.specs.Name.{IsName}
-use Rattle.zone_name.specs.Spelling.{SpellingFault, Spells, is_digit}
+use Rattle.zone_rdata.proofs.Common.{[], List, Option, Some, ap, arith, decimal, drop, get_or, inl, inr, length, length-append, refl, subst, suc, sym, take, true, zero, ℕ, ◌++◌, ◌+◌, ◌*◌, ◌<◌, ◌^◌, ◌∙◌, ◌∷◌, ◌≡◌, ◌≢◌, ◌≤◌, ◌⊎◌, AllByRecursion, IfSome, cases_lt, false≢true, length-take, take-append-drop, Labels, IsName, SpellingFault, Spells, is_digit, Fault, Field, FitsString, FieldValue, Holds, IsFieldFault, IsSent, SpellsField, Suits, field_at, field_items, field_octets, field_text, items_after, name, own_items, IsGeneric, RawItem, bare, quoted, IsSized, AppendsPrefix, AppendsValue, BeginsWithNone, BeginsWithValue, IsReal, part_field, item_text}
 use Rattle.zone_name.specs.Text.{name_text}
 use Rattle.zone_name.specs.declared.fault.NameFault.{NameFault}
-use Rattle.zone_rdata.specs.declared.fault.Fault.{Fault}
 use Rattle.zone_rdata.specs.declared.fault.Fault.TheVariants.{BadRdata}
-use Rattle.zone_rdata.specs.declared.field.Field.{Field}
 use Rattle.zone_rdata.specs.declared.field.Field.TheVariants.{Name, OneString, Strings}
-use Rattle.zone_rdata.specs.Builder.{FitsString}
-use Rattle.zone_rdata.specs.Field.{FieldValue, Holds, IsFieldFault, IsSent, SpellsField, Suits, field_at, field_items, field_octets, field_text, items_after, name, own_items}
-use Rattle.zone_rdata.specs.Item.{IsGeneric, RawItem, bare, quoted}
-use Rattle.zone_rdata.specs.Layout.{IsSized}
-use Rattle.zone_rdata.specs.Machine.Appending.{AppendsPrefix, AppendsValue, BeginsWithNone, BeginsWithValue}
-use Rattle.zone_rdata.specs.Machine.Building.{IsReal, part_field}
-use Rattle.zone_rdata.specs.Strings.{item_text}
 use Rattle.zone_rdata.proofs.Choices.{Choice}
 use Rattle.zone_rdata.proofs.GenericLaws.{decimal-is}
 use Rattle.zone_rdata.proofs.Standing.{IsPrintedItem}

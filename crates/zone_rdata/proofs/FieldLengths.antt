@@ -1,15 +1,6 @@
 -- How many octets a printed number, address or string has, with a space after it.
-use Rattle.std.proofs.Common.{[], ◌≡◌, ℕ, ◌+◌, ◌*◌, ◌<◌, ◌≤◌, List, ◌∷◌, ◌++◌, length, drop, map, codes, decimal, arith, ap, length-append, le-ltb, lt-ltb}
-use Rattle.std.specs.List.{flat_map}
+use Rattle.zone_rdata.proofs.Common.{[], ◌≡◌, ℕ, ◌+◌, ◌*◌, ◌<◌, ◌≤◌, List, ◌∷◌, ◌++◌, length, drop, map, codes, decimal, arith, ap, length-append, le-ltb, lt-ltb, flat_map, cases_lt, length-decimal-le, length-drop, length-take, AreOctets, with_length, ipv4_text, ipv6_text, parted_groups, shortened_groups, inside_text, string_text, strings_text}
 use Rattle.std.specs.Net.Text.{hex}
-use Rattle.std.proofs.lemmas.Bool.{cases_lt}
-use Rattle.std.proofs.lemmas.Fmt.{length-decimal-le}
-use Rattle.std.proofs.lemmas.List.{length-drop, length-take}
-use Rattle.zone_name.specs.Common.{AreOctets}
-use Rattle.zone_name.specs.Name.{with_length}
-use Rattle.zone_rdata.specs.Address.{ipv4_text, ipv6_text, parted_groups, shortened_groups}
-use Rattle.zone_rdata.specs.Strings.{inside_text, string_text}
-use Rattle.zone_rdata.specs.Fields.Strings.{strings_text}
 use Rattle.zone_rdata.proofs.AddressLaws.{segments_count}
 use Rattle.zone_rdata.proofs.Texts.{joined_more}
 

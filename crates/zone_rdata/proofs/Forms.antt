@@ -1,21 +1,10 @@
 -- What items state for a layout, if there is one, and why they state nothing.
-use Rattle.std.proofs.Common.{◌≡◌, ℕ, ◌≤◌, List, length, sym, ap, ◌∙◌, subst, Bool, false, IsTrue, ◌↔◌, Option, Some, None, Result, Ok, Err, arith}
-use Rattle.std.specs.Prelude.{IfOk, IfErr, IsErrAnd, option_map}
-use Rattle.zone_name.specs.Common.{Labels}
+use Rattle.zone_rdata.proofs.Common.{◌≡◌, ℕ, ◌≤◌, List, length, sym, ap, ◌∙◌, subst, Bool, false, IsTrue, ◌↔◌, Option, Some, None, Result, Ok, Err, arith, IfOk, IfErr, IsErrAnd, Labels, Failing, Fault, IsFaultFor, IsGenericDataFault, IsWordsFault, no_value, opaque_words, IfFault, StatesGeneric, RawItem, IsGeneric, fields_of, AreSpelt, StatesFor, in_words, IsUncompressed}
+use Rattle.std.specs.Prelude.{option_map}
 use Rattle.zone_rdata.specs.declared.fault.Failing.TheVariants as failings
-use Rattle.zone_rdata.specs.declared.fault.Failing.{Failing}
-use Rattle.zone_rdata.specs.declared.fault.Fault.{Fault}
 use Rattle.zone_rdata.specs.declared.fault.Fault.TheVariants.{BadRdata, BadGeneric}
 use Rattle.zone_rdata.specs.declared.layout.Layout.{Layout}
-use Rattle.zone_rdata.specs.DataFault.{IsFaultFor, IsGenericDataFault, IsWordsFault, no_value, opaque_words}
 use Rattle.zone_rdata.specs.DataFault as faults
-use Rattle.zone_rdata.specs.Fault.{IfFault}
-use Rattle.zone_rdata.specs.Generic.{StatesGeneric}
-use Rattle.zone_rdata.specs.Item.{RawItem, IsGeneric}
-use Rattle.zone_rdata.specs.Layout.{fields_of}
-use Rattle.zone_rdata.specs.Machine.Appending.{AreSpelt}
-use Rattle.zone_rdata.specs.Spelling.{StatesFor, in_words}
-use Rattle.zone_rdata.specs.Uncompressed.{IsUncompressed}
 use Rattle.zone_rdata.proofs.Failings.{IfErr-fault}
 
 -- octets in the generic form that are no value of the layout

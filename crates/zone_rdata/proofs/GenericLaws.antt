@@ -1,27 +1,12 @@
 -- The laws of the generic form.
-use Rattle.std.proofs.Common.{[], ◌≡◌, ℕ, ◌+◌, ◌/◌, ◌%◌, ◌<◌, ◌≤◌, ◌^◌, true, List, ◌∷◌, ◌++◌, length, map, Result, Ok, Err, ◌⊎◌, inl, inr, refl, sym, ap, ◌∙◌, subst, arith, length-append}
+use Rattle.zone_rdata.proofs.Common.{[], ◌≡◌, ℕ, ◌+◌, ◌/◌, ◌%◌, ◌<◌, ◌≤◌, ◌^◌, true, List, ◌∷◌, ◌++◌, length, map, Result, Ok, Err, ◌⊎◌, inl, inr, refl, sym, ap, ◌∙◌, subst, arith, length-append, join_with_byte, cases_lt, cases_eq, decimal_digit, decimal_by_steps, append-nil, decode_of, decode_of-encode_lower, AreOctets, is_digit, Fault, RawItem, bare, quoted, generic_mark, IsGeneric, IsDecimal, decimal_value, StatesLength, IsGenericForm, JoinTo, StatesGeneric, GenericFault, no_length, long_length, bad_digits, digit_items, generic_items, item_text, generic_text, AllByRecursion-append}
 use Rattle.std.specs.Prelude.{decimal}
-use Rattle.std.specs.List.{join_with_byte}
-use Rattle.std.proofs.lemmas.Bool.{cases_lt, cases_eq}
-use Rattle.std.proofs.lemmas.Fmt.{decimal_digit, decimal_by_steps}
-use Rattle.std.proofs.lemmas.List.{append-nil}
-use Rattle.hex.specs.Hex.{decode_of}
 use Rattle.hex.specs.declared.error.FromHexError.{FromHexError}
-use Rattle.hex.proofs.HexLemmas.{decode_of-encode_lower}
-use Rattle.zone_name.specs.Common.{AreOctets}
-use Rattle.zone_name.specs.Spelling.{is_digit}
-use Rattle.zone_rdata.specs.declared.fault.Fault.{Fault}
 use Rattle.zone_rdata.specs.declared.fault.Fault.TheVariants.{BadGeneric, RdataTooLong}
-use Rattle.zone_rdata.specs.Item.{RawItem, bare, quoted, generic_mark, IsGeneric}
-use Rattle.zone_rdata.specs.Number.{IsDecimal, decimal_value}
-use Rattle.zone_rdata.specs.Generic.{StatesLength, IsGenericForm, JoinTo, StatesGeneric, GenericFault, no_length, long_length, bad_digits, digit_items, generic_items}
 use Rattle.zone_rdata.specs.Machine.GenericLength.{LengthFault, no_number, beyond}
-use Rattle.zone_rdata.specs.Strings.{item_text}
-use Rattle.zone_rdata.specs.Text.{generic_text}
 use Rattle.zone_rdata.proofs.Choices.{Choice, each_or_not, true_or_not}
 use Rattle.zone_rdata.proofs.Decimal.{value_push}
 use Rattle.zone_rdata.proofs.GenericForm.{JoinTo-once, form_faults, form_missing, form_states}
-use Rattle.zone_name.proofs.Pushing.{AllByRecursion-append}
 use Rattle.zone_rdata.proofs.Lists.{each_below}
 use Rattle.zone_name.proofs.Lawful.{digit_test}
 

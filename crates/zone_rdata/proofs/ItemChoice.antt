@@ -1,20 +1,6 @@
 -- Items state a value or have a first fault.
-use Rattle.std.proofs.Common.{[], List, None, Option, Some, ap, inl, inr, length, refl, subst, sym, ℕ, ◌<◌, ◌∷◌, ◌≡◌, ◌⊎◌, arith}
-use Rattle.std.proofs.lemmas.Bool.{cases_lt}
-use Rattle.hex.proofs.HexLemmas.{decode_of-ok}
-use Rattle.zone_name.specs.Common.{Labels}
-use Rattle.zone_name.specs.Name.{IsName}
-use Rattle.zone_name.proofs.Pushing.{AllByRecursion-append}
-use Rattle.zone_rdata.specs.declared.fault.Fault.{Fault}
+use Rattle.zone_rdata.proofs.Common.{[], List, None, Option, Some, ap, inl, inr, length, refl, subst, sym, ℕ, ◌<◌, ◌∷◌, ◌≡◌, ◌⊎◌, arith, cases_lt, decode_of-ok, Labels, IsName, AllByRecursion-append, Fault, Field, FirstFieldFault, IsDataFault, IsFaultFor, in_generic_form, malformed, no_value, opaque_words, too_long, unspelt, FieldValue, items_after, octets_of, own_items, GenericFault, JoinTo, StatesGeneric, IsGeneric, RawItem, bare, quoted, layout, SpellEach, States, StatesFor, in_words, IsUncompressed}
 use Rattle.zone_rdata.specs.declared.fault.Fault.TheVariants.{BadGeneric, BadRdata, RdataTooLong}
-use Rattle.zone_rdata.specs.declared.field.Field.{Field}
-use Rattle.zone_rdata.specs.DataFault.{FirstFieldFault, IsDataFault, IsFaultFor, in_generic_form, malformed, no_value, opaque_words, too_long, unspelt}
-use Rattle.zone_rdata.specs.Field.{FieldValue, items_after, octets_of, own_items}
-use Rattle.zone_rdata.specs.Generic.{GenericFault, JoinTo, StatesGeneric}
-use Rattle.zone_rdata.specs.Item.{IsGeneric, RawItem, bare, quoted}
-use Rattle.zone_rdata.specs.Layout.{layout}
-use Rattle.zone_rdata.specs.Spelling.{SpellEach, States, StatesFor, in_words}
-use Rattle.zone_rdata.specs.Uncompressed.{IsUncompressed}
 use Rattle.zone_rdata.proofs.AnyField.{field_or_fault}
 use Rattle.zone_rdata.proofs.Lists.{bytes_each}
 use Rattle.zone_rdata.proofs.Choices.{Choice, Decided}

@@ -1,15 +1,5 @@
 -- Items state at most one value, or have at most one first fault.
-use Rattle.std.proofs.Common.{[], List, None, Option, Some, arith, inl, inr, length, refl, subst, sym, ℕ, ◌∙◌, ◌∷◌, ◌≡◌, ◌≤◌}
-use Rattle.zone_name.specs.Common.{Labels}
-use Rattle.zone_rdata.specs.declared.fault.Fault.{Fault}
-use Rattle.zone_rdata.specs.declared.field.Field.{Field}
-use Rattle.zone_rdata.specs.DataFault.{FirstFieldFault, IsDataFault, IsFaultFor, IsGenericDataFault, IsWordsFault, in_generic_form, malformed, no_value, opaque_words, too_long, unspelt}
-use Rattle.zone_rdata.specs.Field.{FieldValue, items_after, octets_of}
-use Rattle.zone_rdata.specs.Generic.{StatesGeneric, GenericFault}
-use Rattle.zone_rdata.specs.Item.{RawItem, IsGeneric}
-use Rattle.zone_rdata.specs.Layout.{layout}
-use Rattle.zone_rdata.specs.Spelling.{IsCanonicalOf, SpellEach, States, StatesFor, in_octets, in_words}
-use Rattle.zone_rdata.specs.Uncompressed.{IsUncompressed}
+use Rattle.zone_rdata.proofs.Common.{[], List, None, Option, Some, arith, inl, inr, length, refl, subst, sym, ℕ, ◌∙◌, ◌∷◌, ◌≡◌, ◌≤◌, Labels, Fault, Field, FirstFieldFault, IsDataFault, IsFaultFor, IsGenericDataFault, IsWordsFault, in_generic_form, malformed, no_value, opaque_words, too_long, unspelt, FieldValue, items_after, octets_of, StatesGeneric, GenericFault, RawItem, IsGeneric, layout, IsCanonicalOf, SpellEach, States, StatesFor, in_octets, in_words, IsUncompressed}
 use Rattle.zone_rdata.proofs.AnyField.{field_fault_once, field_never, field_once}
 use Rattle.zone_rdata.proofs.FieldLaws.{NameFaultOnce, NamesNever, NamesOnce}
 use Rattle.zone_rdata.proofs.GenericLaws.{generic-never_both, generic-once, generic_fault-once}

@@ -1,19 +1,8 @@
 -- Items read from the left, field after field.
-use Rattle.std.proofs.Common.{[], ◌≡◌, ℕ, ◌+◌, ◌-◌, ◌<◌, ◌≤◌, List, ◌∷◌, ◌++◌, length, get_or, take, drop, map, refl, sym, ap, ◌∙◌, subst, arith, append_assoc, Bor, Bool, IsTrue, ◌↔◌, inl, inr}
+use Rattle.zone_rdata.proofs.Common.{[], ◌≡◌, ℕ, ◌+◌, ◌-◌, ◌<◌, ◌≤◌, List, ◌∷◌, ◌++◌, length, get_or, take, drop, map, refl, sym, ap, ◌∙◌, subst, arith, append_assoc, Bor, Bool, IsTrue, ◌↔◌, inl, inr, bytes_eq-Decides, append-nil, length-drop, take_all, drop_all, drop-drop, Labels, Fault, Item, Field, FirstFieldFault, IsWordsFault, unspelt, too_long, IsFieldFault, FieldValue, field_octets, octets_of, own_items, RawItem, bare, raw, generic_mark, IsGeneric, AppendsFirst, AreSpelt, SpellEach}
 use Rattle.std.specs.Str.{bytes_eq}
-use Rattle.std.proofs.lemmas.Slice.Eq.{bytes_eq-Decides}
-use Rattle.std.proofs.lemmas.List.{append-nil, length-drop, take_all, drop_all, drop-drop}
-use Rattle.zone_name.specs.Common.{Labels}
-use Rattle.zone_rdata.specs.declared.fault.Fault.{Fault}
 use Rattle.zone_rdata.specs.declared.fault.Fault.TheVariants.{BadRdata, RdataTooLong}
-use Rattle.zone_rdata.specs.declared.item.Item.{Item}
 use Rattle.zone_rdata.specs.declared.item.Item.TheVariants.{Bare}
-use Rattle.zone_rdata.specs.declared.field.Field.{Field}
-use Rattle.zone_rdata.specs.DataFault.{FirstFieldFault, IsWordsFault, unspelt, too_long}
-use Rattle.zone_rdata.specs.Field.{IsFieldFault, FieldValue, field_octets, octets_of, own_items}
-use Rattle.zone_rdata.specs.Item.{RawItem, bare, raw, generic_mark, IsGeneric}
-use Rattle.zone_rdata.specs.Machine.Appending.{AppendsFirst, AreSpelt}
-use Rattle.zone_rdata.specs.Spelling.{SpellEach}
 use Rattle.zone_rdata.proofs.Lists.{from_place}
 
 -- some fields were read, and what the items that are left are for the other fields, all items are

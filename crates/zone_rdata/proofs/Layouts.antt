@@ -1,17 +1,9 @@
 -- Values of a layout are data: their octets hold them, are octets, and without strings few.
-use Rattle.std.proofs.Common.{[], List, Option, Some, ap, length, refl, ℕ, ◌++◌, ◌<◌, ◌∙◌, ◌∷◌, ◌≡◌, ◌≤◌, arith, length-append, ◌*◌, ◌≢◌}
-use Rattle.std.specs.List.{AllByRecursion}
-use Rattle.std.specs.Prelude.{MatchOption}
-use Rattle.std.proofs.lemmas.List.{drop_at}
-use Rattle.zone_rdata.specs.declared.field.Field.{Field}
-use Rattle.zone_rdata.specs.Field.{FieldValue, HoldEach, Holds, field_octets, octets_of, values_of}
-use Rattle.zone_rdata.specs.Layout.{AreLaidOut, IsData, StringsLast, layout, IsSized}
-use Rattle.zone_rdata.specs.Spelling.{IsCanonicalOf}
+use Rattle.zone_rdata.proofs.Common.{[], List, Option, Some, ap, length, refl, ℕ, ◌++◌, ◌<◌, ◌∙◌, ◌∷◌, ◌≡◌, ◌≤◌, arith, length-append, ◌*◌, ◌≢◌, AllByRecursion, MatchOption, drop_at, Field, FieldValue, HoldEach, Holds, field_octets, octets_of, values_of, AreLaidOut, IsData, StringsLast, layout, IsSized, IsCanonicalOf, AllByRecursion-append}
 use Rattle.zone_rdata.proofs.AnyField.{field_back, field_short, field_low}
 use Rattle.zone_rdata.proofs.Taken.{uncompressed_length}
 use Rattle.zone_rdata.proofs.Tables.{table_row}
 use Rattle.zone_rdata.specs.declared.field.Field.TheVariants.{Strings}
-use Rattle.zone_name.proofs.Pushing.{AllByRecursion-append}
 use Rattle.zone_rdata.proofs.FieldLaws.{AreLow}
 
 -- the first field of octets, and the fields after it

@@ -1,24 +1,9 @@
 -- Of more items than any data can have, those that spell strings may be left out: the others have
 -- the same first fault, and state no data.
-use Rattle.std.proofs.Common.{[], ◌≡◌, ℕ, ◌+◌, ◌<◌, ◌≤◌, List, ◌∷◌, ◌++◌, length, Option, Some, inl, inr, refl, sym, ap, ◌∙◌, subst, arith, append_assoc, length-append}
-use Rattle.std.specs.List.{AllByRecursion}
-use Rattle.hex.proofs.HexLemmas.{decode_of-ok}
-use Rattle.zone_name.proofs.Octets.{length-frames}
-use Rattle.zone_name.proofs.Pushing.{AllByRecursion-front}
-use Rattle.zone_name.specs.Common.{Labels}
-use Rattle.zone_rdata.specs.declared.fault.Fault.{Fault}
-use Rattle.zone_rdata.specs.declared.field.Field.{Field}
+use Rattle.zone_rdata.proofs.Common.{[], ◌≡◌, ℕ, ◌+◌, ◌<◌, ◌≤◌, List, ◌∷◌, ◌++◌, length, Option, Some, inl, inr, refl, sym, ap, ◌∙◌, subst, arith, append_assoc, length-append, AllByRecursion, decode_of-ok, length-frames, AllByRecursion-front, Labels, Fault, Field, FirstFieldFault, IsDataFault, IsFaultFor, IsGenericDataFault, IsWordsFault, in_generic_form, malformed, no_value, opaque_words, too_long, unspelt, FieldValue, SpellsField, octets_of, strings, FirstStringFault, SpellEachString, GenericFault, IsGenericForm, JoinTo, StatesGeneric, bad_digits, long_length, no_length, IsGeneric, RawItem, bare, quoted, layout, SpellEach, States, StatesFor, in_octets, in_words, SpellsString}
 use Rattle.zone_rdata.specs.declared.field.Field.TheVariants.{Strings}
-use Rattle.zone_rdata.specs.DataFault.{FirstFieldFault, IsDataFault, IsFaultFor, IsGenericDataFault, IsWordsFault, in_generic_form, malformed, no_value, opaque_words, too_long, unspelt}
 use Rattle.zone_rdata.specs.DataFault as faults
-use Rattle.zone_rdata.specs.Field.{FieldValue, SpellsField, octets_of, strings}
-use Rattle.zone_rdata.specs.Fields.Strings.{FirstStringFault, SpellEachString}
-use Rattle.zone_rdata.specs.Generic.{GenericFault, IsGenericForm, JoinTo, StatesGeneric, bad_digits, long_length, no_length}
-use Rattle.zone_rdata.specs.Item.{IsGeneric, RawItem, bare, quoted}
-use Rattle.zone_rdata.specs.Layout.{layout}
 use Rattle.zone_rdata.specs.Machine.LeftOut.{AreShortened, IsWritten, LeavesOut}
-use Rattle.zone_rdata.specs.Spelling.{SpellEach, States, StatesFor, in_octets, in_words}
-use Rattle.zone_rdata.specs.Strings.{SpellsString}
 use Rattle.zone_rdata.proofs.Tables.{table_row}
 
 -- ---- data has at most as many items as octets, but for a few

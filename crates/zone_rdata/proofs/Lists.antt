@@ -1,8 +1,5 @@
 -- Lists, element by element.
-use Rattle.zone_name.specs.Common.{AreOctets}
-use Rattle.std.proofs.Common.{[], ◌≡◌, ℕ, zero, suc, ◌+◌, ◌<◌, List, ◌∷◌, length, get_or, drop, sym, ap, ◌∙◌}
-use Rattle.std.specs.List.{AllByRecursion}
-use Rattle.std.proofs.lemmas.List.{drop_more}
+use Rattle.zone_rdata.proofs.Common.{AreOctets, [], ◌≡◌, ℕ, zero, suc, ◌+◌, ◌<◌, List, ◌∷◌, length, get_or, drop, sym, ap, ◌∙◌, AllByRecursion, drop_more}
 
 -- the element at an index, and those after it
 pub from_place : {A : Type 0} (xs : List A) (i : ℕ) (x d : A) → i < length xs → x ≡ get_or xs i d → drop i xs ≡ x ∷ drop (i + 1) xs

@@ -1,16 +1,6 @@
 -- A word has one number at most, and a text one time.
-use Rattle.std.proofs.Common.{◌≡◌, ℕ, ◌<◌, ◌≤◌, Bool, true, false, not, List, ◌++◌, length, take, drop, codes, refl, sym, ap, ◌∙◌, subst, arith, ◌==◌, Option, Some, None, bytes_eq, ◌⊎◌, inl, inr}
-use Rattle.std.specs.List.{find, list_all}
-use Rattle.std.specs.Option.{option_map}
+use Rattle.zone_rdata.proofs.Common.{◌≡◌, ℕ, ◌<◌, ◌≤◌, Bool, true, false, not, List, ◌++◌, length, take, drop, codes, refl, sym, ap, ◌∙◌, subst, arith, ◌==◌, Option, Some, None, bytes_eq, ◌⊎◌, inl, inr, find, list_all, option_map, eqb-true, not-true, false≢true, map-append, length-map, take_at, bytes_eq-Decides, folded_octet, folded_label, decimal_value, Named, classes, type_names, number_among, IsKind, IsMnemonic, IsNumbered, IsWordAmong, by_mnemonic, by_number, IsClassWord, IsKindWord, IsWordFault, nameless, beyond, for_queries, Fault}
 use Rattle.std.proofs.Math.Seq.{drop-append_seam}
-use Rattle.std.proofs.lemmas.Bool.{eqb-true, not-true, false≢true}
-use Rattle.std.proofs.lemmas.List.{map-append, length-map, take_at}
-use Rattle.std.proofs.lemmas.Slice.Eq.{bytes_eq-Decides}
-use Rattle.zone_name.specs.Name.{folded_octet, folded_label}
-use Rattle.zone_rdata.specs.Number.{decimal_value}
-use Rattle.zone_rdata.specs.Table.{Named, classes, type_names, number_among}
-use Rattle.zone_rdata.specs.Words.{IsKind, IsMnemonic, IsNumbered, IsWordAmong, by_mnemonic, by_number, IsClassWord, IsKindWord, IsWordFault, nameless, beyond, for_queries}
-use Rattle.zone_rdata.specs.declared.fault.Fault.{Fault}
 use Rattle.zone_rdata.specs.declared.fault.Fault.TheVariants.{UnknownType, MetaType}
 use Rattle.zone_rdata.proofs.Tables.{each_mnemonic}
 

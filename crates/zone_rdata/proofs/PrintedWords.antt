@@ -1,11 +1,5 @@
 -- Printed words are those of their class or type, and stand outside quotes.
-use Rattle.std.proofs.Common.{◌≡◌, ℕ, ◌^◌, ◌<◌, true, List, ◌++◌, codes, decimal, Option, Some, None, refl, arith}
-use Rattle.std.specs.List.{list_all}
-use Rattle.zone_name.proofs.Bare.{StandsBare, bare_append}
-use Rattle.zone_rdata.specs.declared.field.Field.{Field}
-use Rattle.zone_rdata.specs.Layout.{layout}
-use Rattle.zone_rdata.specs.Table.{Named, classes, type_names, mnemonic_among}
-use Rattle.zone_rdata.specs.Words.{IsClass, IsClassWord, IsKind, IsKindWord, IsNumbered, IsWordAmong, by_number, class_text, kind_text, laid_out_mnemonic, word_or_numbered}
+use Rattle.zone_rdata.proofs.Common.{◌≡◌, ℕ, ◌^◌, ◌<◌, true, List, ◌++◌, codes, decimal, Option, Some, None, refl, arith, list_all, StandsBare, bare_append, Field, layout, Named, classes, type_names, mnemonic_among, IsClass, IsClassWord, IsKind, IsKindWord, IsNumbered, IsWordAmong, by_number, class_text, kind_text, laid_out_mnemonic, word_or_numbered}
 use Rattle.zone_rdata.proofs.GenericLaws.{decimal-is}
 use Rattle.zone_rdata.proofs.Standing.{are_bare, bare_decimal, bare_tested}
 use Rattle.zone_rdata.proofs.Tables.{each_mnemonic}

@@ -1,16 +1,8 @@
 -- Uncompressed octets: what stands at their front, and that it is one thing.
-use Rattle.std.proofs.Common.{[], ◌≡◌, ℕ, ◌<◌, ◌≤◌, List, ◌∷◌, ◌++◌, length, take, drop, Result, Err, refl, sym, ap, ◌∙◌, subst, arith, append_assoc, length-append}
+use Rattle.zone_rdata.proofs.Common.{[], ◌≡◌, ℕ, ◌<◌, ◌≤◌, List, ◌∷◌, ◌++◌, length, take, drop, Result, Err, refl, sym, ap, ◌∙◌, subst, arith, append_assoc, length-append, flat_map, AllByRecursion, append-nil, take-append-drop, length-map, length-take, map-append, flat_map-append, Labels, IsLabel, IsName, folded_octet, folded_label, folded, with_length, wire, IsLabelFault, BeginsWithSent, AllByRecursion-append, AllByRecursion-back}
 use Rattle.std.specs.Prelude.{◌↔◌}
-use Rattle.std.specs.List.{flat_map, AllByRecursion}
-use Rattle.std.proofs.lemmas.List.{append-nil, take-append-drop, length-map, length-take, map-append}
-use Rattle.std.proofs.lemmas.List.Concat.{flat_map-append}
-use Rattle.zone_name.specs.Common.{Labels}
-use Rattle.zone_name.specs.Name.{IsLabel, IsName, folded_octet, folded_label, folded, with_length, wire}
-use Rattle.zone_name.specs.Spelling.{IsLabelFault}
 use Rattle.zone_name.specs.declared.fault.NameFault.{NameFault}
 use Rattle.zone_name.specs.declared.fault.NameFault.TheVariants.{EmptyLabel, LabelTooLong, NameTooLong}
-use Rattle.zone_rdata.specs.Machine.Fronts.{BeginsWithSent}
-use Rattle.zone_name.proofs.Pushing.{AllByRecursion-append, AllByRecursion-back}
 
 -- ---- lists one after another
 -- lists of one length are cut off alike

@@ -1,18 +1,8 @@
 -- Texts and items that stand in a master file as they are printed.
-use Rattle.std.proofs.Common.{[], ◌≡◌, ℕ, ◌/◌, ◌%◌, ◌^◌, ◌<◌, ◌&&◌, nat_lt, Bool, true, List, ◌∷◌, length, decimal, inl, inr, refl, arith}
-use Rattle.std.specs.List.{AllByRecursion, list_all}
-use Rattle.std.proofs.lemmas.Bool.{and_parts}
-use Rattle.std.proofs.lemmas.Bool.Decides.{nat_tests}
-use Rattle.hex.specs.Hex.{lower_digits, encode_with, encode_lower}
-use Rattle.zone_name.specs.Common.{AreOctets}
-use Rattle.zone_name.specs.Spelling.{is_digit, escaped}
-use Rattle.zone_name.proofs.Bare.{StandsBare, is_bare, bare_octets, bare_unit}
-use Rattle.zone_rdata.specs.Address.{IsAddressOctet}
-use Rattle.zone_rdata.specs.Item.{RawItem, bare, quoted}
-use Rattle.zone_rdata.specs.Strings.{StandsInQuotes}
+use Rattle.zone_rdata.proofs.Common.{[], ◌≡◌, ℕ, ◌/◌, ◌%◌, ◌^◌, ◌<◌, ◌&&◌, nat_lt, Bool, true, List, ◌∷◌, length, decimal, inl, inr, refl, arith, AllByRecursion, list_all, and_parts, nat_tests, lower_digits, encode_lower, AreOctets, is_digit, escaped, StandsBare, is_bare, bare_octets, bare_unit, IsAddressOctet, RawItem, bare, quoted, StandsInQuotes, All-from_recursion}
+use Rattle.hex.specs.Hex.{encode_with}
 use Rattle.zone_rdata.proofs.GenericLaws.{decimal-is}
 use Rattle.zone_rdata.proofs.Lists.{each_weaker}
-use Rattle.std.proofs.lemmas.List.Elements.{All-from_recursion}
 
 -- an item that stands as it is printed: bare, or between its quotes in one line
 abbrev pub IsPrintedItem : RawItem → Type 0

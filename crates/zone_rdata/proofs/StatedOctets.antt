@@ -1,13 +1,5 @@
 -- What items state is data.
-use Rattle.std.proofs.Common.{[], List, Option, length, refl, subst, ℕ, ◌∷◌, ◌≡◌, ◌≤◌, arith}
-use Rattle.zone_name.specs.Common.{AreOctets, Labels}
-use Rattle.zone_rdata.specs.declared.fault.Fault.{Fault}
-use Rattle.zone_rdata.specs.declared.field.Field.{Field}
-use Rattle.zone_rdata.specs.DataFault.{IsDataFault, IsFaultFor}
-use Rattle.zone_rdata.specs.Field.{FieldValue, HoldEach, items_after, own_items}
-use Rattle.zone_rdata.specs.Item.{RawItem}
-use Rattle.zone_rdata.specs.Layout.{IsData, layout}
-use Rattle.zone_rdata.specs.Spelling.{IsCanonicalOf, SpellEach, States, StatesFor}
+use Rattle.zone_rdata.proofs.Common.{[], List, Option, length, refl, subst, ℕ, ◌∷◌, ◌≡◌, ◌≤◌, arith, AreOctets, Labels, Fault, Field, IsDataFault, IsFaultFor, FieldValue, HoldEach, items_after, own_items, RawItem, IsData, layout, IsCanonicalOf, SpellEach, States, StatesFor}
 use Rattle.zone_rdata.proofs.AnyField.{field_holds}
 use Rattle.zone_rdata.proofs.Tables.{table_row}
 use Rattle.zone_rdata.proofs.FieldLaws.{AreLow}

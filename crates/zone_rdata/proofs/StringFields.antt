@@ -1,15 +1,7 @@
 -- Octets that are strings, each after its length.
-use Rattle.std.proofs.Common.{[], ◌≡◌, ℕ, zero, suc, ◌+◌, ◌<◌, ◌≤◌, List, ◌∷◌, ◌++◌, length, take, drop, refl, sym, ap, ◌∙◌, subst, arith, length-append}
-use Rattle.std.specs.List.{flat_map}
-use Rattle.std.proofs.lemmas.List.{take_at, drop_at, take_all, drop_all, take-append-drop}
-use Rattle.zone_name.specs.Name.{with_length}
-use Rattle.zone_rdata.specs.Fields.OneString.{string_at}
-use Rattle.zone_rdata.specs.Fields.Strings.{AreStrings, strings_by, strings_of}
-use Rattle.zone_rdata.specs.Machine.Fronts.{BeginsWithString, HoldsStrings}
-use Rattle.zone_rdata.specs.Machine.Printing.{BeginsWithField, after_field}
-use Rattle.zone_rdata.specs.declared.field.Field.{Field}
+use Rattle.zone_rdata.proofs.Common.{[], ◌≡◌, ℕ, zero, suc, ◌+◌, ◌<◌, ◌≤◌, List, ◌∷◌, ◌++◌, length, take, drop, refl, sym, ap, ◌∙◌, subst, arith, length-append, flat_map, take_at, drop_at, take_all, drop_all, take-append-drop, with_length, string_at, AreStrings, strings_by, BeginsWithString, HoldsStrings, BeginsWithField, after_field, Field, length-frames}
+use Rattle.zone_rdata.specs.Fields.Strings.{strings_of}
 use Rattle.zone_rdata.specs.declared.field.Field.TheVariants as fields
-use Rattle.zone_name.proofs.Octets.{length-frames}
 
 -- one string cut off the beginning
 string_cut : (text more : List ℕ) (m : ℕ) → strings_by (suc m) (with_length text ++ more) ≡ text ∷ strings_by m more

@@ -1,13 +1,6 @@
 -- The laws of strings.
-use Rattle.std.proofs.Common.{[], ◌≡◌, ◌≢◌, ℕ, ◌<◌, Bool, true, false, ◌||◌, ◌==◌, nat_le, List, ◌∷◌, ◌⊎◌, refl, sym, ◌∙◌, arith}
+use Rattle.zone_rdata.proofs.Common.{[], ◌≡◌, ◌≢◌, ℕ, ◌<◌, Bool, true, false, ◌||◌, ◌==◌, nat_le, List, ◌∷◌, ◌⊎◌, refl, sym, ◌∙◌, arith, AllByRecursion, and_parts, or_parts, or_cases, eqb-true, eqb-false, leb-true, AreOctets, Written, text_of, octet_of, IsUnit, no_octet, written_text, written_octets, is_digit, Fault, RawItem, quoted, IsString, SpellsString, StringFault, StandsInQuotes, is_quote, inside_text, is_shown, unit_text}
 use Rattle.std.specs.Prelude.{map}
-use Rattle.std.specs.List.{AllByRecursion}
-use Rattle.std.proofs.lemmas.Bool.{and_parts, or_parts, or_cases, eqb-true, eqb-false, leb-true}
-use Rattle.zone_name.specs.Common.{AreOctets}
-use Rattle.zone_name.specs.Spelling.{Written, text_of, octet_of, IsUnit, no_octet, written_text, written_octets, is_digit}
-use Rattle.zone_rdata.specs.declared.fault.Fault.{Fault}
-use Rattle.zone_rdata.specs.Item.{RawItem, quoted}
-use Rattle.zone_rdata.specs.Strings.{IsString, SpellsString, StringFault, StandsInQuotes, is_quote, inside_text, is_shown, unit_text}
 use Rattle.zone_name.proofs.Lawful.{written_by, printed_text, value_by, decimal_escapes}
 use Rattle.zone_rdata.proofs.Strings.{string_reads, fault_reads}
 use Rattle.zone_rdata.proofs.Lists.{each_weaker}

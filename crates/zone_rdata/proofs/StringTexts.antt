@@ -1,12 +1,5 @@
 -- The text of strings, one after another.
-use Rattle.std.proofs.Common.{[], ◌≡◌, ℕ, ◌<◌, ◌≤◌, List, ◌∷◌, ◌++◌, length, drop, map, ap, arith, append_assoc}
-use Rattle.std.specs.List.{flat_map, join_with_byte}
-use Rattle.std.proofs.lemmas.List.{append-nil}
-use Rattle.zone_name.specs.Name.{with_length}
-use Rattle.zone_rdata.specs.Fields.OneString.{string_at}
-use Rattle.zone_rdata.specs.Fields.Strings.{strings_of}
-use Rattle.zone_rdata.specs.Machine.Fronts.{BeginsWithString, HoldsStrings}
-use Rattle.zone_rdata.specs.Strings.{string_text}
+use Rattle.zone_rdata.proofs.Common.{[], ◌≡◌, ℕ, ◌<◌, ◌≤◌, List, ◌∷◌, ◌++◌, length, drop, map, ap, arith, append_assoc, flat_map, join_with_byte, append-nil, with_length, string_at, strings_of, BeginsWithString, HoldsStrings, string_text}
 use Rattle.zone_rdata.proofs.StringFields.{first_string, no_strings}
 use Rattle.zone_rdata.proofs.Texts.{joined_more}
 

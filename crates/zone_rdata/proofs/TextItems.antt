@@ -1,24 +1,7 @@
 -- The canonical text of data is its items, they stand in a file as they are, and they state that
 -- data.
-use Rattle.std.proofs.Common.{[], List, None, Option, Some, ap, arith, drop, length, length-append, map, nat_lt, refl, subst, sym, true, ℕ, ◌++◌, ◌<◌, ◌∙◌, ◌∷◌, ◌≡◌, ◌≤◌}
-use Rattle.std.specs.List.{AllByRecursion, flat_map, join_with_byte}
-use Rattle.std.proofs.lemmas.Bool.Decides.{nat_tests}
-use Rattle.std.proofs.lemmas.List.{append-nil, length-map, map-append}
-use Rattle.std.proofs.lemmas.List.Concat.{flat_map-append}
-use Rattle.zone_name.proofs.Pushing.{AllByRecursion-append}
-use Rattle.zone_name.specs.Common.{AreOctets, Labels}
-use Rattle.zone_rdata.specs.declared.field.Field.{Field}
+use Rattle.zone_rdata.proofs.Common.{[], List, None, Option, Some, ap, arith, drop, length, length-append, map, nat_lt, refl, subst, sym, true, ℕ, ◌++◌, ◌<◌, ◌∙◌, ◌∷◌, ◌≡◌, ◌≤◌, AllByRecursion, flat_map, join_with_byte, nat_tests, append-nil, length-map, map-append, flat_map-append, AllByRecursion-append, AreOctets, Labels, Field, FieldValue, HoldEach, Holds, field_items, field_text, string, strings, values_of, string_item, digit_items, generic_items, IsGeneric, RawItem, IsLayout, IsSized, StringsLast, layout, laid_out_text, Data, IsRdata, SpellEach, States, StatesFor, in_octets, in_words, string_text, data_items, data_text, generic_text, laid_out_items, written_item}
 use Rattle.zone_rdata.specs.declared.field.Field.TheVariants.{Strings}
-use Rattle.zone_rdata.specs.Field.{FieldValue, HoldEach, Holds, field_items, field_text, string, strings, values_of}
-use Rattle.zone_rdata.specs.Fields.OneString.{string_item}
-use Rattle.zone_rdata.specs.Generic.{digit_items, generic_items}
-use Rattle.zone_rdata.specs.Item.{IsGeneric, RawItem}
-use Rattle.zone_rdata.specs.Layout.{IsLayout, IsSized, StringsLast, layout}
-use Rattle.zone_rdata.specs.Machine.Printing.{laid_out_text}
-use Rattle.zone_rdata.specs.Record.{Data, IsRdata}
-use Rattle.zone_rdata.specs.Spelling.{SpellEach, States, StatesFor, in_octets, in_words}
-use Rattle.zone_rdata.specs.Strings.{string_text}
-use Rattle.zone_rdata.specs.Text.{data_items, data_text, generic_text, laid_out_items, written_item}
 use Rattle.zone_rdata.proofs.AnyField.{field_printed, field_stands, field_unmarked}
 use Rattle.zone_rdata.proofs.FieldLaws.{NamesPrinted}
 use Rattle.zone_rdata.proofs.GenericLaws.{printed-stated, printed-text}

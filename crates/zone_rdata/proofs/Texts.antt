@@ -1,14 +1,7 @@
 -- The text of data, field after field.
-use Rattle.std.proofs.Common.{[], ◌≡◌, ℕ, zero, suc, ◌+◌, ◌<◌, List, ◌∷◌, ◌++◌, length, get_or, take, drop, map, refl, sym, ap, ◌∙◌, subst, arith, append_assoc, Some}
-use Rattle.std.specs.Prelude.{Result, OnOk, IsOk}
-use Rattle.hex.specs.Hex.{encode_with, encode_lower}
-use Rattle.std.specs.List.{flat_map, join_with_byte}
-use Rattle.std.proofs.lemmas.List.{take_at, drop_at, append-nil, take_more}
-use Rattle.zone_rdata.specs.declared.field.Field.{Field}
-use Rattle.zone_rdata.specs.Field.{field_at, values_of, field_text}
-use Rattle.zone_rdata.specs.Layout.{AreLaidOut}
-use Rattle.zone_rdata.specs.Machine.Printing.{BeginsWithField, after_field, spaced, generic_head, laid_out_text}
-use Rattle.zone_rdata.specs.Text.{generic_text}
+use Rattle.zone_rdata.proofs.Common.{[], ◌≡◌, ℕ, zero, suc, ◌+◌, ◌<◌, List, ◌∷◌, ◌++◌, length, get_or, take, drop, map, refl, sym, ap, ◌∙◌, subst, arith, append_assoc, Some, OnOk, IsOk, encode_lower, flat_map, join_with_byte, take_at, drop_at, append-nil, take_more, Field, field_at, values_of, field_text, AreLaidOut, BeginsWithField, after_field, spaced, generic_head, laid_out_text, generic_text}
+use Rattle.std.specs.Prelude.{Result}
+use Rattle.hex.specs.Hex.{encode_with}
 use Rattle.zone_rdata.proofs.Lists.{from_place}
 
 -- octets of a layout begin with its first field, and go on with the others

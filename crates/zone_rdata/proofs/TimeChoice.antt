@@ -1,11 +1,6 @@
 -- A text states a time or none.
-use Rattle.std.proofs.Common.{[], ◌≡◌, ℕ, ◌<◌, Bool, true, false, List, ◌∷◌, ◌++◌, length, Option, Some, None, inl, inr, refl, sym, ap, ◌∙◌, subst, arith, append_assoc}
-use Rattle.std.specs.List.{AllByRecursion, flat_map, sum_by}
-use Rattle.std.proofs.lemmas.List.{append-nil}
-use Rattle.zone_name.specs.Spelling.{is_digit}
-use Rattle.zone_rdata.specs.Number.{Group, IsTimeGroup, group_text, group_seconds, unit_seconds, IsDecimal, IsTime, plain, grouped}
+use Rattle.zone_rdata.proofs.Common.{[], ◌≡◌, ℕ, ◌<◌, Bool, true, false, List, ◌∷◌, ◌++◌, length, Option, Some, None, inl, inr, refl, sym, ap, ◌∙◌, subst, arith, append_assoc, AllByRecursion, flat_map, sum_by, append-nil, is_digit, Group, IsTimeGroup, group_text, group_seconds, unit_seconds, IsDecimal, IsTime, plain, grouped, AllByRecursion-append}
 use Rattle.zone_rdata.proofs.Choices.{Choice, Decided}
-use Rattle.zone_name.proofs.Pushing.{AllByRecursion-append}
 use Rattle.zone_rdata.proofs.GenericLaws.{decimal_or_not}
 use Rattle.zone_rdata.proofs.Times.{AreDigits, run_split, no_run, run_nil, unit_no_digit}
 

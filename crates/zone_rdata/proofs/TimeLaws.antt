@@ -1,10 +1,7 @@
 -- A text states at most one time.
-use Rattle.std.proofs.Common.{[], ◌≡◌, ℕ, ◌*◌, ◌<◌, List, ◌∷◌, length, Some, refl, sym, ap, ◌∙◌, append_assoc, arith}
-use Rattle.std.specs.List.{AllByRecursion, flat_map, sum_by}
-use Rattle.std.proofs.lemmas.List.{append-nil}
+use Rattle.zone_rdata.proofs.Common.{[], ◌≡◌, ℕ, ◌*◌, ◌<◌, List, ◌∷◌, length, Some, refl, sym, ap, ◌∙◌, append_assoc, arith, AllByRecursion, flat_map, sum_by, append-nil, Group, IsTimeGroup, group_text, group_seconds, decimal_value, unit_seconds, IsDecimal, IsTime}
 use Rattle.std.proofs.lemmas.List.Sums.{sum_by-append}
 use Rattle.zone_rdata.proofs.Times.{run_split, run_nil, unit_no_digit, first_unit}
-use Rattle.zone_rdata.specs.Number.{Group, IsTimeGroup, group_text, group_seconds, decimal_value, unit_seconds, IsDecimal, IsTime}
 
 same_unit : (c d u v : ℕ) → c ≡ d → unit_seconds c ≡ Some u → unit_seconds d ≡ Some v → u ≡ v
 same_unit c d u v e a b = let h : Some u ≡ Some v = sym a ∙ ap unit_seconds e ∙ b in cc

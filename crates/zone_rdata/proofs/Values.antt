@@ -1,18 +1,5 @@
 -- What a field's items spell is appended.
-use Rattle.std.proofs.Common.{[], List, Option, Some, ap, append_assoc, arith, drop, get_or, inr, length, map, min, subst, sym, ℕ, ◌++◌, ◌+◌, ◌<◌, ◌∙◌, ◌∷◌, ◌≡◌, ◌≤◌}
-use Rattle.std.specs.List.{flat_map, slice_get}
-use Rattle.std.specs.Prelude.{IfNone, IfSome}
-use Rattle.std.proofs.lemmas.List.{append-nil, drop_all}
-use Rattle.zone_name.specs.Common.{Labels}
-use Rattle.zone_name.specs.Name.{with_length}
-use Rattle.zone_rdata.specs.declared.fault.Fault.{Fault}
-use Rattle.zone_rdata.specs.declared.field.Field.{Field}
-use Rattle.zone_rdata.specs.declared.item.Item.{Item}
-use Rattle.zone_rdata.specs.Field.{FieldValue, SpellsField, field_octets, items_after, own_items, strings}
-use Rattle.zone_rdata.specs.Fields.Strings.{FirstStringFault, SpellEachString, SpellsStrings, StringsFault}
-use Rattle.zone_rdata.specs.Item.{RawItem, raw}
-use Rattle.zone_rdata.specs.Machine.Appending.{Appends, AppendsFirst}
-use Rattle.zone_rdata.specs.Strings.{SpellsString, StringFault}
+use Rattle.zone_rdata.proofs.Common.{[], List, Option, Some, ap, append_assoc, arith, drop, get_or, inr, length, map, min, subst, sym, ℕ, ◌++◌, ◌+◌, ◌<◌, ◌∙◌, ◌∷◌, ◌≡◌, ◌≤◌, flat_map, slice_get, IfNone, IfSome, append-nil, drop_all, Labels, with_length, Fault, Field, Item, FieldValue, SpellsField, field_octets, items_after, own_items, strings, FirstStringFault, SpellEachString, SpellsStrings, StringsFault, RawItem, raw, Appends, AppendsFirst, SpellsString, StringFault}
 use Rattle.zone_rdata.specs.declared.field.Field.TheVariants as fields
 use Rattle.zone_rdata.proofs.Lists.{from_place}
 

@@ -1,14 +1,8 @@
 -- Data from uncompressed octets.
-use Rattle.std.proofs.Common.{◌≡◌, ℕ, ◌≤◌, List, length, Option, Some, None, sym, subst, arith}
-use Rattle.std.specs.Prelude.{IfSome, option_map}
-use Rattle.std.specs.List.{AllByRecursion}
-use Rattle.zone_name.specs.Common.{AreOctets}
-use Rattle.zone_rdata.specs.declared.fault.Fault.{Fault}
+use Rattle.zone_rdata.proofs.Common.{◌≡◌, ℕ, ◌≤◌, List, length, Option, Some, None, sym, subst, arith, IfSome, AllByRecursion, AreOctets, Fault, Field, IsData, IsSized, fields_of, layout, IsCanonicalOf}
+use Rattle.std.specs.Prelude.{option_map}
 use Rattle.zone_rdata.specs.declared.fault.Fault.TheVariants.{BadRdata}
-use Rattle.zone_rdata.specs.declared.field.Field.{Field}
 use Rattle.zone_rdata.specs.declared.layout.Layout.{Layout}
-use Rattle.zone_rdata.specs.Layout.{IsData, IsSized, fields_of, layout}
-use Rattle.zone_rdata.specs.Spelling.{IsCanonicalOf}
 use Rattle.zone_rdata.specs.Wire.{IsWireFault, no_value}
 use Rattle.zone_rdata.proofs.Layouts.{canonical_laid, canonical_length}
 use Rattle.zone_rdata.proofs.Tables.{table_row}

@@ -1,22 +1,13 @@
 -- An address of a fixed number of octets.
-use Rattle.std.proofs.Common.{[], List, Some, ap, arith, inl, inr, length, refl, subst, sym, ℕ, ◌+◌, ◌*◌, ◌<◌, ◌==◌, ◌∙◌, ◌∷◌, ◌≡◌, ◌≤◌, ◌⊎◌}
-use Rattle.std.specs.Prelude.{if◌then◌else◌}
-use Rattle.std.proofs.lemmas.List.{take_at}
+use Rattle.zone_rdata.proofs.Common.{[], List, Some, ap, arith, inl, inr, length, refl, subst, sym, ℕ, ◌+◌, ◌*◌, ◌<◌, ◌==◌, ◌∙◌, ◌∷◌, ◌≡◌, ◌≤◌, ◌⊎◌, if◌then◌else◌, take_at, IsAddressOctet, IsIpv6Address, ipv4_text, ipv6_text, FitsString, FieldValue, Holds, SpellsField, Suits, field_octets, fixed, AreFixed, IsAddress, address_text, of_ipv4, of_ipv6, RawItem, bare, IsReal, StandsBare}
 use Rattle.zone_rdata.specs.declared.fault.Fault.TheVariants.{BadRdata}
 use Rattle.zone_rdata.specs.declared.field.Field.TheVariants.{Octets}
-use Rattle.zone_rdata.specs.Address.{IsAddressOctet, IsIpv6Address, ipv4_text, ipv6_text}
-use Rattle.zone_rdata.specs.Builder.{FitsString}
-use Rattle.zone_rdata.specs.Field.{FieldValue, Holds, SpellsField, Suits, field_octets, fixed}
-use Rattle.zone_rdata.specs.Fields.Address.{AreFixed, IsAddress, address_text, of_ipv4, of_ipv6}
-use Rattle.zone_rdata.specs.Item.{RawItem, bare}
-use Rattle.zone_rdata.specs.Machine.Building.{IsReal}
 use Rattle.zone_rdata.proofs.AddressChoice.{address_or_not}
 use Rattle.zone_rdata.proofs.AddressFields.{address_fixed}
 use Rattle.zone_rdata.proofs.AddressGaps.{groups_unique}
 use Rattle.zone_rdata.proofs.AddressLaws.{ipv4_plain, ipv4_printed, ipv6_plain, ipv6_printed, ipv6_some}
 use Rattle.zone_rdata.proofs.Addresses.{numbers_unique}
 use Rattle.zone_rdata.proofs.FieldLaws.{FieldLaws, SizedField, bare_item, bare_or_fault, mark, mark_text, sized_front, value_or_fault}
-use Rattle.zone_name.proofs.Bare.{StandsBare}
 use Rattle.zone_rdata.proofs.Standing.{bare_address}
 use Rattle.zone_rdata.proofs.FieldLengths.{ipv4_length, ipv6_length}
 use Rattle.zone_rdata.proofs.AddressParts.{ipv4_some}

@@ -1,25 +1,10 @@
 -- A domain name.
-use Rattle.std.proofs.Common.{[], List, Some, ap, append_assoc, arith, drop, get_or, inl, inr, length, length-append, refl, subst, suc, sym, take, zero, ℕ, ◌++◌, ◌<◌, ◌∙◌, ◌∷◌, ◌≡◌, ◌≤◌, ◌⊎◌}
-use Rattle.std.specs.List.{AllByRecursion, flat_map}
-use Rattle.std.proofs.lemmas.Bool.{cases_eq, cases_lt}
-use Rattle.std.proofs.lemmas.List.{append-nil, length-drop}
-use Rattle.zone_name.specs.Common.{Labels}
-use Rattle.zone_name.specs.Name.{IsFoldedOctet, IsLabel, IsName, folded, folded_label, wire, with_length}
+use Rattle.zone_rdata.proofs.Common.{[], List, Some, ap, append_assoc, arith, drop, get_or, inl, inr, length, length-append, refl, subst, suc, sym, take, zero, ℕ, ◌++◌, ◌<◌, ◌∙◌, ◌∷◌, ◌≡◌, ◌≤◌, ◌⊎◌, AllByRecursion, flat_map, cases_eq, cases_lt, append-nil, length-drop, Labels, IsFoldedOctet, IsLabel, IsName, folded, folded_label, wire, with_length, AllByRecursion-append, AllByRecursion-back, FitsString, fault_of, FieldValue, Holds, SpellsField, Suits, field_octets, name, RawItem, bare, AppendsValue, BeginsWithNone, BeginsWithValue, IsReal, BeginsWithSent, labels_of-wire_append, bare_name}
 use Rattle.zone_name.specs.Text.{label_text, name_text, octet_text}
-use Rattle.zone_name.proofs.Pushing.{AllByRecursion-append, AllByRecursion-back}
 use Rattle.zone_rdata.specs.declared.field.Field.TheVariants.{Name}
-use Rattle.zone_rdata.specs.Builder.{FitsString}
-use Rattle.zone_rdata.specs.Fault.{fault_of}
-use Rattle.zone_rdata.specs.Field.{FieldValue, Holds, SpellsField, Suits, field_octets, name}
-use Rattle.zone_rdata.specs.Item.{RawItem, bare}
-use Rattle.zone_rdata.specs.Machine.Appending.{AppendsValue, BeginsWithNone, BeginsWithValue}
-use Rattle.zone_rdata.specs.Machine.Building.{IsReal}
-use Rattle.zone_rdata.specs.Machine.Fronts.{BeginsWithSent}
 use Rattle.zone_rdata.proofs.Choices.{Decided, each_or_not}
 use Rattle.zone_rdata.proofs.FieldLaws.{AreLow, FieldLaws, FrontChoice, bare_item, bare_or_fault, found_front, mark_text}
-use Rattle.zone_name.proofs.Octets.{labels_of-wire_append}
 use Rattle.zone_rdata.proofs.Sent.{AreSome, HasCut, cut_more, cut_name, cut_none, folded_some, goes_on, name_by, no_first, no_room, sent_once}
-use Rattle.zone_name.proofs.Bare.{bare_name}
 use Rattle.zone_name.proofs.Lengths.{name_text_length}
 use Rattle.zone_rdata.proofs.Lists.{each_weaker}
 

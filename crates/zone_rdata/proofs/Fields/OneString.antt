@@ -1,17 +1,7 @@
 -- One character-string.
-use Rattle.std.proofs.Common.{[], List, Some, add-one, ap, arith, drop, get_or, inl, inr, length, length-append, refl, subst, take, ℕ, ◌++◌, ◌+◌, ◌<◌, ◌∙◌, ◌∷◌, ◌≡◌, ◌≤◌}
-use Rattle.std.proofs.lemmas.Bool.{cases_lt}
-use Rattle.std.proofs.lemmas.List.{length-take, take_at}
-use Rattle.zone_name.specs.Common.{Labels}
-use Rattle.zone_name.specs.Name.{with_length}
+use Rattle.zone_rdata.proofs.Common.{[], List, Some, add-one, ap, arith, drop, get_or, inl, inr, length, length-append, refl, subst, take, ℕ, ◌++◌, ◌+◌, ◌<◌, ◌∙◌, ◌∷◌, ◌≡◌, ◌≤◌, cases_lt, length-take, take_at, Labels, with_length, FitsString, FieldValue, Holds, SpellsField, Suits, field_octets, string, RawItem, AppendsPrefix, AppendsValue, BeginsWithNone, BeginsWithValue, IsReal, IsString}
 use Rattle.zone_rdata.specs.declared.fault.Fault.TheVariants.{BadRdata}
 use Rattle.zone_rdata.specs.declared.field.Field.TheVariants.{OneString}
-use Rattle.zone_rdata.specs.Builder.{FitsString}
-use Rattle.zone_rdata.specs.Field.{FieldValue, Holds, SpellsField, Suits, field_octets, string}
-use Rattle.zone_rdata.specs.Item.{RawItem}
-use Rattle.zone_rdata.specs.Machine.Appending.{AppendsPrefix, AppendsValue, BeginsWithNone, BeginsWithValue}
-use Rattle.zone_rdata.specs.Machine.Building.{IsReal}
-use Rattle.zone_rdata.specs.Strings.{IsString}
 use Rattle.zone_rdata.proofs.FieldLaws.{AreLow, AreLowItems, FieldChoice, FieldLaws, FrontChoice, appends_plain, found_front, front_of, low_take}
 use Rattle.zone_rdata.proofs.StringLaws.{printed-spells, printed-stands, string-never_both, string-once}
 use Rattle.zone_rdata.proofs.Strings.{string-or_fault}

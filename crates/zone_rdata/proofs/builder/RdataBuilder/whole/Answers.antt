@@ -1,5 +1,4 @@
-use Rattle.zone_name.specs.Common.{AreOctets}
-use Rattle.std.proofs.Common.{subst, arith}
+use Rattle.zone_rdata.proofs.Common.{AreOctets, subst, arith}
 use Rattle.zone_rdata.proofs.Building.{finish_missing, finish_made, parts_data}
 use Rattle.zone_rdata.proofs.builder.RdataBuilder.whole.Goals as goal
 
