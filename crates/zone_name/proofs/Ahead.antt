@@ -1,10 +1,6 @@
 -- What is ahead in a text, in the words of its spelling.
-use Rattle.std.proofs.Common.{◌≡◌, ℕ, ◌<◌, Bool, false, nat_eq, if◌then◌else◌, List, [], ◌∷◌, ◌++◌, length, take, Option, refl, sym, ap, ◌∙◌, arith, length-append}
-use Rattle.std.specs.Cmp.Lexicographic.{pointwise}
-use Rattle.std.proofs.lemmas.Bool.{cases_Bool, eqb-true, both_ways, cond_both}
-use Rattle.zone_name.specs.Spelling.{Written, plain, escaped, decimal, text_of, octet_of, IsUnit, IsBadEscape, BeginsWithUnit, is_dot, no_octet}
+use Rattle.zone_name.proofs.Common.{◌≡◌, ℕ, ◌<◌, Bool, false, nat_eq, if◌then◌else◌, List, [], ◌∷◌, ◌++◌, length, take, Option, refl, sym, ap, ◌∙◌, arith, length-append, pointwise, cases_Bool, eqb-true, both_ways, cond_both, Written, plain, escaped, decimal, text_of, octet_of, IsUnit, IsBadEscape, BeginsWithUnit, is_dot, no_octet, Ahead, at_end, at_dot, at_octet, at_fault, unit_ahead, ahead_in}
 use Rattle.zone_name.specs.Machine.Units.{unit_first}
-use Rattle.zone_name.specs.Machine.LabelWalk.{Ahead, at_end, at_dot, at_octet, at_fault, unit_ahead, ahead_in}
 use Rattle.zone_name.proofs.Units.{IsFirst, first_is, first_of_unit, escape_of_unit, text_of-some}
 
 -- what is ahead, said of the text there
@@ -42,7 +38,7 @@ ahead_shrinks rest = shrinks_by rest (ahead_in rest) (ahead_is rest)
 
 -- the way back: what is ahead where a written octet stands
 pub ahead-unit : (w : Written) (rest : List ℕ) → IsUnit is_dot w → ahead_in (text_of w ++ rest) ≡ at_octet (octet_of w) rest
-ahead-unit w rest is = by w is ∙ ap unit_ahead (first_of_unit is_dot w rest refl is)
+ahead-unit w rest is = cc (by w is, first_of_unit is_dot w rest refl is)
   where
     by : (w : Written) → IsUnit is_dot w → ahead_in (text_of w ++ rest) ≡ unit_ahead (unit_first is_dot (text_of w ++ rest))
     by (plain c) is = ap (λ (b : Bool). if b then at_dot rest else unit_ahead (unit_first is_dot (c ∷ rest))) is.0

@@ -1,18 +1,10 @@
 -- The name that a text spells under an origin, or its first fault, as an answer on lists.
-use Rattle.std.proofs.Common.{◌≡◌, ◌≢◌, ℕ, ◌<◌, ◌≤◌, Bool, true, false, nat_eq, nat_le, if◌then◌else◌, List, [], ◌∷◌, ◌++◌, length, get_or, codes, Result, Ok, Err, Option, Some, None, IfOk, IfErr, IfSome, ◌⊎◌, inl, inr, refl, sym, ap, ◌∙◌, subst, arith}
-use Rattle.std.specs.List.{AllByRecursion}
-use Rattle.std.specs.Cmp.Lexicographic.{pointwise, bytes_decides}
-use Rattle.std.proofs.lemmas.List.{length-map}
-use Rattle.std.proofs.lemmas.Bool.{false≢true, leb-true, leb-false}
+use Rattle.zone_name.proofs.Common.{◌≡◌, ◌≢◌, ℕ, ◌<◌, ◌≤◌, Bool, true, false, nat_eq, nat_le, if◌then◌else◌, List, [], ◌∷◌, ◌++◌, length, get_or, codes, Result, Ok, Err, Option, Some, None, IfOk, IfErr, IfSome, ◌⊎◌, inl, inr, refl, sym, ap, ◌∙◌, subst, arith, AllByRecursion, pointwise, bytes_decides, length-map, false≢true, leb-true, leb-false, folded_label, folded_octet, wire, IsLabel, IsName, Written, plain, text_of, octet_of, IsUnit, is_dot, IsWrittenLabel, AreWrittenLabels, written_text, written_octets, dotted, parted, named, Writes, root, at_origin, absolute, relative, Spells, FaultAt, IsRelative, SpellingFault, within, unfounded, long_name, NameFault, sized, under_origin, HasShape}
 use Rattle.zone_name.specs.Common.{AreOctets}
-use Rattle.zone_name.specs.Name.{folded_label, folded_octet, wire, IsLabel, IsName}
-use Rattle.zone_name.specs.Spelling.{Written, plain, text_of, octet_of, IsUnit, is_dot, IsWrittenLabel, AreWrittenLabels, written_text, written_octets, dotted, parted, named, Writes, root, at_origin, absolute, relative, Spells, FaultAt, IsRelative, SpellingFault, within, unfounded, long_name}
-use Rattle.zone_name.specs.declared.fault.NameFault.{NameFault}
 use Rattle.zone_name.specs.declared.fault.NameFault.TheVariants.{EmptyLabel, NameTooLong, RelativeName}
 use Rattle.zone_name.specs.declared.reading.NameShape.{NameShape}
 use Rattle.zone_name.specs.declared.reading.NameShape.TheVariants.{Root, Origin, Labels}
-use Rattle.zone_name.specs.Machine.LabelWalk.{reading, sized, under_origin}
-use Rattle.zone_name.specs.Machine.Seen.{HasShape}
+use Rattle.zone_name.specs.Machine.LabelWalk.{reading}
 use Rattle.zone_name.proofs.Spelled.{AreShort, Says, reading-says}
 use Rattle.zone_name.proofs.Only.{reading-dotted, reading-parted, reading-fault}
 use Rattle.zone_name.proofs.Pushing.{AllByRecursion-append, AllByRecursion-front, AllByRecursion-back, IsLabel-folded, sized-name, sized-long}
@@ -58,7 +50,7 @@ absolute_reads : (text : List ℕ) (written : List (List Written)) (labels : Lis
 absolute_reads text written labels are text_is is short = grind (arith, reading-dotted, short_written)
 
 relative_reads : (text : List ℕ) (written : List (List Written)) (above labels : List (List ℕ)) → AreWrittenLabels written → text ≡ parted written → labels ≡ named written ++ above → ShortLabels labels → reading text ≡ Ok (named written, false)
-relative_reads text written above labels are text_is is short = cc (reading-parted written are (short_written written (AllByRecursion-front (λ label. length label ≤ 63) (named written) above (subst ShortLabels is short))))
+relative_reads text written above labels are text_is is short = cc (reading-parted written are (short_written written (AllByRecursion-front (λ label. length label ≤ 63) (named written) above (rw is at short))))
 
 reading_dot : reading (codes ".") ≡ Err EmptyLabel
 unfolding reading
@@ -133,10 +125,10 @@ sized_err labels fault false test e = (cc, leb-false (length (wire labels)) 255 
 found_by : (origin : Option (List (List ℕ))) (text : List ℕ) (found : Result (List (List ℕ) × Bool) NameFault) (name : List (List ℕ)) → text ≢ codes "@" → Says text found → Ok name ≡ under_origin origin found → IsName name → Writes origin text name
 found_by origin text (Err fault) name other says e is = absurd (cc)
 found_by origin text (Ok (labels, true)) name other says e is =
-    absolute says.written says.are says.text_is (sized_ok labels name (nat_le (length (wire labels)) 255) e ∙ says.labels_are)
+    absolute says.written says.are says.text_is (cc (sized_ok labels name (nat_le (length (wire labels)) 255) e))
 found_by None text (Ok (labels, false)) name other says e is = absurd (cc)
 found_by (Some above) text (Ok (labels, false)) name other says e is =
-    relative says.written above says.are other says.text_is refl (sized_ok (labels ++ above) name (nat_le (length (wire (labels ++ above))) 255) e ∙ ap (λ t. t ++ above) says.labels_are)
+    relative says.written above says.are other says.text_is refl (cc (sized_ok (labels ++ above) name (nat_le (length (wire (labels ++ above))) 255) e))
 
 -- an answer that is a name is spelled
 pub decided-found : (origin : Option (List (List ℕ))) (text : List ℕ) (result : Result (List (List ℕ)) NameFault) → text ≢ codes "." → text ≢ codes "@" → result ≡ under_origin origin (reading text) → IfOk result IsName → IfOk result (Spells origin text)
@@ -144,18 +136,18 @@ decided-found origin text (Ok name) dot other e is = record { written = found_by
 decided-found origin text (Err fault) dot other e is = tt
 
 fault_by : (origin : Option (List (List ℕ))) (text : List ℕ) (found : Result (List (List ℕ) × Bool) NameFault) (fault : NameFault) → text ≢ codes "@" → IfSome origin IsName → Says text found → Err fault ≡ under_origin origin found → SpellingFault origin text fault
-fault_by origin text (Err first) fault other known says e = let same : first ≡ fault = cc in subst (SpellingFault origin text) same (within first says)
+fault_by origin text (Err first) fault other known says e = let same : first ≡ fault = cc in rw (← same) (within first says)
 fault_by origin text (Ok (labels, true)) fault other known says e =
     let long = sized_err labels fault (nat_le (length (wire labels)) 255) refl e in
-    subst (SpellingFault origin text) long.0 (long_name labels (absolute says.written says.are says.text_is says.labels_are)
+    rw (← long.0) (long_name labels (absolute says.written says.are says.text_is says.labels_are)
     (subst ShortLabels (sym says.labels_are) (short_labels says.written says.short)) long.1)
 fault_by None text (Ok (labels, false)) fault other known says e =
     let same : RelativeName ≡ fault = cc in
-    subst (SpellingFault None text) same (unfounded refl (says.written, says.are, says.short, says.text_is))
+    rw same at (unfounded refl (says.written, says.are, says.short, says.text_is))
 fault_by (Some above) text (Ok (labels, false)) fault other known says e =
     let long = sized_err (labels ++ above) fault (nat_le (length (wire (labels ++ above))) 255) refl e in
-    let each = subst ShortLabels (sym says.labels_are) (short_labels says.written says.short) in
-    subst (SpellingFault (Some above) text) long.0 (long_name (labels ++ above) (relative says.written above says.are other says.text_is refl (ap (λ t. t ++ above) says.labels_are))
+    let each = rw (← says.labels_are) at (short_labels says.written says.short) in
+    rw long.0 at (long_name (labels ++ above) (relative says.written above says.are other says.text_is refl (ap (λ t. t ++ above) says.labels_are))
     (AllByRecursion-append (λ label. length label ≤ 63) labels above each (short_name above known.each)) long.1)
 
 -- an answer that is a fault is the first

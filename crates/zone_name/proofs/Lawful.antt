@@ -1,26 +1,15 @@
 -- The laws of the order and of what is printed.
-use Rattle.std.proofs.Common.{◌≡◌, ◌≢◌, ℕ, ◌+◌, ◌/◌, ◌%◌, ◌<◌, Bool, true, false, ◌||◌, ◌==◌, nat_eq, if◌then◌else◌, List, [], ◌∷◌, reverse, Option, div-add-mod', refl, sym, ap, ◌∙◌, subst, arith}
-use Rattle.std.specs.Prelude.{map}
-use Rattle.std.specs.List.{flat_map, AllByRecursion}
+use Rattle.zone_name.proofs.Common.{◌≡◌, ◌≢◌, ℕ, ◌+◌, ◌/◌, ◌%◌, ◌<◌, Bool, true, false, ◌||◌, ◌==◌, nat_eq, if◌then◌else◌, List, [], ◌∷◌, reverse, Option, div-add-mod', refl, sym, subst, arith, map, flat_map, AllByRecursion, nat_cmp, pointwise, pointwise_decides, bytes_decides, slice_cmp, lists_ties, texts_ties, lists_total, reverse-reverse, length-map, nat_tests, IsFoldedOctet, IsLabel, IsName, folded_label, eqb-true, eqb-false, or_parts, name_cmp, Written, plain, escaped, decimal, text_of, octet_of, IsEscape, IsUnit, is_dot, IsWrittenLabel, written_text, written_octets, dotted, named, Writes, root, absolute, Spells, is_digit, is_special, is_printed, decimal_escape, octet_text, label_text, name_text}
 use Rattle.std.specs.declared.cmp.Ordering.TheVariants.{Equal}
-use Rattle.std.specs.Ordering.{nat_cmp, is_eq}
 use Rattle.std.specs.Cmp.{IsTotalOrder, on_total}
-use Rattle.std.specs.Cmp.Lexicographic.{pointwise, pointwise_decides, bytes_decides, slice_cmp, lists_ties, texts_ties, lists_total}
 use Rattle.std.proofs.lemmas.Cmp.{nat_cmp_total}
-use Rattle.std.proofs.lemmas.List.{reverse-reverse, length-map}
-use Rattle.std.proofs.lemmas.Bool.Decides.{nat_tests}
-use Rattle.zone_name.specs.Name.{IsFoldedOctet, IsLabel, IsName, folded_label}
-use Rattle.std.proofs.lemmas.Bool.{eqb-true, eqb-false, or_parts}
-use Rattle.zone_name.specs.Order.{name_cmp}
-use Rattle.zone_name.specs.Spelling.{Written, plain, escaped, decimal, text_of, octet_of, IsEscape, IsUnit, is_dot, IsWrittenLabel, written_text, written_octets, dotted, named, Writes, root, absolute, Spells, is_digit}
-use Rattle.zone_name.specs.Text.{is_special, is_printed, decimal_escape, octet_text, label_text, name_text}
 
 -- names that tie are equal
 pub name_cmp-exact : (a b : List (List ℕ)) → name_cmp a b ≡ Equal → a ≡ b
 name_cmp-exact a b e =
     let ties = lists_ties (slice_cmp nat_cmp) texts_ties (reverse a) (reverse b) in
-    let same : pointwise (pointwise nat_eq) (reverse a) (reverse b) ≡ true = ties ∙ ap is_eq e in
-    sym (reverse-reverse a) ∙ ap reverse ((pointwise_decides bytes_decides (reverse a) (reverse b)).0 same) ∙ reverse-reverse b
+    let same : pointwise (pointwise nat_eq) (reverse a) (reverse b) ≡ true = cc in
+    cc (reverse-reverse a, (pointwise_decides bytes_decides (reverse a) (reverse b)).0 same, reverse-reverse b)
 
 pub name_cmp-total : IsTotalOrder name_cmp
 name_cmp-total = on_total reverse (lists_total (lists_total nat_cmp_total))

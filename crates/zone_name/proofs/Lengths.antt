@@ -1,9 +1,6 @@
 -- How many octets a printed name has, against those that it takes in a message.
-use Rattle.std.proofs.Common.{ℕ, ◌+◌, ◌*◌, ◌≤◌, Bool, true, false, List, [], ◌∷◌, length, arith, length-append}
+use Rattle.zone_name.proofs.Common.{ℕ, ◌+◌, ◌*◌, ◌≤◌, Bool, true, false, List, [], ◌∷◌, length, arith, length-append, flat_map, wire, with_length, decimal_escape, octet_text, label_text, name_text}
 use Rattle.std.specs.Prelude.{if◌then◌else◌}
-use Rattle.std.specs.List.{flat_map}
-use Rattle.zone_name.specs.Name.{wire, with_length}
-use Rattle.zone_name.specs.Text.{decimal_escape, octet_text, label_text, name_text}
 
 -- at most a backslash and three digits
 pub octet_by : (special printed : Bool) (c : ℕ) → length (if special then 92 ∷ c ∷ [] else (if printed then c ∷ [] else decimal_escape c)) ≤ 4

@@ -1,8 +1,6 @@
 -- The octets of names: what `labels_of` finds in what `wire` writes.
-use Rattle.std.proofs.Common.{◌≡◌, ℕ, zero, suc, ◌+◌, ◌-◌, ◌<◌, ◌≤◌, List, [], ◌∷◌, ◌++◌, length, take, drop, refl, sym, ap, ◌∙◌, subst, arith, append_assoc, length-append}
-use Rattle.std.specs.List.{flat_map, AllByRecursion}
-use Rattle.std.proofs.lemmas.List.{take_at, drop_at, append-nil, take-append-drop}
-use Rattle.zone_name.specs.Name.{IsLabel, IsName, with_length, wire, labels_by, labels_of, BeginsWithName, HoldsName}
+use Rattle.zone_name.proofs.Common.{◌≡◌, ℕ, zero, suc, ◌+◌, ◌-◌, ◌<◌, ◌≤◌, List, [], ◌∷◌, ◌++◌, length, take, drop, refl, sym, ap, ◌∙◌, subst, arith, append_assoc, length-append, flat_map, AllByRecursion, take_at, drop_at, append-nil, take-append-drop, IsLabel, IsName, with_length, wire, labels_by, BeginsWithName, HoldsName}
+use Rattle.zone_name.specs.Name.{labels_of}
 
 -- one label cut off the beginning
 labels_by-cut : (k m : ℕ) (text label more : List ℕ) → text ≡ label ++ more → length label ≡ suc k → labels_by (suc m) (suc k ∷ text) ≡ label ∷ labels_by m more
@@ -16,7 +14,7 @@ labels_by-frames ((c ∷ label) ∷ labels) rest zero n fuel each = absurd (omeg
 labels_by-frames ((c ∷ label) ∷ labels) rest (suc m) n fuel each =
     let more = flat_map with_length labels ++ rest in
     let left : m ≡ length labels + n = omega arith in
-    labels_by-cut (length label) m (c ∷ label ++ flat_map with_length labels ++ rest) (c ∷ label) more (ap (λ t. c ∷ t) (append_assoc label (flat_map with_length labels) rest)) refl ∙ ap (λ t. (c ∷ label) ∷ t) (labels_by-frames labels rest m n left each.1)
+    cc (labels_by-cut (length label) m (c ∷ label ++ flat_map with_length labels ++ rest) (c ∷ label) more (ap (λ t. c ∷ t) (append_assoc label (flat_map with_length labels) rest)) refl, labels_by-frames labels rest m n left each.1)
 
 -- frames are no fewer octets than labels
 pub length-frames : (labels : List (List ℕ)) → length labels ≤ length (flat_map with_length labels)
@@ -93,14 +91,14 @@ root_label n more e = rw e (labels_by-root (length (0 ∷ more)) more)
 
 -- the root's octets, as they are pushed
 pub HoldsName-root : (octets : List ℕ) → octets ≡ [] ++ 0 ∷ [] → HoldsName octets
-HoldsName-root octets e = subst HoldsName (sym e) (HoldsName-wire [] (record { each = tt; short = omega arith }))
+HoldsName-root octets e = rw e (HoldsName-wire [] (record { each = tt; short = omega arith }))
 
 pub labels_of-root : (octets : List ℕ) → octets ≡ [] ++ 0 ∷ [] → labels_of octets ≡ []
 labels_of-root octets e = ap labels_of e ∙ labels_of-wire [] tt
 
 -- the octets that are cut out at the length of the name are the name
 pub HoldsName-front : (octets : List ℕ) (len : ℕ) → BeginsWithName octets → len ≡ length (wire (labels_of octets)) → HoldsName (take len octets)
-HoldsName-front octets len begins e = subst HoldsName (sym (ap (λ n. take n octets) e ∙ begins.front)) (HoldsName-wire (labels_of octets) begins.name)
+HoldsName-front octets len begins e = subst HoldsName (sym (cc)) (HoldsName-wire (labels_of octets) begins.name)
 
 pub labels_of-front : (octets : List ℕ) (len : ℕ) → BeginsWithName octets → len ≡ length (wire (labels_of octets)) → labels_of (take len octets) ≡ labels_of octets
 labels_of-front octets len begins e = grind (arith, labels_of-wire)

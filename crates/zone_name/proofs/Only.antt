@@ -1,13 +1,7 @@
 -- What a text spells, and its own first fault, is what the walk over it finds.
-use Rattle.std.proofs.Common.{◌≡◌, ℕ, zero, suc, ◌+◌, ◌<◌, ◌≤◌, true, false, List, [], ◌∷◌, ◌++◌, length, Ok, Err, inl, inr, refl, sym, ap, ◌∙◌, subst, arith, append_assoc, length-append}
-use Rattle.std.specs.List.{AllByRecursion}
-use Rattle.std.proofs.lemmas.List.{append-nil, length-map}
-use Rattle.std.proofs.lemmas.Bool.{le-leb}
-use Rattle.zone_name.specs.Name.{folded_label}
-use Rattle.zone_name.specs.Spelling.{Written, text_of, octet_of, IsUnit, is_dot, IsWrittenLabel, AreWrittenLabels, written_text, written_octets, dotted, parted, named, EndsLabel, Reaches, FaultAt, empty_label, long_label, bad_escape}
-use Rattle.zone_name.specs.declared.fault.NameFault.{NameFault}
+use Rattle.zone_name.proofs.Common.{◌≡◌, ℕ, zero, suc, ◌+◌, ◌<◌, ◌≤◌, true, false, List, [], ◌∷◌, ◌++◌, length, Ok, Err, inl, inr, refl, sym, ap, ◌∙◌, arith, append_assoc, length-append, AllByRecursion, append-nil, length-map, le-leb, folded_label, Written, text_of, octet_of, IsUnit, is_dot, IsWrittenLabel, AreWrittenLabels, written_text, written_octets, dotted, parted, named, EndsLabel, Reaches, FaultAt, empty_label, long_label, bad_escape, NameFault, Ahead, at_dot, at_octet, at_fault, ahead_in, failed, step_at, read}
 use Rattle.zone_name.specs.declared.fault.NameFault.TheVariants.{EmptyLabel, LabelTooLong, BadEscape}
-use Rattle.zone_name.specs.Machine.LabelWalk.{Ahead, at_dot, at_octet, at_fault, ahead_in, failed, step_at, read, reading}
+use Rattle.zone_name.specs.Machine.LabelWalk.{reading}
 use Rattle.zone_name.proofs.Ahead.{ahead-unit, ahead-bad}
 use Rattle.zone_name.proofs.Units.{text_of-some}
 use Rattle.zone_name.proofs.Steps.{read_step, octet_step, bad_step, reading-nil, fault_by}
@@ -27,7 +21,7 @@ label_reads (w ∷ label) tail open_label labels (suc n) each room enough =
     let shape : written_text (w ∷ label) ++ tail ≡ text_of w ++ rest = append_assoc (text_of w) (written_text label) tail in
     let left : length rest < n = omega (arith, ap length shape, length-append (text_of w) rest, text_of-some w) in
     let next = label_reads label tail open_next labels n each.1 (omega (arith, length-append open_label (octet_of w ∷ []))) left in
-    (next.0, next.1, ap (read (suc n) labels open_label) shape ∙ octet_reads w rest open_label labels n each.0 (omega arith) ∙ next.2 ∙ ap (λ t. read next.0 labels t tail) (append_assoc open_label (octet_of w ∷ []) (written_octets label)))
+    (next.0, next.1, cc (octet_reads w rest open_label labels n each.0 (omega arith), append_assoc open_label (octet_of w ∷ []) (written_octets label)))
 
 -- a written label and the dot after it
 dot_reads : (label : List Written) (rest : List ℕ) (labels : List (List ℕ)) (n : ℕ) → IsWrittenLabel label → length label ≤ 63 → length (written_text label ++ (46 ∷ rest)) < n → (m : ℕ) × (length rest < m) × (read n labels [] (written_text label ++ (46 ∷ rest)) ≡ read m (labels ++ folded_label (written_octets label) ∷ []) [] rest)
@@ -49,16 +43,16 @@ dots_read [] rest labels n each short enough = (n, enough, ap (λ t. read n t []
 dots_read (label ∷ written) rest labels n each short enough =
     let tail = dotted written ++ rest in
     let shape = append_assoc (written_text label ++ 46 ∷ []) (dotted written) rest ∙ regroup (written_text label) tail in
-    let found = dot_reads label tail labels n each.0 short.0 (subst (λ t. length t < n) shape enough) in
+    let found = dot_reads label tail labels n each.0 short.0 (rw shape at enough) in
     let next = dots_read written rest (labels ++ folded_label (written_octets label) ∷ []) found.0 each.1 short.1 found.1 in
-    (next.0, next.1, ap (read n labels []) shape ∙ found.2 ∙ next.2 ∙ ap (λ t. read next.0 t [] rest) (append_assoc labels (folded_label (written_octets label) ∷ []) (named written)))
+    (next.0, next.1, cc (append_assoc labels (folded_label (written_octets label) ∷ []) (named written)))
 
 -- labels with dots after them and no more
 dotted_reads : (written : List (List Written)) (labels : List (List ℕ)) (n : ℕ) → AllByRecursion IsWrittenLabel written → AreShort written → length (dotted written) < n → read n labels [] (dotted written) ≡ Ok (labels ++ named written, true)
 dotted_reads written labels n each short enough =
     let none = append-nil (dotted written) in
-    let found = dots_read written [] labels n each short (subst (λ t. length t < n) (sym none) enough) in
-    ap (read n labels []) (sym none) ∙ found.2 ∙ ends found.0 found.1
+    let found = dots_read written [] labels n each short (rw none enough) in
+    cc (ends found.0 found.1)
   where
     ends : (m : ℕ) → length {A = ℕ} [] < m → read m (labels ++ named written) [] [] ≡ Ok (labels ++ named written, true)
     ends zero left = absurd (omega arith)
@@ -69,8 +63,8 @@ last_reads : (label : List Written) (labels : List (List ℕ)) (n : ℕ) → IsW
 last_reads [] labels n is short enough = absurd (omega (arith, is.some))
 last_reads (w ∷ label) labels n is short enough =
     let none = append-nil (written_text (w ∷ label)) in
-    let found = label_reads (w ∷ label) [] [] labels n is.each (omega arith) (subst (λ t. length t < n) (sym none) enough) in
-    ap (read n labels []) (sym none) ∙ ends found.0 found.1 found.2
+    let found = label_reads (w ∷ label) [] [] labels n is.each (omega arith) (rw none enough) in
+    cc (ends found.0 found.1 found.2)
   where
     ends : (m : ℕ) → length {A = ℕ} [] < m → read n labels [] (written_text (w ∷ label) ++ []) ≡ read m labels (written_octets (w ∷ label)) [] → read n labels [] (written_text (w ∷ label) ++ []) ≡ Ok (labels ++ folded_label (written_octets (w ∷ label)) ∷ [], false)
     ends zero left e = absurd (omega arith)
@@ -114,7 +108,7 @@ reached text before open_label rest some r =
     let enough : length (dotted before ++ tail) < suc (length text) = omega (arith, ap length shape) in
     let closed = dots_read before tail [] (suc (length text)) r.labels r.short enough in
     let opened = label_reads open_label rest [] (named before) closed.0 r.octets (omega (arith, r.room)) closed.1 in
-    (opened.0, opened.1, reading_is text longer ∙ ap (read (suc (length text)) [] []) shape ∙ closed.2 ∙ opened.2)
+    (opened.0, opened.1, cc (reading_is text longer))
 
 -- a step that fails where a walk has come to is what is read
 reads_fault : (text : List ℕ) (before : List (List Written)) (open_label : List Written) (rest : List ℕ) (ahead : Ahead) (fault : NameFault) → 0 < length rest → Reaches text before open_label rest → ahead_in rest ≡ ahead → step_at (named before) (written_octets open_label) ahead ≡ failed fault → reading text ≡ Err fault

@@ -1,9 +1,7 @@
 -- The canonical spelling, label by label.
-use Rattle.std.proofs.Common.{◌≡◌, ℕ, suc, le-leb, ap₂, List, [], ◌∷◌, ◌++◌, refl, arith, append_assoc}
-use Rattle.std.specs.List.{flat_map}
-use Rattle.std.specs.Prelude.{slice_index, EachIndex}
+use Rattle.zone_name.proofs.Common.{◌≡◌, ℕ, suc, ap₂, List, [], ◌∷◌, ◌++◌, refl, arith, append_assoc, flat_map, slice_index, EachIndex, octet_text, label_text}
+use Rattle.std.proofs.Common.{le-leb}
 use Rattle.zone_name.specs.Machine.Shown.{IsShown}
-use Rattle.zone_name.specs.Text.{octet_text, label_text}
 
 -- octets that spell themselves
 octet_text-shown : (c : ℕ) → IsShown c → octet_text c ≡ c ∷ []

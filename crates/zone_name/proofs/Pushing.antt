@@ -1,18 +1,8 @@
 -- A label that is added after others.
-use Rattle.std.proofs.Common.{◌≡◌, ℕ, suc, ◌+◌, ◌<◌, ◌≤◌, true, false, Option, Result, IfOk, IfErr, Ok, Err, refl, List, [], ◌∷◌, ◌++◌, length, take, drop, get_or, sym, ap, ◌∙◌, subst, arith, append_assoc, length-append}
-use Rattle.std.specs.Prelude.{map}
-use Rattle.std.specs.List.{flat_map, AllByRecursion, refill}
+use Rattle.zone_name.proofs.Common.{◌≡◌, ℕ, suc, ◌+◌, ◌<◌, ◌≤◌, true, false, Option, Result, IfOk, IfErr, Ok, Err, refl, List, [], ◌∷◌, ◌++◌, length, take, drop, get_or, sym, ap, ◌∙◌, subst, arith, append_assoc, length-append, map, flat_map, AllByRecursion, refill, length-map, append-nil, take_all, take_at, map-append, flat_map-append, le-leb, lt-leb, false≢true, nat_tests, IsLabel, IsName, IsFoldedOctet, folded_octet, folded_label, with_length, wire, labels_of, HoldsName, HoldsLabels, Collects, under_origin, sized, HoldsUnfolded, unfolded_labels, NameFault}
 use Rattle.std.specs.Result.{IsOk, OnOk}
 use Rattle.std.specs.Char.{to_ascii_lowercase}
-use Rattle.std.proofs.lemmas.List.{length-map, append-nil, take_all, take_at, map-append}
-use Rattle.std.proofs.lemmas.List.Concat.{flat_map-append}
-use Rattle.std.proofs.lemmas.Bool.{le-leb, lt-leb, false≢true}
-use Rattle.std.proofs.lemmas.Bool.Decides.{nat_tests}
-use Rattle.zone_name.specs.Name.{IsLabel, IsName, IsFoldedOctet, folded_octet, folded_label, with_length, wire, labels_of, HoldsName, HoldsLabels}
-use Rattle.zone_name.specs.Machine.LabelWalk.{Collects, under_origin, sized}
-use Rattle.zone_name.specs.Machine.Seen.{HoldsUnfolded, unfolded_labels}
 use Rattle.zone_name.specs.declared.reading.Spelled.{Spelled}
-use Rattle.zone_name.specs.declared.fault.NameFault.{NameFault}
 use Rattle.zone_name.specs.declared.fault.NameFault.TheVariants.{NameTooLong}
 use Rattle.zone_name.proofs.Octets.{labels_of-open, labels_of-root, labels_of-wire, HoldsName-wire}
 
@@ -75,15 +65,15 @@ pub record Pushed (octets label new : List ℕ) : Type 0 where
 pub push_frame : (octets label new : List ℕ) → HoldsLabels octets → IsLabel label → length octets + length label + 2 ≤ 255 → new ≡ octets ++ with_length label → Pushed octets label new
 push_frame octets label new holds is room e =
     let name = IsName-push (labels_of octets) label holds.name is (rw holds.whole room) in
-    let text : flat_map with_length (labels_of octets ++ label ∷ []) ≡ new = frames_push (labels_of octets) label ∙ ap (λ t. t ++ with_length label) holds.whole ∙ sym e in
-    let gives : labels_of new ≡ labels_of octets ++ label ∷ [] = ap labels_of (sym text) ∙ labels_of-open (labels_of octets ++ label ∷ []) name.each in
-    record { holds = record { whole = ap (flat_map with_length) gives ∙ text; name = subst IsName (sym gives) name }; gives = gives }
+    let text : flat_map with_length (labels_of octets ++ label ∷ []) ≡ new = cc (frames_push (labels_of octets) label) in
+    let gives : labels_of new ≡ labels_of octets ++ label ∷ [] = cc (labels_of-open (labels_of octets ++ label ∷ []) name.each) in
+    record { holds = record { whole = cc; name = rw gives name }; gives = gives }
 
 -- no labels
 pub HoldsLabels-nil : (octets : List ℕ) → octets ≡ [] → HoldsLabels octets
 HoldsLabels-nil octets e =
-    let none : HoldsLabels [] = record { whole = ap (flat_map with_length) (labels_of-open [] tt); name = subst IsName (sym (labels_of-open [] tt)) (record { each = tt; short = omega arith }) } in
-    subst HoldsLabels (sym e) none
+    let none : HoldsLabels [] = record { whole = ap (flat_map with_length) (labels_of-open [] tt); name = rw (labels_of-open [] tt) (record { each = tt; short = omega arith }) } in
+    rw e none
 
 pub labels_of-none : (octets : List ℕ) → octets ≡ [] → labels_of octets ≡ []
 labels_of-none octets e = ap labels_of e ∙ labels_of-open [] tt
@@ -91,7 +81,7 @@ labels_of-none octets e = ap labels_of e ∙ labels_of-open [] tt
 -- the root's octet makes a name of them
 pub HoldsName-finish : (octets new : List ℕ) → HoldsLabels octets → new ≡ octets ++ 0 ∷ [] → HoldsName new
 HoldsName-finish octets new holds e =
-    subst HoldsName (ap (λ t. t ++ 0 ∷ []) holds.whole ∙ sym e) (HoldsName-wire (labels_of octets) holds.name)
+    subst HoldsName (cc) (HoldsName-wire (labels_of octets) holds.name)
 
 pub labels_of-finish : (octets new : List ℕ) → HoldsLabels octets → new ≡ octets ++ 0 ∷ [] → labels_of new ≡ labels_of octets
 labels_of-finish octets new holds e = grind (arith, labels_of-wire)
@@ -129,12 +119,12 @@ joined octets others new left right holds is name text e room =
     let shape : wire (left ++ right) ≡ new =
     ap (λ t. t ++ 0 ∷ []) (flat_map-append with_length left right) ∙ append_assoc (flat_map with_length left) (flat_map with_length right) (0 ∷ [])
     ∙ ap (λ t. flat_map with_length t ++ wire right) (sym is) ∙ ap (λ t. t ++ wire right) holds.whole ∙ ap (λ t. octets ++ t) (sym text) ∙ sym e in
-    let each : AllByRecursion IsLabel left = subst (AllByRecursion IsLabel) is holds.name.each in
+    let each : AllByRecursion IsLabel left = rw is at holds.name.each in
     let both : IsName (left ++ right) = record {
       each = AllByRecursion-append IsLabel left right each name.each;
       short = omega (arith, ap length shape, ap length e, length-append octets others);
     } in
-    record { holds = subst HoldsName shape (HoldsName-wire (left ++ right) both); gives = ap labels_of (sym shape) ∙ labels_of-wire (left ++ right) both.each }
+    record { holds = subst HoldsName shape (HoldsName-wire (left ++ right) both); gives = cc (labels_of-wire (left ++ right) both.each) }
 
 -- a name's labels have its size
 pub sized-name : (labels : List (List ℕ)) → length (wire labels) ≤ 255 → sized labels ≡ Ok labels
@@ -163,7 +153,7 @@ folded_again octets lower e = grind (arith, refilled, length-map, lowered)
 pub ended_with : (octets lower ending new : List ℕ) → HoldsUnfolded octets → HoldsName ending → lower ≡ map folded_octet octets → new ≡ lower ++ ending → length lower + length ending ≤ 255 → HoldsName new × (sized (unfolded_labels octets ++ labels_of ending) ≡ Ok (labels_of new))
 ended_with octets lower ending new holds name is e room =
     let space : length (map folded_octet octets) + length ending ≤ 255 = omega (arith, room, ap length is) in
-    let both = joined (map folded_octet octets) ending new (unfolded_labels octets) (labels_of ending) holds refl name.name (sym name.whole) (e ∙ ap (λ t. t ++ ending) is) space in
+    let both = joined (map folded_octet octets) ending new (unfolded_labels octets) (labels_of ending) holds refl name.name (sym name.whole) (cc) space in
     (both.holds, sized-joined (unfolded_labels octets) (labels_of ending) new (labels_of new) both refl)
 
 -- an answer that is a value keeps what is promised of one

@@ -1,14 +1,7 @@
 -- What the walk over a text finds is what the text spells: from the left, as far as it has come.
-use Rattle.std.proofs.Common.{◌≡◌, ◌≢◌, ℕ, zero, suc, ◌<◌, ◌≤◌, Bool, true, false, nat_le, if◌then◌else◌, List, [], ◌∷◌, ◌++◌, length, codes, Result, Ok, Err, refl, sym, ap, ◌∙◌, subst, inl, inr, arith, append_assoc, length-append}
-use Rattle.std.specs.List.{AllByRecursion}
-use Rattle.std.proofs.lemmas.List.{append-nil, map_push, length-map}
-use Rattle.std.proofs.lemmas.List.Concat.{flat_map-append}
-use Rattle.std.proofs.lemmas.Bool.Decides.{nat_tests}
-use Rattle.zone_name.specs.Name.{folded_label}
-use Rattle.zone_name.specs.Spelling.{Written, text_of, octet_of, IsUnit, is_dot, IsWrittenLabel, AreWrittenLabels, written_text, written_octets, dotted, parted, named, Reaches, FaultAt, empty_label, long_label, bad_escape}
-use Rattle.zone_name.specs.declared.fault.NameFault.{NameFault}
+use Rattle.zone_name.proofs.Common.{◌≡◌, ◌≢◌, ℕ, zero, suc, ◌<◌, ◌≤◌, Bool, true, false, nat_le, if◌then◌else◌, List, [], ◌∷◌, ◌++◌, length, codes, Result, Ok, Err, refl, sym, ap, ◌∙◌, subst, inl, inr, arith, append_assoc, length-append, AllByRecursion, append-nil, map_push, length-map, flat_map-append, nat_tests, folded_label, Written, text_of, octet_of, IsUnit, is_dot, IsWrittenLabel, AreWrittenLabels, written_text, written_octets, dotted, parted, named, Reaches, FaultAt, empty_label, long_label, bad_escape, NameFault, Ahead, at_end, at_dot, at_octet, at_fault, failed, goes, step_at, read}
 use Rattle.zone_name.specs.declared.fault.NameFault.TheVariants.{LabelTooLong}
-use Rattle.zone_name.specs.Machine.LabelWalk.{Ahead, at_end, at_dot, at_octet, at_fault, failed, goes, step_at, read, reading}
+use Rattle.zone_name.specs.Machine.LabelWalk.{reading}
 use Rattle.zone_name.proofs.Ahead.{IsAhead, ahead_is, Shrinks, ahead_shrinks}
 use Rattle.zone_name.proofs.Steps.{after_step, read_step}
 use Rattle.zone_name.proofs.Pushing.{AllByRecursion-append}
@@ -58,7 +51,7 @@ reaches_label text before w label rest more r e = record {
   short = AllByRecursion-append (λ l. length l ≤ 63) before ((w ∷ label) ∷ []) r.short (r.room, tt);
   octets = tt;
   room = omega arith;
-  parts = r.parts ∙ ap (λ t. dotted before ++ written_text (w ∷ label) ++ t) e ∙ regroup (dotted before) (written_text (w ∷ label)) more ∙ ap (λ t. t ++ [] ++ more) (sym (dotted_push before (w ∷ label)));
+  parts = cc (regroup (dotted before) (written_text (w ∷ label)) more, dotted_push before (w ∷ label));
 }
 
 reaches_octet : (text : List ℕ) (before : List (List Written)) (label : List Written) (w : Written) (rest more : List ℕ) → Reaches text before label rest → IsUnit is_dot w → rest ≡ text_of w ++ more → length label < 63 → Reaches text before (label ++ w ∷ []) more
@@ -67,7 +60,7 @@ reaches_octet text before label w rest more r is e room = record {
   short = r.short;
   octets = AllByRecursion-append (IsUnit is_dot) label (w ∷ []) r.octets (is, tt);
   room = omega (arith, length-append label (w ∷ []));
-  parts = r.parts ∙ ap (λ t. dotted before ++ written_text label ++ t) e ∙ sym (append_assoc (dotted before ++ written_text label) (text_of w) more) ∙ ap (λ t. t ++ more) (append_assoc (dotted before) (written_text label) (text_of w) ∙ ap (λ t. dotted before ++ t) (sym (text_push label w)));
+  parts = cc (append_assoc (dotted before ++ written_text label) (text_of w) more, append_assoc (dotted before) (written_text label) (text_of w), text_push label w);
 }
 
 -- ---- the ends
@@ -86,7 +79,7 @@ relative_end text before w label rest r e = record {
   written = before ++ (w ∷ label) ∷ [];
   are = record { some = omega (arith, length-append before ((w ∷ label) ∷ [])); each = AllByRecursion-append IsWrittenLabel before ((w ∷ label) ∷ []) r.labels (record { some = omega arith; each = r.octets }, tt) };
   short = AllByRecursion-append (λ l. length l ≤ 63) before ((w ∷ label) ∷ []) r.short (r.room, tt);
-  text_is = r.parts ∙ ap (λ t. dotted before ++ written_text (w ∷ label) ++ t) e ∙ append-nil (dotted before ++ written_text (w ∷ label)) ∙ sym (parted_push before (w ∷ label));
+  text_is = cc (append-nil (dotted before ++ written_text (w ∷ label)), parted_push before (w ∷ label));
   labels_are = sym (named_push before (w ∷ label));
 }
 
@@ -102,9 +95,8 @@ full_label n text before label rest more c later r shorter enough w is oc e true
     exact : (m k : ℕ) → k ≡ m → m ≤ 63 → nat_le 63 k ≡ true → m ≡ 63
     exact m k same room full = grind (arith, nat_tests)
 full_label n text before label rest more c later r shorter enough w is oc e false test =
-    let open_is : written_octets (label ++ w ∷ []) ≡ written_octets label ++ c ∷ [] = map_push octet_of label w ∙ ap (λ t. written_octets label ++ t ∷ []) oc in
-    subst (λ t. Says text (read n (named before) t more)) open_is
-    (later before (label ++ w ∷ []) more (reaches_octet text before label w rest more r is e (below (length label) (length (written_octets label)) (length-map label octet_of) test)) (omega arith))
+    let open_is : written_octets (label ++ w ∷ []) ≡ written_octets label ++ c ∷ [] = cc (map_push octet_of label w) in
+    rw open_is at (later before (label ++ w ∷ []) more (reaches_octet text before label w rest more r is e (below (length label) (length (written_octets label)) (length-map label octet_of) test)) (omega arith))
   where
     below : (m k : ℕ) → k ≡ m → nat_le 63 k ≡ false → m < 63
     below m k same full = grind (arith, nat_tests)
@@ -117,7 +109,7 @@ step_says n text before [] rest (at_dot more) other some later r enough is short
     dot_some : (more : List ℕ) → 46 ∷ more ≡ [] → ⊥
     dot_some more e = cc
 step_says n text before (w ∷ label) rest (at_dot more) other some later r enough is shorter =
-    subst (λ t. Says text (read n t [] more)) (named_push before (w ∷ label)) (later (before ++ (w ∷ label) ∷ []) [] more (reaches_label text before w label rest more r is) (omega arith))
+    rw (named_push before (w ∷ label)) at (later (before ++ (w ∷ label) ∷ []) [] more (reaches_label text before w label rest more r is) (omega arith))
 step_says n text before [] rest (at_octet c more) other some later r enough is shorter = full_label n text before [] rest more c later r shorter enough is.unit is.is_unit is.value is.parts (nat_le 63 (length (written_octets []))) refl
 step_says n text before (w ∷ label) rest (at_octet c more) other some later r enough is shorter = full_label n text before (w ∷ label) rest more c later r shorter enough is.unit is.is_unit is.value is.parts (nat_le 63 (length (written_octets (w ∷ label)))) refl
 step_says n text before [] rest at_fault other some later r enough is shorter = bad_escape before [] rest r is

@@ -1,14 +1,8 @@
 -- The walk over a text: what was read so far, and what it leads to.
-use Rattle.std.proofs.Common.{◌≡◌, ℕ, zero, suc, ◌<◌, ◌≤◌, ◌||◌, Bool, true, false, List, [], ◌∷◌, ◌++◌, length, Result, Ok, Err, refl, sym, ap, ◌∙◌, subst, inl, inr, arith, length-append}
-use Rattle.std.proofs.lemmas.Bool.{lt-leb, le-leb}
-use Rattle.std.proofs.lemmas.List.Concat.{flat_map-append}
-use Rattle.zone_name.specs.Name.{folded_label, wire}
-use Rattle.zone_name.specs.Spelling.{IsBadEscape, EndsLabel}
-use Rattle.zone_name.specs.declared.fault.NameFault.{NameFault}
+use Rattle.zone_name.proofs.Common.{◌≡◌, ℕ, zero, suc, ◌<◌, ◌≤◌, ◌||◌, Bool, true, false, List, [], ◌∷◌, ◌++◌, length, Result, Ok, Err, refl, sym, ap, ◌∙◌, inl, inr, arith, length-append, lt-leb, le-leb, flat_map-append, folded_label, wire, IsBadEscape, EndsLabel, NameFault, Ahead, at_dot, at_octet, at_fault, ahead_in, Step, done, failed, goes, step_at, read, Collects, Closes, Joins, Goes, EndsInFault, RefusesLabel, empty, long, EndsLabelAt}
 use Rattle.zone_name.specs.declared.fault.NameFault.TheVariants.{EmptyLabel, LabelTooLong, NameTooLong, BadEscape, RelativeName}
-use Rattle.zone_name.specs.Machine.LabelWalk.{Ahead, at_dot, at_octet, at_fault, ahead_in, Step, done, failed, goes, step_at, read, reading, Collects}
-use Rattle.zone_name.specs.Machine.Seen.{Closes, Joins, Goes, EndsInFault, RefusesLabel, empty, long, EndsLabelAt}
-use Rattle.zone_name.proofs.Ahead.{Shrinks, ahead_shrinks, ahead-bad}
+use Rattle.zone_name.specs.Machine.LabelWalk.{reading}
+use Rattle.zone_name.proofs.Ahead.{ahead_shrinks, ahead-bad}
 
 -- ---- one step of the reading
 
@@ -18,7 +12,7 @@ after_step n (failed fault) = Err fault
 after_step n (goes more open_next left) = read n more open_next left
 
 pub read_step : (n : ℕ) (labels : List (List ℕ)) (open_label rest : List ℕ) (ahead : Ahead) → ahead_in rest ≡ ahead → read (suc n) labels open_label rest ≡ after_step n (step_at labels open_label ahead)
-read_step n labels open_label rest ahead e = by (step_at labels open_label (ahead_in rest)) refl ∙ ap (λ p. after_step n (step_at labels open_label p)) e
+read_step n labels open_label rest ahead e = cc (by (step_at labels open_label (ahead_in rest)) refl)
   where
     by : (s : Step) → step_at labels open_label (ahead_in rest) ≡ s → read (suc n) labels open_label rest ≡ after_step n (step_at labels open_label (ahead_in rest))
     by s h = refl
@@ -51,9 +45,9 @@ pub Goes-octet : (text open_label rest after new : List ℕ) (c : ℕ) → Goes 
 Goes-octet text open_label rest after new c so_far e room grown = λ labels n enough.
     let reached = so_far labels n enough in
     let next = octet_by reached.0 labels open_label rest after c reached.1 (sym e) room in
-    let shorter : length after < length rest = subst (Shrinks rest) (sym e) (ahead_shrinks rest) in
+    let shorter : length after < length rest = rw (← e) at (ahead_shrinks rest) in
     let left : length after < next.0 = omega (arith, next.1, shorter) in
-    (next.0, left, reached.2 ∙ next.2 ∙ ap (λ t. read next.0 labels t after) (sym grown))
+    (next.0, left, cc)
 
 -- what fails from here on fails from the start
 refuses_by : (text open_label rest : List ℕ) (ahead : Ahead) (fault : NameFault) → Goes text open_label rest → ahead_in rest ≡ ahead → ((labels : List (List ℕ)) → step_at labels open_label ahead ≡ failed fault) → EndsInFault text fault
@@ -138,7 +132,7 @@ Reads-label text before after is_too_long is_left_out rest label following more 
       collects = joined_collects before after reads.labels label is_too_long is_left_out reads.collects closes.joins;
       fuel = next.0;
       enough = next.1;
-      leads = sym next.2 ∙ sym reached.2 ∙ reads.leads;
+      leads = cc;
     }
 
 -- at the end of the text, in a label
@@ -146,6 +140,6 @@ pub Reads-relative : (text : List ℕ) (before after : List (List ℕ)) (is_too_
 Reads-relative text before after is_too_long is_left_out rest label following reads at closes is =
     let reached = at.goes reads.labels reads.fuel reads.enough in (
       reads.labels ++ folded_label label ∷ [],
-      sym reads.leads ∙ reached.2 ∙ end_step reached.0 reads.labels label following reached.1 closes.some is,
+      cc (end_step reached.0 reads.labels label following reached.1 closes.some is),
       joined_collects before after reads.labels label is_too_long is_left_out reads.collects closes.joins,
     )

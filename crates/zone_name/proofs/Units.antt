@@ -1,9 +1,6 @@
 -- Written octets at the beginning of a text: what is read is so, and what is so is read.
-use Rattle.std.proofs.Common.{◌≡◌, ◌≢◌, ℕ, zero, suc, ◌≤◌, ◌<◌, Bool, true, false, ◌&&◌, ◌||◌, ◌==◌, nat_le, if◌then◌else◌, List, [], ◌∷◌, ◌++◌, length, Option, Some, None, refl, sym, ap, ◌∙◌, subst, arith, append_assoc, length-append}
-use Rattle.std.specs.Prelude.{IfSome, option_map}
-use Rattle.std.specs.List.{AllByRecursion}
-use Rattle.std.proofs.lemmas.Bool.{and_parts, or_parts, or_cases, eqb-true, eqb-false, ne_eqb, leb-true, le-leb, both_ways, cond_both}
-use Rattle.zone_name.specs.Spelling.{Written, plain, escaped, decimal, text_of, octet_of, written_text, IsEscape, IsUnit, IsBadEscape, BeginsWithEscape, BeginsWithUnit, is_digit, no_octet}
+use Rattle.zone_name.proofs.Common.{◌≡◌, ◌≢◌, ℕ, zero, suc, ◌≤◌, ◌<◌, Bool, true, false, ◌&&◌, ◌||◌, ◌==◌, nat_le, if◌then◌else◌, List, [], ◌∷◌, ◌++◌, length, Option, Some, None, refl, sym, ap, ◌∙◌, subst, arith, append_assoc, length-append, option_map, AllByRecursion, and_parts, or_parts, or_cases, eqb-true, eqb-false, ne_eqb, leb-true, le-leb, both_ways, cond_both, Written, plain, escaped, decimal, text_of, octet_of, written_text, IsEscape, IsUnit, IsBadEscape, BeginsWithEscape, BeginsWithUnit, is_digit, no_octet}
+use Rattle.std.specs.Prelude.{IfSome}
 use Rattle.zone_name.specs.Machine.Units.{decimal_first, digits_first, escape_first, unit_first, Units, units_then, units_by, units_first, valued}
 
 -- no written octet stands at the beginning
@@ -95,7 +92,7 @@ no_unit_by left_out octets None is none backslash = refl
 no_unit_by left_out octets (Some (w, rest)) is none backslash = absurd (elim none as (λ n. ⊥) [
   | at_end e ↦ some_text w rest (sym is.1 ∙ e)
   | at_octet c more e end ↦ unit_begins w rest c more is.0 (sym is.1 ∙ e) end
-  | at_backslash bad ↦ bad.2 w rest (escape_of_unit left_out w rest bad.0 is.0 (sym is.1 ∙ bad.1)) is.1
+  | at_backslash bad ↦ bad.2 w rest (escape_of_unit left_out w rest bad.0 is.0 (cc)) is.1
 ])
   where
     some_text : (w : Written) (rest : List ℕ) → text_of w ++ rest ≡ [] → ⊥
@@ -147,8 +144,7 @@ units_only (suc n) left_out (w ∷ units) rest backslash enough each none =
     let P : List ℕ → Type 0 = λ t. units_then (units_by n left_out) t (unit_first left_out t) ≡ record { units = w ∷ units; rest = rest } in
     let less : length (written_text units ++ rest) ≤ n = omega (arith, length-append (written_text (w ∷ units)) rest, length-append (text_of w) (written_text units), text_of-some w, length-append (written_text units) rest) in
     subst P (sym (append_assoc (text_of w) (written_text units) rest))
-    (ap (units_then (units_by n left_out) (text_of w ++ (written_text units ++ rest))) (first_of_unit left_out w (written_text units ++ rest) backslash each.0)
-    ∙ ap (λ (more : Units). record { units = w ∷ more.units; rest = more.rest }) (units_only n left_out units rest backslash less each.1 none))
+    (cc (first_of_unit left_out w (written_text units ++ rest) backslash each.0, units_only n left_out units rest backslash less each.1 none))
 
 pub units_first_are : (left_out : ℕ → Bool) (octets : List ℕ) → UnitsAre left_out octets (units_first left_out octets)
 unfolding units_first
@@ -157,7 +153,7 @@ units_first_are left_out octets = units_are (length octets) left_out octets (ome
 pub units_first_only : (left_out : ℕ → Bool) (octets : List ℕ) (units : List Written) (rest : List ℕ) → left_out 92 ≡ false → octets ≡ written_text units ++ rest → AllByRecursion (IsUnit left_out) units → NoUnit left_out rest → units_first left_out octets ≡ record { units = units; rest = rest }
 unfolding units_first
 units_first_only left_out octets units rest backslash e each none =
-    subst (λ t. units_by (length t) left_out t ≡ record { units = units; rest = rest }) (sym e) (units_only (length (written_text units ++ rest)) left_out units rest backslash (omega arith) each none)
+    rw (← e) at (units_only (length (written_text units ++ rest)) left_out units rest backslash (omega arith) each none)
 
 -- ---- what the code finds of an escape
 
@@ -167,7 +163,7 @@ valued_escape f (Some a) x rest text e d h = by (digits_first x rest) (digits_ar
   where
     by : (read : Option (Written × List ℕ)) → SaysEscape (92 ∷ x ∷ rest) read → Some (f a) ≡ valued read → BeginsWithEscape (92 ∷ text) (f a).0 (f a).1
     by None says h = absurd (cc)
-    by (Some (w, more)) says h = record { escape = w; is_escape = says.0; value = let same : f a ≡ (octet_of w, more) = cc in sym (ap (λ p. p.0) same); parts = let same : f a ≡ (octet_of w, more) = cc in ap (λ t. 92 ∷ t) e ∙ says.1 ∙ ap (λ p. text_of w ++ p.1) (sym same) }
+    by (Some (w, more)) says h = record { escape = w; is_escape = says.0; value = let same : f a ≡ (octet_of w, more) = cc in sym (ap (λ p. p.0) same); parts = let same : f a ≡ (octet_of w, more) = cc in cc }
 
 pub escaped_found : (x : ℕ) (rest text : List ℕ) → text ≡ x ∷ rest → is_digit x ≡ false → x ≢ 10 → x ≢ 13 → BeginsWithEscape (92 ∷ text) x rest
 escaped_found x rest text e d n m = record { escape = escaped x; is_escape = (d, n, m); value = refl; parts = ap (λ t. 92 ∷ t) e }
